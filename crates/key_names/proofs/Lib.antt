@@ -1,0 +1,2 @@
+pub mod Blake2sVectors
+pub mod Keystreams

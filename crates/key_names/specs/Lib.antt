@@ -1,0 +1,2 @@
+pub mod Blake2s
+pub mod Keystream
