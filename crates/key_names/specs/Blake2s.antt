@@ -1,8 +1,8 @@
 -- BLAKE2s-256 with a key of 32 bytes or none, as in RFC 7693. Words have 32 bits and stand low byte first.
 use Rattle.std.specs.Prelude.{ℕ, ◌+◌, ◌-◌, ◌*◌, ◌/◌, ◌%◌, ◌^◌, Bool, true, false, Option, Some, None, List, [], ◌∷◌, ◌++◌, length, map, take, drop, replicate, bit_xor, slice_index, slice_set, if◌then◌else◌}
-use Rattle.std.specs.Int.{w32, rotate_right, to_le_bytes}
-use Rattle.std.specs.List.{fold, concat, range_with_len}
-use Rattle.rand_core.specs.Steps.{u32_at}
+use Rattle.std.specs.Int.{w32, bit_not, rotate_right, from_le_bytes, to_le_bytes}
+use Rattle.std.specs.List.{fold, flat_map, range_with_len}
+unfoldable pub use Rattle.rand_core.specs.Steps.{u32_at}
 
 -- the initialization vector (section 2.6)
 abbrev pub iv : List ℕ
@@ -39,24 +39,27 @@ mixed a b c d x y =
     let b2 = rotate_right w32 (bit_xor b1 c2) 7 in
     (a2, b2, c2, d2)
 
--- G on the words a, b, c, d of the vector, with the message words that a round's schedule has at 2 i and 2 i + 1
-unfoldable pub mixed_at : List ℕ → List ℕ → List ℕ → ℕ → ℕ → ℕ → ℕ → ℕ → List ℕ
-mixed_at schedule words v a b c d i =
-    let w = mixed (slice_index v a) (slice_index v b) (slice_index v c) (slice_index v d)
-    (slice_index words (slice_index schedule (2 * i))) (slice_index words (slice_index schedule (2 * i + 1))) in
+-- G on the words a, b, c, d of the vector, with the message words x and y
+unfoldable pub mixed_at : List ℕ → ℕ → ℕ → ℕ → ℕ → ℕ → ℕ → List ℕ
+mixed_at v a b c d x y =
+    let w = mixed (slice_index v a) (slice_index v b) (slice_index v c) (slice_index v d) x y in
     slice_set (slice_set (slice_set (slice_set v a w.0) b w.1) c w.2) d w.3
 
--- one round: G on the columns, and then on the diagonals (section 3.2)
-unfoldable pub round : List ℕ → List ℕ → List ℕ → List ℕ
-round words v schedule =
-    let v0 = mixed_at schedule words v 0 4 8 12 0 in
-    let v1 = mixed_at schedule words v0 1 5 9 13 1 in
-    let v2 = mixed_at schedule words v1 2 6 10 14 2 in
-    let v3 = mixed_at schedule words v2 3 7 11 15 3 in
-    let v4 = mixed_at schedule words v3 0 5 10 15 4 in
-    let v5 = mixed_at schedule words v4 1 6 11 12 5 in
-    let v6 = mixed_at schedule words v5 2 7 8 13 6 in
-    mixed_at schedule words v6 3 4 9 14 7
+-- one round with the sixteen message words in its order: G on the columns, and then on the diagonals (section 3.2)
+unfoldable pub round : List ℕ → List ℕ → List ℕ
+round v m =
+    let v0 = mixed_at v 0 4 8 12 (slice_index m 0) (slice_index m 1) in
+    let v1 = mixed_at v0 1 5 9 13 (slice_index m 2) (slice_index m 3) in
+    let v2 = mixed_at v1 2 6 10 14 (slice_index m 4) (slice_index m 5) in
+    let v3 = mixed_at v2 3 7 11 15 (slice_index m 6) (slice_index m 7) in
+    let v4 = mixed_at v3 0 5 10 15 (slice_index m 8) (slice_index m 9) in
+    let v5 = mixed_at v4 1 6 11 12 (slice_index m 10) (slice_index m 11) in
+    let v6 = mixed_at v5 2 7 8 13 (slice_index m 12) (slice_index m 13) in
+    mixed_at v6 3 4 9 14 (slice_index m 14) (slice_index m 15)
+
+-- the ten rounds, each with the message words in the order of its schedule
+abbrev pub rounds : List ℕ → List ℕ → List ℕ
+rounds words v = fold (λ v schedule. round v (map (slice_index words) schedule)) v sigma
 
 -- a block of a message: its 64 bytes, how many bytes the message has up to its end, and whether it is the last
 pub record Block : Type 0 where
@@ -66,25 +69,25 @@ pub record Block : Type 0 where
 
 -- the message words of a block
 abbrev pub message_words : List ℕ → List ℕ
-message_words block =
-    map (u32_at block) (0 ∷ 1 ∷ 2 ∷ 3 ∷ 4 ∷ 5 ∷ 6 ∷ 7 ∷ 8 ∷ 9 ∷ 10 ∷ 11 ∷ 12 ∷ 13 ∷ 14 ∷ 15 ∷ [])
+message_words block = map (u32_at block) (range_with_len 0 16)
 
--- the vector that a compression starts from
+-- the vector that a compression starts from: the hash words and the initialization vector, with the low and the high
+-- word of the count xored into words 12 and 13, and word 14 inverted for the last block
 unfoldable pub start_vector : List ℕ → ℕ → Bool → List ℕ
 start_vector h count is_last =
-    h ++ (0x6A09E667 ∷ 0xBB67AE85 ∷ 0x3C6EF372 ∷ 0xA54FF53A
-    ∷ bit_xor 0x510E527F (count % 2 ^ 32) ∷ bit_xor 0x9B05688C (count / 2 ^ 32 % 2 ^ 32)
-    ∷ (if is_last then 2 ^ 32 - 1 - 0x1F83D9AB else 0x1F83D9AB) ∷ 0x5BE0CD19 ∷ [])
+    h ++ (slice_index iv 0 ∷ slice_index iv 1 ∷ slice_index iv 2 ∷ slice_index iv 3
+    ∷ bit_xor (slice_index iv 4) (count % 2 ^ 32) ∷ bit_xor (slice_index iv 5) (count / 2 ^ 32 % 2 ^ 32)
+    ∷ (if is_last then bit_not w32 (slice_index iv 6) else slice_index iv 6) ∷ slice_index iv 7 ∷ [])
 
 -- the hash words xored with both halves of the vector
 unfoldable pub folded : List ℕ → List ℕ → List ℕ
 folded h v =
-    map (λ i. bit_xor (slice_index h i) (bit_xor (slice_index v i) (slice_index v (i + 8))))
-    (0 ∷ 1 ∷ 2 ∷ 3 ∷ 4 ∷ 5 ∷ 6 ∷ 7 ∷ [])
+    map (λ i. bit_xor (bit_xor (slice_index h i) (slice_index v i)) (slice_index v (i + 8))) (range_with_len 0 8)
 
 -- the compression function F: the hash words after one more block (section 3.2)
 unfoldable pub compressed : List ℕ → Block → List ℕ
-compressed h block = folded h (fold (round (message_words block.bytes)) (start_vector h block.count block.is_last) sigma)
+compressed h block =
+    folded h (rounds (message_words block.bytes) (start_vector h block.count block.is_last))
 
 -- the text behind the key's block, where there is a key (section 3.3)
 abbrev pub message : Option (List ℕ) → List ℕ → List ℕ
@@ -113,16 +116,20 @@ inner_blocks bytes n = map (inner_block bytes) (range_with_len 0 n)
 
 -- the last block of a message; a message of no bytes has one block of zeros
 abbrev pub last_block : List ℕ → Block
-last_block bytes = record { bytes = block_bytes bytes (inner_count bytes); count = length bytes % 2 ^ 64; is_last = true }
+last_block bytes =
+    record { bytes = block_bytes bytes (inner_count bytes); count = length bytes % 2 ^ 64; is_last = true }
 
 -- a message cut into blocks
 abbrev pub blocks : List ℕ → List Block
 blocks bytes = inner_blocks bytes (inner_count bytes) ++ last_block bytes ∷ []
 
--- the hash words before any block: the parameter block has the two lengths, fanout 1 and depth 1 (section 2.5)
+-- the hash words before any block: the first word of the parameter block, which has the length of the hash, the length
+-- of the key, fanout 1 and depth 1, is xored into the first (section 2.5)
 abbrev pub start_words : ℕ → List ℕ
-start_words key_bytes = slice_set iv 0 (bit_xor 0x6A09E667 (0x01010020 + key_bytes * 2 ^ 8))
+start_words key_bytes =
+    slice_set iv 0 (bit_xor (slice_index iv 0) (from_le_bytes w32 (32 ∷ key_bytes ∷ 1 ∷ 1 ∷ [])))
 
 -- BLAKE2s-256 of a text under a key of 32 bytes, or under none
 unfoldable pub blake2s : Option (List ℕ) → List ℕ → List ℕ
-blake2s key text = concat (map (to_le_bytes w32) (fold compressed (start_words (key_len key)) (blocks (message key text))))
+blake2s key text =
+    flat_map (to_le_bytes w32) (fold compressed (start_words (key_len key)) (blocks (message key text)))

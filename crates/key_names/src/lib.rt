@@ -3,13 +3,23 @@
 #![tactic(auto)]
 
 pub mod entries;
+pub mod errno;
 pub mod events;
+pub mod faults;
+pub mod flags;
+pub mod laws;
+pub mod lines;
 pub mod names;
+pub mod point;
 pub mod text;
 pub mod trace;
 
 pub use entries::{BaseEntry, CpuEntry, PoolEntry, Taken, VEntry};
+pub use errno::Errno;
 pub use events::{Answer, Event, InsideAct, Word};
+pub use faults::{FaultKind, ScriptFault};
+pub use lines::{Data, Line};
 pub use names::{KeyName, LaneId, Mark, Span, Step, Who};
+pub use point::Point;
 pub use text::Text;
 pub use trace::Trace;

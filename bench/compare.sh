@@ -1,0 +1,105 @@
+#!/bin/sh
+# Counts the instructions of the primitives and of whole runs, and prints them and their ratios: run by hand.
+# Instruction counts (valgrind --tool=callgrind) are what is compared, since other work on the machine does not change
+# them; `time` then shows the same ratios as seconds, for a machine that does nothing else.
+set -eu
+cd "$(dirname "$0")/.."
+bytes=16777216
+reads=4000
+samples=$((bytes / 64))
+interrupts=1000000
+loops=crates/bench_words/out/bench_words
+room=$(mktemp -d)
+trap 'rm -rf "$room"' EXIT
+
+(cd crates/bench_words && rt run) >/dev/null 2>&1
+./rng run <examples/first.script >/dev/null
+program=crates/rng_tool/out/rng_tool
+
+awk -v n="$reads" 'BEGIN {
+    print "rngscript 1\ncpus 1\ncaller 0"
+    for (i = 0; i < n; i++) print "write 616263\nread 4096 4"
+    print "end"
+}' >"$room/script"
+
+# instructions COMMAND..: how many a command takes, from start to end, on standard input.
+instructions() {
+    valgrind --tool=callgrind --callgrind-out-file=/dev/null "$@" 2>&1 >"$room/out" |
+        awk '/Collected/ { print $NF }'
+}
+
+# seconds COMMAND..: the least of five runs on the script.
+seconds() {
+    for _ in 1 2 3 4 5; do
+        { command time -f %e "$@" <"$room/script" >"$room/out"; } 2>&1
+    done | sort -n | head -n 1
+}
+
+# nanoseconds WORD NUMBER: the seconds of a loop, as nanoseconds for each of its turns.
+nanoseconds() {
+    seconds "$loops" "$1" "$2" | awk -v number="$2" '{ printf "%.1f", $1 * 1e9 / number }'
+}
+
+# beyond_start WORD NUMBER: the instructions of a loop, without those that the program takes to start and end.
+beyond_start() {
+    echo $(($(instructions "$loops" "$1" "$2") - $(instructions "$loops" "$1" 0)))
+}
+
+# ratio NAME A B LIMIT: A to B, with two digits.
+ratio() {
+    awk -v name="$1" -v a="$2" -v b="$3" -v limit="$4" 'BEGIN { printf "%-52s %6.2f  (%s)\n", name, a / b, limit }'
+}
+
+keystream=$(beyond_start keystream "$bytes")
+plain=$(beyond_start plain "$bytes")
+hash=$(beyond_start hash "$bytes")
+bulk=$(beyond_start bulk "$samples")
+updated=$(beyond_start updated "$samples")
+mixed=$(beyond_start mixed "$samples")
+interrupted=$(beyond_start interrupts "$interrupts")
+direct=$(instructions "$loops" reads "$reads")
+shown=$(instructions "$loops" shown "$reads")
+run=$(instructions "$program" run <"$room/script")
+cp "$room/out" "$room/transcript"
+
+echo "instructions"
+printf '%-52s %12d\n' "keystream of $bytes bytes, chacha_blocks" "$keystream" \
+    "keystream of $bytes bytes, plain loop" "$plain" \
+    "BLAKE2s of $bytes bytes, and the zeros made" "$hash" \
+    "BLAKE2s of $samples samples, many at once" "$bulk" \
+    "BLAKE2s of $samples samples, one by one" "$updated" \
+    "input pool: $samples samples mixed" "$mixed" \
+    "fast pool: $interrupts interrupts mixed" "$interrupted" \
+    "$reads writes and reads of 4,096 bytes, direct" "$direct" \
+    "$reads writes and reads, direct, and their hexadecimal" "$shown" \
+    "$reads writes and reads of 4,096 bytes, rng run" "$run"
+ratio 'keystream: plain loop to chacha_blocks' "$plain" "$keystream" 'at least 0.90'
+ratio 'BLAKE2s: instructions a byte' "$hash" "$bytes" 'no limit'
+ratio 'samples: input pool to BLAKE2s, many at once' "$mixed" "$bulk" 'at most 1.10'
+ratio 'samples: input pool to BLAKE2s, one by one' "$mixed" "$updated" 'no limit'
+ratio 'samples: input pool to BLAKE2s and the zeros made' "$mixed" "$hash" 'no limit'
+ratio 'samples: instructions of a mix into the input pool' "$mixed" "$samples" 'no limit'
+ratio 'interrupts: instructions of one' "$interrupted" "$interrupts" 'no limit'
+ratio 'reads: rng run to direct' "$run" "$direct" 'at most 1.50'
+ratio 'reads: rng run to direct with hexadecimal' "$run" "$shown" 'no limit'
+
+echo "seconds, the least of five"
+printf '%-52s %12s\n' "keystream of $bytes bytes, chacha_blocks" "$(seconds "$loops" keystream "$bytes")" \
+    "keystream of $bytes bytes, plain loop" "$(seconds "$loops" plain "$bytes")" \
+    "BLAKE2s of $bytes bytes" "$(seconds "$loops" hash "$bytes")" \
+    "$reads writes and reads of 4,096 bytes, direct" "$(seconds "$loops" reads "$reads")" \
+    "$reads writes and reads of 4,096 bytes, rng run" "$(seconds "$program" run)"
+
+echo "nanoseconds of each, by the least of five"
+printf '%-52s %12s\n' "BLAKE2s of a sample, many at once" "$(nanoseconds bulk $((16 * samples)))" \
+    "BLAKE2s of a sample, one by one" "$(nanoseconds updated $((16 * samples)))" \
+    "input pool: a sample mixed" "$(nanoseconds mixed $((16 * samples)))" \
+    "fast pool: an interrupt mixed" "$(nanoseconds interrupts $((200 * interrupts)))"
+
+# What was counted was also right: the last bytes of the last read are those that the direct calls gave.
+from_run=$(awk '/ read / { last = $NF } END { print substr(last, length(last) - 15) }' "$room/transcript")
+from_loop=$("$loops" reads "$reads" | awk '{ print $NF }')
+[ "$from_run" = "$from_loop" ] || {
+    echo "the run and the direct calls read other bytes: $from_run $from_loop" >&2
+    exit 1
+}

@@ -1,0 +1,226 @@
+//! The base key and what is kept beside it.
+
+ghost use Rattle.std.specs.Prelude.{◌≡◌, ◌↔◌, ◌+◌, ◌^◌, ◌<◌, ◌≤◌, Some, length, IsTrue};
+ghost use Rattle.key_names.specs.declared.entries.Taken.TheVariants.{User, Kernel};
+ghost use Rattle.key_names.specs.Keystream.{keystream};
+ghost use Rattle.key_names.specs.KeyInUse.{taken_bytes};
+ghost use Rattle.key_names.specs.BaseList.{empty, ready, IsDue, interval, early_boot_after, one_more, one_less};
+ghost use Rattle.base_gen.specs.BaseValue.{phase_of, start, erased, seeded_early, reseeded, fired};
+
+use crate::phase::Phase;
+use crate::reads::user_read;
+use chacha_blocks::{Detached, derive_key, erase, erase_and_fill};
+use std::marker::Model;
+
+/// The base key (`base_crng`), how far the core is, how often it was reseeded, when it is due again, and how many
+/// callers run.
+#[derive(Drop)]
+pub struct Base {
+    key: [u8; 32],
+    phase: Phase,
+    generation: u64,
+    timer: Option<u64>,
+    early_boot: bool,
+    running: u32,
+}
+
+impl Model for Base {
+    ghost use Rattle.base_gen.specs.BaseValue.{BaseValue, phase_of};
+
+    ghost Value = { BaseValue };
+
+    ghost view = { λ b. record {
+      key = b.key;
+      phase = phase_of b.phase;
+      generation = b.generation;
+      timer = b.timer;
+      early_boot = b.early_boot;
+      running = b.running;
+    } };
+}
+
+impl Base {
+    /// The base as the system starts: a key of zeros that nothing seeded yet, no timer, and one caller that runs.
+    pub fn start() -> Base
+        ensures { result ≡ start }
+    {
+        Base {
+            key: [0; 32],
+            phase: Phase::Empty,
+            generation: 0,
+            timer: None,
+            early_boot: true,
+            running: 1,
+        }
+    }
+
+    /// How far the core is.
+    pub fn phase(&self) -> Phase
+        ensures { phase_of result ≡ self.now.phase }
+    {
+        self.phase
+    }
+
+    /// How often the base was reseeded.
+    pub fn generation(&self) -> u64
+        ensures { result ≡ self.now.generation }
+    {
+        self.generation
+    }
+
+    /// How many callers run.
+    pub fn running(&self) -> u32
+        ensures { result ≡ self.now.running }
+    {
+        self.running
+    }
+
+    /// Whether no caller runs.
+    pub fn idle(&self) -> bool
+        ensures { IsTrue result ↔ (self.now.running ≡ 0) }
+    {
+        self.running == 0
+    }
+
+    /// Replaces the key by a root for one draw before anything that counts was gathered, as the kernel's
+    /// `crng_make_state` does by `extract_entropy` while `crng_init` is `CRNG_EMPTY`.
+    pub fn fill_empty(&mut self, root: [u8; 32])
+        requires { self.old.phase ≡ empty }
+        ensures { self.new ≡ record self.old { key = root } }
+    {
+        self.key = root;
+    }
+
+    /// Installs a root once half of what readiness asks was gathered (`_credit_init_bits` at `POOL_EARLY_BITS`).
+    pub fn install_early(&mut self, root: [u8; 32])
+        requires { self.old.phase ≡ empty }
+        ensures { self.new ≡ seeded_early root self.old }
+    {
+        self.key = root;
+        self.phase = Phase::Early;
+    }
+
+    /// Installs a root at this moment in milliseconds (`crng_reseed`): one more generation, and ready. A pending timer
+    /// stays; else one is set.
+    pub fn install(&mut self, root: [u8; 32], now: u64)
+        requires generation { self.old.generation < 2 ^ 63 }
+        requires now { now < 2 ^ 40 }
+        ensures { self.new ≡ reseeded now root self.old }
+    {
+        let next = self.reseed(root, now);
+        if self.timer.is_none() {
+            self.timer = Some(next);
+        }
+    }
+
+    /// Whether the timer is pending and due at this moment in milliseconds.
+    pub fn due(&self, now: u64) -> bool
+        ensures { IsTrue result ↔ IsDue self.now.timer now }
+    {
+        match self.timer {
+            None => false,
+            Some(moment) => moment <= now,
+        }
+    }
+
+    /// Installs a root because the timer is due, and sets the timer anew.
+    pub fn fire(&mut self, root: [u8; 32], now: u64)
+        requires due { IsDue self.old.timer now }
+        requires generation { self.old.generation < 2 ^ 63 }
+        requires now { now < 2 ^ 40 }
+        ensures { self.new ≡ fired now root self.old }
+    {
+        self.timer = Some(self.reseed(root, now));
+    }
+
+    // What `install` and `fire` share: all but the timer. The result is the moment at which the next reseed is due.
+    fn reseed(&mut self, root: [u8; 32], now: u64) -> u64
+        requires generation { self.old.generation < 2 ^ 63 }
+        requires now { now < 2 ^ 40 }
+        ensures state { self.new ≡ record self.old {
+          key = root;
+          phase = ready;
+          generation = self.old.generation + 1;
+          early_boot = early_boot_after (Some now) self.old.early_boot;
+        } }
+        ensures next { result ≡ now + interval self.old.early_boot now }
+    {
+        self.key = root;
+        self.phase = Phase::Ready;
+        self.generation += 1;
+        now + reseed_interval(&mut self.early_boot, now)
+    }
+
+    /// Erases the key, and hands out the first bytes that its block has over, and the old key from block 1 on
+    /// (`crng_fast_key_erasure`).
+    pub fn draw(&mut self, out: &mut [u8]) -> Detached
+        requires { length out.old ≤ 32 }
+        ensures state { self.new ≡ erased self.old }
+        ensures out { out.new ≡ keystream self.old.key 32 (length out.old) }
+        ensures key { result.key ≡ self.old.key }
+        ensures next_block { result.next_block ≡ 1 }
+    {
+        erase(&mut self.key, out)
+    }
+
+    /// Erases the key, and hands out the key of a CPU that is refilled (`crng_make_state`).
+    pub fn call_key(&mut self) -> [u8; 32]
+        ensures state { self.new ≡ erased self.old }
+        ensures key { result ≡ keystream self.old.key 32 32 }
+    {
+        derive_key(&mut self.key)
+    }
+
+    /// Erases the key, and fills `buf` for the kernel (`_get_random_bytes`). It is [`Base::draw`] and
+    /// [`Detached::more`] in one, which costs half as much.
+    pub fn kernel_read(&mut self, buf: &mut [u8])
+        requires { length buf.old < 2 ^ 32 }
+        ensures state { self.new ≡ erased self.old }
+        ensures bytes { buf.new ≡ taken_bytes self.old.key (Kernel (length buf.old)) }
+    {
+        erase_and_fill(&mut self.key, buf);
+    }
+
+    /// Erases the key, and fills `buf` for a user, as [`user_read`] does.
+    pub fn user_read(&mut self, buf: &mut [u8])
+        requires { length buf.old < 2 ^ 32 }
+        ensures state { self.new ≡ erased self.old }
+        ensures bytes { buf.new ≡ taken_bytes self.old.key (User (length buf.old)) }
+    {
+        user_read(&mut self.key, buf);
+    }
+
+    /// One more caller runs. 2^32 - 1 stay as they are.
+    pub fn up(&mut self)
+        ensures { self.new ≡ record self.old { running = one_more self.old.running } }
+    {
+        self.running = self.running.saturating_add(1);
+    }
+
+    /// One caller less runs. None stays none.
+    pub fn down(&mut self)
+        ensures { self.new ≡ record self.old { running = one_less self.old.running } }
+    {
+        self.running = self.running.saturating_sub(1);
+    }
+}
+
+/// The milliseconds until the next reseed (`crng_reseed_interval`): while the system is young, half its age in whole
+/// seconds and at least one second; from 120 seconds on, a minute for good.
+fn reseed_interval(early_boot: &mut bool, now: u64) -> u64
+    ensures early_boot { early_boot.new ≡ early_boot_after (Some now) early_boot.old }
+    ensures interval { result ≡ interval early_boot.old now }
+{
+    let seconds = now / 1000;
+    if seconds >= 120 {
+        *early_boot = false;
+    }
+    if *early_boot {
+        (seconds / 2 * 1000).max(1000)
+    } else {
+        60_000
+    }
+}
+
+#[cfg(test)]
+mod tests;

@@ -1,0 +1,14 @@
+//! The base key, from which each CPU's key comes, with all that the kernel keeps beside it: how far the core is, the
+//! generation, the reseed timer and the number of callers that run.
+//!
+//! A call leaves what an entry of the base's list makes of the base: `after_entry e root b` of `specs/BaseValue.antt`
+//! is that for entry `e` and base `b`, where `root` is the root that `e` names.
+#![tactic(auto)]
+
+pub mod base;
+pub mod phase;
+pub mod reads;
+
+pub use base::Base;
+pub use phase::Phase;
+pub use reads::user_read;

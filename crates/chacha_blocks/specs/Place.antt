@@ -1,0 +1,12 @@
+-- A place in a key's stream, and the generator that stands there.
+use Rattle.std.specs.Prelude.{ℕ, List}
+use Rattle.rand_chacha.specs.ChaCha.{ChaCha, of_seed}
+
+-- the bytes of the key, and the number of the next word
+pub record Place : Type 0 where
+  pub key : List ℕ
+  pub word : ℕ
+
+-- stream 0 of the key, with the word of this number next
+abbrev pub generator_at : List ℕ → ℕ → ChaCha
+generator_at key word = record (of_seed key) { word_pos = word }

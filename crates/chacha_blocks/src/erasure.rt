@@ -1,0 +1,82 @@
+//! Fast key erasure: a key that makes bytes is first replaced by the front of its own keystream, as in the kernel's
+//! `crng_fast_key_erasure`.
+
+ghost use Rattle.std.specs.Prelude.{◌≡◌, ◌+◌, ◌*◌, ◌/◌, ◌^◌, ◌<◌, ◌≤◌, length};
+ghost use Rattle.key_names.specs.Keystream.{keystream};
+
+use crate::reader::Reader;
+
+/// Bytes and words of a block of the keystream.
+const BLOCK_BYTES: u64 = 64;
+
+const BLOCK_WORDS: u64 = 16;
+
+/// A key and the number of the block that its next bytes come from. It is what a long read goes on with after the key
+/// was erased where it was kept, as the kernel's `chacha_state` on the stack.
+#[derive(Drop)]
+pub struct Detached {
+    pub key: [u8; 32],
+    pub next_block: u64,
+}
+
+impl Detached {
+    /// The key at this block.
+    pub fn of(key: [u8; 32], next_block: u64) -> Detached
+        ensures key { result.key ≡ key }
+        ensures next_block { result.next_block ≡ next_block }
+    {
+        Detached { key, next_block }
+    }
+
+    /// Writes the keystream over all of `buf` from the start of the next block, and goes past each block that it began.
+    /// What a last block has over is given up.
+    pub fn more(&mut self, buf: &mut [u8])
+        requires near { self.old.next_block ≤ 2 ^ 20 }
+        requires short { length buf.old ≤ 2 ^ 21 }
+        ensures bytes { buf.new ≡ keystream self.old.key (64 * self.old.next_block) (length buf.old) }
+        ensures key { self.new.key ≡ self.old.key }
+        ensures next_block { self.new.next_block ≡ self.old.next_block + (length buf.old + 63) / 64 }
+    {
+        Reader::at(&self.key, self.next_block * BLOCK_WORDS).read(buf);
+        self.next_block += (buf.len() as u64).div_ceil(BLOCK_BYTES);
+    }
+}
+
+/// Replaces the key by bytes 0 to 32 of its own keystream, fills `out` with the bytes from 32 on, and gives the
+/// replaced key at block 1. This is the kernel's `crng_fast_key_erasure`: `out` is what the caller takes of the rest of
+/// block 0, 32 bytes at most.
+pub fn erase(key: &mut [u8; 32], out: &mut [u8]) -> Detached
+    requires { length out.old ≤ 32 }
+    ensures erased { key.new ≡ keystream key.old 0 32 }
+    ensures out { out.new ≡ keystream key.old 32 (length out.old) }
+    ensures key { result.key ≡ key.old }
+    ensures next_block { result.next_block ≡ 1 }
+{
+    let old = *key;
+    erase_and_fill(key, out);
+    Detached::of(old, 1)
+}
+
+/// Replaces the key by bytes 0 to 32 of its own keystream, and fills `buf` with the bytes from 32 on, of any number
+/// below 2^40 - 32. It is a kernel read whole (`_get_random_bytes`): what [`erase`] writes to the first 32 bytes and
+/// [`Detached::more`] to the rest, read from one reader.
+pub fn erase_and_fill(key: &mut [u8; 32], buf: &mut [u8])
+    requires { 32 + length buf.old < 2 ^ 40 }
+    ensures erased { key.new ≡ keystream key.old 0 32 }
+    ensures bytes { buf.new ≡ keystream key.old 32 (length buf.old) }
+{
+    let mut reader = Reader::at(key, 0);
+    reader.read(key);
+    reader.read(buf);
+}
+
+/// Replaces the key by bytes 0 to 32 of its own keystream, and gives bytes 32 to 64 as the key of somebody else: a CPU's
+/// new key out of the base key, or the key of one read that is longer than the rest of a block.
+pub fn derive_key(key: &mut [u8; 32]) -> [u8; 32]
+    ensures erased { key.new ≡ keystream key.old 0 32 }
+    ensures derived { result ≡ keystream key.old 32 32 }
+{
+    let mut derived = [0; 32];
+    erase_and_fill(key, &mut derived);
+    derived
+}

@@ -1,0 +1,16 @@
+//! The ChaCha20 keystream by byte position, and fast key erasure.
+//!
+//! The cipher is that of RFC 8439 with nonce zero and a block counter of 64 bits: 2^64 blocks of 64 bytes for each
+//! key, block `b` at bytes `64 * b` on. Contracts name the bytes by `keystream key from len` of `key_names`, which says
+//! what they are with no state carried.
+#![tactic(auto)]
+
+pub mod erasure;
+pub mod reader;
+pub mod stream;
+#[cfg(test)]
+mod tests;
+
+pub use erasure::{Detached, derive_key, erase, erase_and_fill};
+pub use reader::Reader;
+pub use stream::fill;

@@ -1,0 +1,56 @@
+//! A place in a key's stream, from which bytes are read.
+
+ghost use Rattle.std.specs.Prelude.{◌≡◌, ◌+◌, ◌*◌, ◌/◌, ◌^◌, ◌<◌, length};
+ghost use Rattle.key_names.specs.Keystream.{keystream};
+
+use rand_chacha::ChaCha20Rng;
+use rand_core::SeedableRng;
+use rand_core::utils::fill_bytes_via_u32;
+use std::marker::Model;
+
+/// A key and a place in its keystream: the number, from 0, of the word of 4 bytes that the next read begins at.
+///
+/// The cipher makes four blocks at a time, so a caller that needs several runs of one key's bytes, one after another,
+/// reads them all from one reader.
+#[derive(Drop)]
+pub struct Reader {
+    key: [u8; 32],
+    rng: ChaCha20Rng,
+}
+
+impl Model for Reader {
+    ghost use Rattle.std.specs.Prelude.{◌≡◌};
+    ghost use Rattle.chacha_blocks.specs.Place.{Place, generator_at};
+
+    ghost Value = { Place };
+
+    ghost view = { λ r. record { key = r.key; word = r.rng.word_pos } };
+
+    ghost invariant = { λ r. r.rng ≡ generator_at r.key r.rng.word_pos };
+}
+
+impl Reader {
+    /// The key's stream from this word on. Nothing is computed before the first read, unless the word stands inside a
+    /// block.
+    #[inline]
+    pub fn at(key: &[u8; 32], word: u64) -> Reader
+        ensures { result ≡ record { key = key.now; word = word } }
+    {
+        let mut rng = ChaCha20Rng::from_seed(*key);
+        if word > 0 {
+            rng.set_word_pos(u128::from(word));
+        }
+        Reader { key: *key, rng }
+    }
+
+    /// Writes the next bytes of the stream over all of `buf`. The place then is the first word that was not begun: what
+    /// a last word has over is given up.
+    #[inline]
+    pub fn read(&mut self, buf: &mut [u8])
+        requires { self.old.word + length buf.old < 2 ^ 66 }
+        ensures bytes { buf.new ≡ keystream self.old.key (4 * self.old.word) (length buf.old) }
+        ensures place { self.new ≡ record self.old { word = self.old.word + (length buf.old + 3) / 4 } }
+    {
+        fill_bytes_via_u32(&mut self.rng, buf);
+    }
+}

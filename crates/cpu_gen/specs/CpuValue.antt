@@ -1,0 +1,48 @@
+-- What contracts see of a CPU's generator, and what an entry of the CPU's list makes of it.
+use Rattle.std.specs.Prelude.{ℕ, true, false, Option, Some, None, List}
+use Rattle.key_names.specs.declared.entries.CpuEntry.{CpuEntry}
+use Rattle.key_names.specs.declared.entries.CpuEntry.TheVariants.{Read, Int, Irq, Dump, Prepare, Online}
+use Rattle.key_names.specs.Keystream.{keystream}
+use Rattle.key_names.specs.CpuList.{CpuState, cpu_after}
+use Rattle.key_names.specs.KeyInUse.{zero_key, cpu_value_after}
+use Rattle.key_names.specs.Book.{Lists}
+
+pub record CpuValue : Type 0 where
+  -- the 32 bytes of the key
+  pub key : List ℕ
+  -- that of the base as the key came from there, or 0
+  pub generation : ℕ
+
+abbrev pub start : CpuValue
+start = record { key = zero_key; generation = 0 }
+
+-- the key was replaced by the front of its own keystream
+abbrev pub erased : CpuValue → CpuValue
+erased c = record c { key = keystream c.key 0 32 }
+
+-- the CPU is prepared: its key counts as no generation's
+abbrev pub prepared : CpuValue → CpuValue
+prepared c = record c { generation = 0 }
+
+-- what the base handed over in the refill that is named, or else the generator before
+abbrev pub refilled : Option ℕ → CpuValue → CpuValue → CpuValue
+refilled None handed c = c
+refilled (Some place) handed c = handed
+
+-- the generator after an entry, given what the base handed over in the refill that the entry names
+abbrev pub after_entry : CpuEntry → CpuValue → CpuValue → CpuValue
+after_entry (Read look refill taken) handed c = erased (refilled refill handed c)
+after_entry (Int look refill width true) handed c = erased (refilled refill handed c)
+after_entry (Int look refill width false) handed c = refilled refill handed c
+after_entry (Irq v1 v2 now) handed c = c
+after_entry (Dump now) handed c = c
+after_entry Prepare handed c = prepared c
+after_entry Online handed c = c
+
+-- the generator of a CPU whose list is in this state, with the value of its key
+abbrev pub cpu_at : CpuState → List ℕ → CpuValue
+cpu_at s value = record { key = value; generation = s.generation }
+
+-- the generator of CPU c after all entries of its list
+abbrev pub after_entries : Lists → ℕ → List CpuEntry → CpuValue
+after_entries lists c entries = cpu_at (cpu_after lists.base c entries) (cpu_value_after lists entries)

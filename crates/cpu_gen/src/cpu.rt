@@ -1,0 +1,117 @@
+//! One CPU's key and its generation.
+
+ghost use Rattle.std.specs.Prelude.{◌≡◌, ◌≢◌, ◌^◌, ◌<◌, ◌≤◌, length, MatchBool};
+ghost use Rattle.key_names.specs.declared.entries.Taken.TheVariants.{User, Kernel};
+ghost use Rattle.key_names.specs.Keystream.{keystream};
+ghost use Rattle.key_names.specs.KeyInUse.{taken_bytes};
+ghost use Rattle.cpu_gen.specs.CpuValue.{start, erased, prepared};
+
+use base_gen::user_read;
+use chacha_blocks::{Detached, derive_key, erase, erase_and_fill};
+use std::marker::Model;
+
+/// One CPU's generator (`struct crng`). Each read erases the key.
+///
+/// Generation 0 is that of no base: the CPU was never given a key, or it was prepared since.
+#[derive(Drop)]
+pub struct Cpu {
+    key: [u8; 32],
+    generation: u64,
+}
+
+impl Model for Cpu {
+    ghost use Rattle.cpu_gen.specs.CpuValue.{CpuValue};
+
+    ghost Value = { CpuValue };
+
+    ghost view = { λ c. record { key = c.key; generation = c.generation } };
+}
+
+impl Cpu {
+    /// A CPU that was never given a key: zeros, generation 0.
+    pub fn start() -> Cpu
+        ensures { result ≡ start }
+    {
+        Cpu::with([0; 32], 0)
+    }
+
+    /// A CPU with this key of this generation.
+    pub fn with(key: [u8; 32], generation: u64) -> Cpu
+        ensures { result ≡ record { key = key; generation = generation } }
+    {
+        Cpu { key, generation }
+    }
+
+    /// The generation that the base had when the key came from it, or 0.
+    pub fn generation(&self) -> u64
+        ensures { result ≡ self.now.generation }
+    {
+        self.generation
+    }
+
+    /// Whether the key is not of generation `g`, so that a read at `g` has to refill first.
+    pub fn needs(&self, g: u64) -> bool
+        ensures { MatchBool result (self.now.generation ≢ g) (self.now.generation ≡ g) }
+    {
+        self.generation != g
+    }
+
+    /// Takes over a key that the base handed out at generation `g` (`crng_make_state`).
+    pub fn refill(&mut self, key: [u8; 32], g: u64)
+        ensures { self.new ≡ record { key = key; generation = g } }
+    {
+        *self = Cpu::with(key, g);
+    }
+
+    /// Erases the key, and hands out the key of one read that is longer than 32 bytes, or of a vgetrandom state.
+    pub fn call_key(&mut self) -> [u8; 32]
+        ensures state { self.new ≡ erased self.old }
+        ensures key { result ≡ keystream self.old.key 32 32 }
+    {
+        derive_key(&mut self.key)
+    }
+
+    /// Erases the key, and hands out the first bytes that its block has over, and the old key from block 1 on
+    /// (`crng_fast_key_erasure`).
+    pub fn front(&mut self, out: &mut [u8]) -> Detached
+        requires { length out.old ≤ 32 }
+        ensures state { self.new ≡ erased self.old }
+        ensures out { out.new ≡ keystream self.old.key 32 (length out.old) }
+        ensures key { result.key ≡ self.old.key }
+        ensures next_block { result.next_block ≡ 1 }
+    {
+        erase(&mut self.key, out)
+    }
+
+    /// Fills `buf` for the kernel (`_get_random_bytes`): erases the key, unless no byte is wanted. It is
+    /// [`Cpu::front`] and [`Detached::more`] in one, which costs half as much.
+    pub fn kernel_read(&mut self, buf: &mut [u8])
+        requires { length buf.old < 2 ^ 32 }
+        ensures none { length buf.old ≡ 0 → self.new ≡ self.old }
+        ensures some { 0 < length buf.old → self.new ≡ erased self.old }
+        ensures bytes { buf.new ≡ taken_bytes self.old.key (Kernel (length buf.old)) }
+    {
+        if !buf.is_empty() {
+            erase_and_fill(&mut self.key, buf);
+        }
+    }
+
+    /// Erases the key, and fills `buf` for a user (`get_random_bytes_user`), as [`user_read`] of the base does.
+    pub fn user_read(&mut self, buf: &mut [u8])
+        requires { length buf.old < 2 ^ 32 }
+        ensures state { self.new ≡ erased self.old }
+        ensures bytes { buf.new ≡ taken_bytes self.old.key (User (length buf.old)) }
+    {
+        user_read(&mut self.key, buf);
+    }
+
+    /// The CPU is about to come online (`random_prepare_cpu`): its key counts as old, and stays until it is replaced.
+    pub fn prepare(&mut self)
+        ensures { self.new ≡ prepared self.old }
+    {
+        self.generation = 0;
+    }
+}
+
+#[cfg(test)]
+mod tests;

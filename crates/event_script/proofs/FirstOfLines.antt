@@ -1,0 +1,72 @@
+-- The first line of a text, and the script that goes on with it.
+use Rattle.std.proofs.Common.{◌≡◌, ℕ, ◌+◌, ◌<◌, length, arith, true, false, Ok, Err, List, [], ◌∷◌, refl, sym, ap, ◌∙◌}
+use Rattle.std.specs.List.{join_with_byte, list_any}
+use Rattle.std.proofs.lemmas.List.Splits.{join_with_byte-slice_split}
+use Rattle.key_names.specs.declared.faults.FaultKind.{FaultKind}
+use Rattle.key_names.specs.declared.faults.FaultKind.TheVariants.{BadByte, UnknownWord}
+use Rattle.key_names.specs.declared.faults.ScriptFault.{ScriptFault}
+use Rattle.key_names.specs.ScriptFaults.{◌>>=◌, Draft, GoesOn, Ends, at_line, behind, behind_first, behind_line, by_next, is_unprintable, line_of, nothing_behind, parts, script_from, script_of_draft}
+use Rattle.key_names.proofs.Parts.{HasFirst, first_part}
+use Rattle.event_script.specs.declared.error.LineError.{LineError}
+use Rattle.event_script.specs.declared.error.LineError.TheVariants.{Memory, Kind}
+use Rattle.event_script.specs.ScriptViews.{FailsAt, script_error}
+use Rattle.event_script.specs.Views.{Fails}
+
+pub whole_line : (text line rest : List ℕ) → parts 10 text ≡ line ∷ parts 10 rest → list_any is_unprintable line ≡ false
+    → line_of (parts 10 text) ≡ Ok line
+whole_line text line rest cut fine = rw (cut, (first_part 10 rest).is, fine) refl
+
+pub bad_line : (text line rest : List ℕ) → parts 10 text ≡ line ∷ parts 10 rest → list_any is_unprintable line ≡ true
+    → line_of (parts 10 text) ≡ Err BadByte
+bad_line text line rest cut bad = rw (cut, (first_part 10 rest).is, bad) refl
+
+one_step : (d : Draft) (n : ℕ) (lines : List (List ℕ)) → HasFirst lines
+    → script_from d n lines
+    ≡ (at_line n (line_of lines >>= behind_line d) >>= by_next (λ later. script_from later (n + 1) (behind lines)) (nothing_behind (n + 1) (behind lines) >>= λ none. Ok (script_of_draft d)))
+unfolding script_from
+one_step d n [] some = absurd (let e = some.is in cc)
+one_step d n (line ∷ more) some = refl
+
+-- what the first line makes of the script that goes on with a text
+pub step_of : (d : Draft) (n : ℕ) (text : List ℕ)
+    → script_from d n (parts 10 text)
+    ≡ (at_line n (line_of (parts 10 text) >>= behind_line d) >>= by_next (λ later. script_from later (n + 1) (behind (parts 10 text))) (nothing_behind (n + 1) (behind (parts 10 text)) >>= λ none. Ok (script_of_draft d)))
+step_of d n text = one_step d n (parts 10 text) (first_part 10 text)
+
+not_alone : (n : ℕ) (lines : List (List ℕ)) → (lines ≡ [] ∷ [] → ⊥) → nothing_behind n lines ≡ at_line n (line_of lines >>= λ line. Err UnknownWord)
+not_alone n [] not = refl
+not_alone n ([] ∷ []) not = absurd (not refl)
+not_alone n ((b ∷ tail) ∷ []) not = refl
+not_alone n ([] ∷ next ∷ more) not = refl
+not_alone n ((b ∷ tail) ∷ next ∷ more) not = refl
+
+-- a line that stands behind the end, or a part of one
+pub more_behind : (n : ℕ) (text : List ℕ) (kind : FaultKind) → 0 < length text → line_of (parts 10 text) ≡ Err kind
+    → nothing_behind n (parts 10 text) ≡ Err (record { line = n; kind = kind })
+more_behind n text kind some is =
+    let not : parts 10 text ≡ [] ∷ [] → ⊥ = λ e. omega (arith, ap length (sym (join_with_byte-slice_split 10 text) ∙ ap (join_with_byte 10) e)) in
+    not_alone n (parts 10 text) not ∙ ap (λ r. at_line n (r >>= λ line. Err UnknownWord)) is
+
+-- ---- what the first line makes of the whole
+
+pub goes_on : (d later : Draft) (n : ℕ) (text rest : List ℕ) → behind_first d (parts 10 text) ≡ Ok (GoesOn later)
+    → parts 10 rest ≡ behind (parts 10 text) → script_from d n (parts 10 text) ≡ script_from later (n + 1) (parts 10 rest)
+goes_on d later n text rest is cut = step_of d n text ∙ rw (is, cut) refl
+
+pub ends : (d : Draft) (n : ℕ) (text rest : List ℕ) → behind_first d (parts 10 text) ≡ Ok Ends
+    → parts 10 rest ≡ behind (parts 10 text) → parts 10 rest ≡ [] ∷ [] → script_from d n (parts 10 text) ≡ Ok (script_of_draft d)
+ends d n text rest is cut none = step_of d n text ∙ rw (is, ← cut, none) refl
+
+pub ends_early : (d : Draft) (n : ℕ) (text rest : List ℕ) (fault : ScriptFault) → behind_first d (parts 10 text) ≡
+    Ok Ends
+    → parts 10 rest ≡ behind (parts 10 text) → nothing_behind (n + 1) (parts 10 rest) ≡ Err fault → script_from d n (parts 10 text) ≡ Err fault
+ends_early d n text rest fault is cut more = step_of d n text ∙ rw (is, ← cut, more) refl
+
+pub faults : (d : Draft) (n : ℕ) (text : List ℕ) (kind : FaultKind) → behind_first d (parts 10 text) ≡ Err kind
+    → script_from d n (parts 10 text) ≡ Err (record { line = n; kind = kind })
+faults d n text kind is = step_of d n text ∙ rw is refl
+
+pub fails : (d : Draft) (n : ℕ) (text : List ℕ) (error : LineError) → Fails error (behind_first d (parts 10 text))
+    → FailsAt (script_error n error) (script_from d n (parts 10 text))
+fails d n text (Kind kind) is = faults d n text kind is
+fails d n text Memory is = tt

@@ -1,0 +1,24 @@
+use Rattle.std.proofs.Common.{sym, subst, ◌∙◌}
+use Rattle.std.proofs.lemmas.Result.{err_from_is_err_and}
+use Rattle.key_names.specs.ScriptFaults.{script_of_draft}
+use Rattle.key_names.proofs.ScriptTexts.{script_again, script_takes}
+use Rattle.event_script.specs.Drafts.{draft_as}
+use Rattle.event_script.specs.ScriptViews.{FailsAt}
+use Rattle.event_script.proofs.script.read.Goals as goal
+
+pub returns-in_err-draft-clause-only : goal.returns-in_err-draft-clause-only
+returns-in_err-draft-clause-only c = λ script is.
+    let p = err_from_is_err_and c.from_residual.result c.from_residual.ensures.1 in
+    rw (p.1, p.2) (subst (FailsAt _) (script_again c.args.text.now script is) c.in_err-draft.ensures)
+
+pub invariant_of-result : goal.invariant_of-result
+invariant_of-result c =
+    rw c.in_ok-callers.ensures (script_takes c.args.text.now (script_of_draft (draft_as c.in_ok-draft.draft)) c.in_ok-draft.ensures).well_formed
+
+pub returns-clause-found : goal.returns-clause-found
+returns-clause-found c =
+    rw c.in_ok-callers.ensures (script_takes c.args.text.now (script_of_draft (draft_as c.in_ok-draft.draft)) c.in_ok-draft.ensures)
+
+pub returns-clause-only : goal.returns-clause-only
+returns-clause-only c = λ script is.
+    rw c.in_ok-callers.ensures (sym (script_again c.args.text.now script is) ∙ c.in_ok-draft.ensures)

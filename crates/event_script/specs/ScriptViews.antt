@@ -1,0 +1,32 @@
+-- What a reader of lines answered, beside what the definitions give.
+use Rattle.std.specs.Prelude.{◌≡◌, ℕ, Bool, true, false, ⊤, List, Some, Result, Ok, Err}
+use Rattle.key_names.specs.declared.faults.ScriptFault.{ScriptFault}
+use Rattle.key_names.specs.ScriptFaults.{first_fault, Draft, Next, GoesOn, Ends}
+use Rattle.event_script.specs.declared.error.LineError.{LineError}
+use Rattle.event_script.specs.declared.error.LineError.TheVariants.{Memory, Kind}
+use Rattle.event_script.specs.declared.script_error.ScriptError.{ScriptError}
+use Rattle.event_script.specs.declared.script_error.ScriptError.TheVariants.{Fault, NoMemory}
+
+-- what is wrong with a line, with its number
+abbrev pub script_error : ℕ → LineError → ScriptError
+script_error n (Kind kind) = Fault (record { line = n; kind = kind })
+script_error n Memory = NoMemory
+
+abbrev pub FailsAt : {Y : Type 0} → ScriptError → Result Y ScriptFault → Type 0
+FailsAt (Fault fault) given = given ≡ Err fault
+FailsAt NoMemory given = ⊤
+
+-- the answer, seen by view, is what is given, unless memory ran out
+abbrev pub GivesScript : {X Y : Type 0} → (X → Y) → Result X ScriptError → Result Y ScriptFault → Type 0
+GivesScript view (Ok x) given = given ≡ Ok (view x)
+GivesScript view (Err e) given = FailsAt e given
+
+-- a draft goes on with more lines, or has ended
+abbrev pub next_as : Bool → Draft → Next
+next_as true d = GoesOn d
+next_as false d = Ends
+
+-- the error is the text's first fault, or memory ran out
+abbrev pub IsFirstFault : ScriptError → List ℕ → Type 0
+IsFirstFault (Fault fault) text = first_fault text ≡ Some fault
+IsFirstFault NoMemory text = ⊤

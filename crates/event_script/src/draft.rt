@@ -1,0 +1,172 @@
+//! The script so far.
+
+ghost use Rattle.std.specs.Prelude.{◌≡◌, ◌<◌, ◌≤◌, ◌+◌, [], IfOk, map, vec_len};
+ghost use Rattle.std.specs.List.{list_any};
+ghost use Rattle.event_script.specs.Tally.{Tallied, blocks_in, fork_in};
+ghost use Rattle.event_script.specs.Views.{Gives};
+ghost use Rattle.key_names.specs.ScriptFaults.{SaysEvent, SaysCaller, GoesOn, after, blocks_of, has_orphan, is_bad_fork, is_past_limits};
+ghost use Rattle.key_names.specs.ScriptGrammar.{InRange, acts_after};
+
+use crate::error::LineError;
+use crate::first_form::bytes_of;
+use key_names::{Event, FaultKind};
+use std::alloc::{AllocError, Global};
+use std::mem;
+
+const MOST_CALLERS: usize = 64;
+
+const MOST_EVENTS: usize = 65_536;
+
+const MOST_READ: u64 = 16_777_216;
+
+const MOST_ACTS: u32 = 8;
+
+/// The blocks that are done, the events of the last one, and what is counted of them.
+#[derive(Drop)]
+pub(crate) struct Draft {
+    pub(crate) version: u32,
+    pub(crate) cpus: u32,
+    pub(crate) done: Vec<Vec<Event>>,
+    pub(crate) events: Vec<Event>,
+    event_count: usize,
+    bytes_read: u64,
+    acts: u32,
+    forked: [bool; 64],
+    ghost tallied: { Tallied (blocks_in done.items events.items) events.items event_count bytes_read acts forked },
+    ghost few_blocks: { vec_len done < 64 },
+}
+
+/// How many acts wait for a `vread` behind an event.
+fn waiting_after(waiting: u32, event: &Event) -> u32
+    requires { waiting ≤ 8 }
+    ensures { result ≡ acts_after waiting event.now }
+{
+    match event {
+        Event::Inside { .. } => waiting + 1,
+        Event::Vread { .. } => 0,
+        _ => waiting,
+    }
+}
+
+/// The number that an event forks.
+fn fork_of(event: &Event) -> Option<u32>
+    ensures { result ≡ fork_in event.now }
+{
+    match event {
+        Event::Fork { child } => Some(*child),
+        _ => None,
+    }
+}
+
+impl Draft {
+    ghost use Rattle.event_script.specs.Drafts.{draft_as};
+
+    /// The empty block of caller 0.
+    pub(crate) fn new(alloc: Global, version: u32, cpus: u32) -> Draft
+        ensures { draft_as result ≡ record { version = version; cpus = cpus; done = []; events = [] } }
+    {
+        Draft {
+            version,
+            cpus,
+            done: Vec::new(alloc),
+            events: Vec::new(alloc),
+            event_count: 0,
+            bytes_read: 0,
+            acts: 0,
+            forked: [false; 64],
+        }
+    }
+
+    /// Whether an event forks a number that is not above the caller's own, or was forked before.
+    fn is_bad_fork(&self, event: &Event) -> bool
+        requires { InRange self.now.version self.now.cpus event.now }
+        ensures { result ≡ is_bad_fork (draft_as self.now) event.now }
+    {
+        match event {
+            Event::Fork { child } => {
+                let child = *child as usize;
+                child <= self.done.len() || self.forked[child]
+            }
+            _ => false,
+        }
+    }
+
+    /// Whether there is no room for one more event, or for its acts and read bytes.
+    fn is_past_limits(&self, event: &Event) -> bool
+        ensures { result ≡ is_past_limits (draft_as self.now) event.now }
+    {
+        self.event_count >= MOST_EVENTS
+            || self.bytes_read + u64::from(bytes_of(event)) > MOST_READ
+            || waiting_after(self.acts, event) > MOST_ACTS
+    }
+
+    /// One more event of the last block.
+    pub(crate) fn add_event(&mut self, event: Event) -> Result<(), LineError>
+        requires { InRange self.old.version self.old.cpus event }
+        ensures next { Gives (λ _. GoesOn (draft_as self.new)) result (after (draft_as self.old) (SaysEvent event)) }
+        ensures same { self.new.cpus ≡ self.old.cpus }
+    {
+        if self.is_bad_fork(&event) {
+            return Err(LineError::Kind(FaultKind::BadFork));
+        }
+        if self.is_past_limits(&event) {
+            return Err(LineError::Kind(FaultKind::TooMany));
+        }
+        let bytes = bytes_of(&event);
+        let acts = waiting_after(self.acts, &event);
+        let child = fork_of(&event);
+        self.events.push(event)?;
+        self.event_count += 1;
+        self.bytes_read += u64::from(bytes);
+        self.acts = acts;
+        if let Some(child) = child {
+            self.forked[child as usize] = true;
+        }
+        Ok(())
+    }
+
+    /// The next block, if this is its number.
+    pub(crate) fn add_block(&mut self, alloc: Global, number: u32) -> Result<(), LineError>
+        requires { number < 64 }
+        ensures next { Gives (λ _. GoesOn (draft_as self.new)) result (after (draft_as self.old) (SaysCaller number)) }
+        ensures same { self.new.cpus ≡ self.old.cpus }
+    {
+        if number as usize != self.done.len() + 1 {
+            return Err(LineError::Kind(FaultKind::BadCaller));
+        }
+        if !self.forked[number as usize] {
+            return Err(LineError::Kind(FaultKind::Unforked));
+        }
+        self.done.reserve(1)?;
+        let events = mem::replace(&mut self.events, Vec::new(alloc));
+        self.done.push_reserved(events);
+        self.acts = 0;
+        Ok(())
+    }
+
+    /// Whether a number was forked and has no block.
+    pub(crate) fn has_orphan(&self) -> bool
+        ensures { result ≡ has_orphan (draft_as self.now) }
+    {
+        is_any_set(&self.forked[self.done.len() + 1..])
+    }
+
+    /// The blocks, the last one among them.
+    pub(crate) fn into_blocks(self) -> Result<Vec<Vec<Event>>, AllocError>
+        ensures { IfOk result (λ blocks. map (λ block. block.items) blocks.items ≡ blocks_of (draft_as self)) }
+    {
+        let Draft {
+            mut done,
+            events,
+            ..
+        } = self;
+        done.push(events)?;
+        Ok(done)
+    }
+}
+
+fn is_any_set(flags: &[bool]) -> bool
+    ensures { result ≡ list_any (λ flag. flag) flags.now }
+{
+    flags.iter().any(|flag| *flag)
+}

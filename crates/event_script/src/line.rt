@@ -1,0 +1,84 @@
+//! What one line says.
+
+ghost use Rattle.std.specs.Prelude.{◌≡◌, ◌<◌, ◌≤◌, IfOk};
+ghost use Rattle.std.specs.List.{list_any};
+ghost use Rattle.event_script.specs.Views.{Gives, fields_of};
+ghost use Rattle.event_script.specs.Says.{said_as};
+ghost use Rattle.key_names.specs.ScriptFaults.{said, said_by_word, SaidInRange, is_unprintable};
+
+use crate::error::LineError;
+use crate::events::event_of;
+use crate::fields::{cut, none, one, spells, two};
+use crate::numbers::number;
+use crate::words::word_of;
+use key_names::{Event, FaultKind, Word};
+use std::alloc::Global;
+
+/// A line behind the first two.
+#[derive(Drop)]
+pub(crate) enum Said {
+    Event(Event),
+    Caller(u32),
+    End,
+}
+
+/// Whether a line has a byte outside printable ASCII.
+pub(crate) fn has_bad_byte(line: &[u8]) -> bool
+    ensures { result ≡ list_any is_unprintable line.now }
+{
+    let mut bad = false;
+    for byte in line {
+        bad |= *byte < 0x20 || *byte > 0x7e;
+    }
+    bad
+}
+
+fn said_by(
+    alloc: Global,
+    version: u32,
+    cpus: u32,
+    word: Word,
+    rest: Option<&[u8]>,
+) -> Result<Said, LineError>
+    requires some { 0 < cpus }
+    requires few { cpus ≤ 256 }
+    ensures value { Gives said_as result (said_by_word version cpus (fields_of rest.entry) word) }
+    ensures range { IfOk result (λ what. SaidInRange version cpus (said_as what)) }
+{
+    match word {
+        Word::End => {
+            none(rest)?;
+            Ok(Said::End)
+        }
+        _ => {
+            let event = event_of(alloc, version, cpus, word, rest)?;
+            Ok(Said::Event(event))
+        }
+    }
+}
+
+/// What a line says, or the first thing that is wrong with its word and its fields.
+pub(crate) fn line_says(
+    alloc: Global,
+    version: u32,
+    cpus: u32,
+    line: &[u8],
+) -> Result<Said, LineError>
+    requires some { 0 < cpus }
+    requires few { cpus ≤ 256 }
+    ensures value { Gives said_as result (said version cpus line.now) }
+    ensures range { IfOk result (λ what. SaidInRange version cpus (said_as what)) }
+{
+    let (first, rest) = match cut(b' ', line) {
+        Some((first, rest)) => (first, Some(rest)),
+        None => (line, None),
+    };
+    if spells(first, b"caller") {
+        let number = number(63, one(rest)?)?;
+        return Ok(Said::Caller(number as u32));
+    }
+    match word_of(first) {
+        Some(word) => said_by(alloc, version, cpus, word, rest),
+        None => Err(LineError::Kind(FaultKind::UnknownWord)),
+    }
+}

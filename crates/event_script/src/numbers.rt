@@ -1,0 +1,67 @@
+//! Fields that are numbers.
+
+ghost use Rattle.std.specs.Prelude.{◌≡◌, ◌+◌, ◌<◌, ◌≤◌, IfOk, IfSome};
+ghost use Rattle.event_script.specs.Views.{Tells};
+ghost use Rattle.key_names.specs.ScriptFaults.{number_below, number, number_in};
+
+use key_names::FaultKind;
+
+/// The number that a field spells in decimal, without leading zeros, if it is at most `most`.
+pub(crate) fn number_up_to(most: u64, field: &[u8]) -> Option<u64>
+    ensures value { result ≡ number_below (most + 1) field.now }
+    ensures range { IfSome result (λ n. n ≤ most) }
+{
+    if field.is_empty() {
+        return None;
+    }
+    if field[0] == b'0' && field.len() > 1 {
+        return None;
+    }
+    let mut value: u64 = 0;
+    for byte in field {
+        let Some(digit) = char::from(*byte).to_digit(10) else {
+            return None;
+        };
+        let Some(tens) = value.checked_mul(10) else {
+            return None;
+        };
+        let Some(next) = tens.checked_add(u64::from(digit)) else {
+            return None;
+        };
+        value = next;
+    }
+    if value <= most { Some(value) } else { None }
+}
+
+/// The number that a field spells, at most `most`.
+pub(crate) fn number(most: u64, field: &[u8]) -> Result<u64, FaultKind>
+    ensures value { Tells (λ n. n) result (number (most + 1) field.now) }
+    ensures range { IfOk result (λ n. n ≤ most) }
+{
+    match number_up_to(most, field) {
+        Some(value) => Ok(value),
+        None => Err(FaultKind::BadNumber),
+    }
+}
+
+/// The number that a field spells, from `least` to `most`.
+pub(crate) fn number_from(least: u64, most: u64, field: &[u8]) -> Result<u64, FaultKind>
+    ensures value { Tells (λ n. n) result (number_in least (most + 1) field.now) }
+    ensures range { IfOk result (λ n. n ≤ most) }
+{
+    let value = number(most, field)?;
+    if value < least {
+        return Err(FaultKind::BadNumber);
+    }
+    Ok(value)
+}
+
+/// The number that a field spells, below `limit`.
+pub(crate) fn number_below(limit: u32, field: &[u8]) -> Result<u32, FaultKind>
+    requires { 0 < limit }
+    ensures value { Tells (λ n. n) result (number limit field.now) }
+    ensures range { IfOk result (λ n. n < limit) }
+{
+    let value = number(u64::from(limit) - 1, field)?;
+    Ok(value as u32)
+}

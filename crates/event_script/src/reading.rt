@@ -1,0 +1,243 @@
+//! A script's text, line by line.
+
+ghost use Rattle.std.specs.Prelude.{◌≡◌, ℕ, ◌<◌, ◌≤◌, ◌+◌, ◌∷◌, [], IfOk, MatchResult, length};
+ghost use Rattle.std.specs.Bool.{OnFalse};
+ghost use Rattle.key_names.specs.ScriptFaults.{at_line, behind, behind_first, behind_line, cpus_by, cpus_in, line_of, nothing_behind, parts, script_from, script_of, script_of_draft, start_in, version_in, version_of};
+ghost use Rattle.key_names.specs.ScriptGrammar.{most_cpus};
+ghost use Rattle.event_script.specs.Drafts.{draft_as};
+ghost use Rattle.event_script.specs.ScriptViews.{GivesScript, next_as, script_error};
+ghost use Rattle.event_script.specs.Views.{Gives, Tells};
+
+use crate::draft::Draft;
+use crate::error::LineError;
+use crate::fields::{cut, spells, two};
+use crate::line::{Said, has_bad_byte, line_says};
+use crate::numbers::number_up_to;
+use crate::script_error::ScriptError;
+use key_names::{FaultKind, ScriptFault};
+use std::alloc::Global;
+
+/// The most bytes of a script's text.
+const MOST_BYTES: usize = 16_777_216;
+
+/// The first line of a text, and what stands behind it.
+fn first_line(text: &[u8]) -> Result<(&[u8], &[u8]), FaultKind>
+    ensures line { Tells (λ both. both.0.now) result (line_of (parts 10 text.now)) }
+    ensures rest { IfOk result (λ both. parts 10 both.1.now ≡ behind (parts 10 text.now)) }
+    ensures shorter { IfOk result (λ both. length both.1.now < length text.now) }
+{
+    let Some((line, rest)) = cut(b'\n', text) else {
+        return Err(FaultKind::Unfinished);
+    };
+    if has_bad_byte(line) {
+        return Err(FaultKind::BadByte);
+    }
+    Ok((line, rest))
+}
+
+fn version_of(line: &[u8]) -> Result<u32, FaultKind>
+    ensures { Tells (λ version. version) result (version_of line.now) }
+{
+    if spells(line, b"rngscript 1") {
+        return Ok(1);
+    }
+    if spells(line, b"rngscript 2") {
+        return Ok(2);
+    }
+    if spells(line, b"rngscript 3") {
+        return Ok(3);
+    }
+    Err(FaultKind::BadHead)
+}
+
+/// The most CPUs of a version's scripts.
+fn most_cpus(version: u32) -> u64
+    ensures { result ≡ most_cpus version }
+{
+    if version < 3 { 64 } else { 256 }
+}
+
+fn cpus_of(version: u32, line: &[u8]) -> Result<u32, FaultKind>
+    ensures cpus { Tells (λ cpus. cpus) result (cpus_by version (parts 32 line.now)) }
+    ensures range { IfOk result (λ cpus. (0 < cpus) × (cpus ≤ 256)) }
+{
+    let Ok((first, count)) = two(Some(line)) else {
+        return Err(FaultKind::BadCpus);
+    };
+    if !spells(first, b"cpus") {
+        return Err(FaultKind::BadCpus);
+    }
+    match number_up_to(most_cpus(version), count) {
+        None | Some(0) => Err(FaultKind::BadCpus),
+        Some(cpus) => Ok(cpus as u32),
+    }
+}
+
+/// What a line adds to a script, and whether more lines may follow.
+fn take_line(alloc: Global, draft: &mut Draft, line: &[u8]) -> Result<bool, LineError>
+    requires some { 0 < draft.old.cpus }
+    requires few { draft.old.cpus ≤ 256 }
+    ensures next { Gives (λ more. next_as more (draft_as draft.new)) result
+        (behind_line (draft_as draft.old) line.now) }
+    ensures same { draft.new.cpus ≡ draft.old.cpus }
+    ensures kept { IfOk result (λ more. OnFalse more (draft_as draft.new ≡ draft_as draft.old)) }
+{
+    match line_says(alloc, draft.version, draft.cpus, line)? {
+        Said::Event(event) => {
+            draft.add_event(event)?;
+            Ok(true)
+        }
+        Said::Caller(number) => {
+            draft.add_block(alloc, number)?;
+            Ok(true)
+        }
+        Said::End => {
+            if draft.has_orphan() {
+                return Err(LineError::Kind(FaultKind::Unforked));
+            }
+            Ok(false)
+        }
+    }
+}
+
+fn fault(line: u32, kind: FaultKind) -> ScriptFault
+    ensures { result ≡ record { line = line; kind = kind } }
+{
+    ScriptFault { line, kind }
+}
+
+fn at_line(line: u32, error: LineError) -> ScriptError
+    ensures { result ≡ script_error line error }
+{
+    match error {
+        LineError::Kind(kind) => ScriptError::Fault(fault(line, kind)),
+        LineError::Memory => ScriptError::NoMemory,
+    }
+}
+
+/// The version of a text, and what stands behind its line.
+fn read_version(text: &[u8]) -> Result<(u32, &[u8]), FaultKind>
+    ensures version { Tells (λ both. both.0) result (version_in (parts 10 text.now)) }
+    ensures rest { IfOk result (λ both. parts 10 both.1.now ≡ behind (parts 10 text.now)) }
+    ensures shorter { IfOk result (λ both. length both.1.now < length text.now) }
+{
+    let (line, rest) = first_line(text)?;
+    let version = version_of(line)?;
+    Ok((version, rest))
+}
+
+/// The number of CPUs, and what stands behind its line.
+fn read_cpus(version: u32, text: &[u8]) -> Result<(u32, &[u8]), FaultKind>
+    ensures cpus { Tells (λ both. both.0) result (cpus_in version (parts 10 text.now)) }
+    ensures range { IfOk result (λ both. (0 < both.0) × (both.0 ≤ 256)) }
+    ensures rest { IfOk result (λ both. parts 10 both.1.now ≡ behind (parts 10 text.now)) }
+    ensures shorter { IfOk result (λ both. length both.1.now < length text.now) }
+{
+    let (line, rest) = first_line(text)?;
+    let cpus = cpus_of(version, line)?;
+    Ok((cpus, rest))
+}
+
+/// The empty block of caller 0, and what stands behind its line.
+fn read_start(
+    alloc: Global,
+    version: u32,
+    cpus: u32,
+    text: &[u8],
+) -> Result<(Draft, &[u8]), LineError>
+    requires some { 0 < cpus }
+    requires few { cpus ≤ 256 }
+    ensures start { Gives (λ both. draft_as both.0) result (start_in version cpus (parts 10 text.now)) }
+    ensures cpus { IfOk result (λ both. both.0.cpus ≡ cpus) }
+    ensures rest { IfOk result (λ both. parts 10 both.1.now ≡ behind (parts 10 text.now)) }
+    ensures shorter { IfOk result (λ both. length both.1.now < length text.now) }
+{
+    let (line, rest) = first_line(text)?;
+    match line_says(alloc, version, cpus, line)? {
+        Said::Caller(0) => Ok((Draft::new(alloc, version, cpus), rest)),
+        _ => Err(LineError::Kind(FaultKind::BadCaller)),
+    }
+}
+
+/// What the next line adds to a script, whether more lines may follow, and what stands behind the line.
+fn read_line<'a>(
+    alloc: Global,
+    draft: &mut Draft,
+    text: &'a [u8],
+) -> Result<(bool, &'a [u8]), LineError>
+    requires some { 0 < draft.old.cpus }
+    requires few { draft.old.cpus ≤ 256 }
+    ensures next { Gives (λ both. next_as both.0 (draft_as draft.new)) result
+        (behind_first (draft_as draft.old) (parts 10 text.now)) }
+    ensures same { draft.new.cpus ≡ draft.old.cpus }
+    ensures kept { IfOk result (λ both. OnFalse both.0 (draft_as draft.new ≡ draft_as draft.old)) }
+    ensures rest { IfOk result (λ both. parts 10 both.1.now ≡ behind (parts 10 text.now)) }
+    ensures shorter { IfOk result (λ both. length both.1.now < length text.now) }
+{
+    let (line, rest) = first_line(text)?;
+    let more = take_line(alloc, draft, line)?;
+    Ok((more, rest))
+}
+
+/// That nothing stands behind the line `end`.
+fn check_end(text: &[u8]) -> Result<(), FaultKind>
+    ensures { MatchResult result (λ _. parts 10 text.now ≡ [] ∷ [])
+        (λ kind. (number : ℕ) → nothing_behind number (parts 10 text.now) ≡ Err (record { line = number; kind = kind })) }
+{
+    if text.is_empty() {
+        return Ok(());
+    }
+    match first_line(text) {
+        Ok(_) => Err(FaultKind::UnknownWord),
+        Err(kind) => Err(kind),
+    }
+}
+
+/// The script that goes on with a text of its fourth line and all behind it.
+fn read_rest(alloc: Global, mut draft: Draft, text: &[u8]) -> Result<Draft, ScriptError>
+    requires some { 0 < draft.cpus }
+    requires few { draft.cpus ≤ 256 }
+    requires short { length text.now ≤ 16777216 }
+    ensures { GivesScript (λ d. script_of_draft (draft_as d)) result
+        (script_from (draft_as draft) 4 (parts 10 text.now)) }
+{
+    let mut left = text;
+    let mut number = 4;
+    loop {
+        let (more, rest) = match read_line(alloc, &mut draft, left) {
+            Ok(both) => both,
+            Err(error) => return Err(at_line(number, error)),
+        };
+        number += 1;
+        if !more {
+            return match check_end(rest) {
+                Ok(()) => Ok(draft),
+                Err(kind) => Err(ScriptError::Fault(fault(number, kind))),
+            };
+        }
+        left = rest;
+    }
+}
+
+/// The script that a text is, its last block open.
+#[tactic(auto, unfolding(key_names::specs::ScriptFaults::script_of))]
+pub(crate) fn read_draft(alloc: Global, text: &[u8]) -> Result<Draft, ScriptError>
+    ensures { GivesScript (λ d. script_of_draft (draft_as d)) result (script_of text.now) }
+{
+    if text.len() > MOST_BYTES {
+        return Err(ScriptError::Fault(fault(0, FaultKind::TooLong)));
+    }
+    let (version, second) = match read_version(text) {
+        Ok(both) => both,
+        Err(kind) => return Err(ScriptError::Fault(fault(1, kind))),
+    };
+    let (cpus, third) = match read_cpus(version, second) {
+        Ok(both) => both,
+        Err(kind) => return Err(ScriptError::Fault(fault(2, kind))),
+    };
+    let (draft, rest) = match read_start(alloc, version, cpus, third) {
+        Ok(both) => both,
+        Err(error) => return Err(at_line(3, error)),
+    };
+    read_rest(alloc, draft, rest)
+}

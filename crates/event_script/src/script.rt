@@ -1,0 +1,114 @@
+//! Scripts.
+ghost use Rattle.std.specs.Prelude.{◌≡◌, ◌<◌, ◌≤◌, IfErr, IfOk, IsErr, length, take};
+ghost use Rattle.key_names.specs.declared.faults.ScriptFault.{ScriptFault};
+ghost use Rattle.key_names.specs.ScriptGrammar.{IsScript, Script as Spelt};
+ghost use Rattle.key_names.specs.ScriptFaults.{first_fault, front};
+ghost use Rattle.event_script.specs.ScriptViews.{GivesScript, IsFirstFault};
+
+use crate::front::front_len;
+use crate::reading::read_draft;
+use crate::script_error::ScriptError;
+use key_names::Event;
+use std::alloc::Global;
+use std::marker::Model;
+
+/// What callers are to do: a version, a number of CPUs, and the events of each caller.
+///
+/// A script has at least one caller, and is well-formed: its text is read without fault.
+#[derive(Drop)]
+pub struct Script {
+    version: u32,
+    cpus: u32,
+    callers: Vec<Vec<Event>>,
+}
+
+impl Model for Script {
+    ghost use Rattle.std.specs.Prelude.{map};
+    ghost use Rattle.key_names.specs.ScriptGrammar.{Script as Spelt, WellFormed};
+
+    ghost Value = { Spelt };
+
+    ghost view = { λ s. record { version = s.version; cpus = s.cpus; callers = map (λ events. events.items) s.callers.items } };
+
+    ghost invariant = { λ s. WellFormed
+        (record { version = s.version; cpus = s.cpus; callers = map (λ events. events.items) s.callers.items }) };
+}
+
+impl Script {
+    ghost use Rattle.std.specs.Prelude.{slice_get, Some};
+
+    /// The version of its text: 1, 2 or 3.
+    pub fn version(&self) -> u32
+        ensures { result ≡ self.now.version }
+    {
+        self.version
+    }
+
+    /// The number of CPUs, from 1.
+    pub fn cpus(&self) -> u32
+        ensures { result ≡ self.now.cpus }
+    {
+        self.cpus
+    }
+
+    /// The number of callers, from 1 to 64.
+    pub fn callers(&self) -> u32
+        ensures { result ≡ length self.now.callers }
+    {
+        self.callers.len() as u32
+    }
+
+    /// The events of one caller, in order.
+    pub fn events(&self, caller: u32) -> &[Event]
+        requires { caller < length self.now.callers }
+        ensures { slice_get self.now.callers caller ≡ Some result.now }
+    {
+        &self.callers[caller as usize]
+    }
+}
+
+/// Reads a script.
+///
+/// # Errors
+///
+/// The text's first fault, where it is no script.
+pub fn read(alloc: Global, text: &[u8]) -> Result<Script, ScriptError>
+    // What is read is spelt so.
+    ensures found { IfOk result (λ script. IsScript script text.now) }
+    // A script's text is read, unless memory runs out.
+    ensures only { (script : Spelt) → IsScript script text.now → GivesScript (λ read. read) result (Ok script) }
+    // Which fault it is.
+    ensures fault { IfErr result (λ error. IsFirstFault error text.now) }
+    // A text with a fault is no script, so it is not read.
+    ensures faulted { (fault : ScriptFault) → first_fault text.now ≡ Some fault → IsErr result }
+{
+    let draft = read_draft(alloc, text)?;
+    let version = draft.version;
+    let cpus = draft.cpus;
+    let callers = draft.into_blocks()?;
+    Ok(Script {
+        version,
+        cpus,
+        callers,
+    })
+}
+
+/// Reads the script in front of a text, up to and with its first line `end`, or all of the text where it has no such
+/// line. Answers the script and how many bytes it has.
+///
+/// # Errors
+///
+/// The first fault of the bytes that the script would have.
+pub fn read_front(alloc: Global, text: &[u8]) -> Result<(Script, u64), ScriptError>
+    ensures found { IfOk result (λ both. IsScript both.0 (front text.now)) }
+    ensures place { IfOk result (λ both. take both.1 text.now ≡ front text.now) }
+    ensures within { IfOk result (λ both. both.1 ≤ length text.now) }
+    ensures only { (script : Spelt) → IsScript script (front text.now)
+        → GivesScript (λ both. both.0) result (Ok script) }
+    ensures fault { IfErr result (λ error. IsFirstFault error (front text.now)) }
+    ensures faulted { (fault : ScriptFault) → first_fault (front text.now) ≡ Some fault → IsErr result }
+{
+    let len = front_len(text);
+    let script = read(alloc, &text[..len])?;
+    Ok((script, len as u64))
+}

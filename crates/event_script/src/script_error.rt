@@ -1,0 +1,40 @@
+//! Why a text is no script, or was not read.
+
+ghost use Rattle.std.specs.Prelude.{◌≡◌};
+ghost use Rattle.event_script.specs.declared.script_error.ScriptError.TheVariants.{Fault, NoMemory};
+
+use key_names::ScriptFault;
+use std::alloc::{AllocError, AllocFailed};
+
+/// Why a script could not be read.
+#[derive(Debug, Drop)]
+pub enum ScriptError {
+    /// The text's first fault.
+    Fault(ScriptFault),
+    /// There was not enough memory.
+    NoMemory,
+}
+
+impl From<AllocError> for ScriptError {
+    ghost from_gives = { λ _ e. e ≡ NoMemory };
+
+    fn from(_e: AllocError) -> ScriptError {
+        ScriptError::NoMemory
+    }
+}
+
+impl<T: Drop> From<AllocFailed<T>> for ScriptError {
+    ghost from_gives = { λ _ e. e ≡ NoMemory };
+
+    fn from(_e: AllocFailed<T>) -> ScriptError {
+        ScriptError::NoMemory
+    }
+}
+
+impl From<ScriptFault> for ScriptError {
+    ghost from_gives = { λ fault e. e ≡ Fault fault };
+
+    fn from(fault: ScriptFault) -> ScriptError {
+        ScriptError::Fault(fault)
+    }
+}

@@ -1,0 +1,118 @@
+//! The hash that samples are mixed into, with the bits that they were credited.
+
+ghost use Rattle.std.specs.Prelude.{◌≡◌, ℕ};
+ghost use Rattle.key_names.specs.Blake2s.{blake2s};
+ghost use Rattle.key_names.specs.PoolList.{PoolState, credit, crossing, pool_start, pool_step, root_of_extraction, seed_block};
+ghost use Rattle.key_names.specs.declared.entries.PoolEntry.TheVariants.{Mix, Extract};
+ghost use Rattle.input_pool.specs.PoolStands.{PoolStands};
+
+use blake2s_core::Blake2s;
+use std::marker::Model;
+use std::mem;
+
+/// The bits at which the pool is full and the core becomes ready (`POOL_READY_BITS`), and nothing more is credited.
+const READY_BITS: u32 = 256;
+
+/// The bits at which the core is seeded early (`POOL_EARLY_BITS`).
+const EARLY_BITS: u32 = 128;
+
+/// Which bound a credit crossed, as `_credit_init_bits` acts on it. Where it crossed both, it is `Ready`.
+#[derive(Clone, Copy, Debug, PartialEq, Eq)]
+pub enum Crossing {
+    /// Neither bound was crossed.
+    None,
+    /// The bits were below 128, and are 128 to 255 now: a base key may be made before the core is ready.
+    Early,
+    /// The bits were below 256, and are 256 now: the core becomes ready.
+    Ready,
+}
+
+/// The kernel's `input_pool`: a BLAKE2s hash that every sample is mixed into, and the bits of credit, 0 to 256.
+///
+/// Contracts see it as the parts of a pool of specs/. `PoolStands pool s` says that these are the key, the text and the
+/// bits of a state of the pool's list; a call speaks of every state for which the pool stood.
+#[derive(Drop)]
+pub struct Pool {
+    hash: Blake2s,
+    bits: u32,
+}
+
+impl Model for Pool {
+    ghost use Rattle.std.specs.Prelude.{◌≤◌};
+    ghost use Rattle.input_pool.specs.PoolStands.{PoolParts};
+
+    ghost Value = { PoolParts };
+
+    ghost view = { λ p. record { hash = p.hash; bits = p.bits } };
+
+    ghost invariant = { λ p. p.bits ≤ 256 };
+}
+
+// The hash of the hardware's bytes and a counter, under the seed.
+fn counted(seed: &[u8; 32], hw: &[u8; 32], counter: u64) -> [u8; 32]
+    ensures { result ≡ blake2s (Some seed.now) (seed_block hw.now counter) }
+{
+    let mut block = Blake2s::keyed(seed);
+    block.update(hw);
+    block.update(&counter.to_le_bytes());
+    block.finish()
+}
+
+impl Pool {
+    ghost use Rattle.input_pool.specs.PoolStands.{crossing_of};
+
+    /// An unkeyed hash of no bytes, and no bits.
+    pub fn start() -> Pool
+        ensures { PoolStands result pool_start }
+    {
+        Pool {
+            hash: Blake2s::plain(),
+            bits: 0,
+        }
+    }
+
+    /// Mixes bytes into the pool, and credits nothing for them (`mix_pool_bytes`).
+    pub fn mix(&mut self, text: &[u8])
+        ensures { (s : PoolState) → PoolStands self.old s → PoolStands self.new (pool_step s (Mix text.now 0)) }
+    {
+        self.hash.update(text);
+    }
+
+    /// Credits bits for what was mixed, up to 256 in all, and says which bound they crossed (`credit_init_bits`).
+    pub fn credit(&mut self, bits: u32) -> Crossing
+        ensures credited { (s : PoolState) → PoolStands self.old s
+            → PoolStands self.new (record s { bits = credit s.bits bits }) }
+        ensures crossed { crossing_of result ≡ crossing self.old.bits self.new.bits }
+    {
+        let before = self.bits;
+        self.bits = READY_BITS.min(before + bits.min(READY_BITS));
+        if before < READY_BITS && self.bits == READY_BITS {
+            Crossing::Ready
+        } else if before < EARLY_BITS && self.bits >= EARLY_BITS {
+            Crossing::Early
+        } else {
+            Crossing::None
+        }
+    }
+
+    /// The bits credited so far, 0 to 256 (`input_pool.init_bits`).
+    pub fn bits(&self) -> u32
+        ensures { result ≡ self.now.bits }
+    {
+        self.bits
+    }
+
+    /// Takes a root of 32 bytes out of the pool, and goes on with a hash of no bytes under the next key
+    /// (`extract_entropy`). The hash of the pool is the seed; under it the next key is the hash of the hardware's bytes
+    /// and a counter of 0, and the root that with a counter of 1. The bits stay.
+    pub fn extract(&mut self, hw: &[u8; 32]) -> [u8; 32]
+        ensures root { (s : PoolState) → PoolStands self.old s → result ≡ root_of_extraction s hw.now }
+        ensures rekeyed { (s : PoolState) (place : ℕ) → PoolStands self.old s
+            → PoolStands self.new (pool_step s (Extract hw.now place)) }
+    {
+        let seed = mem::replace(&mut self.hash, Blake2s::plain()).finish();
+        let next_key = counted(&seed, hw, 0);
+        self.hash = Blake2s::keyed(&next_key);
+        counted(&seed, hw, 1)
+    }
+}

@@ -1,0 +1,57 @@
+-- What contracts see of a batch, and what its calls make of it.
+use Rattle.std.specs.Prelude.{ℕ, ◌≡◌, ◌+◌, ◌*◌, ◌/◌, Bool, Some, None, MatchBool, List, length, drop, replicate, slice_range}
+use Rattle.key_names.specs.Keystream.{keystream}
+use Rattle.key_names.specs.Batches.{Fill, must_fill, with_zeros}
+
+pub record BatchValue : Type 0 where
+  -- 96 bytes
+  pub bytes : List ℕ
+  -- how many integers were served since the last fill
+  pub position : ℕ
+  -- the generation of the last fill
+  pub generation : ℕ
+
+-- used up, for integers of this many bytes
+abbrev pub start : ℕ → BatchValue
+start width = record { bytes = replicate 96 0; position = 96 / width; generation = 0 }
+
+-- what a batch keeps of its last fill; its key and its place are not kept
+abbrev pub last_fill : BatchValue → Fill
+last_fill b = record { key = None; place = 0; count = b.position; look = b.generation }
+
+-- whether the batch has to be filled before it serves an integer at generation g
+abbrev pub wants : ℕ → ℕ → BatchValue → Bool
+wants g width b = must_fill g width (Some (last_fill b))
+
+-- filled with bytes at a generation
+abbrev pub filled : List ℕ → ℕ → BatchValue
+filled bytes g = record { bytes = bytes; position = 0; generation = g }
+
+-- the bytes of the next integer
+abbrev pub next_bytes : ℕ → BatchValue → List ℕ
+next_bytes width b = slice_range b.bytes (width * b.position) (width * b.position + width)
+
+-- the next integer was served
+abbrev pub after_serving : ℕ → BatchValue → BatchValue
+after_serving width b = record b {
+  bytes = with_zeros (width * b.position) width b.bytes;
+  position = b.position + 1;
+}
+
+-- this integer was served, and this is left
+abbrev pub Serves : ℕ → BatchValue → List ℕ → BatchValue → Type 0
+Serves width b entry after = (entry ≡ next_bytes width b) × (after ≡ after_serving width b)
+
+-- an integer was served at generation g: where the batch had to be filled, of bytes as Fills says
+abbrev pub ServesAt : ℕ → ℕ → (List ℕ → Type 0) → BatchValue → List ℕ → BatchValue → Type 0
+ServesAt width g Fills b entry after =
+    MatchBool (wants g width b) ((bytes : List ℕ) × Fills bytes × Serves width (filled bytes g) entry after)
+    (Serves width b entry after)
+
+-- the batch has 96 bytes, of which those that are to be served come from the key of this fill, and it serves as many
+-- more as the fill's count says
+pub record IsBatchOf (width : ℕ) (key : List ℕ) (fill : Fill) (b : BatchValue) : Type 0 where
+  pub position : b.position ≡ fill.count
+  pub generation : b.generation ≡ fill.look
+  pub len : length b.bytes ≡ 96
+  pub rest : drop (width * fill.count) b.bytes ≡ drop (width * fill.count) (keystream key 32 96)

@@ -1,0 +1,12 @@
+-- A call of a source in memory cuts the front off what is left.
+use Rattle.std.proofs.Common.{◌≡◌, ℕ, ◌+◌, List, ◌++◌, length, take, drop, sym, ap₂, subst, ◌∙◌}
+use Rattle.std.proofs.lemmas.List.{take-append-drop, drop-drop}
+use Rattle.std.proofs.Math.Seq.{take-append_seam}
+
+-- the bytes that a buffer got, and what is left behind them
+pub front_and_rest : (bytes front behind : List ℕ) (at n : ℕ) → length front ≡ n → front ≡ take n (drop at bytes)
+    → drop at bytes ≡ take n (front ++ behind) ++ drop (at + n) bytes
+front_and_rest bytes front behind at n len is =
+    let got : take n (front ++ behind) ≡ front =
+    subst (λ k. take k (front ++ behind) ≡ front) len (take-append_seam front behind) in
+    sym (take-append-drop n (drop at bytes)) ∙ ap₂ (λ x y. x ++ y) (sym (got ∙ is)) (drop-drop n at bytes)

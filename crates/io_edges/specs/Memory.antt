@@ -1,0 +1,57 @@
+-- What a source and a sink in memory do at each call.
+use Rattle.std.specs.Prelude.{ℕ, ◌-◌, ◌≡◌, ◌==◌, ◌<◌, ◌⊎◌, Bool, IsTrue, min, List, ◌++◌, length, take, drop}
+use Rattle.std.specs.List.{list_any}
+use Rattle.io_edges.specs.Faults.{next_count}
+
+-- whether a call of this number fails
+abbrev pub is_listed : ℕ → List ℕ → Bool
+is_listed number fails = list_any (λ k. k == number) fails
+
+-- a source in memory: what is left, the most that a call gives, and the numbers of the calls that fail
+pub record SourceState : Type 0 where
+  pub left : List ℕ
+  pub step : ℕ
+  pub fails : List ℕ
+  pub calls : ℕ
+  pub faults : ℕ
+
+-- its next call fails
+abbrev pub TakeFails : SourceState → Type 0
+TakeFails s = IsTrue (is_listed (next_count s.calls) s.fails)
+
+-- how many bytes a call gives into a buffer of this length
+abbrev pub count_given : SourceState → ℕ → ℕ
+count_given s len = min len (min s.step (length s.left))
+
+-- after a call that gave n bytes
+abbrev pub after_take : SourceState → ℕ → SourceState
+after_take s n = record s { left = drop n s.left; calls = next_count s.calls }
+
+-- after a call that failed
+abbrev pub after_failed_take : SourceState → SourceState
+after_failed_take s = record s { calls = next_count s.calls; faults = next_count s.faults }
+
+-- a sink in memory: what it holds, the most that a call takes, the numbers of the calls that fail, and its room
+pub record SinkState : Type 0 where
+  pub held : List ℕ
+  pub step : ℕ
+  pub fails : List ℕ
+  pub room : ℕ
+  pub calls : ℕ
+  pub faults : ℕ
+
+-- its next call fails: its number is listed, or there is something to put and no room for it
+abbrev pub PutFails : SinkState → List ℕ → Type 0
+PutFails s piece = IsTrue (is_listed (next_count s.calls) s.fails) ⊎ ((0 < length piece) × (s.room ≡ length s.held))
+
+-- how many bytes a call takes of a piece of this length
+abbrev pub count_taken : SinkState → ℕ → ℕ
+count_taken s len = min len (min s.step (s.room - length s.held))
+
+-- after a call that took n bytes of the piece
+abbrev pub after_put : SinkState → List ℕ → ℕ → SinkState
+after_put s piece n = record s { held = s.held ++ take n piece; calls = next_count s.calls }
+
+-- after a call that failed
+abbrev pub after_failed_put : SinkState → SinkState
+after_failed_put s = record s { calls = next_count s.calls; faults = next_count s.faults }

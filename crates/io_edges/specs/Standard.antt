@@ -1,0 +1,16 @@
+-- What clauses see of the adapters.
+use Rattle.std.specs.Prelude.{ℕ}
+use Rattle.io_edges.specs.declared.standard.StdSource.{StdSource}
+use Rattle.io_edges.specs.declared.standard.StdSink.{StdSink}
+
+abbrev pub source_reader : {I : Type 0} → StdSource I → I
+source_reader s = s.reader
+
+abbrev pub source_faults : {I : Type 0} → StdSource I → ℕ
+source_faults s = s.faults
+
+abbrev pub sink_writer : {O : Type 0} → StdSink O → O
+sink_writer s = s.writer
+
+abbrev pub sink_faults : {O : Type 0} → StdSink O → ℕ
+sink_faults s = s.faults

@@ -1,0 +1,69 @@
+//! A source and a sink that never fail.
+ghost use Rattle.std.specs.Prelude.{◌≡◌, length, Some, None};
+
+use crate::{Failed, Sink, Source};
+use std::marker::Model;
+
+/// A source over bytes in memory that never fails. Clauses see what is left.
+#[derive(Drop)]
+pub struct NoFaultSource {
+    bytes: Vec<u8>,
+    at: usize,
+}
+
+impl Model for NoFaultSource {
+    ghost use Rattle.std.specs.Prelude.{List, ℕ, ◌≤◌, length, drop};
+
+    ghost Value = { List ℕ };
+
+    ghost view = { λ s. drop s.at s.bytes.items };
+
+    ghost invariant = { λ s. s.at ≤ length s.bytes.items };
+}
+
+impl NoFaultSource {
+    /// A source with these bytes left.
+    pub fn of(bytes: Vec<u8>) -> NoFaultSource
+        ensures { result ≡ bytes.items }
+    {
+        NoFaultSource { bytes, at: 0 }
+    }
+}
+
+impl Source for NoFaultSource {
+    ghost left = { λ s. Some s };
+
+    ghost faults = { λ _. 0 };
+
+    #[tactic(auto, using(crate::proofs::Fronts::front_and_rest))]
+    fn take(&mut self, buf: &mut [u8]) -> Result<usize, Failed> {
+        let rest = &self.bytes[self.at..];
+        let count = buf.len().min(rest.len());
+        buf[..count].copy_from_slice(&rest[..count]);
+        self.at += count;
+        Ok(count)
+    }
+}
+
+/// A sink that takes every piece whole and keeps none of the bytes.
+#[derive(Clone, Copy, Debug, PartialEq, Eq)]
+pub struct NoFaultSink;
+
+impl NoFaultSink {
+    /// The sink.
+    pub fn of() -> NoFaultSink {
+        NoFaultSink
+    }
+}
+
+impl Sink for NoFaultSink {
+    ghost held = { λ _. None };
+
+    ghost faults = { λ _. 0 };
+
+    fn put(&mut self, piece: &[u8]) -> Result<usize, Failed>
+        ensures { result ≡ Ok (length piece.now) }
+    {
+        Ok(piece.len())
+    }
+}

@@ -1,0 +1,21 @@
+//! Where the program meets the outside: bytes in, bytes out, and how often that failed.
+//!
+//! The layers above take a `Source` and a `Sink` as type parameters, so that one contract speaks of standard
+//! input and output, of buffers in memory, and of a test's script of failures.
+#![tactic(auto)]
+
+mod edges;
+mod faultless;
+mod memory;
+mod standard;
+mod whole;
+
+pub use edges::{Failed, Sink, Source};
+pub use faultless::{NoFaultSink, NoFaultSource};
+pub use memory::{MemSink, MemSource};
+pub use standard::{StdSink, StdSource};
+pub use std::alloc::AllocError as NoMemory;
+pub use whole::{ReadError, put_all, read_to_limit};
+
+#[cfg(test)]
+mod tests;

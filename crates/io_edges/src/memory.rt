@@ -1,0 +1,206 @@
+//! A source and a sink in memory that give and take little at a time, and fail when they are told to.
+ghost use Rattle.std.specs.Prelude.{◌≡◌, ◌<◌, ◌≤◌, ◌↔◌, ◌++◌, [], length, take, drop, Some, IfOk, OnErr, IsErr};
+ghost use Rattle.std.specs.Io.{ReadsAtMost};
+ghost use Rattle.std.specs.Io.KnownBytes.{Consumes};
+ghost use Rattle.io_edges.specs.Faults.{next_count};
+ghost use Rattle.io_edges.specs.Memory.{is_listed, TakeFails, count_given, after_take, after_failed_take};
+ghost use Rattle.io_edges.specs.Memory.{PutFails, count_taken, after_put, after_failed_put};
+
+use crate::{Failed, NoMemory, Sink, Source};
+use std::alloc::Global;
+use std::marker::Model;
+
+// The calls so far, counted from 1, and those of them that fail.
+#[derive(Drop)]
+struct Calls {
+    fails: Vec<u64>,
+    calls: u64,
+    faults: u64,
+}
+
+impl Calls {
+    fn of(fails: Vec<u64>) -> Calls
+        ensures { result ≡ record { fails = fails; calls = 0; faults = 0 } }
+    {
+        Calls {
+            fails,
+            calls: 0,
+            faults: 0,
+        }
+    }
+
+    // Counts a call, and says whether it fails.
+    fn next_fails(&mut self) -> bool
+        ensures calls { self.new ≡ record self.old { calls = next_count self.old.calls } }
+        ensures answer { result ≡ is_listed (next_count self.old.calls) self.old.fails.items }
+    {
+        self.calls = self.calls.saturating_add(1);
+        self.fails.contains(&self.calls)
+    }
+
+    // Counts a fault.
+    fn fault(&mut self) -> Failed
+        ensures { self.new ≡ record self.old { faults = next_count self.old.faults } }
+    {
+        self.faults = self.faults.saturating_add(1);
+        Failed
+    }
+}
+
+/// A source over bytes in memory that gives at most `step` bytes a call.
+///
+/// Calls are numbered from 1 up to `u64::MAX`, which all later calls share. Those with a listed number fail, and no
+/// others.
+#[derive(Drop)]
+pub struct MemSource {
+    bytes: Vec<u8>,
+    at: usize,
+    step: usize,
+    calls: Calls,
+}
+
+impl Model for MemSource {
+    ghost use Rattle.std.specs.Prelude.{◌≤◌, ◌<◌, length, drop};
+    ghost use Rattle.io_edges.specs.Memory.{SourceState};
+
+    ghost Value = { SourceState };
+
+    ghost view = { λ s. record {
+      left = drop s.at s.bytes.items;
+      step = s.step;
+      fails = s.calls.fails.items;
+      calls = s.calls.calls;
+      faults = s.calls.faults;
+    } };
+
+    ghost invariant = { λ s. (s.at ≤ length s.bytes.items) × (0 < s.step) };
+}
+
+impl MemSource {
+    /// A source with these bytes left that gives at most `step` bytes a call. No call was made yet.
+    pub fn of(bytes: Vec<u8>, step: usize, fails: Vec<u64>) -> MemSource
+        requires { 0 < step }
+        ensures { result ≡ record { left = bytes.items; step = step; fails = fails.items; calls = 0; faults = 0 } }
+    {
+        MemSource {
+            bytes,
+            at: 0,
+            step,
+            calls: Calls::of(fails),
+        }
+    }
+}
+
+impl Source for MemSource {
+    ghost left = { λ s. Some s.left };
+
+    ghost faults = { λ s. s.faults };
+
+    #[tactic(auto, using(crate::proofs::Fronts::front_and_rest))]
+    fn take(&mut self, buf: &mut [u8]) -> Result<usize, Failed>
+        ensures fails { IsErr result ↔ TakeFails self.old }
+        ensures count { IfOk result (λ n. n ≡ count_given self.old (length buf.old)) }
+        ensures bytes { IfOk result (λ n. buf.new ≡ take n self.old.left ++ drop n buf.old) }
+        ensures went { IfOk result (λ n. self.new ≡ after_take self.old n) }
+        ensures failed { OnErr result (self.new ≡ after_failed_take self.old) }
+
+        // What each source promises.
+        ensures bound { ReadsAtMost result buf.new }
+        ensures taken { IfOk result (λ n. Consumes (Some self.old.left) (Some self.new.left) (take n buf.new)) }
+        ensures end { IfOk result (λ n. n ≡ 0 → 0 < length buf.old → self.new.left ≡ []) }
+        ensures never_falls { self.old.faults ≤ self.new.faults }
+    {
+        if self.calls.next_fails() {
+            return Err(self.calls.fault());
+        }
+        let rest = &self.bytes[self.at..];
+        let count = buf.len().min(self.step.min(rest.len()));
+        buf[..count].copy_from_slice(&rest[..count]);
+        self.at += count;
+        Ok(count)
+    }
+}
+
+/// A sink in memory that takes at most `step` bytes a call.
+///
+/// Calls are numbered from 1 up to `u64::MAX`, which all later calls share. Those with a listed number fail, and those
+/// that have something to put where no room is left, and no others.
+#[derive(Drop)]
+pub struct MemSink {
+    bytes: Vec<u8>,
+    room: usize,
+    step: usize,
+    calls: Calls,
+}
+
+impl Model for MemSink {
+    ghost use Rattle.std.specs.Prelude.{◌≤◌, ◌<◌, length, vec_capacity};
+    ghost use Rattle.io_edges.specs.Memory.{SinkState};
+
+    ghost Value = { SinkState };
+
+    ghost view = { λ s. record {
+      held = s.bytes.items;
+      step = s.step;
+      fails = s.calls.fails.items;
+      room = s.room;
+      calls = s.calls.calls;
+      faults = s.calls.faults;
+    } };
+
+    ghost invariant = { λ s. (length s.bytes.items ≤ s.room) × (s.room ≤ vec_capacity s.bytes) × (0 < s.step) };
+}
+
+impl MemSink {
+    /// An empty sink with room for `room` bytes, all of it taken here. No call was made yet.
+    ///
+    /// # Errors
+    ///
+    /// `NoMemory` where there is no memory for so many bytes.
+    pub fn of(alloc: Global, step: usize, fails: Vec<u64>, room: usize) -> Result<MemSink, NoMemory>
+        requires { 0 < step }
+        ensures { IfOk result (λ s.
+            s ≡ record { held = []; step = step; fails = fails.items; room = room; calls = 0; faults = 0 }) }
+    {
+        Ok(MemSink {
+            bytes: Vec::with_capacity(alloc, room)?,
+            room,
+            step,
+            calls: Calls::of(fails),
+        })
+    }
+
+    /// The bytes that it holds, in the order in which they were put.
+    pub fn held(&self) -> &[u8]
+        ensures { result.now ≡ self.now.held }
+    {
+        &self.bytes
+    }
+}
+
+impl Sink for MemSink {
+    ghost held = { λ s. Some s.held };
+
+    ghost faults = { λ s. s.faults };
+
+    fn put(&mut self, piece: &[u8]) -> Result<usize, Failed>
+        ensures fails { IsErr result ↔ PutFails self.old piece.now }
+        ensures count { IfOk result (λ n. n ≡ count_taken self.old (length piece.now)) }
+        ensures went { IfOk result (λ n. self.new ≡ after_put self.old piece.now n) }
+        ensures failed { OnErr result (self.new ≡ after_failed_put self.old) }
+
+        // What each sink promises.
+        ensures some { IfOk result (λ n. 0 < length piece.now → 0 < n) }
+        ensures never_falls { self.old.faults ≤ self.new.faults }
+    {
+        let room = self.room - self.bytes.len();
+        if self.calls.next_fails() || (!piece.is_empty() && room == 0) {
+            return Err(self.calls.fault());
+        }
+        let count = piece.len().min(self.step.min(room));
+        match self.bytes.extend_from_slice(&piece[..count]) {
+            Ok(()) => Ok(count),
+            Err(_) => unreachable!(),
+        }
+    }
+}

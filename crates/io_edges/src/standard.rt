@@ -1,0 +1,111 @@
+//! Readers and writers of the standard library as sources and sinks.
+ghost use Rattle.std.specs.Prelude.{◌≡◌, ◌<◌, ◌≤◌, length, take, IfOk, OnOk, OnErr};
+ghost use Rattle.std.specs.Io.{ReadsAtMost, WritesAtMost};
+ghost use Rattle.std.specs.Io.KnownBytes.{Keeps, Appends, Consumes, IsAtEnd};
+ghost use Rattle.io_edges.specs.Faults.{next_count};
+ghost use Rattle.io_edges.specs.Standard.{source_reader, source_faults, sink_writer, sink_faults};
+
+use crate::{Failed, Sink, Source};
+use std::io::{ErrorKind, Read, Write};
+
+/// A reader as a source. It tells what its reader tells, which is nothing for standard input.
+#[derive(Drop)]
+pub struct StdSource<I: Read + Drop> {
+    reader: I,
+    faults: u64,
+}
+
+impl<I: Read + Drop> StdSource<I> {
+    /// A source that takes from the reader, and has not failed.
+    pub fn of(reader: I) -> StdSource<I>
+        ensures reader { source_reader result ≡ reader }
+        ensures faults { source_faults result ≡ 0 }
+    {
+        StdSource { reader, faults: 0 }
+    }
+}
+
+impl<I: Read + Drop> Source for StdSource<I> {
+    ghost left = { λ s. I.remaining s.reader };
+
+    ghost faults = { λ s. s.faults };
+
+    // A read that a signal interrupts is tried again. It is a fault only after 2^64 - 1 tries.
+    fn take(&mut self, buf: &mut [u8]) -> Result<usize, Failed>
+        // A fault is counted exactly where the call fails.
+        ensures same { OnOk result (source_faults self.new ≡ source_faults self.old) }
+        ensures counted { OnErr result (source_faults self.new ≡ next_count (source_faults self.old)) }
+
+        // What each source promises.
+        ensures bound { ReadsAtMost result buf.new }
+        ensures taken { IfOk result (λ n.
+            Consumes (I.remaining (source_reader self.old)) (I.remaining (source_reader self.new)) (take n buf.new)) }
+        ensures end { IfOk result (λ n.
+            n ≡ 0 → 0 < length buf.old → IsAtEnd (I.remaining (source_reader self.new))) }
+        ensures not_taken { OnErr result
+            (Keeps (I.remaining (source_reader self.old)) (I.remaining (source_reader self.new))) }
+        ensures never_falls { source_faults self.old ≤ source_faults self.new }
+    {
+        for _ in 0..u64::MAX {
+            match self.reader.read(buf) {
+                Ok(count) => return Ok(count),
+                Err(e) if e.kind() == ErrorKind::Interrupted => {}
+                Err(_) => break,
+            }
+        }
+        self.faults = self.faults.saturating_add(1);
+        Err(Failed)
+    }
+}
+
+/// A writer as a sink. It tells what its writer tells, which is nothing for standard output. It never flushes, so
+/// the writer should be one that keeps nothing back.
+#[derive(Drop)]
+pub struct StdSink<O: Write + Drop> {
+    writer: O,
+    faults: u64,
+}
+
+impl<O: Write + Drop> StdSink<O> {
+    /// A sink that puts to the writer, and has not failed.
+    pub fn of(writer: O) -> StdSink<O>
+        ensures writer { sink_writer result ≡ writer }
+        ensures faults { sink_faults result ≡ 0 }
+    {
+        StdSink { writer, faults: 0 }
+    }
+}
+
+impl<O: Write + Drop> Sink for StdSink<O> {
+    ghost held = { λ s. O.contents s.writer };
+
+    ghost faults = { λ s. s.faults };
+
+    // A write that a signal interrupts is tried again. One that takes nothing of a piece that is not empty is a
+    // fault, since a caller that goes on after short puts would never end.
+    fn put(&mut self, piece: &[u8]) -> Result<usize, Failed>
+        // A fault is counted exactly where the call fails.
+        ensures same { OnOk result (sink_faults self.new ≡ sink_faults self.old) }
+        ensures counted { OnErr result (sink_faults self.new ≡ next_count (sink_faults self.old)) }
+
+        // What each sink promises.
+        ensures bound { WritesAtMost result piece.now }
+        ensures some { IfOk result (λ n. 0 < length piece.now → 0 < n) }
+        ensures appended { IfOk result (λ n.
+            Appends (O.contents (sink_writer self.old)) (O.contents (sink_writer self.new)) (take n piece.now)) }
+        ensures not_appended { OnErr result
+            (Keeps (O.contents (sink_writer self.old)) (O.contents (sink_writer self.new))) }
+        ensures never_falls { sink_faults self.old ≤ sink_faults self.new }
+    {
+        for _ in 0..u64::MAX {
+            match self.writer.write(piece) {
+                Ok(0) if !piece.is_empty() => break,
+                Ok(count) => return Ok(count),
+                Err(e) if e.kind() == ErrorKind::Interrupted => {}
+                Err(_) => break,
+            }
+        }
+        self.faults = self.faults.saturating_add(1);
+        Err(Failed)
+    }
+}

@@ -1,0 +1,91 @@
+//! Whole inputs and whole pieces, over sources that give little and sinks that take little at a time.
+ghost use Rattle.std.specs.Prelude.{◌≡◌, ◌+◌, ◌-◌, ◌^◌, ◌<◌, ◌≤◌, take, vec_len, IfOk, IfSome, OnOk, OnErr, IsErrOf};
+ghost use Rattle.std.specs.Io.KnownBytes.{Appends, Consumes, IsAtEnd};
+ghost use Rattle.io_edges.specs.declared.whole.ReadError.TheVariants.{Fault, NoMemory as Refused};
+ghost use Rattle.io_edges.specs.Faults.{Rose};
+ghost use Rattle.io_edges.specs.Pieces.{AppendsPrefix, ConsumesSome};
+
+use crate::{Failed, NoMemory, Sink, Source};
+use std::alloc::Global;
+
+/// How much is asked of a source at once, in bytes.
+const PIECE: usize = 64 * 1024;
+
+/// Why an input was not read.
+#[derive(Clone, Copy, Debug, PartialEq, Eq)]
+pub enum ReadError {
+    /// The source failed.
+    Fault,
+    /// There was no memory for the bytes.
+    NoMemory,
+}
+
+impl From<Failed> for ReadError {
+    ghost from_gives = { λ _ e. e ≡ Fault };
+
+    fn from(_: Failed) -> Self {
+        ReadError::Fault
+    }
+}
+
+impl From<NoMemory> for ReadError {
+    ghost from_gives = { λ _ e. e ≡ Refused };
+
+    fn from(_: NoMemory) -> Self {
+        ReadError::NoMemory
+    }
+}
+
+/// Reads until the end of the input, or until one byte more than the limit was taken: an answer longer than
+/// `limit` says that the input is too long, and it was left where it is.
+///
+/// # Errors
+///
+/// `Fault` where the source failed, which it has counted as a fault. `NoMemory` where the bytes find
+/// no room. Either way the bytes that were taken are lost.
+#[tactic(auto, using(crate::proofs::Pieces::ConsumesSome_more))]
+pub fn read_to_limit<S: Source>(
+    alloc: Global,
+    source: &mut S,
+    limit: usize,
+) -> Result<Vec<u8>, ReadError>
+    requires { limit < 2 ^ 64 - 1 }
+    ensures bytes { IfOk result (λ bytes. IfSome (S.left source.old) (λ xs. bytes.items ≡ take (limit + 1) xs)) }
+    ensures taken { IfOk result (λ bytes. Consumes (S.left source.old) (S.left source.new) bytes.items) }
+    ensures end { IfOk result (λ bytes. vec_len bytes ≤ limit → IsAtEnd (S.left source.new)) }
+    ensures bound { IfOk result (λ bytes. vec_len bytes ≤ limit + 1) }
+    ensures front { ConsumesSome (S.left source.old) (S.left source.new) }
+    ensures cause { IsErrOf result ReadError.Fault → Rose (S.faults source.old) (S.faults source.new) }
+    ensures never_falls { S.faults source.old ≤ S.faults source.new }
+{
+    let mut bytes = Vec::new(alloc);
+    let mut piece = [0; PIECE];
+    while bytes.len() <= limit {
+        let most = PIECE.min(limit + 1 - bytes.len());
+        let count = source.take(&mut piece[..most])?;
+        if count == 0 {
+            break;
+        }
+        bytes.extend_from_slice(&piece[..count])?;
+    }
+    Ok(bytes)
+}
+
+/// Puts all of a piece, and goes on after a short put. It takes no memory.
+///
+/// # Errors
+///
+/// `Failed` where the sink failed, which it has counted as a fault. What it got in this call is then a prefix of the
+/// piece.
+pub fn put_all<K: Sink>(sink: &mut K, piece: &[u8]) -> Result<(), Failed>
+    ensures whole { OnOk result (Appends (K.held sink.old) (K.held sink.new) piece.now) }
+    ensures prefix { AppendsPrefix (K.held sink.old) (K.held sink.new) piece.now }
+    ensures cause { OnErr result (Rose (K.faults sink.old) (K.faults sink.new)) }
+    ensures never_falls { K.faults sink.old ≤ K.faults sink.new }
+{
+    let mut at = 0;
+    while at < piece.len() {
+        at += sink.put(&piece[at..])?;
+    }
+    Ok(())
+}

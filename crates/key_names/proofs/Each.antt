@@ -1,0 +1,20 @@
+-- What holds of each element of a list, as the list grows.
+use Rattle.std.proofs.Common.{List, [], ◌∷◌, ◌++◌}
+use Rattle.std.specs.List.{AllByRecursion}
+
+-- one more element at the end
+pub each_more : {X : Type 0} (P : X → Type 0) (xs : List X) (x : X) → AllByRecursion P xs → P x →
+    AllByRecursion P (xs ++ x ∷ [])
+each_more P [] x all here = (here, tt)
+each_more P (y ∷ ys) x all here = (all.0, each_more P ys x all.1 here)
+
+pub each_append : {X : Type 0} (P : X → Type 0) (xs ys : List X) → AllByRecursion P xs → AllByRecursion P ys →
+    AllByRecursion P (xs ++ ys)
+each_append P [] ys all more = more
+each_append P (x ∷ xs) ys all more = (all.0, each_append P xs ys all.1 more)
+
+-- what follows from it holds of each element too
+pub each_weaker : {X : Type 0} (P Q : X → Type 0) (xs : List X) → ((x : X) → P x → Q x) → AllByRecursion P xs →
+    AllByRecursion Q xs
+each_weaker P Q [] weaker all = tt
+each_weaker P Q (x ∷ xs) weaker all = (weaker x all.0, each_weaker P Q xs weaker all.1)

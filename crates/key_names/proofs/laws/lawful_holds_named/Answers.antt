@@ -1,0 +1,5 @@
+use Rattle.key_names.proofs.HeldBytes as held
+use Rattle.key_names.proofs.laws.lawful_holds_named.Goals as goal
+
+pub returns : goal.returns
+returns c = held.lawful_holds_named

@@ -1,0 +1,12 @@
+-- Lists of entries, each read in the state that the entries before it leave.
+use Rattle.std.specs.Prelude.{◌⊎◌, List, [], ◌∷◌, ⊤}
+
+-- each entry may come in the state in which it stands
+abbrev pub LawfulFrom : {S E : Type 0} → (S → E → Type 0) → (S → E → S) → S → List E → Type 0
+LawfulFrom May step s [] = ⊤
+LawfulFrom May step s (e ∷ es) = May s e × LawfulFrom May step (step s e) es
+
+-- some entry does this in the state in which it stands
+abbrev pub SomeFrom : {S E : Type 0} → (S → E → Type 0) → (S → E → S) → S → List E → Type 0
+SomeFrom Does step s [] = ⊥
+SomeFrom Does step s (e ∷ es) = Does s e ⊎ SomeFrom Does step (step s e) es

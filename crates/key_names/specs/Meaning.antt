@@ -1,0 +1,153 @@
+-- What a call means: what stands behind its lines' steps, their answers and data, and where the caller stands after it.
+use Rattle.std.specs.Prelude.{ℕ, ◌≡◌, Bool, not, ◌&&◌, ◌==◌, MatchBool, ⊤, List, [], ◌∷◌, replicate, slice_get, slice_set, unwrap_or, length}
+use Rattle.key_names.specs.declared.entries.VEntry.{VEntry}
+use Rattle.key_names.specs.declared.entries.VEntry.TheVariants.{Wipe}
+use Rattle.key_names.specs.declared.events.Event.{Event}
+use Rattle.key_names.specs.declared.events.Event.TheVariants.{Reseed, Drop, State}
+use Rattle.key_names.specs.declared.events.Answer.{Answer}
+use Rattle.key_names.specs.declared.events.Answer.TheVariants.{Ok as Done, Unused}
+use Rattle.key_names.specs.declared.events.InsideAct.{InsideAct}
+use Rattle.key_names.specs.declared.events.InsideAct.TheVariants.{Wipe as WipeAct, Vread as VreadAct, Reseed as ReseedAct}
+use Rattle.key_names.specs.Flags.{is_bad}
+use Rattle.key_names.specs.Calls.{Setting, setting_after, Call, alone, vread_call, unbound, ending, BoundAct}
+use Rattle.key_names.specs.Deeds.{Deed}
+use Rattle.key_names.specs.Forms.{Form, EndForm, SysForm, Looked}
+use Rattle.key_names.specs.Answers.{answer_of, shown_of, system_answer, served_bytes}
+use Rattle.key_names.specs.SeenLine.{Shown, no_data, bytes_or_none}
+use Rattle.key_names.specs.VgetrandomState.{VgetrandomState, wiped_state}
+use Rattle.key_names.specs.BatchCopy.{copy_bytes, copy_entries, state_after_copy, serves_locally}
+use Rattle.key_names.specs.Vgetrandom.{HostStep, Outcome, IsCall}
+use Rattle.key_names.specs.VreadSteps.{Shows, WipesStand, points_of, is_reached, ending_answer, ending_shown, published_by, NeverFall, looks_of}
+
+-- where a caller stands between two calls: its setting, its sixteen vgetrandom states, and the number of the current one
+pub record CallerState : Type 0 where
+  pub setting : Setting
+  pub states : List VgetrandomState
+  pub current : ℕ
+
+-- a caller starts with all states wiped, and the first is current
+abbrev pub caller_start : Setting → CallerState
+caller_start setting = record { setting = setting; states = replicate 16 wiped_state; current = 0 }
+
+-- what a line means: what stands behind its steps, its answer, and its data
+pub record LineMeaning : Type 0 where
+  pub deeds : List Deed
+  pub answer : Answer
+  pub shown : Shown
+
+-- what a call means: its own line, the lines of the acts inside it, the entries that the current state's list gets, and
+-- where the caller stands before and after it
+pub record CallMeaning : Type 0 where
+  pub own : LineMeaning
+  pub acts : List LineMeaning
+  pub entries : List VEntry
+  pub before : CallerState
+  pub after : CallerState
+
+-- what an event by itself leaves in the list of the current state
+abbrev pub event_entries : Event → List VEntry
+event_entries Drop = Wipe ∷ []
+event_entries _ = []
+
+-- where the caller stands after an event by itself
+abbrev pub state_after : CallerState → Event → CallerState
+state_after s Drop = record s { states = slice_set s.states s.current wiped_state }
+state_after s (State number) = record s { current = number }
+state_after s event = record s { setting = setting_after s.setting event }
+
+-- an event by itself
+pub record AloneMeans (event : Event) (m : CallMeaning) : Type 0 where
+  pub form : Form m.before.setting event m.own.deeds
+  pub answer : m.own.answer ≡ answer_of event m.own.deeds
+  pub shown : m.own.shown ≡ shown_of event m.own.deeds
+  pub no_acts : m.acts ≡ []
+  pub entries : m.entries ≡ event_entries event
+  pub after : m.after ≡ state_after m.before event
+
+-- what is not done has no steps
+abbrev pub unused_line : LineMeaning
+unused_line = record { deeds = []; answer = Unused; shown = no_data }
+
+-- an act that no vread follows is not done
+pub record UnboundMeans (m : CallMeaning) : Type 0 where
+  pub own : m.own ≡ unused_line
+  pub no_acts : m.acts ≡ []
+  pub entries : m.entries ≡ []
+  pub after : m.after ≡ m.before
+
+-- the end of a caller
+pub record EndingMeans (m : CallMeaning) : Type 0 where
+  pub form : EndForm m.own.deeds
+  pub answer : m.own.answer ≡ Done
+  pub shown : m.own.shown ≡ no_data
+  pub no_acts : m.acts ≡ []
+  pub entries : m.entries ≡ []
+  pub after : m.after ≡ m.before
+
+-- the vgetrandom state that a caller reads from and drops
+abbrev pub current_state : CallerState → VgetrandomState
+current_state s = unwrap_or (slice_get s.states s.current) wiped_state
+
+abbrev pub with_state : CallerState → VgetrandomState → CallerState
+with_state s state = record s { states = slice_set s.states s.current state }
+
+-- an act inside a vread, with the setting of the vread: a nested read goes to the system call
+abbrev pub ActMeans : Setting → InsideAct → LineMeaning → Type 0
+ActMeans set WipeAct m = m ≡ record { deeds = []; answer = Done; shown = no_data }
+ActMeans set (VreadAct n) m =
+    SysForm set n 0 m.deeds × (m.answer ≡ system_answer 0 m.deeds) × (m.shown ≡ bytes_or_none (served_bytes m.deeds))
+ActMeans set ReseedAct m =
+    Form set Reseed m.deeds × (m.answer ≡ answer_of Reseed m.deeds) × (m.shown ≡ shown_of Reseed m.deeds)
+
+-- each act whose point was reached is done, and no other
+abbrev pub ActsMean : Setting → (BoundAct → Bool) → List BoundAct → List LineMeaning → Type 0
+ActsMean set is_reached [] [] = ⊤
+ActsMean set is_reached [] (m ∷ ms) = ⊥
+ActsMean set is_reached (bound ∷ acts) [] = ⊥
+ActsMean set is_reached (bound ∷ acts) (m ∷ ms) =
+    MatchBool (is_reached bound) (ActMeans set bound.act m) (m ≡ unused_line) × ActsMean set is_reached acts ms
+
+-- a copy out of the current state, behind the one look of the line
+pub record ByLocalCopy (n : ℕ) (rest : List Deed) (m : CallMeaning) : Type 0 where
+  pub no_more : rest ≡ []
+  pub answer : m.own.answer ≡ Done
+  pub shown : m.own.shown ≡ bytes_or_none (copy_bytes (current_state m.before) 0 n)
+  pub no_acts : m.acts ≡ []
+  pub entries : m.entries ≡ copy_entries (current_state m.before) 0 n
+  pub after : m.after ≡ with_state m.before (state_after_copy (current_state m.before) 0 n)
+
+-- a call of vgetrandom on the current state
+pub record ByVgetrandom (n flags : ℕ) (acts : List BoundAct) (m : CallMeaning) : Type 0 where
+  pub steps : List HostStep
+  pub outcome : Outcome
+  pub is_call : IsCall n flags (current_state m.before) steps outcome
+  pub shows : Shows m.before.setting steps m.own.deeds
+  pub wipes : WipesStand acts (points_of steps)
+  pub inside : ActsMean m.before.setting (is_reached (points_of steps)) acts m.acts
+  pub answer : m.own.answer ≡ ending_answer outcome.ending
+  pub shown : m.own.shown ≡ ending_shown outcome.ending
+  pub entries : m.entries ≡ outcome.entries
+  pub after : m.after ≡ with_state m.before outcome.state
+
+-- whether a vread tries a copy first: it has no acts, wants a byte, and its flags are good
+abbrev pub tries_local : ℕ → ℕ → List BoundAct → Bool
+tries_local n flags acts = length acts == 0 && (not (n == 0) && not (is_bad flags))
+
+-- behind the first look of a vread that tries a copy
+abbrev pub LocalOrCall : ℕ → ℕ → List BoundAct → CallMeaning → ℕ → List Deed → Type 0
+LocalOrCall n flags acts m look rest =
+    MatchBool (serves_locally (published_by look) (current_state m.before) n) (ByLocalCopy n rest m)
+    (ByVgetrandom n flags acts m)
+
+-- a vread of n bytes with these flags
+pub record VreadMeans (n flags : ℕ) (acts : List BoundAct) (m : CallMeaning) : Type 0 where
+  pub looks : NeverFall (looks_of m.own.deeds)
+  pub ways : MatchBool (tries_local n flags acts) (Looked (LocalOrCall n flags acts m) m.own.deeds)
+      (ByVgetrandom n flags acts m)
+
+-- what a call may mean
+abbrev pub Means : Call → CallMeaning → Type 0
+Means (alone event line) m = AloneMeans event m
+Means (vread_call len flags line acts) m = VreadMeans len flags acts m
+Means (unbound bound) m = UnboundMeans m
+Means (ending line) m = EndingMeans m

@@ -1,0 +1,61 @@
+-- A line of a transcript as contracts see it: with its steps and the bytes themselves.
+use Rattle.std.specs.Prelude.{ℕ, List, [], ◌∷◌, take, drop, map}
+use Rattle.std.specs.List.{flat_map}
+use Rattle.key_names.specs.declared.events.Answer.{Answer}
+use Rattle.key_names.specs.declared.events.Word.{Word}
+use Rattle.key_names.specs.declared.lines.Data.{Data}
+use Rattle.key_names.specs.declared.lines.Data.TheVariants.{None as NoData, Bytes, Count}
+use Rattle.key_names.specs.declared.lines.Line.{Line}
+use Rattle.key_names.specs.declared.names.Step.{Step}
+
+-- what a line shows behind its steps
+pub data Shown : Type 0 where
+  no_data : Shown
+  bytes : List ℕ → Shown
+  count : ℕ → Shown
+
+pub record SeenLine : Type 0 where
+  pub caller : ℕ
+  pub event : ℕ
+  pub word : Word
+  pub answer : Answer
+  pub steps : List Step
+  pub shown : Shown
+
+-- the data of a line whose caller has these bytes
+abbrev pub shown_in : List ℕ → Data → Shown
+shown_in kept NoData = no_data
+shown_in kept (Bytes start len) = bytes (take len (drop start kept))
+shown_in kept (Count n) = count n
+
+-- a line of a caller that has these bytes
+abbrev pub seen_line : List ℕ → Line → SeenLine
+seen_line kept line = record {
+  caller = line.caller;
+  event = line.event;
+  word = line.word;
+  answer = line.answer;
+  steps = line.trace;
+  shown = shown_in kept line.shown;
+}
+
+abbrev pub seen_lines : List ℕ → List Line → List SeenLine
+seen_lines kept lines = map (seen_line kept) lines
+
+-- the bytes that a line shows
+abbrev pub bytes_of : Shown → List ℕ
+bytes_of (bytes shown) = shown
+bytes_of _ = []
+
+-- those of all lines, one line's behind the other's
+abbrev pub bytes_shown : List SeenLine → List ℕ
+bytes_shown lines = flat_map (λ line. bytes_of line.shown) lines
+
+-- the data that show these bytes
+abbrev pub bytes_or_none : List ℕ → Shown
+bytes_or_none [] = no_data
+bytes_or_none (b ∷ bs) = bytes (b ∷ bs)
+
+-- the line with these bytes as its data
+abbrev pub showing : List ℕ → SeenLine → SeenLine
+showing shown line = record line { shown = bytes_or_none shown }

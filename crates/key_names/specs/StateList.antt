@@ -1,0 +1,111 @@
+-- What the list of one vgetrandom state of a caller means: the names of its key and of its batch's key after its
+-- entries, and which entry may come when.
+use Rattle.std.specs.Prelude.{ℕ, suc, ◌+◌, ◌≡◌, ◌≤◌, ⊤, Option, Some, None, List, slice_get, option_and_then}
+use Rattle.std.specs.List.{fold}
+use Rattle.key_names.specs.declared.names.LaneId.TheVariants.{Cpu as CpuLane}
+use Rattle.key_names.specs.declared.names.KeyName.{KeyName}
+use Rattle.key_names.specs.declared.names.KeyName.TheVariants.{Call, Vdso}
+use Rattle.key_names.specs.declared.entries.Taken.TheVariants.{User}
+use Rattle.key_names.specs.declared.entries.CpuEntry.{CpuEntry}
+use Rattle.key_names.specs.declared.entries.VEntry.{VEntry}
+use Rattle.key_names.specs.declared.entries.VEntry.TheVariants.{Rekey, Blocks, Refill, Serve, Wipe}
+use Rattle.key_names.specs.CpuList.{taken_at}
+use Rattle.key_names.specs.LawfulList.{LawfulFrom}
+
+-- what has to come next: after a rekey a wipe, blocks or a refill, and after blocks the refill behind them
+pub data Expected : Type 0 where
+  anything new_key : Expected
+  refill_from : ℕ → Expected
+
+pub record NamedState : Type 0 where
+  -- how many entries there were
+  pub place : ℕ
+  -- the name of the key
+  pub key : Option KeyName
+  -- how many refills there were, those of an unnamed key included
+  pub refills : ℕ
+  -- the key in use at the last refill, and the block at which its batch begins
+  pub batch_key : Option KeyName
+  pub batch_from : ℕ
+  -- the first byte of the batch that was not served
+  pub pos : ℕ
+  pub expected : Expected
+
+abbrev pub state_start : NamedState
+state_start = record {
+  place = 0;
+  key = None;
+  refills = 0;
+  batch_key = None;
+  batch_from = 0;
+  pos = 0;
+  expected = anything;
+}
+
+-- the name of the key that a refill keeps; a refill of an unnamed key leaves it unnamed
+abbrev pub refill_key : ℕ → ℕ → ℕ → Option KeyName → Option KeyName
+refill_key caller state n None = None
+refill_key caller state n (Some key) = Some (Vdso caller state n)
+
+abbrev pub state_step : ℕ → ℕ → NamedState → VEntry → NamedState
+state_step caller state s (Rekey cpu cpu_place) = record s {
+  place = suc s.place;
+  key = Some (Call (CpuLane cpu) cpu_place);
+  batch_key = None;
+  pos = 96;
+  expected = new_key;
+}
+state_step caller state s (Blocks from count) =
+    record s { place = suc s.place; expected = refill_from (from + count) }
+state_step caller state s (Refill from) = record {
+  place = suc s.place;
+  key = refill_key caller state s.refills s.key;
+  refills = suc s.refills;
+  batch_key = s.key;
+  batch_from = from;
+  pos = 0;
+  expected = anything;
+}
+state_step caller state s (Serve pos len) = record s { place = suc s.place; pos = pos + len }
+state_step caller state s Wipe =
+    record s { place = suc s.place; key = None; batch_key = None; pos = 0; expected = anything }
+
+abbrev pub state_after : ℕ → ℕ → List VEntry → NamedState
+state_after caller state = fold (state_step caller state) state_start
+
+-- blocks or a wipe may come
+abbrev pub MayStart : Expected → Type 0
+MayStart anything = ⊤
+MayStart new_key = ⊤
+MayStart (refill_from n) = ⊥
+
+-- a refill from this block may come
+abbrev pub MayRefill : Expected → ℕ → Type 0
+MayRefill anything from = ⊤
+MayRefill new_key from = ⊤
+MayRefill (refill_from n) from = from ≡ n
+
+-- a rekey takes a read of 32 bytes, and served bytes follow those before; cpu_list gives each CPU's list
+abbrev pub StateMayCome : (ℕ → List CpuEntry) → NamedState → VEntry → Type 0
+StateMayCome cpu_list s (Rekey cpu cpu_place) =
+    (s.expected ≡ anything) × (taken_at (cpu_list cpu) cpu_place ≡ Some (User 32))
+StateMayCome cpu_list s (Blocks from count) = MayStart s.expected
+StateMayCome cpu_list s (Refill from) = MayRefill s.expected from
+StateMayCome cpu_list s (Serve pos len) = (s.expected ≡ anything) × (pos ≡ s.pos) × (pos + len ≤ 96)
+StateMayCome cpu_list s Wipe = MayStart s.expected
+
+-- each entry may come, and the last one is followed by what it asks for
+pub record LawfulStateList (cpu_list : ℕ → List CpuEntry) (caller state : ℕ) (es : List VEntry) : Type 0 where
+  pub comes : LawfulFrom (StateMayCome cpu_list) (state_step caller state) state_start es
+  pub ends : (state_after caller state es).expected ≡ anything
+
+-- the read that an entry takes as its key: the CPU and its place
+abbrev pub rekey_of : VEntry → Option (ℕ × ℕ)
+rekey_of (Rekey cpu cpu_place) = Some (cpu, cpu_place)
+rekey_of (Blocks from count) = None
+rekey_of (Refill from) = None
+rekey_of (Serve pos len) = None
+rekey_of Wipe = None
+
+abbrev pub rekey_at : List VEntry → ℕ → Option (ℕ × ℕ)
+rekey_at es n = option_and_then rekey_of (slice_get es n)

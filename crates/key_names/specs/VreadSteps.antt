@@ -1,0 +1,169 @@
+-- How a call of vgetrandom shows in the steps of a vread's line and of the lines of the acts inside it: the host of the
+-- call is the caller itself, over the lanes.
+use Rattle.std.specs.Prelude.{ℕ, zero, suc, ◌≡◌, ◌≤◌, Bool, true, false, ◌&&◌, ◌==◌, ⊤, Option, Some, None, List, [], ◌∷◌, ◌++◌, if◌then◌else◌}
+use Rattle.std.specs.List.{list_any, AllByRecursion}
+use Rattle.key_names.specs.declared.events.InsideAct.{InsideAct}
+use Rattle.key_names.specs.declared.events.InsideAct.TheVariants.{Wipe as WipeAct, Vread as VreadAct, Reseed as ReseedAct}
+use Rattle.key_names.specs.declared.events.Answer.{Answer}
+use Rattle.key_names.specs.declared.events.Answer.TheVariants.{Ok as Done, Again, Invalid, NoData, Interrupted, Fired, Idle, Unused}
+use Rattle.key_names.specs.declared.errno.Errno.{Errno}
+use Rattle.key_names.specs.declared.errno.Errno.TheVariants.{Again as EAGAIN, Invalid as EINVAL, NoData as ENODATA, Interrupted as EINTR}
+use Rattle.key_names.specs.declared.point.Point.{Point}
+use Rattle.key_names.specs.declared.point.Point.TheVariants.{Start, Written, Serve, End}
+use Rattle.key_names.specs.Calls.{Setting, BoundAct}
+use Rattle.key_names.specs.Deeds.{Deed, looked, at_pool, at_base, at_cpu, nothing_there}
+use Rattle.key_names.specs.Forms.{SysForm, Looked}
+use Rattle.key_names.specs.SeenLine.{Shown, no_data, bytes_or_none}
+use Rattle.key_names.specs.Answers.{system_answer, served_bytes}
+use Rattle.key_names.specs.Vgetrandom.{CpuPlace, SystemAnswer, read, failed, HostStep, publishes, system_call, at_point, Ending, no_bytes, by_batch, by_system}
+
+-- the generation that a look publishes: 0 where the core is not ready, and otherwise one more than the look found
+abbrev pub published_by : ℕ → ℕ
+published_by zero = 0
+published_by (suc g) = suc (suc g)
+
+abbrev pub place_of : Deed → Option CpuPlace
+place_of (looked g) = None
+place_of (at_pool v) = None
+place_of (at_base v) = None
+place_of (at_cpu v) = Some (record { cpu = v.cpu; place = v.place })
+place_of nothing_there = None
+
+-- the visit of a CPU that a system call ends with, if it does
+abbrev pub last_place : List Deed → Option CpuPlace
+last_place [] = None
+last_place (deed ∷ []) = place_of deed
+last_place (deed ∷ next ∷ deeds) = last_place (next ∷ deeds)
+
+-- the error that an answer is
+abbrev pub errno_of : Answer → Option Errno
+errno_of Done = None
+errno_of Again = Some EAGAIN
+errno_of Invalid = Some EINVAL
+errno_of NoData = Some ENODATA
+errno_of Interrupted = Some EINTR
+errno_of Fired = None
+errno_of Idle = None
+errno_of Unused = None
+
+abbrev pub answer_with : Option Errno → List Deed → SystemAnswer
+answer_with None deeds = read (served_bytes deeds) (last_place deeds)
+answer_with (Some errno) deeds = failed errno
+
+-- what a system call with these flags answered, by what stands behind its steps
+abbrev pub answer_behind : ℕ → List Deed → SystemAnswer
+answer_behind flags deeds = answer_with (errno_of (system_answer flags deeds)) deeds
+
+-- a system call of n bytes, and what follows its steps
+pub record SystemCallShows (set : Setting) (n flags : ℕ) (answer : SystemAnswer) (Rest : List Deed → Type 0)
+    (deeds : List Deed) : Type 0 where
+  pub call : List Deed
+  pub rest : List Deed
+  pub deeds_are : deeds ≡ call ++ rest
+  pub form : SysForm set n flags call
+  pub answers : answer ≡ answer_behind flags call
+  pub goes_on : Rest rest
+
+-- what stands behind the steps of the line is what the host did; a point is no step
+abbrev pub Shows : Setting → List HostStep → List Deed → Type 0
+Shows set [] deeds = deeds ≡ []
+Shows set (publishes g ∷ steps) deeds = Looked (λ look rest. (g ≡ published_by look) × Shows set steps rest) deeds
+Shows set (at_point point wiped ∷ steps) deeds = Shows set steps deeds
+Shows set (system_call n flags answer ∷ steps) deeds = SystemCallShows set n flags answer (Shows set steps) deeds
+
+-- a point that a call came to, and whether the state was wiped there
+pub record PointReached : Type 0 where
+  pub point : Point
+  pub wiped : Bool
+
+-- the points of both attempts
+abbrev pub points_of : List HostStep → List PointReached
+points_of [] = []
+points_of (publishes g ∷ steps) = points_of steps
+points_of (system_call n flags answer ∷ steps) = points_of steps
+points_of (at_point point wiped ∷ steps) = record { point = point; wiped = wiped } ∷ points_of steps
+
+abbrev pub number_of : Point → ℕ
+number_of Start = 1
+number_of Written = 2
+number_of Serve = 3
+number_of End = 4
+
+abbrev pub is_start : PointReached → Bool
+is_start reached = number_of reached.point == 1
+
+-- the points before the next start of an attempt, and those from it on
+abbrev pub before_start : List PointReached → List PointReached
+before_start [] = []
+before_start (reached ∷ points) = if is_start reached then [] else reached ∷ before_start points
+
+abbrev pub from_start : List PointReached → List PointReached
+from_start [] = []
+from_start (reached ∷ points) = if is_start reached then reached ∷ points else from_start points
+
+-- the points of the first attempt, and those of the second; the first of all is the start of the first attempt
+abbrev pub first_points : List PointReached → List PointReached
+first_points [] = []
+first_points (start ∷ points) = start ∷ before_start points
+
+abbrev pub second_points : List PointReached → List PointReached
+second_points [] = []
+second_points (start ∷ points) = from_start points
+
+abbrev pub is_wipe : InsideAct → Bool
+is_wipe WipeAct = true
+is_wipe (VreadAct n) = false
+is_wipe ReseedAct = false
+
+-- whether an act at this point wipes
+abbrev pub is_wiped : List BoundAct → Point → Bool
+is_wiped acts point = list_any (λ bound. bound.point == number_of point && is_wipe bound.act) acts
+
+-- the acts happen in the first attempt alone
+pub record WipesStand (acts : List BoundAct) (points : List PointReached) : Type 0 where
+  pub first : AllByRecursion (λ reached. reached.wiped ≡ is_wiped acts reached.point) (first_points points)
+  pub second : AllByRecursion (λ reached. reached.wiped ≡ false) (second_points points)
+
+-- whether the first attempt came to the point of an act
+abbrev pub is_reached : List PointReached → BoundAct → Bool
+is_reached points bound = list_any (λ reached. number_of reached.point == bound.point) (first_points points)
+
+-- the answer and the data of a line, by how its call ended
+abbrev pub answer_of_errno : Errno → Answer
+answer_of_errno EAGAIN = Again
+answer_of_errno EINVAL = Invalid
+answer_of_errno ENODATA = NoData
+answer_of_errno EINTR = Interrupted
+
+abbrev pub system_line_answer : SystemAnswer → Answer
+system_line_answer (read bytes visit) = Done
+system_line_answer (failed errno) = answer_of_errno errno
+
+abbrev pub system_line_shown : SystemAnswer → Shown
+system_line_shown (read bytes visit) = bytes_or_none bytes
+system_line_shown (failed errno) = no_data
+
+abbrev pub ending_answer : Ending → Answer
+ending_answer no_bytes = Done
+ending_answer (by_batch bytes) = Done
+ending_answer (by_system answer) = system_line_answer answer
+
+abbrev pub ending_shown : Ending → Shown
+ending_shown no_bytes = no_data
+ending_shown (by_batch bytes) = bytes_or_none bytes
+ending_shown (by_system answer) = system_line_shown answer
+
+-- the looks among what stands behind some steps
+abbrev pub looks_of : List Deed → List ℕ
+looks_of [] = []
+looks_of (looked g ∷ deeds) = g ∷ looks_of deeds
+looks_of (at_pool v ∷ deeds) = looks_of deeds
+looks_of (at_base v ∷ deeds) = looks_of deeds
+looks_of (at_cpu v ∷ deeds) = looks_of deeds
+looks_of (nothing_there ∷ deeds) = looks_of deeds
+
+-- no number is below the one before it
+abbrev pub NeverFall : List ℕ → Type 0
+NeverFall [] = ⊤
+NeverFall (a ∷ []) = ⊤
+NeverFall (a ∷ b ∷ rest) = (a ≤ b) × NeverFall (b ∷ rest)

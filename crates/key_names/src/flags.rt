@@ -1,0 +1,19 @@
+//! The flags of getrandom(2).
+ghost use Rattle.std.specs.Prelude.{◌≡◌};
+ghost use Rattle.key_names.specs.Flags.{is_bad, is_nonblock, is_insecure};
+
+/// Do not wait for the core to be ready.
+pub const GRND_NONBLOCK: u32 = 1;
+
+/// Read as /dev/random does.
+pub const GRND_RANDOM: u32 = 2;
+
+/// Take what there is, also before the core is ready.
+pub const GRND_INSECURE: u32 = 4;
+
+/// Whether a flag is unknown, or `GRND_RANDOM` stands with `GRND_INSECURE`.
+pub fn are_bad(flags: u32) -> bool
+    ensures { result ≡ is_bad flags }
+{
+    flags >= 8 || (flags / GRND_RANDOM % 2 == 1 && flags / GRND_INSECURE % 2 == 1)
+}

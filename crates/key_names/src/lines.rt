@@ -1,0 +1,24 @@
+//! The lines of a transcript.
+use crate::events::{Answer, Word};
+use crate::trace::Trace;
+
+/// What a line shows behind its steps.
+#[derive(Clone, Copy, Debug, PartialEq, Eq)]
+pub enum Data {
+    None,
+    /// The `len` bytes from `start` on among the bytes that are kept for the caller.
+    Bytes { start: u64, len: u32 },
+    /// How many bits were credited.
+    Count(u32),
+}
+
+/// One line of a transcript: an event of a caller, or the caller's end.
+#[derive(Drop)]
+pub struct Line {
+    pub caller: u32,
+    pub event: u32,
+    pub word: Word,
+    pub answer: Answer,
+    pub trace: Trace,
+    pub shown: Data,
+}

@@ -1,0 +1,18 @@
+use Rattle.std.proofs.Common.{ap, arith, length}
+use Rattle.rng_tool.proofs.Inputs.{was_run, was_cut_short, was_refused}
+use Rattle.rng_tool.proofs.run.run.Goals as goal
+
+pub returns-in-Ok-Some-clause-done : goal.returns-in-Ok-Some-clause-done
+returns-in-Ok-Some-clause-done g c done = was_run _ _ _ _ c.in-Ok.input.items _ c.in-Ok-Some.events.items _
+    c.deref.ensures.value c.deref-in-Ok-Some.ensures.value (rw c.in-Ok-Some.field-0-is at c.in-Ok-Some.ensures.found)
+    c.in-Ok.ensures.taken
+    (λ short. c.in-Ok.ensures.end (let len = ap length c.deref.ensures.value in omega (arith, c.deref.ensures.len))) (c.run_script.ensures.whole done)
+
+pub returns-in-Ok-Some-clause-cut_short : goal.returns-in-Ok-Some-clause-cut_short
+returns-in-Ok-Some-clause-cut_short g c cut = was_cut_short _ _ _ _ c.in-Ok.input.items _ c.in-Ok-Some.events.items _
+    c.deref.ensures.value c.deref-in-Ok-Some.ensures.value (rw c.in-Ok-Some.field-0-is at c.in-Ok-Some.ensures.found)
+    c.in-Ok.ensures.taken (c.run_script.ensures.prefix cut)
+
+pub returns-in-Ok-None-clause-refused : goal.returns-in-Ok-None-clause-refused
+returns-in-Ok-None-clause-refused g c refused = was_refused _ _ _ _ c.in-Ok.input.items _
+    c.deref.ensures.value (rw c.in-Ok-None.field-0-is at c.in-Ok-None.ensures.none) c.in-Ok.ensures.taken c.in-Ok.ensures.bytes (c.refuse.ensures.whole refused)

@@ -1,0 +1,4 @@
+pub mod FirstForm
+pub mod Lanes
+pub mod Running
+pub mod Outcome

@@ -1,0 +1,77 @@
+-- What a run of the program promises for each way to end.
+use Rattle.std.specs.Prelude.{ℕ, ◌≡◌, ◌⊎◌, List, [], ◌∷◌, Option, String, string_bytes, codes, map, IfSome}
+use Rattle.std.specs.Io.KnownBytes.{Appends, Consumes, IsAtEnd}
+use Rattle.io_edges.specs.Pieces.{AppendsPrefix}
+use Rattle.key_names.specs.declared.events.Event.{Event}
+use Rattle.key_names.specs.Book.{Book, lists_of}
+use Rattle.key_names.specs.IsTranscript.{IsTranscriptBy}
+use Rattle.key_names.specs.Uses.{IsDisjoint}
+use Rattle.key_names.specs.Meaning.{CallMeaning}
+use Rattle.key_names.specs.SeenLine.{SeenLine}
+use Rattle.key_names.specs.ScriptGrammar.{Script}
+use Rattle.key_names.specs.TranscriptGrammar.{transcript_text}
+use Rattle.event_script.specs.FirstForm.{IsFirstScript, first_script}
+use Rattle.rng_tool.specs.declared.status.Status.{Status}
+use Rattle.rng_tool.specs.declared.status.Status.TheVariants.{Done, No, Usage, ReadFault, WriteFault, Refused, NoMemory}
+
+abbrev pub code_of : Status → ℕ
+code_of Done = 0
+code_of No = 1
+code_of Usage = 2
+code_of ReadFault = 3
+code_of WriteFault = 4
+code_of Refused = 5
+code_of NoMemory = 6
+
+-- no run of these events is known but those of the first form
+abbrev pub HasNoRun : List ℕ → Type 0
+HasNoRun input = (events : List Event) → IsFirstScript events input → ⊥
+
+-- what a lawful transcript for a script tells: its text, and that its book puts no byte of a key to use twice
+pub record RunOf (script : Script) (output : List ℕ) : Type 0 where
+  pub lines : List (List SeenLine)
+  pub book : Book
+  pub meanings : List (List CallMeaning)
+  pub lawful : IsTranscriptBy script lines book meanings
+  pub disjoint : IsDisjoint (lists_of book)
+  pub written : output ≡ transcript_text lines
+
+abbrev pub refusal : List ℕ
+refusal = codes "refused 0 0\n"
+
+-- the output that an input calls for
+abbrev pub CallsFor : List ℕ → List ℕ → Type 0
+CallsFor input output =
+    ((events : List Event) × IsFirstScript events input × RunOf (first_script events) output)
+    ⊎ HasNoRun input × (output ≡ refusal)
+
+-- the whole input was read, and the transcript was written
+pub record WasRun (left left_after held held_after : Option (List ℕ)) : Type 0 where
+  pub input : List ℕ
+  pub events : List Event
+  pub output : List ℕ
+  pub read : Consumes left left_after input
+  pub whole : IsAtEnd left_after
+  pub script : IsFirstScript events input
+  pub run : RunOf (first_script events) output
+  pub written : Appends held held_after output
+
+-- what was read has no run, and neither has all that was left; the line that says so was written
+pub record WasRefused (left left_after held held_after : Option (List ℕ)) : Type 0 where
+  pub input : List ℕ
+  pub read : Consumes left left_after input
+  pub no_run : HasNoRun input
+  pub none_of_all : IfSome left HasNoRun
+  pub written : Appends held held_after refusal
+
+-- the sink failed, and holds a prefix of the output that the input calls for
+pub record WasCutShort (left left_after held held_after : Option (List ℕ)) : Type 0 where
+  pub input : List ℕ
+  pub output : List ℕ
+  pub read : Consumes left left_after input
+  pub output_is : CallsFor input output
+  pub written : AppendsPrefix held held_after output
+
+-- the one word of the command line
+abbrev pub IsRun : {A : Type 0} → List (String A) → Type 0
+IsRun words = map string_bytes words ≡ codes "run" ∷ []

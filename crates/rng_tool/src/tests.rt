@@ -1,0 +1,195 @@
+//! Whole runs over sources and sinks in memory, with bytes and texts that other implementations gave.
+ghost use Rattle.std.specs.Prelude.{◌≤◌, length};
+
+use crate::run::run;
+use crate::status::Status;
+use io_edges::{MemSink, MemSource};
+use std::alloc::{AllocError, Global};
+use std::process::Abort;
+use std::test::Fail;
+
+const FIRST_SCRIPT: &[u8] = b"rngscript 1\ncpus 1\ncaller 0\nwrite 616263\nread 16 4\nend\n";
+
+const FIRST_TRANSCRIPT: &[u8] = b"rngtranscript 1\n\
+    0.0 write ok p:0@1 -\n\
+    0.1 read ok ~0,p:1@2,b:0@3 2e6bb5ff0fe262f66131c5e063550e5e\n\
+    0.2 end ok b:1@4 -\n\
+    end\n";
+
+// How many bytes of that transcript its first lines take.
+const FIRST_LINE_ENDS: [usize; 6] = [0, 16, 37, 97, 116, 120];
+
+const LONG_SCRIPT: &[u8] = b"rngscript 1\ncpus 1\ncaller 0\nwrite -\nread 0 4\nread 33 4\nend\n";
+
+const LONG_TRANSCRIPT: &[u8] = b"rngtranscript 1\n\
+    0.0 write ok p:0@1 -\n\
+    0.1 read ok ~0 -\n\
+    0.2 read ok ~0,p:1@2,b:0@3 7ab6c07d92303142164272a17a686f2153159cc899057930e0cc0663fd417ebcda\n\
+    0.3 end ok b:1@4 -\n\
+    end\n";
+
+const REFUSAL: &[u8] = b"refused 0 0\n";
+
+// More than any output here.
+const ROOM: usize = 1000;
+
+// More than the calls that any run here makes.
+const NEVER: u64 = 1000;
+
+fn words_of(alloc: Global, texts: &[&str]) -> Result<Vec<String>, AllocError> {
+    let mut words = Vec::new(alloc);
+    for text in texts {
+        words.push(String::from_str(alloc, text)?)?;
+    }
+    Ok(words)
+}
+
+// How many bytes the source gives and the sink takes a call at most, and the number of the call of each that fails.
+#[derive(Clone, Copy)]
+struct Edges {
+    step: usize,
+    failing_take: u64,
+    failing_put: u64,
+}
+
+const WHOLE: Edges = Edges {
+    step: 4096,
+    failing_take: NEVER,
+    failing_put: NEVER,
+};
+
+// What a run with these words answers, and what its source has left and its sink holds.
+fn run_over(
+    rt: &impl Abort,
+    alloc: Global,
+    texts: &[&str],
+    script: &[u8],
+    edges: Edges,
+) -> Result<(Status, MemSource, MemSink), AllocError> {
+    assert!(rt; edges.step > 0);
+    let words = words_of(alloc, texts)?;
+    let mut source = MemSource::of(
+        script.to_vec(alloc)?,
+        edges.step,
+        [edges.failing_take].to_vec(alloc)?,
+    );
+    let mut sink = MemSink::of(alloc, edges.step, [edges.failing_put].to_vec(alloc)?, ROOM)?;
+    let status = run(alloc, &words, &mut source, &mut sink);
+    Ok((status, source, sink))
+}
+
+#[test]
+fn transcripts_of_the_worked_cases(rt: HostRuntime) -> Result<(), Fail> {
+    let alloc = rt.alloc();
+    for (script, transcript) in [
+        (FIRST_SCRIPT, FIRST_TRANSCRIPT),
+        (LONG_SCRIPT, LONG_TRANSCRIPT),
+    ] {
+        for step in [1, 7, 4096] {
+            let edges = Edges { step, ..WHOLE };
+            let (status, _, sink) = run_over(&rt, alloc, &["run"], script, edges)?;
+            assert_eq!(rt; status, Status::Done, "step {step}");
+            assert_eq!(rt; sink.held(), transcript, "step {step}");
+        }
+    }
+    Ok(())
+}
+
+#[test]
+fn other_scripts_are_refused(rt: HostRuntime) -> Result<(), Fail> {
+    let alloc = rt.alloc();
+    let scripts: [&[u8]; 10] = [
+        b"",
+        b"rngscript 1\ncpus 1\ncaller 0\nwrite 616263\nread 16 4\nend",
+        b"rngscript 1\ncpus 1\ncaller 0\nread 16 0\nend\n",
+        b"rngscript 1\ncpus 1\ncaller 0\nwrite AB\nend\n",
+        b"rngscript 1\ncpus 1\ncaller 0\nfork 1\ncaller 1\nend\n",
+        b"rngscript 1\ncpus 2\ncaller 0\nend\n",
+        b"rngscript 2\ncpus 1\ncaller 0\nend\n",
+        b"rngscript 1\ncpus 1\ncaller 0\n# a comment\nend\n",
+        b"rngscript 1\ncpus 1\ncaller 0\nread 1048577 4\nend\n",
+        b"rngscript 1\ncpus 1\ncaller 0\nend\nend\n",
+    ];
+    for (row, script) in scripts.iter().enumerate() {
+        let (status, _, sink) = run_over(&rt, alloc, &["run"], script, WHOLE)?;
+        assert_eq!(rt; status, Status::Refused, "row {row}");
+        assert_eq!(rt; sink.held(), REFUSAL, "row {row}");
+    }
+    Ok(())
+}
+
+#[test]
+fn other_words_read_and_write_nothing(rt: HostRuntime) -> Result<(), Fail> {
+    let alloc = rt.alloc();
+    let rows: [&[&str]; 6] = [&[], &["check"], &["run", "run"], &["Run"], &["run "], &[""]];
+    for (row, texts) in rows.iter().enumerate() {
+        let (status, mut source, sink) = run_over(&rt, alloc, texts, FIRST_SCRIPT, WHOLE)?;
+        assert_eq!(rt; status, Status::Usage, "row {row}");
+        assert_eq!(rt; sink.held(), b"".as_slice(), "row {row}");
+        // The source still gives a whole run its script.
+        let mut rest = MemSink::of(alloc, 4096, Vec::new(alloc), ROOM)?;
+        let words = words_of(alloc, &["run"])?;
+        assert_eq!(rt;
+            run(alloc, &words, &mut source, &mut rest),
+            Status::Done,
+            "row {row}"
+        );
+        assert_eq!(rt; rest.held(), FIRST_TRANSCRIPT, "row {row}");
+    }
+    Ok(())
+}
+
+#[test]
+fn a_source_that_fails_at_each_call(rt: HostRuntime) -> Result<(), Fail> {
+    let alloc = rt.alloc();
+    // A byte a call, and one more call that finds the end.
+    let calls = FIRST_SCRIPT.len() as u64 + 1;
+    for failing_take in 1..=calls + 1 {
+        let edges = Edges {
+            step: 1,
+            failing_take,
+            ..WHOLE
+        };
+        let (status, _, sink) = run_over(&rt, alloc, &["run"], FIRST_SCRIPT, edges)?;
+        let (want, held) = if failing_take <= calls {
+            (Status::ReadFault, b"".as_slice())
+        } else {
+            (Status::Done, FIRST_TRANSCRIPT)
+        };
+        assert_eq!(rt; status, want, "call {failing_take}");
+        assert_eq!(rt; sink.held(), held, "call {failing_take}");
+    }
+    Ok(())
+}
+
+#[test]
+fn a_sink_that_fails_at_each_line(rt: HostRuntime) -> Result<(), Fail> {
+    let alloc = rt.alloc();
+    for (lines, end) in FIRST_LINE_ENDS.iter().enumerate() {
+        let failing_put = lines as u64 + 1;
+        let edges = Edges {
+            failing_put,
+            ..WHOLE
+        };
+        let (status, _, sink) = run_over(&rt, alloc, &["run"], FIRST_SCRIPT, edges)?;
+        let want = if *end < FIRST_TRANSCRIPT.len() {
+            Status::WriteFault
+        } else {
+            Status::Done
+        };
+        assert_eq!(rt; status, want, "put {failing_put}");
+        assert_eq!(rt;
+            Some(sink.held()),
+            FIRST_TRANSCRIPT.get(..*end),
+            "put {failing_put}"
+        );
+    }
+    let edges = Edges {
+        failing_put: 1,
+        ..WHOLE
+    };
+    let (status, _, sink) = run_over(&rt, alloc, &["run"], b"nonsense\n", edges)?;
+    assert_eq!(rt; status, Status::WriteFault);
+    assert_eq!(rt; sink.held(), b"".as_slice());
+    Ok(())
+}

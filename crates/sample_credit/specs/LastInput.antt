@@ -1,0 +1,14 @@
+-- What is kept of the input events so far.
+use Rattle.std.specs.Prelude.{ℕ, ◌<◌, ◌^◌, ℤ, nat_abs}
+use Rattle.key_names.specs.InputTimer.{InputTimer}
+
+-- the last value, and the timer of the events that were timed
+pub record LastInput : Type 0 where
+  pub value : ℕ
+  pub timer : InputTimer
+
+-- the last moment is below 2^40, and so are the differences of such moments, and theirs below 2^41
+pub record IsNear (time : ℕ) (delta delta2 : ℤ) : Type 0 where
+  pub time_near : time < 2 ^ 40
+  pub delta_near : nat_abs delta < 2 ^ 40
+  pub delta2_near : nat_abs delta2 < 2 ^ 41

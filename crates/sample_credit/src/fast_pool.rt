@@ -1,0 +1,169 @@
+//! A CPU's fast pool, which interrupts are mixed into until there are enough of them for the input pool.
+
+ghost use Rattle.std.specs.Prelude.{◌≡◌};
+ghost use Rattle.key_names.specs.FastPool.{dump_bits, dump_bytes, fast_start, fast_step, makes_due, sip_round, word_mixed};
+ghost use Rattle.key_names.specs.declared.entries.CpuEntry.TheVariants.{Irq, Dump as Dumped, Online};
+
+use byteorder::{ByteOrder, LittleEndian};
+use std::marker::Model;
+use std::mem;
+
+/// Bit 31 of a count: a dump is due, and was not made yet (`MIX_INFLIGHT`).
+const MIX_INFLIGHT: u32 = 1 << 31;
+
+/// The interrupts after which a dump is due.
+const BURST: u32 = 1024;
+
+/// A second in milliseconds (`HZ`). A dump is due once more than this has passed since the last one.
+const SECOND: u64 = 1000;
+
+// The four words of a fast pool (`fast_pool.pool`).
+#[derive(Clone, Copy)]
+struct Words {
+    s0: u64,
+    s1: u64,
+    s2: u64,
+    s3: u64,
+}
+
+impl Model for Words {
+    ghost use Rattle.key_names.specs.FastPool.{FastWords};
+
+    ghost Value = { FastWords };
+
+    ghost view = { λ w. record { s0 = w.s0; s1 = w.s1; s2 = w.s2; s3 = w.s3 } };
+
+    ghost inverse = { λ v. record { s0 = v.s0; s1 = v.s1; s2 = v.s2; s3 = v.s3 } };
+}
+
+impl Words {
+    // One round of SipHash (`FASTMIX_PERM`).
+    #[inline(always)]
+    fn permuted(self) -> Words
+        ensures { result ≡ sip_round self }
+    {
+        let a = self.s0.wrapping_add(self.s1);
+        let b = self.s1.rotate_left(13) ^ a;
+        let a = a.rotate_left(32);
+        let c = self.s2.wrapping_add(self.s3);
+        let d = self.s3.rotate_left(16) ^ c;
+        let a = a.wrapping_add(d);
+        let d = d.rotate_left(21) ^ a;
+        let c = c.wrapping_add(b);
+        let b = b.rotate_left(17) ^ c;
+        let c = c.rotate_left(32);
+        Words {
+            s0: a,
+            s1: b,
+            s2: c,
+            s3: d,
+        }
+    }
+
+    // One word mixed in: half of the kernel's `fast_mix`.
+    #[inline(always)]
+    fn mixed(self, word: u64) -> Words
+        ensures { result ≡ word_mixed self word }
+    {
+        let words = Words {
+            s3: self.s3 ^ word,
+            ..self
+        }
+        .permuted();
+        Words {
+            s0: words.s0 ^ word,
+            ..words
+        }
+    }
+}
+
+/// What a dump gives for the input pool.
+#[derive(Clone, Copy, Debug, PartialEq, Eq)]
+pub struct Dump {
+    /// What is mixed in.
+    pub bytes: [u8; 16],
+    /// What is credited for it, 1 to 128.
+    pub bits: u32,
+}
+
+/// The kernel's `struct fast_pool`: four words that a CPU's interrupts are mixed into, how many there were since the
+/// last dump, and the moment of that dump in milliseconds.
+///
+/// Contracts see it as the fast pool of `key_names`, and each call as an entry of the CPU's list.
+#[derive(Drop)]
+pub struct FastPool {
+    words: Words,
+    count: u32,
+    last: u64,
+}
+
+impl Model for FastPool {
+    ghost use Rattle.key_names.specs.FastPool.{FastPool as FastPoolState};
+
+    ghost Value = { FastPoolState };
+
+    ghost view = { λ p. record { words = p.words; count = p.count; last = p.last } };
+}
+
+impl FastPool {
+    /// The words that SipHash starts from under a zero key, no interrupts, and 0 as the moment of the last dump.
+    pub fn start() -> FastPool
+        ensures { result ≡ fast_start }
+    {
+        let words = Words {
+            s0: 0x736f_6d65_7073_6575,
+            s1: 0x646f_7261_6e64_6f6d,
+            s2: 0x6c79_6765_6e65_7261,
+            s3: 0x7465_6462_7974_6573,
+        };
+        FastPool {
+            words,
+            count: 0,
+            last: 0,
+        }
+    }
+
+    /// Mixes the two words of an interrupt at the moment `now` in milliseconds (`fast_mix`), counts it, and says
+    /// whether it makes a dump due: as the 1,024th, or more than a second after the last dump
+    /// (`add_interrupt_randomness`). While a dump is due already, no other becomes due. The count is taken modulo 2^32.
+    #[inline]
+    pub fn mix(&mut self, v1: u64, v2: u64, now: u64) -> bool
+        ensures due { result ≡ makes_due self.old now }
+        ensures mixed { self.new ≡ fast_step self.old (Irq v1 v2 now) }
+    {
+        self.words = self.words.mixed(v1).mixed(v2);
+        self.count = self.count.wrapping_add(1);
+        let due = self.count < MIX_INFLIGHT
+            && (self.count >= BURST || now.saturating_sub(self.last) > SECOND);
+        if due {
+            self.count += MIX_INFLIGHT;
+        }
+        due
+    }
+
+    /// What the pool holds for the input pool: its first two words, low byte first, and a bit for each 64 interrupts,
+    /// but at least 1 and at most 128 (`mix_interrupt_randomness`). The count goes back to 0, and `now` is the moment
+    /// of the last dump; the words stay.
+    pub fn dump(&mut self, now: u64) -> Dump
+        ensures bytes { result.bytes ≡ dump_bytes self.old }
+        ensures bits { result.bits ≡ dump_bits self.old }
+        ensures emptied { self.new ≡ fast_step self.old (Dumped now) }
+    {
+        let mut bytes = [0; 16];
+        LittleEndian::write_u64_into(&[self.words.s0, self.words.s1], &mut bytes);
+        let interrupts = mem::take(&mut self.count) % (1 << 16);
+        self.last = now;
+        Dump {
+            bytes,
+            bits: (interrupts / 64).clamp(1, 128),
+        }
+    }
+
+    /// The CPU comes online: the count goes back to 0 (`random_online_cpu`). The words and the moment of the last dump
+    /// stay.
+    pub fn online(&mut self)
+        ensures { self.new ≡ fast_step self.old Online }
+    {
+        self.count = 0;
+    }
+}

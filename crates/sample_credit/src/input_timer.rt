@@ -1,0 +1,114 @@
+//! How many bits an input event is worth, by the moments of the events before it.
+
+ghost use Rattle.std.specs.Prelude.{◌≡◌, ◌≢◌, ◌↔◌, ◌/◌, ◌%◌, ◌^◌, ◌<◌, ◌++◌, IsTrue, min, nat_abs};
+ghost use Rattle.std.specs.Int.{w32, w64, to_le_bytes};
+ghost use Rattle.key_names.specs.InputTimer.{binary_digits, input_number, timer_after, timer_bits, timer_start};
+
+use std::marker::Model;
+
+/// The most bits that an event is credited with.
+const MAX_BITS: u32 = 11;
+
+/// The value of the last input event (`last_value`), and the kernel's `struct timer_rand_state` of the events that were
+/// timed: the last moment in milliseconds, the last difference of two moments, and the last difference of two of those.
+///
+/// Contracts see the value and the timer of `key_names`.
+#[derive(Drop)]
+pub struct InputTimer {
+    last_value: u8,
+    last_time: u64,
+    last_delta: i64,
+    last_delta2: i64,
+}
+
+impl Model for InputTimer {
+    ghost use Rattle.sample_credit.specs.LastInput.{LastInput, IsNear};
+
+    ghost Value = { LastInput };
+
+    ghost view = { λ t. record {
+      value = t.last_value;
+      timer = record { last_time = t.last_time; last_delta = t.last_delta; last_delta2 = t.last_delta2 };
+    } };
+
+    ghost invariant = { λ t. IsNear t.last_time t.last_delta t.last_delta2 };
+}
+
+impl InputTimer {
+    /// Value, moment and differences are 0.
+    pub fn start() -> InputTimer
+        ensures { result ≡ record { value = 0; timer = timer_start } }
+    {
+        InputTimer {
+            last_value: 0,
+            last_time: 0,
+            last_delta: 0,
+            last_delta2: 0,
+        }
+    }
+
+    /// Whether the value of an event is not that of the event before, and then keeps it. An event that repeats the
+    /// value is no sample (`add_input_randomness`).
+    pub fn fresh(&mut self, value: u8) -> bool
+        ensures fresh { IsTrue result ↔ (value ≢ self.old.value) }
+        ensures kept { self.new ≡ record self.old { value = value } }
+    {
+        let fresh = value != self.last_value;
+        self.last_value = value;
+        fresh
+    }
+
+    /// The bits, 0 to 11, that an event at the moment `now` is worth: how many binary digits half the least of the
+    /// first, second and third difference of moments has (`add_timer_randomness`). The moment and the differences are
+    /// kept. `now` is in milliseconds and below 2^40; it may stand before the last moment.
+    pub fn bits(&mut self, now: u64) -> u32
+        requires { now < 2 ^ 40 }
+        ensures bits { result ≡ timer_bits self.old.timer now }
+        ensures kept { self.new ≡ record self.old { timer = timer_after self.old.timer now } }
+    {
+        let delta = now as i64 - self.last_time as i64;
+        let delta2 = delta - self.last_delta;
+        let delta3 = delta2 - self.last_delta2;
+        self.last_time = now;
+        self.last_delta = delta;
+        self.last_delta2 = delta2;
+        bits_of(delta, delta2, delta3)
+    }
+}
+
+// The bits that these differences of moments are worth.
+fn bits_of(delta: i64, delta2: i64, delta3: i64) -> u32
+    ensures { let least = min (nat_abs delta) (min (nat_abs delta2) (nat_abs delta3)) in
+        result ≡ min (binary_digits (least / 2 % 2 ^ 32)) MAX_BITS }
+{
+    let least = delta
+        .unsigned_abs()
+        .min(delta2.unsigned_abs().min(delta3.unsigned_abs()));
+    fls((least / 2 % (1 << 32)) as u32).min(MAX_BITS)
+}
+
+// The number of binary digits, 0 for 0 (`fls`).
+fn fls(x: u32) -> u32
+    ensures { result ≡ binary_digits x }
+{
+    u32::BITS - x.leading_zeros()
+}
+
+/// The number that is mixed for an input event of this kind, code and value, below 2^20 (`add_input_randomness`).
+pub fn input_number(kind: u16, code: u16, value: u8) -> u32
+    ensures { result ≡ input_number kind code value }
+{
+    let code = u32::from(code);
+    (u32::from(kind) << 4) ^ code ^ (code >> 4) ^ u32::from(value)
+}
+
+/// The 12 bytes that are mixed for an input event: a word, in the kernel the cycle counter, and the event's number,
+/// each low byte first.
+pub fn input_sample(word: u64, kind: u16, code: u16, value: u8) -> [u8; 12]
+    ensures { result ≡ to_le_bytes w64 word ++ to_le_bytes w32 (input_number kind code value) }
+{
+    let mut bytes = [0; 12];
+    bytes[..8].copy_from_slice(&word.to_le_bytes());
+    bytes[8..].copy_from_slice(&input_number(kind, code, value).to_le_bytes());
+    bytes
+}

@@ -1,0 +1,23 @@
+-- Hex written piece by piece.
+use Rattle.std.proofs.Common.{◌≡◌, ℕ, ◌∷◌, List, [], ◌++◌, take, drop, refl, ap, sym, ◌∙◌, append_assoc}
+use Rattle.std.proofs.lemmas.List.{take-append-drop}
+use Rattle.hex.specs.Hex.{encode_with, encode_lower, lower_digits}
+
+pub encode_with-append : (t xs ys : List ℕ) → encode_with t (xs ++ ys) ≡ encode_with t xs ++ encode_with t ys
+unfolding encode_with
+encode_with-append t [] ys = refl
+encode_with-append t (x ∷ xs) ys = rw (encode_with-append t xs ys) refl
+
+-- the next bytes go into the piece, and the others are still to come
+pub next_hex : (piece new rest front behind : List ℕ) (n : ℕ) → new ≡ piece ++ encode_lower front
+    → front ≡ take n rest → behind ≡ drop n rest
+    → piece ++ encode_lower rest ≡ new ++ encode_lower behind
+next_hex piece new rest front behind n e p q =
+    ap (λ (r : List ℕ). piece ++ encode_lower r) (sym (take-append-drop n rest))
+    ∙ ap (λ (r : List ℕ). piece ++ r) (encode_with-append lower_digits (take n rest) (drop n rest))
+    ∙ sym (append_assoc piece (encode_lower (take n rest)) (encode_lower (drop n rest)))
+    ∙ rw (e, p, q) refl
+
+pub no_hex : (rest : List ℕ) → rest ≡ [] → encode_lower rest ≡ []
+unfolding encode_with
+no_hex rest e = rw e refl

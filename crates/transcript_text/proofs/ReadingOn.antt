@@ -1,0 +1,187 @@
+-- Reading the lines of a text one after the other.
+use Rattle.std.proofs.Common.{◌≡◌, ℕ, ◌+◌, ◌<◌, true, List, [], ◌∷◌, ◌++◌, length, refl, sym, ap, subst, ◌∙◌, append_assoc, append-nil, arith}
+use Rattle.std.specs.Prelude.{codes, Result, Ok, Err}
+use Rattle.std.specs.List.{AllByRecursion}
+use Rattle.std.proofs.lemmas.List.{length_push, map_push, flat_map_more}
+use Rattle.key_names.specs.SeenLine.{SeenLine}
+use Rattle.key_names.specs.Spelling.{lined}
+use Rattle.key_names.specs.TranscriptGrammar.{line_text, all_lines, transcript_lines, transcript_text, LineFits, IsTranscriptText, IsFirstFault}
+use Rattle.transcript_text.specs.Grouping.{Groups, Gives}
+use Rattle.transcript_text.specs.Reading.{lacks}
+use Rattle.transcript_text.specs.ReadTexts.{AddsLine, Answers, IsNoLine, IsReadAs}
+use Rattle.transcript_text.specs.declared.error.TextError.{TextError}
+use Rattle.transcript_text.specs.declared.error.TextError.TheVariants.{Fault, NoMemory}
+use Rattle.transcript_text.proofs.Cutting.{same_cut, not_lacking}
+use Rattle.transcript_text.proofs.FirstFaults.{head_line, line_end, front_of, NoNext, fault_here, fault_behind, no_head, gives_nothing, one_transcript}
+use Rattle.transcript_text.proofs.GroupedLines.{LastHasLines-push, finished, no_groups}
+use Rattle.transcript_text.proofs.RisingLines.{Rising, last_caller, Rising-push, last_caller-push}
+
+-- the lines that were read, and the text behind them
+pub record ReadSoFar (text : List ℕ) (done : List (List SeenLine)) (current : List SeenLine) (rest : List ℕ)
+    (number : ℕ) : Type 0 where
+  pub lines : List SeenLine
+  pub groups : Groups done current lines
+  pub rising : Rising 0 lines
+  pub last : last_caller 0 lines ≡ length done
+  pub parts : text ≡ lined (front_of lines) ++ rest
+  pub count : number ≡ length lines + 1
+  pub begun : current ≡ [] → lines ≡ []
+
+pub begins : (text head rest : List ℕ) (done : List (List SeenLine)) (current : List SeenLine)
+    → text ≡ head ++ 10 ∷ rest → head ≡ head_line → done ≡ [] → current ≡ []
+    → ReadSoFar text done current rest 1
+begins text head rest done current cut is none nothing = record {
+  lines = [];
+  groups = rw (none, nothing) no_groups;
+  rising = tt;
+  last = rw none refl;
+  parts = rw (cut, is) refl;
+  count = refl;
+  begun = λ e. refl;
+}
+
+pub goes_on : (text rest line behind : List ℕ) (done new : List (List SeenLine)) (current next : List SeenLine)
+    (number : ℕ) → ReadSoFar text done current rest number
+    → rest ≡ line ++ 10 ∷ behind → AddsLine line done new current next → ReadSoFar text new next behind (number + 1)
+goes_on text rest line behind done new current next number r cut a = record {
+  lines = r.lines ++ a.line ∷ [];
+  groups = a.groups r.lines r.groups;
+  rising = Rising-push 0 r.lines a.line r.rising (omega (arith, r.last, a.later)) a.below a.fits;
+  last = last_caller-push 0 r.lines a.line ∙ sym a.len;
+  parts = r.parts ∙ ap (λ (x : List ℕ). lined (front_of r.lines) ++ x) (cut
+      ∙ ap (λ (x : List ℕ). x ++ 10 ∷ behind) a.spelt)
+      ∙ sym (ap (λ (x : List (List ℕ)). lined (head_line ∷ x) ++ behind) (map_push line_text r.lines a.line)
+      ∙ ap (λ (x : List ℕ). x ++ behind) (sym (flat_map_more (λ (l : List ℕ). l ++ codes "\n") [] (front_of r.lines)
+      (line_text a.line)))
+      ∙ append_assoc (lined (front_of r.lines)) (line_text a.line ++ codes "\n") behind
+      ∙ ap (λ (x : List ℕ). lined (front_of r.lines) ++ x) (append_assoc (line_text a.line) (codes "\n") behind));
+  count = omega (arith, r.count, length_push r.lines a.line);
+  begun = λ e. absurd (omega (arith, a.some, ap length e));
+}
+
+-- ---- the callers so far
+
+last_below : (least : ℕ) (lines : List SeenLine) → least < 64 → Rising least lines → last_caller least lines < 64
+last_below least [] low rising = low
+last_below least (l ∷ lines) low rising = last_below l.caller lines rising.1 rising.3
+
+pub few_done : (text rest : List ℕ) (done : List (List SeenLine)) (current : List SeenLine) (number : ℕ)
+    → ReadSoFar text done current rest number → length done < 64
+few_done text rest done current number r = omega (arith, r.last, last_below 0 r.lines (omega arith) r.rising)
+
+all_fit : (least : ℕ) (lines : List SeenLine) → Rising least lines → AllByRecursion LineFits lines
+all_fit least [] rising = tt
+all_fit least (l ∷ lines) rising = (rising.2, all_fit l.caller lines rising.3)
+
+split_fit : (a b : List SeenLine) → AllByRecursion LineFits (a ++ b) → AllByRecursion LineFits a
+    × AllByRecursion LineFits b
+split_fit [] b f = (tt, f)
+split_fit (x ∷ a) b f = let more = split_fit a b f.1 in ((f.0, more.0), more.1)
+
+groups_fit : (done : List (List SeenLine)) (current : List SeenLine)
+    → AllByRecursion LineFits (all_lines done ++ current)
+    → AllByRecursion (AllByRecursion LineFits) (done ++ current ∷ [])
+groups_fit [] current f = (f, tt)
+groups_fit (d ∷ done) current f =
+    let parts = split_fit d (all_lines done ++ current)
+    (subst (AllByRecursion LineFits) (append_assoc d (all_lines done) current) f) in
+    (parts.0, groups_fit done current parts.1)
+
+gives_current : (done : List (List SeenLine)) (current lines : List SeenLine) → Groups done current lines
+    → Rising 0 lines → last_caller 0 lines ≡ length done
+    → (current ≡ [] → lines ≡ []) → (callers : List (List SeenLine)) × Gives callers lines
+gives_current done [] lines g rising last begun = ([], rw (begun refl) gives_nothing)
+gives_current done (c ∷ current) lines g rising last begun = (
+  done ++ (c ∷ current) ∷ [],
+  finished (done ++ (c ∷ current) ∷ []) done (c ∷ current) lines refl
+      (record {
+        few_callers = omega (arith, length_push done (c ∷ current), last, last_below 0 lines (omega arith) rising);
+        last = LastHasLines-push done (c ∷ current) (omega arith);
+        lines = groups_fit done (c ∷ current) (rw g.whole (all_fit 0 lines rising));
+      }) g,
+)
+
+gives_so_far : (text rest : List ℕ) (done : List (List SeenLine)) (current : List SeenLine) (number : ℕ)
+    (r : ReadSoFar text done current rest number)
+    → (callers : List (List SeenLine)) × Gives callers r.lines
+gives_so_far text rest done current number r = gives_current done current r.lines r.groups r.rising r.last r.begun
+
+-- ---- faults
+
+pub fault_missing : (text rest : List ℕ) (done : List (List SeenLine)) (current : List SeenLine) (number : ℕ)
+    → ReadSoFar text done current rest number → lacks 10 rest ≡ true
+    → IsFirstFault text (number + 1)
+unfolding NoNext
+fault_missing text rest done current number r lack =
+    let g = gives_so_far text rest done current number r in
+    let not : NoNext r.lines rest = λ line more cut clean.
+    absurd (not_lacking 10 line more (subst (λ (x : List ℕ). lacks 10 x ≡ true) cut lack)) in
+    fault_here text rest r.lines (number + 1) g.0 g.1 r.rising r.parts (omega (arith, r.count)) not
+
+pub fault_line : (text rest line behind : List ℕ) (done : List (List SeenLine)) (current : List SeenLine)
+    (number least : ℕ) → ReadSoFar text done current rest number
+    → rest ≡ line ++ 10 ∷ behind → lacks 10 line ≡ true → (line ≡ line_end → ⊥) → least ≡ length done
+    → IsNoLine line least → IsFirstFault text (number + 1)
+unfolding NoNext
+fault_line text rest line behind done current number least r cut clean end is none =
+    let g = gives_so_far text rest done current number r in
+    let not : NoNext r.lines rest = λ other more cut2 clean2.
+    let same = same_cut 10 line other behind more clean clean2 (sym cut ∙ cut2) in (
+      λ e. end (same.0 ∙ e),
+      λ l fits low high e. none l fits (omega (arith, is, r.last, low)) high (same.0 ∙ e),
+    ) in
+    fault_here text rest r.lines (number + 1) g.0 g.1 r.rising r.parts (omega (arith, r.count)) not
+
+-- the text up to and with the end
+whole_text : (callers : List (List SeenLine)) (lines : List SeenLine) (text rest behind : List ℕ)
+    → all_lines callers ≡ lines → text ≡ lined (front_of lines) ++ rest
+    → rest ≡ line_end ++ 10 ∷ behind → text ≡ lined (transcript_lines callers) ++ behind
+whole_text callers lines text rest behind all parts cut =
+    parts ∙ ap (λ (x : List ℕ). lined (front_of lines) ++ x) cut
+    ∙ sym (ap (λ (ls : List SeenLine). lined (front_of ls ++ line_end ∷ []) ++ behind) all
+    ∙ ap (λ (x : List ℕ). x ++ behind) (sym (flat_map_more (λ (l : List ℕ). l ++ codes "\n") [] (front_of lines)
+    line_end))
+    ∙ append_assoc (lined (front_of lines)) (line_end ++ codes "\n") behind)
+
+pub fault_after : (text rest behind line : List ℕ) (done : List (List SeenLine)) (current : List SeenLine)
+    (number : ℕ) → ReadSoFar text done current rest number
+    → rest ≡ line ++ 10 ∷ behind → line ≡ line_end → (behind ≡ [] → ⊥) → IsFirstFault text (number + 2)
+fault_after text rest behind line done current number r cut is some =
+    let g = gives_so_far text rest done current number r in
+    fault_behind text behind r.lines (number + 2) g.0 g.1 r.rising
+    (whole_text g.0 r.lines text rest behind g.1.all r.parts (cut ∙ ap (λ (x : List ℕ). x ++ 10 ∷ behind) is)) some
+    (omega (arith, r.count))
+
+pub found : (text rest behind line : List ℕ) (done : List (List SeenLine)) (current : List SeenLine) (number : ℕ)
+    (callers : List (List SeenLine))
+    → ReadSoFar text done current rest number → rest ≡ line ++ 10 ∷ behind → line ≡ line_end → behind ≡ []
+    → ((lines : List SeenLine) → Groups done current lines → Gives callers lines) → IsTranscriptText text callers
+unfolding transcript_text
+found text rest behind line done current number callers r cut is none gives =
+    let g = gives r.lines r.groups in
+    record {
+      fits = g.fits;
+      own = g.own;
+      spelled = whole_text callers r.lines text rest behind g.all r.parts (cut
+          ∙ ap (λ (x : List ℕ). x ++ 10 ∷ behind) is) ∙ ap (λ (x : List ℕ). lined (transcript_lines callers) ++ x) none
+          ∙ append-nil (lined (transcript_lines callers));
+    }
+
+-- ---- no head
+
+pub uncut_head : (text : List ℕ) → lacks 10 text ≡ true → IsFirstFault text 1
+uncut_head text lack = no_head text (λ line more cut is.
+    not_lacking 10 line more (subst (λ (x : List ℕ). lacks 10 x ≡ true) cut lack))
+
+pub other_head : (text head rest : List ℕ) → text ≡ head ++ 10 ∷ rest → lacks 10 head ≡ true → (head ≡ head_line → ⊥)
+    → IsFirstFault text 1
+other_head text head rest cut clean not = no_head text (λ line more cut2 is.
+    not ((same_cut 10 head line rest more clean (rw is refl) (sym cut ∙ cut2)).0 ∙ is))
+
+-- ---- what was read is the one transcript
+
+pub read_as : (text : List ℕ) (answer : Result (List (List SeenLine)) TextError) → Answers text answer
+    → (callers : List (List SeenLine)) → IsTranscriptText text callers → IsReadAs callers answer
+read_as text (Ok found) a callers t = one_transcript text found callers a t
+read_as text (Err (Fault line)) a callers t = a.none callers t
+read_as text (Err NoMemory) a callers t = tt

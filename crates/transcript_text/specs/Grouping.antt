@@ -1,0 +1,24 @@
+-- Lines that come one after the other, and the callers that they make.
+use Rattle.std.specs.Prelude.{ℕ, ◌≡◌, List, ◌++◌, length, map}
+use Rattle.std.specs.List.{AllByRecursion}
+use Rattle.key_names.specs.SeenLine.{SeenLine}
+use Rattle.key_names.specs.TranscriptGrammar.{all_lines, TranscriptFits, UnderOwnNumber}
+use Rattle.transcript_text.specs.declared.gathered.CallerLines.{CallerLines}
+
+abbrev pub OfCaller : ℕ → List SeenLine → Type 0
+OfCaller caller lines = AllByRecursion (λ line. line.caller ≡ caller) lines
+
+-- the callers that are done and the lines of the next one hold these lines
+pub record Groups (done : List (List SeenLine)) (current lines : List SeenLine) : Type 0 where
+  pub done_own : UnderOwnNumber 0 done
+  pub current_own : OfCaller (length done) current
+  pub whole : all_lines done ++ current ≡ lines
+
+-- these lines are those of a transcript
+pub record Gives (callers : List (List SeenLine)) (lines : List SeenLine) : Type 0 where
+  pub fits : TranscriptFits callers
+  pub own : UnderOwnNumber 0 callers
+  pub all : all_lines callers ≡ lines
+
+abbrev pub seen_callers : List CallerLines → List (List SeenLine)
+seen_callers callers = map (λ c. c.lines) callers

@@ -1,0 +1,9 @@
+pub mod Gathered
+pub mod Grouping
+pub mod Heads
+pub mod Lines
+pub mod Putting
+pub mod ReadLines
+pub mod ReadTexts
+pub mod Reading
+pub mod Shows

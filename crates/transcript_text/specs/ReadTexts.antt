@@ -1,0 +1,35 @@
+-- What reading a text answers.
+use Rattle.std.specs.Prelude.{ℕ, ◌≡◌, ◌<◌, ◌≤◌, ⊤, List, [], ◌∷◌, ◌++◌, length, Result, Ok, Err}
+use Rattle.key_names.specs.SeenLine.{SeenLine}
+use Rattle.key_names.specs.TranscriptGrammar.{line_text, LineFits, IsTranscriptText, IsFirstFault}
+use Rattle.transcript_text.specs.declared.error.TextError.{TextError}
+use Rattle.transcript_text.specs.declared.error.TextError.TheVariants.{Fault, NoMemory}
+use Rattle.transcript_text.specs.Grouping.{Groups}
+
+-- the transcript of the text, or its first faulty line, unless memory ran out
+abbrev pub Answers : List ℕ → Result (List (List SeenLine)) TextError → Type 0
+Answers text (Ok callers) = IsTranscriptText text callers
+Answers text (Err (Fault line)) = IsFirstFault text line
+Answers text (Err NoMemory) = ⊤
+
+-- this transcript, unless memory ran out
+abbrev pub IsReadAs : List (List SeenLine) → Result (List (List SeenLine)) TextError → Type 0
+IsReadAs callers (Ok found) = found ≡ callers
+IsReadAs callers (Err (Fault line)) = ⊥
+IsReadAs callers (Err NoMemory) = ⊤
+
+-- the text is one more line, of the current caller or of a later one
+pub record AddsLine (text : List ℕ) (old new : List (List SeenLine)) (current next : List SeenLine) : Type 0 where
+  pub line : SeenLine
+  pub fits : LineFits line
+  pub spelt : text ≡ line_text line
+  pub later : length old ≤ line.caller
+  pub below : line.caller < 64
+  pub len : length new ≡ line.caller
+  pub some : 0 < length next
+  pub groups : (lines : List SeenLine) → Groups old current lines → Groups new next (lines ++ line ∷ [])
+
+-- the text is no line of a caller from a number on
+abbrev pub IsNoLine : List ℕ → ℕ → Type 0
+IsNoLine text least = (line : SeenLine) → LineFits line → least ≤ line.caller → line.caller < 64
+    → text ≡ line_text line → ⊥

@@ -1,0 +1,43 @@
+//! Texts cut at a byte, and numbers.
+ghost use Rattle.std.specs.Prelude.{◌≡◌, ◌<◌, ◌∷◌, ◌++◌, ◌↔◌, true, length, IsTrue, MatchOption, decimal};
+ghost use Rattle.transcript_text.specs.Reading.{lacks, Reads};
+
+use itoa::Buffer;
+use memchr::memchr;
+use std::str;
+
+/// Whether a text is this one.
+pub(crate) fn spells(text: &[u8], name: &[u8]) -> bool
+    ensures { IsTrue result ↔ (text.now ≡ name.now) }
+{
+    text == name
+}
+
+/// What stands before the first of these bytes, and what stands behind it.
+pub(crate) fn cut(byte: u8, text: &[u8]) -> Option<(&[u8], &[u8])>
+    ensures { MatchOption result (lacks byte text.now ≡ true)
+        (λ both. (text.now ≡ both.0.now ++ byte ∷ both.1.now) × (lacks byte both.0.now ≡ true)) }
+{
+    match memchr(byte, text) {
+        Some(place) => Some((&text[..place], &text[place + 1..])),
+        None => None,
+    }
+}
+
+/// The number below a limit that a text spells in decimal, without leading zeros.
+pub(crate) fn number_below(limit: u64, text: &[u8]) -> Option<u64>
+    ensures { Reads decimal (λ n. n < limit) text.now result }
+{
+    let Ok(plain) = str::from_utf8(text) else {
+        return None;
+    };
+    let Ok(number) = plain.parse::<u64>() else {
+        return None;
+    };
+    let mut digits = Buffer::new();
+    if number < limit && spells(text, digits.format(number).as_bytes()) {
+        Some(number)
+    } else {
+        None
+    }
+}

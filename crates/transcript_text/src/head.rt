@@ -1,0 +1,83 @@
+//! A line up to its data.
+ghost use Rattle.std.specs.Prelude.{◌≡◌, ◌+◌, ◌≤◌, ◌++◌, [], length};
+ghost use Rattle.key_names.specs.TranscriptGrammar.{lane_text, step_text, steps_text};
+ghost use Rattle.transcript_text.specs.Heads.{head_text};
+
+use crate::fields::{answer_name, word_name};
+use crate::piece::Piece;
+use key_names::{LaneId, Line, Step, Trace};
+
+#[tactic(auto, unfolding(key_names::specs::TranscriptGrammar::lane_text))]
+fn append_lane(piece: &mut Piece, lane: LaneId)
+    requires { length piece.old + 21 ≤ 4096 }
+    ensures text { piece.new ≡ piece.old ++ lane_text lane }
+    ensures short { length piece.new ≤ length piece.old + 21 }
+{
+    match lane {
+        LaneId::Pool => piece.push(b'p'),
+        LaneId::Base => piece.push(b'b'),
+        LaneId::Cpu(cpu) => {
+            piece.push(b'c');
+            piece.append_number(cpu as u64);
+        }
+    }
+}
+
+#[tactic(auto, unfolding(key_names::specs::TranscriptGrammar::step_text))]
+fn append_step(piece: &mut Piece, step: Step)
+    requires { length piece.old + 63 ≤ 4096 }
+    ensures text { piece.new ≡ piece.old ++ step_text step }
+    ensures short { length piece.new ≤ length piece.old + 63 }
+{
+    match step {
+        Step::Look(generation) => {
+            piece.push(b'~');
+            piece.append_number(generation);
+        }
+        Step::Visit(mark) => {
+            append_lane(piece, mark.lane);
+            piece.push(b':');
+            piece.append_number(mark.place);
+            piece.push(b'@');
+            piece.append_number(mark.stamp);
+        }
+    }
+}
+
+/// The steps, with commas between them.
+fn append_steps(piece: &mut Piece, trace: &Trace)
+    requires room { length piece.old ≤ 1024 }
+    requires few { length trace.now ≤ 20 }
+    ensures text { piece.new ≡ piece.old ++ steps_text trace.now }
+    ensures short { length piece.new ≤ length piece.old + 1280 }
+{
+    if trace.len() == 0 {
+        piece.push(b'-');
+        return;
+    }
+    append_step(piece, trace.get(0));
+    for i in 1..trace.len() {
+        piece.push(b',');
+        append_step(piece, trace.get(i));
+    }
+}
+
+/// The line up to the space before its data.
+#[tactic(auto, unfolding(crate::specs::Heads::head_text))]
+pub(crate) fn append_head(piece: &mut Piece, line: &Line)
+    requires room { piece.old ≡ [] }
+    requires few { length line.now.trace ≤ 20 }
+    ensures text { piece.new ≡ head_text line.now.caller line.now.event line.now.word line.now.answer line.now.trace }
+    ensures short { length piece.new ≤ 1400 }
+{
+    piece.append_number(line.caller as u64);
+    piece.push(b'.');
+    piece.append_number(line.event as u64);
+    piece.push(b' ');
+    piece.append(word_name(line.word));
+    piece.push(b' ');
+    piece.append(answer_name(line.answer));
+    piece.push(b' ');
+    append_steps(piece, &line.trace);
+    piece.push(b' ');
+}

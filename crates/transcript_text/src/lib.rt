@@ -1,0 +1,26 @@
+//! The text of a transcript, written and read.
+#![tactic(auto)]
+
+mod cuts;
+mod error;
+mod fields;
+mod gathered;
+mod gathering;
+mod head;
+pub mod laws;
+mod line;
+mod names;
+mod piece;
+mod reading;
+mod shown;
+mod steps;
+#[cfg(test)]
+mod tests;
+mod transcript;
+mod writing;
+
+pub use error::TextError;
+pub use gathered::CallerLines;
+pub use reading::read;
+pub use transcript::Transcript;
+pub use writing::write_all;

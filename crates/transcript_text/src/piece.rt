@@ -1,0 +1,117 @@
+//! A piece of text that is put in one go.
+ghost use Rattle.std.specs.Prelude.{◌≡◌, ◌+◌, ◌*◌, ◌<◌, ◌≤◌, ◌∷◌, ◌++◌, [], length, decimal, slice_index};
+ghost use Rattle.hex.specs.Hex.{encode_lower, lower_digits};
+
+use itoa::Buffer;
+use std::marker::Model;
+
+/// The most bytes of a piece.
+pub(crate) const MOST_BYTES: usize = 4096;
+
+/// At most 4,096 bytes of text, on the stack.
+#[derive(Drop)]
+pub(crate) struct Piece {
+    bytes: [u8; MOST_BYTES],
+    len: usize,
+}
+
+impl Model for Piece {
+    ghost use Rattle.std.specs.Prelude.{ℕ, List, take, length, ◌≤◌, ◌≡◌};
+
+    ghost Value = { List ℕ };
+
+    ghost view = { λ p. take p.len p.bytes };
+
+    ghost invariant = { λ p. (p.len ≤ 4096) × (length p.bytes ≡ 4096) };
+}
+
+impl Piece {
+    pub(crate) fn empty() -> Piece
+        ensures { result ≡ [] }
+    {
+        Piece {
+            bytes: [0; MOST_BYTES],
+            len: 0,
+        }
+    }
+
+    pub(crate) fn clear(&mut self)
+        ensures { self.new ≡ [] }
+    {
+        self.len = 0;
+    }
+
+    /// The bytes so far.
+    pub(crate) fn text(&self) -> &[u8]
+        ensures { result.now ≡ self.now }
+    {
+        &self.bytes[..self.len]
+    }
+
+    /// How many more bytes there is room for.
+    pub(crate) fn room(&self) -> usize
+        ensures { result + length self.now ≡ 4096 }
+    {
+        MOST_BYTES - self.len
+    }
+
+    pub(crate) fn push(&mut self, byte: u8)
+        requires { length self.old < 4096 }
+        ensures { self.new ≡ self.old ++ byte ∷ [] }
+    {
+        self.bytes[self.len] = byte;
+        self.len += 1;
+    }
+
+    pub(crate) fn append(&mut self, text: &[u8])
+        requires { length self.old + length text.now ≤ 4096 }
+        ensures { self.new ≡ self.old ++ text.now }
+    {
+        let end = self.len + text.len();
+        self.bytes[self.len..end].copy_from_slice(text);
+        self.len = end;
+    }
+
+    pub(crate) fn append_number(&mut self, number: u64)
+        requires { length self.old + 20 ≤ 4096 }
+        ensures text { self.new ≡ self.old ++ decimal number }
+        ensures short { length (decimal number) ≤ 20 }
+    {
+        let mut digits = Buffer::new();
+        self.append(digits.format(number).as_bytes());
+    }
+
+    /// The bytes in hex.
+    pub(crate) fn append_hex(&mut self, bytes: &[u8])
+        requires { length self.old + 2 * length bytes.now ≤ 4096 }
+        ensures { self.new ≡ self.old ++ encode_lower bytes.now }
+    {
+        let end = self.len + 2 * bytes.len();
+        write_hex(&mut self.bytes[self.len..end], bytes);
+        self.len = end;
+    }
+}
+
+// Digits by arithmetic: the compiler makes many of them at once, where a table such as that of `hex` takes a load for
+// each.
+#[inline(always)]
+fn digit(bits: u8) -> u8
+    requires { bits < 16 }
+    ensures { result ≡ slice_index lower_digits bits }
+{
+    if bits < 10 {
+        b'0' + bits
+    } else {
+        b'a' + (bits - 10)
+    }
+}
+
+fn write_hex(out: &mut [u8], bytes: &[u8])
+    requires { length out.old ≡ 2 * length bytes.now }
+    ensures { out.new ≡ encode_lower bytes.now }
+{
+    for i in 0..bytes.len() {
+        out[2 * i] = digit(bytes[i] / 16);
+        out[2 * i + 1] = digit(bytes[i] % 16);
+    }
+}

@@ -1,0 +1,72 @@
+//! A whole transcript.
+ghost use Rattle.std.specs.Prelude.{◌≡◌, ◌<◌, ◌≤◌, [], map, length, All, vec_len, slice_index_or};
+ghost use Rattle.std.specs.List.{AllByRecursion};
+ghost use Rattle.key_names.specs.SeenLine.{seen_lines, bytes_shown};
+ghost use Rattle.transcript_text.specs.Gathered.{IsWithin};
+ghost use Rattle.key_names.specs.TranscriptGrammar.{LastHasLines, TranscriptFits};
+
+use crate::gathered::CallerLines;
+use key_names::Line;
+use std::marker::Model;
+
+/// The lines of at most 64 callers, the last of whom has one. Contracts see the list of each caller's lines.
+#[derive(Drop)]
+pub struct Transcript {
+    callers: Vec<CallerLines>,
+}
+
+impl Model for Transcript {
+    ghost use Rattle.std.specs.Prelude.{List, map};
+    ghost use Rattle.key_names.specs.SeenLine.{SeenLine};
+    ghost use Rattle.transcript_text.specs.Gathered.{IsWithin};
+    ghost use Rattle.key_names.specs.TranscriptGrammar.{TranscriptFits};
+
+    ghost Value = { List (List SeenLine) };
+
+    ghost view = { λ t. map (λ c. c.lines) t.callers.items };
+
+    ghost invariant = { λ t. TranscriptFits (map (λ c. c.lines) t.callers.items) };
+}
+
+impl Transcript {
+    /// The transcript of these callers, the first of whom is caller 0.
+    pub fn of(callers: Vec<CallerLines>) -> Transcript
+        requires few { vec_len callers ≤ 64 }
+        requires last { LastHasLines (map (λ c. c.lines) callers.items) }
+        ensures lines { result ≡ map (λ c. c.lines) callers.items }
+        ensures fits { TranscriptFits result }
+    {
+        for caller in &callers {
+            let _lines = caller.lines();
+        }
+        Transcript { callers }
+    }
+
+    /// How many callers there are.
+    pub fn callers(&self) -> u32
+        ensures number { result ≡ length self.now }
+        ensures fits { TranscriptFits self.now }
+    {
+        self.callers.len() as u32
+    }
+
+    /// The lines of a caller. Where they show bytes, they name places in its `bytes`.
+    pub fn lines(&self, caller: u32) -> &[Line]
+        requires { caller < length self.now }
+        ensures seen { let lines = slice_index_or self.now caller [] in
+            seen_lines (bytes_shown lines) result.now ≡ lines }
+        ensures within { let kept = bytes_shown (slice_index_or self.now caller []) in
+            All (λ line. IsWithin (length kept) line.shown) result.now }
+        ensures few_steps { All (λ line. length line.trace ≤ 20) result.now }
+    {
+        self.callers[caller as usize].lines()
+    }
+
+    /// The bytes that a caller's lines show, one line's behind the other's.
+    pub fn bytes(&self, caller: u32) -> &[u8]
+        requires { caller < length self.now }
+        ensures { result.now ≡ bytes_shown (slice_index_or self.now caller []) }
+    {
+        self.callers[caller as usize].bytes()
+    }
+}

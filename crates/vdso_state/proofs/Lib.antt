@@ -1,0 +1,3 @@
+mod Copies
+mod Tries
+mod Runs

@@ -1,0 +1,32 @@
+-- What a host did in a call: a chain of hosts, from the one that the call began with to the one that it left.
+use Rattle.std.specs.Prelude.{ℕ, ◌≡◌, Bool, Ok, Err, Result, List, [], ◌∷◌}
+use Rattle.key_names.specs.declared.errno.Errno.{Errno}
+use Rattle.key_names.specs.declared.point.Point.{Point}
+use Rattle.key_names.specs.Vgetrandom.{SystemAnswer, read, failed, HostStep, publishes, system_call, at_point}
+
+-- how a host says what it did: what it published; what it answered a system call of some bytes with some flags; and
+-- whether it wiped the state at a point. Each relates the host before, what it was given and did, and the host after
+pub record Doings (H : Type 0) : Type 1 where
+  pub publishes_as : H → ℕ → H → Type 0
+  pub answers_as : H → ℕ → ℕ → SystemAnswer → H → Type 0
+  pub passes_as : H → Point → Bool → H → Type 0
+
+abbrev pub Does : {H : Type 0} → Doings H → H → HostStep → H → Type 0
+Does host h (publishes g) next = host.publishes_as h g next
+Does host h (system_call n flags answer) next = host.answers_as h n flags answer next
+Does host h (at_point point wiped) next = host.passes_as h point wiped next
+
+-- one step after another
+abbrev pub DoesAll : {H : Type 0} → Doings H → H → List HostStep → H → Type 0
+DoesAll host h [] last = h ≡ last
+DoesAll {H} host h (step ∷ steps) last = (next : H) × Does host h step next × DoesAll host next steps last
+
+-- what a system call returned, and the buffer then holds, is this answer; after an error the buffer is unspecified
+abbrev pub IsAnswer : SystemAnswer → Result (Unit {0}) Errno → List ℕ → Type 0
+IsAnswer (read bytes visit) result buf = (result ≡ Ok tt) × (buf ≡ bytes)
+IsAnswer (failed errno) result buf = result ≡ Err errno
+
+abbrev pub doings : {H : Type 0} → (H → ℕ → H → Type 0) → (H → ℕ → ℕ → SystemAnswer → H → Type 0) →
+    (H → Point → Bool → H → Type 0) → Doings H
+doings publishes_as answers_as passes_as =
+    record { publishes_as = publishes_as; answers_as = answers_as; passes_as = passes_as }

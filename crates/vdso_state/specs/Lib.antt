@@ -1,0 +1,4 @@
+pub mod Host
+pub mod Tried
+pub mod Call
+pub mod Local

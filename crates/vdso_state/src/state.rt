@@ -1,0 +1,175 @@
+//! The state that a thread's memory holds (`struct vgetrandom_state`), and the bytes that are copied out of it.
+
+ghost use Rattle.std.specs.Prelude.{◌≡◌, ◌+◌, ◌-◌, ◌*◌, ◌/◌, ◌%◌, ◌^◌, ◌≤◌, true, false, length, take, drop, replicate};
+ghost use Rattle.key_names.specs.Keystream.{keystream};
+ghost use Rattle.key_names.specs.VgetrandomState.{VgetrandomState, wiped_state};
+ghost use Rattle.key_names.specs.BatchCopy.{bytes_left, copy_bytes, state_after_copy, block_after_copy};
+ghost use Rattle.key_names.specs.BatchCopy.{state_of_same_batch, state_of_new_batch};
+
+use chacha_blocks::Reader;
+use std::marker::Model;
+
+/// Bytes of a batch: three halves of a block of the keystream, so that a batch and the next key take two blocks.
+const BATCH_BYTES: usize = 96;
+
+const BLOCK_BYTES: usize = 64;
+
+/// Words of 4 bytes of a block.
+const BLOCK_WORDS: u64 = 16;
+
+/// A vgetrandom state. The bytes of the batch before `pos` were served and are 0.
+#[derive(Drop)]
+pub struct VState {
+    pub(crate) batch: [u8; 96],
+    pub(crate) key: [u8; 32],
+    pub(crate) generation: u64,
+    pub(crate) pos: u8,
+    pub(crate) in_use: bool,
+}
+
+impl Model for VState {
+    ghost use Rattle.std.specs.Prelude.{◌≤◌};
+    ghost use Rattle.key_names.specs.VgetrandomState.{VgetrandomState};
+
+    ghost Value = { VgetrandomState };
+
+    ghost view = { λ s.
+        record { batch = s.batch; key = s.key; generation = s.generation; pos = s.pos; in_use = s.in_use } };
+
+    ghost invariant = { λ s. s.pos ≤ 96 };
+}
+
+impl VState {
+    /// A state whose memory is all zeros, as a new one is and one after a fork or a wipe.
+    pub fn wiped() -> VState
+        ensures { result ≡ wiped_state }
+    {
+        VState {
+            batch: [0; 96],
+            key: [0; 32],
+            generation: 0,
+            pos: 0,
+            in_use: false,
+        }
+    }
+
+    /// A state with this key for a published generation, and no batch yet.
+    pub fn keyed(key: [u8; 32], generation: u64) -> VState
+        ensures { result
+            ≡ record { batch = replicate 96 0; key = key; generation = generation; pos = 96; in_use = false } }
+    {
+        VState {
+            batch: [0; 96],
+            key,
+            generation,
+            pos: 96,
+            in_use: false,
+        }
+    }
+
+    /// Makes the memory all zeros.
+    pub fn wipe(&mut self)
+        ensures { self.new ≡ wiped_state }
+    {
+        *self = VState::wiped();
+    }
+
+    /// The published generation that the key was read for, or 0.
+    pub fn generation(&self) -> u64
+        ensures { result ≡ self.now.generation }
+    {
+        self.generation
+    }
+
+    /// Whether a call is inside.
+    pub fn is_in_use(&self) -> bool
+        ensures { result ≡ self.now.in_use }
+    {
+        self.in_use
+    }
+
+    /// How many bytes of the batch were not served.
+    pub fn left(&self) -> usize
+        ensures { result ≡ bytes_left self.now }
+    {
+        BATCH_BYTES - usize::from(self.pos)
+    }
+
+    /// A call begins.
+    pub fn enter(&mut self)
+        ensures { self.new ≡ record self.old { in_use = true } }
+    {
+        self.in_use = true;
+    }
+
+    /// A call ends.
+    pub fn leave(&mut self)
+        ensures { self.new ≡ record self.old { in_use = false } }
+    {
+        self.in_use = false;
+    }
+
+    /// Writes down the generation that the next key is read for. It stands there before the key does: memory that is
+    /// wiped in between has generation 0 again.
+    pub fn begin_generation(&mut self, generation: u64)
+        ensures { self.new ≡ record self.old { generation = generation } }
+    {
+        self.generation = generation;
+    }
+
+    /// Copies the next bytes of the batch over all of `out`, and sets them to 0 where they lay.
+    pub fn copy_from_batch(&mut self, out: &mut [u8])
+        requires { length out.old ≤ bytes_left self.old }
+        ensures bytes { out.new ≡ take (length out.old) (drop self.old.pos self.old.batch) }
+        ensures state { self.new ≡ state_of_same_batch self.old (length out.old) }
+    {
+        let start = usize::from(self.pos);
+        let served = &mut self.batch[start..start + out.len()];
+        out.copy_from_slice(served);
+        served.fill(0);
+        self.pos += out.len() as u8;
+    }
+
+    /// Copies bytes of the key's stream from the block `next_block` on over all of `out`: whole blocks as they are, and
+    /// the rest out of a new batch. The batch and the next key are the two blocks behind the whole ones, so the old key
+    /// is gone. Answers the block behind these two.
+    fn copy_from_key(&mut self, next_block: u64, out: &mut [u8]) -> u64
+        requires near { next_block ≤ 2 ^ 20 }
+        requires short { length out.old ≤ 2 ^ 20 }
+        ensures bytes { out.new ≡ keystream self.old.key (64 * next_block) (length out.old) }
+        ensures state { self.new
+            ≡ state_of_new_batch self.old (next_block + length out.old / 64) (length out.old % 64) }
+        ensures next { result ≡ next_block + length out.old / 64 + 2 }
+    {
+        let whole = out.len() / BLOCK_BYTES;
+        let (blocks, front) = out.split_at_mut(whole * BLOCK_BYTES);
+        let mut reader = Reader::at(&self.key, next_block * BLOCK_WORDS);
+        reader.read(blocks);
+        reader.read(&mut self.batch);
+        reader.read(&mut self.key);
+        self.pos = 0;
+        self.copy_from_batch(front);
+        next_block + whole as u64 + 2
+    }
+
+    /// Copies bytes over all of `out`, those left in the batch first. The key's next block is `next_block`; answers the
+    /// one after the copy.
+    pub fn copy(&mut self, next_block: u64, out: &mut [u8]) -> u64
+        requires near { next_block ≤ 2 ^ 20 }
+        requires short { length out.old ≤ 2 ^ 20 }
+        ensures bytes { out.new ≡ copy_bytes self.old next_block (length out.old) }
+        ensures state { self.new ≡ state_after_copy self.old next_block (length out.old) }
+        ensures next { result ≡ block_after_copy self.old next_block (length out.old) }
+        ensures near { result ≤ next_block + 2 ^ 14 + 2 }
+    {
+        let left = self.left();
+        if out.len() <= left {
+            self.copy_from_batch(out);
+            next_block
+        } else {
+            let (front, rest) = out.split_at_mut(left);
+            self.copy_from_batch(front);
+            self.copy_from_key(next_block, rest)
+        }
+    }
+}
