@@ -84,8 +84,7 @@ impl Run {
           event = self.now.event;
           word = word;
           answer = Answer.Ok;
-          trace =
-              trace;
+          trace = trace;
           shown = Data.None;
         } }
     {
