@@ -22,6 +22,22 @@ awk -v n="$reads" 'BEGIN {
     print "end"
 }' >"$room/script"
 
+# As many events and bytes as a script may have: interrupts and writes in turn.
+awk 'BEGIN {
+    for (i = 0; i < 28; i++) digits = digits "0123456789abcdef"
+    print "rngscript 1\ncpus 1\ncaller 0"
+    for (i = 0; i < 32768; i++) print "irq 18446744073709551615 18446744073709551615\nwrite " digits "0123456789"
+    print "end"
+}' >"$room/long_script"
+
+# As many bytes of reads as a script may have, and writes for the rest of its events: 33 MiB of transcript.
+awk 'BEGIN {
+    print "rngscript 1\ncpus 1\ncaller 0"
+    for (i = 0; i < 4096; i++) print "read 4096 4"
+    for (i = 0; i < 32768; i++) print "write 616263"
+    print "end"
+}' | "$program" run >"$room/long_transcript"
+
 # instructions COMMAND..: how many a command takes, from start to end, on standard input.
 instructions() {
     valgrind --tool=callgrind --callgrind-out-file=/dev/null "$@" 2>&1 >"$room/out" |
@@ -45,6 +61,28 @@ beyond_start() {
     echo $(($(instructions "$loops" "$1" "$2") - $(instructions "$loops" "$1" 0)))
 }
 
+# one_read MAKER BYTES TIMES: the instructions of one read of so many bytes.
+one_read() {
+    echo $(($(beyond_start "$1-$2" "$3") / $3))
+}
+
+# reads_beside_bare BYTES TIMES LIMIT: reads of so many bytes, and their ratios to a bare generator and fill.
+reads_beside_bare() {
+    bare=$(one_read bare "$1" "$2")
+    printf '%-52s %12d\n' "bare generator and fill of $1 bytes" "$bare"
+    for maker in fill kernel user; do
+        made=$(one_read "$maker" "$1" "$2")
+        printf '%-52s %12d\n' "$maker read of $1 bytes" "$made"
+        ratio "$maker read of $1 bytes to bare" "$made" "$bare" "$3"
+    done
+}
+
+# of_text WORD FILE: the instructions of a loop that goes once over a text, without those that the program takes to
+# start, to read the text and to end.
+of_text() {
+    echo $(($(instructions "$loops" "$1" 1 <"$2") - $(instructions "$loops" "$1" 0 <"$2")))
+}
+
 # ratio NAME A B LIMIT: A to B, with two digits.
 ratio() {
     awk -v name="$1" -v a="$2" -v b="$3" -v limit="$4" 'BEGIN { printf "%-52s %6.2f  (%s)\n", name, a / b, limit }'
@@ -61,6 +99,10 @@ direct=$(instructions "$loops" reads "$reads")
 shown=$(instructions "$loops" shown "$reads")
 run=$(instructions "$program" run <"$room/script")
 cp "$room/out" "$room/transcript"
+script=$(of_text script "$room/long_script")
+script_lines=$(of_text script_lines "$room/long_script")
+transcript=$(of_text transcript "$room/long_transcript")
+transcript_lines=$(of_text transcript_lines "$room/long_transcript")
 
 echo "instructions"
 printf '%-52s %12d\n' "keystream of $bytes bytes, chacha_blocks" "$keystream" \
@@ -72,7 +114,11 @@ printf '%-52s %12d\n' "keystream of $bytes bytes, chacha_blocks" "$keystream" \
     "fast pool: $interrupts interrupts mixed" "$interrupted" \
     "$reads writes and reads of 4,096 bytes, direct" "$direct" \
     "$reads writes and reads, direct, and their hexadecimal" "$shown" \
-    "$reads writes and reads of 4,096 bytes, rng run" "$run"
+    "$reads writes and reads of 4,096 bytes, rng run" "$run" \
+    "a script of 16 MiB, event_script" "$script" \
+    "a script of 16 MiB, plain loop" "$script_lines" \
+    "a transcript of 33 MiB, transcript_text" "$transcript" \
+    "a transcript of 33 MiB, plain loop" "$transcript_lines"
 ratio 'keystream: plain loop to chacha_blocks' "$plain" "$keystream" 'at least 0.90'
 ratio 'BLAKE2s: instructions a byte' "$hash" "$bytes" 'no limit'
 ratio 'samples: input pool to BLAKE2s, many at once' "$mixed" "$bulk" 'at most 1.10'
@@ -81,7 +127,15 @@ ratio 'samples: input pool to BLAKE2s and the zeros made' "$mixed" "$hash" 'no l
 ratio 'samples: instructions of a mix into the input pool' "$mixed" "$samples" 'no limit'
 ratio 'interrupts: instructions of one' "$interrupted" "$interrupts" 'no limit'
 ratio 'reads: rng run to direct' "$run" "$direct" 'at most 1.50'
+ratio 'scripts: event_script to plain loop' "$script" "$script_lines" 'at most 1.50'
+ratio 'transcripts: transcript_text to plain loop' "$transcript" "$transcript_lines" 'at most 1.50'
 ratio 'reads: rng run to direct with hexadecimal' "$run" "$shown" 'no limit'
+
+echo "instructions of one read"
+for bytes_read in 8 32 100; do
+    reads_beside_bare "$bytes_read" 1000 'at most 1.30'
+done
+reads_beside_bare 1048576 4 'at most 1.15'
 
 echo "seconds, the least of five"
 printf '%-52s %12s\n' "keystream of $bytes bytes, chacha_blocks" "$(seconds "$loops" keystream "$bytes")" \

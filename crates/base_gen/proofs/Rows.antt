@@ -71,7 +71,7 @@ after_entry-Stall root b = refl
 abbrev pub HandsRoot : List PoolEntry → BaseEntry → List ℕ → Type 0
 HandsRoot pool e root = (place : ℕ) → root_of e ≡ Some place → root ≡ root_value pool place
 
-key_in_use-root : (pool : List PoolEntry) (named : Option ℕ) (root key : List ℕ) →
+pub key_in_use-root : (pool : List PoolEntry) (named : Option ℕ) (root key : List ℕ) →
     ((place : ℕ) → named ≡ Some place → root ≡ root_value pool place) → key_in_use named root key ≡
     root_value_or pool named key
 key_in_use-root pool None root key is = refl

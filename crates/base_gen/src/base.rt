@@ -8,8 +8,7 @@ ghost use Rattle.key_names.specs.BaseList.{empty, ready, IsDue, interval, early_
 ghost use Rattle.base_gen.specs.BaseValue.{phase_of, start, erased, seeded_early, reseeded, fired};
 
 use crate::phase::Phase;
-use crate::reads::user_read;
-use chacha_blocks::{Detached, derive_key, erase, erase_and_fill};
+use chacha_blocks::{Detached, derive_key, erase, erase_and_fill, user_read};
 use std::marker::Model;
 
 /// The base key (`base_crng`), how far the core is, how often it was reseeded, when it is due again, and how many
@@ -172,7 +171,7 @@ impl Base {
     }
 
     /// Erases the key, and fills `buf` for the kernel (`_get_random_bytes`). It is [`Base::draw`] and
-    /// [`Detached::more`] in one, which costs half as much.
+    /// [`Detached::more`] in one.
     pub fn kernel_read(&mut self, buf: &mut [u8])
         requires { length buf.old < 2 ^ 32 }
         ensures state { self.new ≡ erased self.old }

@@ -7,8 +7,6 @@
 
 pub mod base;
 pub mod phase;
-pub mod reads;
 
 pub use base::Base;
 pub use phase::Phase;
-pub use reads::user_read;

@@ -17,7 +17,7 @@ const SAMPLE: [u8; 64] = [0; 64];
 const MANY: u32 = 256;
 
 // The last 8 bytes, or fewer, as a number whose digits are theirs.
-fn end_of(bytes: &[u8]) -> u64 {
+pub(crate) fn end_of(bytes: &[u8]) -> u64 {
     let last = bytes.len().saturating_sub(8);
     bytes[last..]
         .iter()

@@ -3,16 +3,27 @@
 //! Without words each loop goes over a little. `WORD NUMBER` goes over as much as asked for with one of them:
 //! `keystream` and `plain` write so many bytes of a key's stream, `hash` hashes so many bytes, `bulk` hashes so many
 //! samples of 64 bytes, `updated` hashes them one by one, `mixed` mixes them into an input pool, `interrupts` mixes so
-//! many interrupts into a fast pool, `reads` makes so many writes of three bytes with a read of 4,096 bytes after each,
-//! and `shown` also turns what they read into hexadecimal. A line says what came out last.
+//! many interrupts into a fast pool, `visits` takes a lane and puts it so many times, `locks` locks a `Mutex`, `reads`
+//! makes so many writes of three bytes with a read of 4,096 bytes after each, and `shown` also turns what they read into
+//! hexadecimal. `bare-LEN`, `fill-LEN`, `kernel-LEN` and `user-LEN` make so many reads of LEN bytes. `script` and
+//! `transcript` read the text on standard input so many times, and `script_lines` and `transcript_lines` go over the same
+//! text with a plain loop. A line says what came out last.
 #![tactic(auto)]
 
+mod lanes;
 mod loops;
+mod reads;
+mod texts;
 
+use crate::lanes::{locks, visits};
 use crate::loops::{bulk, hashed, interrupts, keystream, mixed, plain, reads, shown, updated};
+use crate::reads::{made_of, many};
+use crate::texts::{Lines, SCRIPT, TRANSCRIPT, plain_lines, script, transcript};
 use anyhow::{Result, bail};
 use std::alloc::Global;
 use std::env;
+use std::io::Read;
+use std::sync::Wait;
 
 const SMALL: u32 = 4096;
 
@@ -20,7 +31,7 @@ const FEW: u32 = 3;
 
 const HUNDREDS: u32 = 300;
 
-fn result_of(alloc: Global, word: &str, size: u32) -> Result<u64> {
+fn result_of<R: Wait>(rt: &R, alloc: Global, word: &str, size: u32) -> Result<u64> {
     Ok(match word {
         "keystream" => keystream(alloc, size)?,
         "plain" => plain(alloc, size)?,
@@ -31,8 +42,24 @@ fn result_of(alloc: Global, word: &str, size: u32) -> Result<u64> {
         "interrupts" => interrupts(size),
         "reads" => reads(size),
         "shown" => shown(size),
-        _ => bail!("no loop is named {word:?}"),
+        "visits" => visits(rt, alloc, size)?,
+        "locks" => locks(rt, size),
+        _ => match made_of(word) {
+            Some((maker, len)) => many(alloc, maker, len, size)?,
+            None => bail!("no loop is named {word:?}"),
+        },
     })
+}
+
+// What a loop over a text answers, or `None` where the word names none.
+fn text_result_of(alloc: Global, word: &str, text: &[u8], times: u32) -> Result<Option<u64>> {
+    Ok(Some(match word {
+        "script" => script(alloc, text, times)?,
+        "script_lines" => plain_lines(alloc, Lines::Script, text, times)?,
+        "transcript" => transcript(alloc, text, times)?,
+        "transcript_lines" => plain_lines(alloc, Lines::Transcript, text, times)?,
+        _ => return Ok(None),
+    }))
 }
 
 fn main(rt: HostRuntime) -> Result<()> {
@@ -49,14 +76,37 @@ fn main(rt: HostRuntime) -> Result<()> {
             ("interrupts", SMALL),
             ("reads", FEW),
             ("shown", FEW),
+            ("bare-100", FEW),
+            ("fill-100", FEW),
+            ("kernel-100", FEW),
+            ("user-100", FEW),
+            ("visits", SMALL),
+            ("locks", SMALL),
         ] {
-            let result = result_of(alloc, word, size)?;
+            let result = result_of(&rt, alloc, word, size)?;
             println!(rt; "{word} {size} {result:016x}")?;
+        }
+        for (word, text) in [
+            ("script", SCRIPT),
+            ("script_lines", SCRIPT),
+            ("transcript", TRANSCRIPT),
+            ("transcript_lines", TRANSCRIPT),
+        ] {
+            if let Some(result) = text_result_of(alloc, word, text, FEW)? {
+                println!(rt; "{word} {FEW} {result:016x}")?;
+            }
         }
         return Ok(());
     };
     let size = size.as_str().parse::<u32>()?;
-    let result = result_of(alloc, word.as_str(), size)?;
+    let mut text = Vec::new(alloc);
+    if word.as_str().starts_with("script") || word.as_str().starts_with("transcript") {
+        rt.stdin().read_to_end(&mut text)?;
+    }
+    let result = match text_result_of(alloc, word.as_str(), &text, size)? {
+        Some(result) => result,
+        None => result_of(&rt, alloc, word.as_str(), size)?,
+    };
     println!(rt; "{word} {size} {result:016x}")?;
     Ok(())
 }

@@ -1,2 +1,4 @@
+pub mod Pieces
+pub mod Rounds
 pub mod Runs
 pub mod Words

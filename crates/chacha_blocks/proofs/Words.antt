@@ -1,12 +1,19 @@
 -- What the generator writes is the keystream.
-use Rattle.std.proofs.Common.{zero, suc, ◌+◌, ◌*◌, ◌/◌, ◌%◌, ◌^◌, ◌<◌, ◌≤◌, ◌++◌, ap, sym, ◌∙◌, arith, ◌≡◌, ℕ, List, refl, w32}
+use Rattle.std.proofs.Common.{zero, suc, ◌+◌, ◌*◌, ◌/◌, ◌%◌, ◌^◌, ◌<◌, ◌≤◌, ◌++◌, ap, ap₂, sym, ◌∙◌, arith, ◌≡◌, ℕ, List, length, map, refl, w32}
+use Rattle.std.specs.List.{flat_map, range_with_len}
 use Rattle.std.specs.Int.{to_le_bytes}
 use Rattle.std.specs.Prelude.{slice_index}
 use Rattle.rand_core.specs.Steps.{word_bytes, fill_via_u32}
+use Rattle.std.proofs.lemmas.List.{ext_get_or}
+use Rattle.std.proofs.lemmas.List.FromFn.{length-map-range_with_len, get_or-map-range_with_len}
+use Rattle.std.proofs.lemmas.Simd.{get_or-zip2}
+use Rattle.std.specs.Simd.Lanes.{zip2}
+use Rattle.rand_chacha.specs.Block.{add32, initial_state, double_rounds, block_word}
 use Rattle.rand_chacha.specs.ChaCha.{ChaCha, word_at, key_of, next_word}
 use Rattle.key_names.specs.Keystream.{keystream, keystream_byte}
 use Rattle.key_names.proofs.Keystreams.{keystream-add, take-keystream}
 use Rattle.chacha_blocks.specs.Place.{generator_at}
+use Rattle.chacha_blocks.specs.Rows.{state_of}
 
 -- byte i of word w, at its position
 keystream_byte-in_word : (key : List ℕ) (w i q : ℕ) → i < 4 → q ≡ 4 * w + i → keystream_byte key q ≡
@@ -26,6 +33,44 @@ keystream-word key w =
       at 2 (4 * w + 1 + 1) (omega arith) (omega arith),
       at 3 (4 * w + 1 + 1 + 1) (omega arith) (omega arith),
     ) refl
+
+-- words of the keystream
+keystream-words : (key : List ℕ) (w k : ℕ)
+    → keystream key (4 * w) (4 * k) ≡ flat_map (to_le_bytes w32) (map (word_at 10 (key_of key) 0) (range_with_len w k))
+keystream-words key w zero = refl
+keystream-words key w (suc k) =
+    let more : 4 * suc k ≡ 4 + 4 * k = omega arith in
+    let next : 4 * w + 4 ≡ 4 * (w + 1) = omega arith in
+    ap (keystream key (4 * w)) more ∙ keystream-add key (4 * w) 4 (4 * k)
+    ∙ ap₂ ◌++◌ (keystream-word key w) (ap (λ q. keystream key q (4 * k)) next ∙ keystream-words key (w + 1) k)
+
+-- the words of a block, by their numbers
+words_of_block : (key words : List ℕ) (number : ℕ) → length words ≡ 16
+    → ((k : ℕ) → k < 16 → slice_index words k ≡ block_word 10 (key_of key) number 0 k)
+    → flat_map (to_le_bytes w32) words ≡ keystream key (64 * number) 64
+words_of_block key words number len each =
+    let word = word_at 10 (key_of key) 0 in
+    let first : 64 * number ≡ 4 * (16 * number) = omega arith in
+    let same : words ≡ map word (range_with_len (16 * number) 16) =
+    ext_get_or 0 words _ (len ∙ sym (length-map-range_with_len word (16 * number) 16)) (λ k below.
+    let within : k < 16 = omega arith in
+    let block : (16 * number + k) / 16 ≡ number = omega arith in
+    let place : (16 * number + k) % 16 ≡ k = omega arith in
+    let here : slice_index words k ≡ word (16 * number + k) = rw (block, place) (each k within) in
+    here ∙ sym (get_or-map-range_with_len word (16 * number) 16 k (16 * number + k) 0 within refl)) in
+    rw (same, first) (sym (keystream-words key (16 * number) 16))
+
+-- the rows after ten double rounds, added to those before
+pub block_bytes : (key : List ℕ) (rows start : List (List ℕ)) (number : ℕ) (words : List ℕ)
+    → words ≡ zip2 add32 (state_of rows) (state_of start) → state_of start ≡ initial_state (key_of key) number 0
+    → state_of rows ≡ double_rounds 10 (state_of start)
+    → flat_map (to_le_bytes w32) words ≡ keystream key (64 * number) 64
+unfolding block_word
+block_bytes key rows start number words summed begun mixed =
+    words_of_block key words number (ap length summed) (λ k below.
+    let at = λ (xs : List ℕ). slice_index xs k in
+    ap at summed ∙ get_or-zip2 add32 (state_of rows) (state_of start) k 0 0 0 below below
+    ∙ ap₂ add32 (ap at (mixed ∙ ap (double_rounds 10) begun)) (ap at begun))
 
 -- k words of the generator
 word_bytes-generator_at : (key : List ℕ) (w k : ℕ) → w + k < 2 ^ 68 →

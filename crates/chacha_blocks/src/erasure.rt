@@ -4,12 +4,15 @@
 ghost use Rattle.std.specs.Prelude.{◌≡◌, ◌+◌, ◌*◌, ◌/◌, ◌^◌, ◌<◌, ◌≤◌, length};
 ghost use Rattle.key_names.specs.Keystream.{keystream};
 
-use crate::reader::Reader;
+use crate::block::{BLOCK_BYTES, block, two_blocks};
+use crate::stream::fill_from_block;
 
-/// Bytes and words of a block of the keystream.
-const BLOCK_BYTES: u64 = 64;
+const KEY_BYTES: usize = 32;
 
-const BLOCK_WORDS: u64 = 16;
+/// What the block of an erasure has over beside the new key, and what it and the block behind it have over.
+pub(crate) const REST_OF_BLOCK: usize = BLOCK_BYTES - KEY_BYTES;
+
+const REST_OF_PAIR: usize = 2 * BLOCK_BYTES - KEY_BYTES;
 
 /// A key and the number of the block that its next bytes come from. It is what a long read goes on with after the key
 /// was erased where it was kept, as the kernel's `chacha_state` on the stack.
@@ -37,8 +40,8 @@ impl Detached {
         ensures key { self.new.key ≡ self.old.key }
         ensures next_block { self.new.next_block ≡ self.old.next_block + (length buf.old + 63) / 64 }
     {
-        Reader::at(&self.key, self.next_block * BLOCK_WORDS).read(buf);
-        self.next_block += (buf.len() as u64).div_ceil(BLOCK_BYTES);
+        fill_from_block(&self.key, self.next_block, buf);
+        self.next_block += buf.len().div_ceil(BLOCK_BYTES) as u64;
     }
 }
 
@@ -53,30 +56,39 @@ pub fn erase(key: &mut [u8; 32], out: &mut [u8]) -> Detached
     ensures next_block { result.next_block ≡ 1 }
 {
     let old = *key;
-    erase_and_fill(key, out);
+    let bytes = block(&old, 0);
+    key.copy_from_slice(&bytes[..KEY_BYTES]);
+    out.copy_from_slice(&bytes[KEY_BYTES..KEY_BYTES + out.len()]);
     Detached::of(old, 1)
 }
 
 /// Replaces the key by bytes 0 to 32 of its own keystream, and fills `buf` with the bytes from 32 on, of any number
 /// below 2^40 - 32. It is a kernel read whole (`_get_random_bytes`): what [`erase`] writes to the first 32 bytes and
-/// [`Detached::more`] to the rest, read from one reader.
+/// [`Detached::more`] to the rest.
 pub fn erase_and_fill(key: &mut [u8; 32], buf: &mut [u8])
     requires { 32 + length buf.old < 2 ^ 40 }
     ensures erased { key.new ≡ keystream key.old 0 32 }
     ensures bytes { buf.new ≡ keystream key.old 32 (length buf.old) }
 {
-    let mut reader = Reader::at(key, 0);
-    reader.read(key);
-    reader.read(buf);
+    if buf.len() <= REST_OF_BLOCK {
+        erase(key, buf);
+    } else {
+        let old = *key;
+        let pair = two_blocks(&old, 0);
+        let (front, rest) = buf.split_at_mut(buf.len().min(REST_OF_PAIR));
+        key.copy_from_slice(&pair[..KEY_BYTES]);
+        front.copy_from_slice(&pair[KEY_BYTES..KEY_BYTES + front.len()]);
+        fill_from_block(&old, 2, rest);
+    }
 }
 
-/// Replaces the key by bytes 0 to 32 of its own keystream, and gives bytes 32 to 64 as the key of somebody else: a CPU's
-/// new key out of the base key, or the key of one read that is longer than the rest of a block.
+/// Replaces the key by bytes 0 to 32 of its own keystream, and gives bytes 32 to 64 as the key of somebody else: a
+/// CPU's new key out of the base key, or the key of one read that is longer than the rest of a block.
 pub fn derive_key(key: &mut [u8; 32]) -> [u8; 32]
     ensures erased { key.new ≡ keystream key.old 0 32 }
     ensures derived { result ≡ keystream key.old 32 32 }
 {
     let mut derived = [0; 32];
-    erase_and_fill(key, &mut derived);
+    erase(key, &mut derived);
     derived
 }

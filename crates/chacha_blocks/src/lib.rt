@@ -5,12 +5,15 @@
 //! what they are with no state carried.
 #![tactic(auto)]
 
+mod block;
 pub mod erasure;
 pub mod reader;
+pub mod reads;
 pub mod stream;
 #[cfg(test)]
 mod tests;
 
 pub use erasure::{Detached, derive_key, erase, erase_and_fill};
 pub use reader::Reader;
+pub use reads::user_read;
 pub use stream::fill;

@@ -1,28 +1,73 @@
 //! Bytes of a key's stream from any position.
 
-ghost use Rattle.std.specs.Prelude.{◌≡◌, ◌+◌, ◌^◌, ◌<◌, length};
+ghost use Rattle.std.specs.Prelude.{◌≡◌, ◌+◌, ◌*◌, ◌%◌, ◌^◌, ◌<◌, ◌≤◌, length};
 ghost use Rattle.key_names.specs.Keystream.{keystream};
 
+use crate::block::{BLOCK_BYTES, block, two_blocks};
 use crate::reader::Reader;
 
-/// Bytes of a word of the keystream.
-const WORD_BYTES: u64 = 4;
+const BLOCK_WORDS: u64 = 16;
+
+/// Bytes of two blocks, and of the four that a [`Reader`] makes at a time.
+const PAIR_BYTES: usize = 2 * BLOCK_BYTES;
+
+const RUN_BYTES: usize = 4 * BLOCK_BYTES;
 
 /// Writes the keystream of `key` from byte position `from` over all of `buf`.
 pub fn fill(key: &[u8; 32], from: u64, buf: &mut [u8])
     requires { from + length buf.old < 2 ^ 40 }
     ensures { buf.new ≡ keystream key.now from (length buf.old) }
 {
-    let mut reader = Reader::at(key, from / WORD_BYTES);
-    let inside = (from % WORD_BYTES) as usize;
-    if inside == 0 {
-        reader.read(buf);
-    } else {
-        let mut word = [0; 4];
-        reader.read(&mut word);
-        let over = buf.len().min(word.len() - inside);
-        let (front, rest) = buf.split_at_mut(over);
-        front.copy_from_slice(&word[inside..inside + over]);
-        reader.read(rest);
+    let next = from.div_ceil(BLOCK_BYTES as u64);
+    let over = buf.len().min((next * BLOCK_BYTES as u64 - from) as usize);
+    let (front, rest) = buf.split_at_mut(over);
+    fill_in_block(key, from, front);
+    fill_from_block(key, next, rest);
+}
+
+// From any position, up to the end of its block.
+fn fill_in_block(key: &[u8; 32], from: u64, buf: &mut [u8])
+    requires { from % 64 + length buf.old ≤ 64 }
+    ensures { buf.new ≡ keystream key.now from (length buf.old) }
+{
+    if !buf.is_empty() {
+        let inside = (from % BLOCK_BYTES as u64) as usize;
+        buf.copy_from_slice(&block(key, from / BLOCK_BYTES as u64)[inside..inside + buf.len()]);
+    }
+}
+
+/// Writes the keystream of `key` from the start of block `first` over all of `buf`: whole runs of four blocks by a
+/// reader, and what is left in pairs, since a reader makes all four even where fewer are wanted.
+pub(crate) fn fill_from_block(key: &[u8; 32], first: u64, buf: &mut [u8])
+    requires { first + length buf.old < 2 ^ 40 }
+    ensures { buf.new ≡ keystream key.now (64 * first) (length buf.old) }
+{
+    let (runs, rest) = buf.split_at_mut(buf.len() - buf.len() % RUN_BYTES);
+    let (front, back) = rest.split_at_mut(rest.len().min(PAIR_BYTES));
+    let next = first + (runs.len() / BLOCK_BYTES) as u64;
+    fill_by_runs(key, first, runs);
+    fill_by_pair(key, next, front);
+    fill_by_pair(key, next + 2, back);
+}
+
+fn fill_by_runs(key: &[u8; 32], first: u64, buf: &mut [u8])
+    requires { first + length buf.old < 2 ^ 40 }
+    ensures { buf.new ≡ keystream key.now (64 * first) (length buf.old) }
+{
+    if !buf.is_empty() {
+        Reader::at(key, first * BLOCK_WORDS).read(buf);
+    }
+}
+
+/// Writes the keystream of `key` from the start of block `first` over all of `buf`, which is two blocks or less.
+fn fill_by_pair(key: &[u8; 32], first: u64, buf: &mut [u8])
+    requires near { first < 2 ^ 41 }
+    requires short { length buf.old ≤ 128 }
+    ensures { buf.new ≡ keystream key.now (64 * first) (length buf.old) }
+{
+    match buf.len() {
+        0 => {}
+        1..=BLOCK_BYTES => buf.copy_from_slice(&block(key, first)[..buf.len()]),
+        _ => buf.copy_from_slice(&two_blocks(key, first)[..buf.len()]),
     }
 }

@@ -1,4 +1,4 @@
-use crate::{Detached, Reader, derive_key, erase, erase_and_fill, fill};
+use crate::{Detached, Reader, derive_key, erase, erase_and_fill, fill, user_read};
 use std::test::Fail;
 
 // The keystream of the zero key from 0 on, and of the key 00 01 .. 1f from 0 on and from 4095 on, by another
@@ -126,6 +126,29 @@ fn fill_from_any_position(rt: HostRuntime) {
     }
 }
 
+// A run of four blocks and more behind it, of which the last 30 bytes are compared.
+#[test]
+fn fill_of_700_bytes(rt: HostRuntime) {
+    let mut bytes = [0; 700];
+    fill(&count_key(), 0, &mut bytes);
+    assert_eq!(rt; Some(&bytes[..208]), count_stream(0, 208));
+    let end: [u8; 30] = *b"\x6e\xc9\x42\x6f\xae\xdd\xe3\x52\xae\x39\x15\xc9\xa9\xd4\xa4\xc0\
+        \x57\x3f\x95\x6e\x60\x18\xd6\x5e\xe2\x31\x97\x59\x4b\x12";
+    assert_eq!(rt; &bytes[670..], &end[..]);
+}
+
+// The counter's second word is 1.
+#[test]
+fn block_beyond_32_bits(rt: HostRuntime) {
+    let mut bytes = [0; 64];
+    fill(&count_key(), 64 << 32, &mut bytes);
+    let expected: [u8; 64] = *b"\xd8\x38\xfb\x09\x53\x6e\x2e\x3a\x10\xe8\xf2\x3f\x48\x62\x73\xa6\
+        \x9f\x42\xd8\xe6\x40\xd7\x81\xed\xe3\x84\x79\x3c\x34\xc3\x25\x64\
+        \xfc\x43\x61\xe5\xd5\xc5\xb6\x20\x58\x3b\x05\x28\x19\x2f\x4c\x61\
+        \x09\xf2\x3a\x0e\x14\x39\x8e\xe6\x53\x7c\xdc\xf2\xcd\x61\x0e\xa2";
+    assert_eq!(rt; bytes, expected);
+}
+
 // 32 bytes and none: the key becomes the first half of block 0, and the second half goes out.
 #[test]
 fn erasure_of_the_zero_key(rt: HostRuntime) {
@@ -171,6 +194,35 @@ fn read_of_100_after_the_erasure(rt: HostRuntime) {
     erase_and_fill(&mut key, &mut bytes);
     assert_eq!(rt; Some(&key[..]), count_stream(0, 32));
     assert_eq!(rt; Some(&bytes[..]), count_stream(32, 132));
+}
+
+#[test]
+fn kernel_read_of_700_bytes(rt: HostRuntime) {
+    let mut key = count_key();
+    let mut bytes = [0; 700];
+    erase_and_fill(&mut key, &mut bytes);
+    assert_eq!(rt; Some(&key[..]), count_stream(0, 32));
+    assert_eq!(rt; Some(&bytes[..176]), count_stream(32, 208));
+    let end: [u8; 30] = *b"\x25\xfa\x40\xca\x8c\xc5\xac\x12\x54\xad\xef\x8d\x17\x42\x43\x95\
+        \x63\x19\x20\xa0\x3e\xbb\xa4\x93\xe0\x85\x2b\x83\x47\x1b";
+    assert_eq!(rt; &bytes[670..], &end[..]);
+}
+
+// The read's own key is the rest of block 0.
+#[test]
+fn user_read_of_100_bytes(rt: HostRuntime) {
+    let mut key = zero_key();
+    let mut bytes = [0; 100];
+    user_read(&mut key, &mut bytes);
+    assert_eq!(rt; Some(&key[..]), zero_stream(0, 32));
+    let expected: [u8; 100] = *b"\xa9\xff\xcf\x43\xb9\x02\x8e\x27\xae\x4d\x97\x11\x30\x81\xca\x52\
+        \xe2\xb9\x0d\xdd\x5f\x89\x66\xd7\xe2\x75\x60\x51\x98\x53\xc5\x39\
+        \xeb\x37\x3c\xd6\xae\xb9\x70\xf2\xc6\x3d\x75\x82\x19\x12\x17\x7c\
+        \x57\x1f\x59\xd4\x0e\xfe\x20\x14\x3c\xf9\x22\xd2\xc9\xd3\x16\x39\
+        \x42\xf9\xc9\xef\xd8\xe6\x7f\xaf\x4f\x64\x38\x6c\x06\x88\x65\x16\
+        \x70\x6b\x36\xc2\xc4\x67\x36\x09\xc2\x06\xad\xbe\x5f\x76\xaa\xb9\
+        \x26\xeb\x29\x9b";
+    assert_eq!(rt; bytes, expected);
 }
 
 // Words 1 and 2, of which five bytes are read, and then word 3.

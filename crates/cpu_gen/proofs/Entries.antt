@@ -17,7 +17,7 @@ handed_at lists b = record { key = base_call_value lists b; generation = generat
 abbrev pub HandsRefill : Lists → CpuEntry → CpuValue → Type 0
 HandsRefill lists e handed = (place : ℕ) → base_refill_of e ≡ Some place → handed ≡ handed_at lists place
 
-refilled-handed_at : (lists : Lists) (refill : Option ℕ) (handed : CpuValue) (g : ℕ) (value : List ℕ) → ((place : ℕ) → refill ≡ Some place → handed ≡ handed_at lists place) → refilled refill handed (record { key = value; generation = g }) ≡ record { key = call_value_or lists refill value; generation = generation_or lists.base refill g }
+pub refilled-handed_at : (lists : Lists) (refill : Option ℕ) (handed : CpuValue) (g : ℕ) (value : List ℕ) → ((place : ℕ) → refill ≡ Some place → handed ≡ handed_at lists place) → refilled refill handed (record { key = value; generation = g }) ≡ record { key = call_value_or lists refill value; generation = generation_or lists.base refill g }
 refilled-handed_at lists None handed g value is = refl
 refilled-handed_at lists (Some place) handed g value is = is place refl
 

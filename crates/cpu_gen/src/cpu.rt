@@ -6,8 +6,7 @@ ghost use Rattle.key_names.specs.Keystream.{keystream};
 ghost use Rattle.key_names.specs.KeyInUse.{taken_bytes};
 ghost use Rattle.cpu_gen.specs.CpuValue.{start, erased, prepared};
 
-use base_gen::user_read;
-use chacha_blocks::{Detached, derive_key, erase, erase_and_fill};
+use chacha_blocks::{Detached, derive_key, erase, erase_and_fill, user_read};
 use std::marker::Model;
 
 /// One CPU's generator (`struct crng`). Each read erases the key.
@@ -84,7 +83,7 @@ impl Cpu {
     }
 
     /// Fills `buf` for the kernel (`_get_random_bytes`): erases the key, unless no byte is wanted. It is
-    /// [`Cpu::front`] and [`Detached::more`] in one, which costs half as much.
+    /// [`Cpu::front`] and [`Detached::more`] in one.
     pub fn kernel_read(&mut self, buf: &mut [u8])
         requires { length buf.old < 2 ^ 32 }
         ensures none { length buf.old ≡ 0 → self.new ≡ self.old }
@@ -96,7 +95,7 @@ impl Cpu {
         }
     }
 
-    /// Erases the key, and fills `buf` for a user (`get_random_bytes_user`), as [`user_read`] of the base does.
+    /// Erases the key, and fills `buf` for a user (`get_random_bytes_user`), as [`user_read`] does.
     pub fn user_read(&mut self, buf: &mut [u8])
         requires { length buf.old < 2 ^ 32 }
         ensures state { self.new ≡ erased self.old }

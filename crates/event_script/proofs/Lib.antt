@@ -6,3 +6,7 @@ pub mod Fronts
 pub mod FirstForm
 pub mod FirstLines
 pub mod FirstScripts
+pub mod LoadSteps
+pub mod LoadTexts
+pub mod Loads
+pub mod LoadExamples

@@ -8,7 +8,7 @@ ghost use Rattle.key_names.specs.ScriptFaults.{SaysEvent, SaysCaller, GoesOn, af
 ghost use Rattle.key_names.specs.ScriptGrammar.{InRange, acts_after};
 
 use crate::error::LineError;
-use crate::first_form::bytes_of;
+use crate::reads::bytes_of;
 use key_names::{Event, FaultKind};
 use std::alloc::{AllocError, Global};
 use std::mem;

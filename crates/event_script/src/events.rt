@@ -1,26 +1,93 @@
 //! The event that a line says.
 
-ghost use Rattle.std.specs.Prelude.{◌≡◌, ◌<◌, ◌≤◌, ◌^◌, MatchResult};
+ghost use Rattle.std.specs.Prelude.{◌<◌, ◌≤◌, ◌^◌, ◌≡◌, MatchResult};
 ghost use Rattle.event_script.specs.Views.{Gives, Tells, fields_of};
-ghost use Rattle.key_names.specs.ScriptFaults.{act_at, event_of, input_of, inside_of, bytes, number, vread_at};
+ghost use Rattle.key_names.specs.ScriptFaults.{binary, bytes, event_of, hardware_words, input_of};
+ghost use Rattle.key_names.specs.ScriptFaults.{number, number_in, plain, since, unary};
 
+use crate::acts::inside;
+use crate::amounts::{bits, read_flags, read_len, text};
 use crate::error::LineError;
-use crate::fields::{cut, four, none, one, spells, two};
-use crate::hexes::{bytes, hardware_words};
+use crate::fields::{four, none, one, two};
+use crate::hexes::hardware_words;
 use crate::numbers::{number, number_below, number_from};
-use key_names::{Event, FaultKind, InsideAct, Text, Word};
+use key_names::{Event, FaultKind, Word};
 use std::alloc::Global;
 
 /// The last moment, in milliseconds.
 const LAST_MOMENT: u64 = (1 << 40) - 1;
-/// The most bits that a line credits.
-const MOST_BITS: u64 = (1 << 31) - 1;
-/// The most bytes of one read.
-const MOST_LEN: u64 = 1_048_576;
 
-const MOST_FLAGS: u64 = (1 << 32) - 1;
+/// An event without fields.
+fn plain(event: Event, rest: Option<&[u8]>) -> Result<Event, FaultKind>
+    ensures { Tells (λ found. found) result (plain event (fields_of rest.entry)) }
+{
+    none(rest)?;
+    Ok(event)
+}
 
-/// The type, code and value of an input event.
+fn at(rest: Option<&[u8]>) -> Result<Event, FaultKind>
+    ensures { Tells (λ event. event) result (unary (number (2 ^ 40)) Event.At (fields_of rest.entry)) }
+{
+    let moment = number(LAST_MOMENT, one(rest)?)?;
+    Ok(Event::At { moment })
+}
+
+fn on(cpus: u32, rest: Option<&[u8]>) -> Result<Event, FaultKind>
+    requires { 0 < cpus }
+    ensures { Tells (λ event. event) result (unary (number cpus) Event.On (fields_of rest.entry)) }
+{
+    let cpu = number_below(cpus, one(rest)?)?;
+    Ok(Event::On { cpu })
+}
+
+fn hw(alloc: Global, rest: Option<&[u8]>) -> Result<Event, LineError>
+    ensures { Gives (λ event. event) result (unary hardware_words Event.Hw (fields_of rest.entry)) }
+{
+    let bytes = hardware_words(alloc, one(rest)?)?;
+    Ok(Event::Hw { bytes })
+}
+
+fn device(alloc: Global, rest: Option<&[u8]>) -> Result<Event, LineError>
+    ensures { Gives (λ event. event) result (binary (number (2 ^ 64)) bytes Event.Device (fields_of rest.entry)) }
+{
+    let (first, second) = two(rest)?;
+    let word = number(u64::MAX, first)?;
+    let text = text(alloc, second)?;
+    Ok(Event::Device { word, text })
+}
+
+fn write(alloc: Global, rest: Option<&[u8]>) -> Result<Event, LineError>
+    ensures { Gives (λ event. event) result (unary bytes Event.Write (fields_of rest.entry)) }
+{
+    let text = text(alloc, one(rest)?)?;
+    Ok(Event::Write { text })
+}
+
+fn add(alloc: Global, rest: Option<&[u8]>) -> Result<Event, LineError>
+    ensures { Gives (λ event. event) result (binary bytes (number (2 ^ 31)) Event.Add (fields_of rest.entry)) }
+{
+    let (first, second) = two(rest)?;
+    let text = text(alloc, first)?;
+    let bits = bits(second)?;
+    Ok(Event::Add { text, bits })
+}
+
+fn credit(rest: Option<&[u8]>) -> Result<Event, FaultKind>
+    ensures { Tells (λ event. event) result (unary (number (2 ^ 31)) Event.Credit (fields_of rest.entry)) }
+{
+    let bits = bits(one(rest)?)?;
+    Ok(Event::Credit { bits })
+}
+
+fn irq(rest: Option<&[u8]>) -> Result<Event, FaultKind>
+    ensures { Tells (λ event. event) result (binary (number (2 ^ 64)) (number (2 ^ 64)) Event.Irq (fields_of rest.entry)) }
+{
+    let (first, second) = two(rest)?;
+    let v1 = number(u64::MAX, first)?;
+    let v2 = number(u64::MAX, second)?;
+    Ok(Event::Irq { v1, v2 })
+}
+
 fn input(rest: Option<&[u8]>) -> Result<Event, FaultKind>
     ensures { Tells (λ event. event) result (input_of (fields_of rest.entry)) }
 {
@@ -37,54 +104,54 @@ fn input(rest: Option<&[u8]>) -> Result<Event, FaultKind>
     })
 }
 
-fn act(point: &[u8], act: InsideAct) -> Result<Event, FaultKind>
-    ensures { Tells (λ event. event) result (act_at point.now act) }
+fn read(rest: Option<&[u8]>) -> Result<Event, FaultKind>
+    ensures { Tells (λ event. event) result (binary (number 1048577) (number (2 ^ 32)) Event.Read (fields_of rest.entry)) }
 {
-    let point = number_from(1, 4, point)?;
-    Ok(Event::Inside {
-        point: point as u8,
-        act,
-    })
+    let (first, second) = two(rest)?;
+    let len = read_len(first)?;
+    let flags = read_flags(second)?;
+    Ok(Event::Read { len, flags })
 }
 
-fn vread_act(point: &[u8], len: &[u8]) -> Result<Event, FaultKind>
-    ensures { Tells (λ event. event) result (vread_at point.now len.now) }
+fn vread(rest: Option<&[u8]>) -> Result<Event, FaultKind>
+    ensures { Tells (λ event. event) result (binary (number 1048577) (number (2 ^ 32)) Event.Vread (fields_of rest.entry)) }
 {
-    let point = number_from(1, 4, point)?;
-    let len = number(MOST_LEN, len)?;
-    Ok(Event::Inside {
-        point: point as u8,
-        act: InsideAct::Vread(len as u32),
-    })
+    let (first, second) = two(rest)?;
+    let len = read_len(first)?;
+    let flags = read_flags(second)?;
+    Ok(Event::Vread { len, flags })
 }
 
-/// What is done inside a call, and at which point of it.
-fn inside(rest: Option<&[u8]>) -> Result<Event, FaultKind>
-    ensures { Tells (λ event. event) result (inside_of (fields_of rest.entry)) }
+fn kread(rest: Option<&[u8]>) -> Result<Event, FaultKind>
+    ensures { Tells (λ event. event) result (unary (number 1048577) Event.Kread (fields_of rest.entry)) }
 {
-    let Some(text) = rest else {
-        return Err(FaultKind::UnknownWord);
-    };
-    let Some((point, behind)) = cut(b' ', text) else {
-        return Err(FaultKind::UnknownWord);
-    };
-    let Some((word, last)) = cut(b' ', behind) else {
-        if spells(behind, b"wipe") {
-            return act(point, InsideAct::Wipe);
-        }
-        if spells(behind, b"reseed") {
-            return act(point, InsideAct::Reseed);
-        }
-        return Err(FaultKind::UnknownWord);
-    };
-    let len = match one(Some(last)) {
-        Ok(len) => len,
-        Err(kind) => return Err(kind),
-    };
-    if !spells(word, b"vread") {
-        return Err(FaultKind::UnknownWord);
-    }
-    vread_act(point, len)
+    let len = read_len(one(rest)?)?;
+    Ok(Event::Kread { len })
+}
+
+fn dread(rest: Option<&[u8]>) -> Result<Event, FaultKind>
+    ensures { Tells (λ event. event) result (binary (number 1048577) (number 2) Event.Dread (fields_of rest.entry)) }
+{
+    let (first, second) = two(rest)?;
+    let len = read_len(first)?;
+    let flag = number_below(2, second)?;
+    Ok(Event::Dread { len, flag })
+}
+
+fn uread(rest: Option<&[u8]>) -> Result<Event, FaultKind>
+    ensures { Tells (λ event. event) result (unary (number 1048577) Event.Uread (fields_of rest.entry)) }
+{
+    let len = read_len(one(rest)?)?;
+    Ok(Event::Uread { len })
+}
+
+fn fork(rest: Option<&[u8]>) -> Result<Event, FaultKind>
+    ensures { Tells (λ event. event) result (unary (number_in 1 64) Event.Fork (fields_of rest.entry)) }
+{
+    let child = number_from(1, 63, one(rest)?)?;
+    Ok(Event::Fork {
+        child: child as u32,
+    })
 }
 
 /// Whether a version has what came with version `first`.
@@ -97,33 +164,40 @@ fn known_since(first: u32, version: u32) -> Result<(), FaultKind>
     Ok(())
 }
 
-fn text(alloc: Global, field: &[u8]) -> Result<Text, LineError>
-    ensures { Gives (λ text. text) result (bytes field.now) }
+fn prepare(version: u32, cpus: u32, rest: Option<&[u8]>) -> Result<Event, FaultKind>
+    requires { 0 < cpus }
+    ensures { Tells (λ event. event) result (since 2 version (unary (number cpus) Event.Prepare (fields_of rest.entry))) }
 {
-    let bytes = bytes(alloc, field)?;
-    Ok(Text::of(bytes))
+    known_since(2, version)?;
+    let cpu = number_below(cpus, one(rest)?)?;
+    Ok(Event::Prepare { cpu })
 }
 
-/// The number of bytes of a read.
-fn read_len(field: &[u8]) -> Result<u32, FaultKind>
-    ensures { Tells (λ len. len) result (number 1048577 field.now) }
+fn online(version: u32, cpus: u32, rest: Option<&[u8]>) -> Result<Event, FaultKind>
+    requires { 0 < cpus }
+    ensures { Tells (λ event. event) result (since 2 version (unary (number cpus) Event.Online (fields_of rest.entry))) }
 {
-    let len = number(MOST_LEN, field)?;
-    Ok(len as u32)
+    known_since(2, version)?;
+    let cpu = number_below(cpus, one(rest)?)?;
+    Ok(Event::Online { cpu })
 }
 
-fn read_flags(field: &[u8]) -> Result<u32, FaultKind>
-    ensures { Tells (λ flags. flags) result (number (2 ^ 32) field.now) }
+fn vmfork(alloc: Global, version: u32, rest: Option<&[u8]>) -> Result<Event, LineError>
+    ensures { Gives (λ event. event) result (since 2 version (binary (number (2 ^ 64)) bytes Event.Vmfork (fields_of rest.entry))) }
 {
-    let flags = number(MOST_FLAGS, field)?;
-    Ok(flags as u32)
+    known_since(2, version)?;
+    let (first, second) = two(rest)?;
+    let word = number(u64::MAX, first)?;
+    let text = text(alloc, second)?;
+    Ok(Event::Vmfork { word, text })
 }
 
-fn bits(field: &[u8]) -> Result<u32, FaultKind>
-    ensures { Tells (λ bits. bits) result (number (2 ^ 31) field.now) }
+fn state(version: u32, rest: Option<&[u8]>) -> Result<Event, FaultKind>
+    ensures { Tells (λ event. event) result (since 3 version (unary (number 16) Event.State (fields_of rest.entry))) }
 {
-    let bits = number(MOST_BITS, field)?;
-    Ok(bits as u32)
+    known_since(3, version)?;
+    let number = number_below(16, one(rest)?)?;
+    Ok(Event::State { number })
 }
 
 /// The event of a word and the fields behind it.
@@ -138,132 +212,34 @@ pub(crate) fn event_of(
     ensures { Gives (λ event. event) result (event_of version cpus word (fields_of rest.entry)) }
 {
     match word {
-        Word::At => {
-            let moment = number(LAST_MOMENT, one(rest)?)?;
-            Ok(Event::At { moment })
-        }
-        Word::On => {
-            let cpu = number_below(cpus, one(rest)?)?;
-            Ok(Event::On { cpu })
-        }
-        Word::Hw => {
-            let bytes = hardware_words(alloc, one(rest)?)?;
-            Ok(Event::Hw { bytes })
-        }
-        Word::Device => {
-            let (first, second) = two(rest)?;
-            let word = number(u64::MAX, first)?;
-            let text = text(alloc, second)?;
-            Ok(Event::Device { word, text })
-        }
-        Word::Write => {
-            let text = text(alloc, one(rest)?)?;
-            Ok(Event::Write { text })
-        }
-        Word::Add => {
-            let (first, second) = two(rest)?;
-            let text = text(alloc, first)?;
-            let bits = bits(second)?;
-            Ok(Event::Add { text, bits })
-        }
-        Word::Credit => {
-            let bits = bits(one(rest)?)?;
-            Ok(Event::Credit { bits })
-        }
-        Word::Bits => {
-            none(rest)?;
-            Ok(Event::Bits)
-        }
-        Word::Irq => {
-            let (first, second) = two(rest)?;
-            let v1 = number(u64::MAX, first)?;
-            let v2 = number(u64::MAX, second)?;
-            Ok(Event::Irq { v1, v2 })
-        }
+        Word::At => Ok(at(rest)?),
+        Word::On => Ok(on(cpus, rest)?),
+        Word::Hw => hw(alloc, rest),
+        Word::Device => device(alloc, rest),
+        Word::Write => write(alloc, rest),
+        Word::Add => add(alloc, rest),
+        Word::Credit => Ok(credit(rest)?),
+        Word::Bits => Ok(plain(Event::Bits, rest)?),
+        Word::Irq => Ok(irq(rest)?),
         Word::Input => Ok(input(rest)?),
-        Word::Read => {
-            let (first, second) = two(rest)?;
-            let len = read_len(first)?;
-            let flags = read_flags(second)?;
-            Ok(Event::Read { len, flags })
-        }
-        Word::Vread => {
-            let (first, second) = two(rest)?;
-            let len = read_len(first)?;
-            let flags = read_flags(second)?;
-            Ok(Event::Vread { len, flags })
-        }
-        Word::Kread => {
-            let len = read_len(one(rest)?)?;
-            Ok(Event::Kread { len })
-        }
-        Word::Dread => {
-            let (first, second) = two(rest)?;
-            let len = read_len(first)?;
-            let flag = number_below(2, second)?;
-            Ok(Event::Dread { len, flag })
-        }
-        Word::Uread => {
-            let len = read_len(one(rest)?)?;
-            Ok(Event::Uread { len })
-        }
-        Word::Int8 => {
-            none(rest)?;
-            Ok(Event::Int8)
-        }
-        Word::Int16 => {
-            none(rest)?;
-            Ok(Event::Int16)
-        }
-        Word::Int32 => {
-            none(rest)?;
-            Ok(Event::Int32)
-        }
-        Word::Int64 => {
-            none(rest)?;
-            Ok(Event::Int64)
-        }
-        Word::Reseed => {
-            none(rest)?;
-            Ok(Event::Reseed)
-        }
-        Word::Tick => {
-            none(rest)?;
-            Ok(Event::Tick)
-        }
-        Word::Drop => {
-            none(rest)?;
-            Ok(Event::Drop)
-        }
-        Word::Fork => {
-            let child = number_from(1, 63, one(rest)?)?;
-            Ok(Event::Fork {
-                child: child as u32,
-            })
-        }
+        Word::Read => Ok(read(rest)?),
+        Word::Vread => Ok(vread(rest)?),
+        Word::Kread => Ok(kread(rest)?),
+        Word::Dread => Ok(dread(rest)?),
+        Word::Uread => Ok(uread(rest)?),
+        Word::Int8 => Ok(plain(Event::Int8, rest)?),
+        Word::Int16 => Ok(plain(Event::Int16, rest)?),
+        Word::Int32 => Ok(plain(Event::Int32, rest)?),
+        Word::Int64 => Ok(plain(Event::Int64, rest)?),
+        Word::Reseed => Ok(plain(Event::Reseed, rest)?),
+        Word::Tick => Ok(plain(Event::Tick, rest)?),
+        Word::Drop => Ok(plain(Event::Drop, rest)?),
+        Word::Fork => Ok(fork(rest)?),
         Word::Inside => Ok(inside(rest)?),
-        Word::Prepare => {
-            known_since(2, version)?;
-            let cpu = number_below(cpus, one(rest)?)?;
-            Ok(Event::Prepare { cpu })
-        }
-        Word::Online => {
-            known_since(2, version)?;
-            let cpu = number_below(cpus, one(rest)?)?;
-            Ok(Event::Online { cpu })
-        }
-        Word::Vmfork => {
-            known_since(2, version)?;
-            let (first, second) = two(rest)?;
-            let word = number(u64::MAX, first)?;
-            let text = text(alloc, second)?;
-            Ok(Event::Vmfork { word, text })
-        }
-        Word::State => {
-            known_since(3, version)?;
-            let number = number_below(16, one(rest)?)?;
-            Ok(Event::State { number })
-        }
+        Word::Prepare => Ok(prepare(version, cpus, rest)?),
+        Word::Online => Ok(online(version, cpus, rest)?),
+        Word::Vmfork => vmfork(alloc, version, rest),
+        Word::State => Ok(state(version, rest)?),
         Word::End => Err(LineError::Kind(FaultKind::UnknownWord)),
     }
 }

@@ -1,9 +1,8 @@
 //! Scripts of one caller on one CPU that only writes, and reads with `GRND_INSECURE`.
 
-ghost use Rattle.std.specs.Prelude.{◌≡◌, ◌≤◌, IfOk, IfSome, IfNone, List, length, sum_by};
+ghost use Rattle.std.specs.Prelude.{◌≡◌, IfOk, IfSome, IfNone, List};
 ghost use Rattle.std.specs.Option.{option_map};
 ghost use Rattle.key_names.specs.declared.events.Event.{Event};
-ghost use Rattle.key_names.specs.ScriptGrammar.{bytes_read};
 ghost use Rattle.key_names.specs.ScriptFaults.{parts, one_field, two_fields};
 ghost use Rattle.event_script.specs.FirstForm.{first_event, first_events, first_read, first_write, IsFirstScript};
 
@@ -11,7 +10,8 @@ use crate::error::LineError;
 use crate::fields::{behind, cut, one, spells, two};
 use crate::hexes::bytes;
 use crate::numbers::number_up_to;
-use key_names::{Event, InsideAct, Text};
+use crate::reads::bytes_of_all;
+use key_names::{Event, Text};
 use std::alloc::{AllocError, Global};
 
 const MOST_BYTES: usize = 16_777_216;
@@ -90,33 +90,6 @@ fn events_of(alloc: Global, text: &[u8]) -> Result<Option<Vec<Event>>, AllocErro
         left = rest;
     }
     Ok(None)
-}
-
-/// How many bytes an event reads.
-pub(crate) fn bytes_of(event: &Event) -> u32
-    ensures { result ≡ bytes_read event.now }
-{
-    match event {
-        Event::Read { len, .. } | Event::Vread { len, .. } | Event::Dread { len, .. } => *len,
-        Event::Kread { len } | Event::Uread { len } => *len,
-        Event::Inside {
-            act: InsideAct::Vread(len),
-            ..
-        } => *len,
-        _ => 0,
-    }
-}
-
-/// How many bytes events read.
-fn bytes_of_all(events: &[Event]) -> u64
-    requires { length events.now ≤ 65536 }
-    ensures { result ≡ sum_by bytes_read events.now }
-{
-    let mut sum = 0;
-    for event in events {
-        sum += u64::from(bytes_of(event));
-    }
-    sum
 }
 
 /// The events of a script of one caller on one CPU that only writes, and reads with the flag `GRND_INSECURE`, or

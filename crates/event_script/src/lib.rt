@@ -4,6 +4,8 @@
 //! the short scripts of one caller that only writes and reads.
 #![tactic(auto)]
 
+mod acts;
+mod amounts;
 mod draft;
 mod error;
 mod events;
@@ -12,8 +14,10 @@ pub mod first_form;
 mod front;
 mod hexes;
 mod line;
+mod load;
 mod numbers;
 mod reading;
+pub mod reads;
 pub mod script;
 pub mod script_error;
 #[cfg(test)]

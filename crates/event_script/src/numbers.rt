@@ -1,10 +1,31 @@
 //! Fields that are numbers.
 
-ghost use Rattle.std.specs.Prelude.{◌≡◌, ◌+◌, ◌<◌, ◌≤◌, IfOk, IfSome};
+ghost use Rattle.std.specs.Prelude.{◌≡◌, ◌+◌, ◌<◌, ◌≤◌, IfOk, IfNone, IfSome, OnSome, length};
+ghost use Rattle.std.specs.Str.Parse.{AllDigits, digits_value};
 ghost use Rattle.event_script.specs.Views.{Tells};
 ghost use Rattle.key_names.specs.ScriptFaults.{number_below, number, number_in};
 
 use key_names::FaultKind;
+
+/// So many digits are the number of a `u64`, whatever they are.
+const SAFE_DIGITS: usize = 19;
+
+/// The value of a few decimal digits.
+fn value_of(digits: &[u8]) -> Option<u64>
+    requires { length digits.now ≤ 19 }
+    ensures digits { OnSome result (AllDigits 10 digits.now) }
+    ensures value { IfSome result (λ n. n ≡ digits_value 10 digits.now) }
+    ensures none { IfNone result (AllDigits 10 digits.now → ⊥) }
+{
+    let mut value: u64 = 0;
+    for byte in digits {
+        let Some(digit) = char::from(*byte).to_digit(10) else {
+            return None;
+        };
+        value = value * 10 + u64::from(digit);
+    }
+    Some(value)
+}
 
 /// The number that a field spells in decimal, without leading zeros, if it is at most `most`.
 pub(crate) fn number_up_to(most: u64, field: &[u8]) -> Option<u64>
@@ -17,8 +38,11 @@ pub(crate) fn number_up_to(most: u64, field: &[u8]) -> Option<u64>
     if field[0] == b'0' && field.len() > 1 {
         return None;
     }
-    let mut value: u64 = 0;
-    for byte in field {
+    let (front, last) = field.split_at(field.len().min(SAFE_DIGITS));
+    let Some(mut value) = value_of(front) else {
+        return None;
+    };
+    for byte in last {
         let Some(digit) = char::from(*byte).to_digit(10) else {
             return None;
         };

@@ -6,10 +6,11 @@ ghost use Rattle.key_names.specs.ScriptFaults.{first_fault, front};
 ghost use Rattle.event_script.specs.ScriptViews.{GivesScript, IsFirstFault};
 
 use crate::front::front_len;
+use crate::load::load_blocks;
 use crate::reading::read_draft;
 use crate::script_error::ScriptError;
 use key_names::Event;
-use std::alloc::Global;
+use std::alloc::{AllocError, Global};
 use std::marker::Model;
 
 /// What callers are to do: a version, a number of CPUs, and the events of each caller.
@@ -36,6 +37,27 @@ impl Model for Script {
 
 impl Script {
     ghost use Rattle.std.specs.Prelude.{slice_get, Some};
+    ghost use Rattle.event_script.specs.LoadScript.{load_script};
+
+    /// The script of a load, of version 1: on as many CPUs as callers, caller 0 makes the core ready and forks all
+    /// others, and each caller makes so many calls on its own CPU, eight kinds of them in turn. `start` says which
+    /// kind is the first, and how long the reads are.
+    ///
+    /// # Errors
+    ///
+    /// `AllocError` where there is no memory for the events.
+    pub fn load(alloc: Global, start: u32, callers: u32, events: u32) -> Result<Script, AllocError>
+        requires callers { (1 ≤ callers) × (callers ≤ 64) }
+        requires events { (1 ≤ events) × (events ≤ 1000) }
+        ensures { IfOk result (λ script. script ≡ load_script start callers events) }
+    {
+        let callers_events = load_blocks(alloc, start, callers, events)?;
+        Ok(Script {
+            version: 1,
+            cpus: callers,
+            callers: callers_events,
+        })
+    }
 
     /// The version of its text: 1, 2 or 3.
     pub fn version(&self) -> u32

@@ -1,5 +1,6 @@
 //! What no clause says: that ordinary texts are read, and the faults as a reader of the format expects them.
-use crate::{ScriptError, read, read_first_form, read_front};
+use crate::{Script, ScriptError, read, read_first_form, read_front};
+use key_names::{Event, Text};
 use std::alloc::{AllocError, Global};
 use std::test::Fail;
 
@@ -129,5 +130,89 @@ fn the_first_form(rt: HostRuntime) -> Result<(), Fail> {
     assert_eq!(rt; events.len(), 4);
     let other = repeated(rt.alloc(), b"read 16 0\n", 1, b"end\n")?;
     assert!(rt; read_first_form(rt.alloc(), &other)?.is_none());
+    Ok(())
+}
+
+/// Whether two events of a load are the same.
+fn is_same(event: &Event, other: &Event) -> bool {
+    match (event, other) {
+        (
+            Event::Add { text, bits },
+            Event::Add {
+                text: bytes,
+                bits: credit,
+            },
+        ) => { text.bytes() == bytes.bytes() && bits == credit }
+        (Event::Write { text }, Event::Write { text: bytes }) => text.bytes() == bytes.bytes(),
+        (Event::On { cpu }, Event::On { cpu: on }) => cpu == on,
+        (
+            Event::Read { len, flags },
+            Event::Read {
+                len: most,
+                flags: with,
+            },
+        ) => { len == most && flags == with }
+        (
+            Event::Vread { len, flags },
+            Event::Vread {
+                len: most,
+                flags: with,
+            },
+        ) => { len == most && flags == with }
+        (Event::Kread { len }, Event::Kread { len: most }) => len == most,
+        (Event::Uread { len }, Event::Uread { len: most }) => len == most,
+        (
+            Event::Irq { v1, v2 },
+            Event::Irq {
+                v1: first,
+                v2: second,
+            },
+        ) => { v1 == first && v2 == second }
+        (Event::Int64, Event::Int64) | (Event::Reseed, Event::Reseed) => true,
+        _ => false,
+    }
+}
+
+#[test]
+fn a_load_has_the_events_of_its_text(rt: HostRuntime) -> Result<(), Fail> {
+    let text = b"rngscript 1\ncpus 1\ncaller 0\n\
+        add 000102030405060708090a0b0c0d0e0f101112131415161718191a1b1c1d1e1f 256\n\
+        on 0\nvread 2 0\nkread 19\nint64\nirq 3 0\nwrite 0400000000000000\nuread 87\nreseed\nread 21 0\nend\n";
+    let script = read(rt.alloc(), text).ok().ok_or("no script")?;
+    let load = Script::load(rt.alloc(), 1, 1, 8)?;
+    assert_eq!(rt; load.version(), script.version());
+    assert_eq!(rt; load.cpus(), script.cpus());
+    assert_eq!(rt; load.callers(), 1);
+    assert_eq!(rt; script.callers(), 1);
+    let (events, others) = (load.events(0), script.events(0));
+    assert_eq!(rt; events.len(), others.len());
+    for (event, other) in events.iter().zip(others) {
+        assert!(rt; is_same(event, other));
+    }
+    Ok(())
+}
+
+#[test]
+fn loads_at_their_limits(rt: HostRuntime) -> Result<(), Fail> {
+    let text = Text::of([0x8f, 1, 0, 0, 0, 0, 0, 0].to_vec(rt.alloc())?);
+    // How many events there are, and the last one, worked out with another program.
+    let rows = [
+        (1, 8, 400, 3216, Event::Write { text }),
+        (u32::MAX, 64, 1000, 64_128, Event::Int64),
+        (u32::MAX, 1, 2, 4, Event::Read { len: 13, flags: 0 }),
+        (99, 1, 2, 4, Event::Irq { v1: 1, v2: 0 }),
+    ];
+    for (start, callers, events, count, last) in &rows {
+        assert!(rt; *callers >= 1 && *callers <= 64 && *events >= 1 && *events <= 1000);
+        let load = Script::load(rt.alloc(), *start, *callers, *events)?;
+        assert_eq!(rt; load.callers(), *callers);
+        let mut sum: u64 = 0;
+        for caller in 0..load.callers() {
+            sum = sum.wrapping_add(load.events(caller).len() as u64);
+        }
+        assert_eq!(rt; sum, *count);
+        let found = load.events(*callers - 1).last().ok_or("no event")?;
+        assert!(rt; is_same(found, last));
+    }
     Ok(())
 }

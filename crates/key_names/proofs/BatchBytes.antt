@@ -113,7 +113,7 @@ state_batch_ok lists cpu_list caller state s b (Rekey cpu cpu_place) may ok any 
 state_batch_ok lists cpu_list caller state s b (Blocks from count) may ok any = cc
 state_batch_ok lists cpu_list caller state s b (Refill from) may ok any = refl
 state_batch_ok lists cpu_list caller state s b (Serve pos len) may ok any =
-    zeros_more pos len b.batch (let P : ℕ → Type 0 = λ n. StartsZero n b.batch in subst P (sym may.1) (ok may.0))
+    zeros_more pos len b.batch (let P : ℕ → Type 0 = λ n. StartsZero n b.batch in subst P (sym may.0.1) (ok may.0.0))
 state_batch_ok lists cpu_list caller state s b Wipe may ok any = refl
 
 pub state_batches_ok : (lists : Lists) (cpu_list : ℕ → List CpuEntry) (caller state : ℕ) (s : NamedState)

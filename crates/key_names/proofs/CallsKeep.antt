@@ -1,7 +1,8 @@
--- A call of vgetrandom leaves the list of its state lawful, whatever the host does.
-use Rattle.std.proofs.Common.{◌≡◌, ℕ, zero, suc, ◌+◌, ◌-◌, ◌≤◌, Bool, true, false, List, [], ◌∷◌, ◌++◌, inl, inr, refl, sym, subst, ap, arith, Some, None, Option}
+-- A call of vgetrandom leaves the list of its state in order, whatever the host does.
+use Rattle.std.proofs.Common.{◌≡◌, ℕ, zero, suc, ◌+◌, ◌-◌, ◌≤◌, Bool, true, false, List, [], ◌∷◌, ◌++◌, inr, refl, sym}
+use Rattle.std.proofs.Common.{subst, ap, arith, Some, None, Option}
 use Rattle.std.specs.Prelude.{◌==◌, MatchBool, if◌then◌else◌}
-use Rattle.std.specs.List.{fold}
+use Rattle.std.specs.List.{fold, AllByRecursion}
 use Rattle.std.proofs.lemmas.Bool.{leb-true}
 use Rattle.key_names.specs.declared.entries.CpuEntry.{CpuEntry}
 use Rattle.key_names.specs.declared.entries.VEntry.{VEntry}
@@ -9,23 +10,22 @@ use Rattle.key_names.specs.declared.entries.VEntry.TheVariants.{Rekey, Wipe}
 use Rattle.key_names.specs.declared.point.Point.{Point}
 use Rattle.key_names.specs.declared.point.Point.TheVariants.{Start, Written, Serve as ServePoint, End}
 use Rattle.key_names.specs.LawfulList.{LawfulFrom}
-use Rattle.key_names.specs.StateList.{NamedState, anything, MayStart, state_start, state_step}
+use Rattle.key_names.specs.StateList.{NamedState, anything, MayStart, MayFollow, TakesRead, StateMayCome}
+use Rattle.key_names.specs.StateList.{OrderedStateList, LawfulStateList, state_start, state_step}
 use Rattle.key_names.specs.Flags.{is_bad}
 use Rattle.key_names.specs.VgetrandomState.{VgetrandomState, wiped_state, state_left}
-use Rattle.key_names.specs.BatchCopy.{bytes_left, has_left, copy_bytes, state_of_same_batch, state_after_copy, block_after_copy, serve_entry, copy_entries}
-use Rattle.key_names.specs.Vgetrandom.{CpuPlace, SystemAnswer, read, failed, HostStep, publishes, system_call, at_point, AttemptEnd, holds, outdated, not_keyed, Attempt, wipe_entry, AtPoint, AfterKeyRead, FromEnd, FromServe, Keyed, FromWritten, FromStart, IsAttempt, Outcome, BySystem, ByNothing, AfterAttempt, AttemptAndRest, AfterBoth, state_after_call, SecondAttempt, FirstAttempt, FromPublished, FromLook, IsCall}
-use Rattle.key_names.specs.StateCalls.{IsKeyRead, KeyReads, StateUse, by_call, by_copy, by_wipe, StateUseStands, state_after_use, entries_of_use, entries_of_uses, UsesLeaveLawfulLists}
+use Rattle.key_names.specs.BatchCopy.{bytes_left, has_left, copy_bytes, state_of_same_batch, state_after_copy}
+use Rattle.key_names.specs.BatchCopy.{block_after_copy, serve_entry, copy_entries}
+use Rattle.key_names.specs.Vgetrandom.{CpuPlace, SystemAnswer, read, failed, HostStep, AttemptEnd, holds, outdated}
+use Rattle.key_names.specs.Vgetrandom.{not_keyed, Attempt, wipe_entry, rekey_entry, AtPoint, AfterKeyRead, FromEnd}
+use Rattle.key_names.specs.Vgetrandom.{FromServe, Keyed, FromWritten, FromStart, IsAttempt, Outcome, BySystem}
+use Rattle.key_names.specs.Vgetrandom.{ByNothing, AfterAttempt, AttemptAndRest, AfterBoth, state_after_call}
+use Rattle.key_names.specs.Vgetrandom.{SecondAttempt, FirstAttempt, FromPublished, FromLook, IsCall}
+use Rattle.key_names.specs.StateCalls.{StateUse, by_call, by_copy, by_wipe, StateUseStands, state_after_use}
+use Rattle.key_names.specs.StateCalls.{entries_of_use, entries_of_uses, UsesLeaveLawfulLists}
 use Rattle.key_names.proofs.BatchBytes.{zeros_more}
-use Rattle.key_names.proofs.CopiesKeep.{Settled, Ready, ready, may_start}
+use Rattle.key_names.proofs.CopiesKeep.{Settled, Ready, ready, ready_start, may_start}
 use Rattle.key_names.proofs.CopiesKeep as copies
-
-key_reads_append : (cpus : ℕ → List CpuEntry) (xs ys : List HostStep) → KeyReads cpus (xs ++ ys) →
-    KeyReads cpus xs × KeyReads cpus ys
-key_reads_append cpus [] ys h = (tt, h)
-key_reads_append cpus (publishes g ∷ xs) ys h = key_reads_append cpus xs ys h
-key_reads_append cpus (at_point point wiped ∷ xs) ys h = key_reads_append cpus xs ys h
-key_reads_append cpus (system_call n flags answer ∷ xs) ys h =
-    let m : KeyReads cpus xs × KeyReads cpus ys = key_reads_append cpus xs ys h.1 in ((h.0, m.0), m.1)
 
 -- a choice between two facts
 pub match_cases : (A B C : Type 0) (b : Bool) → ((b ≡ true) → A → C) → ((b ≡ false) → B → C) → MatchBool b A B → C
@@ -36,20 +36,20 @@ some_bytes : (n : ℕ) → (n == 0) ≡ false → 1 ≤ n
 some_bytes zero h = cc
 some_bytes (suc n) h = omega arith
 
-module _ (cpus : ℕ → List CpuEntry) (caller state : ℕ) where
+module _ (caller state : ℕ) where
   abbrev step : NamedState → VEntry → NamedState
   step = state_step caller state
 
   abbrev pub Keeps : (NamedState → Type 0) → NamedState → List VEntry → Type 0
-  Keeps = copies.Keeps cpus caller state
+  Keeps = copies.Keeps caller state
 
   keeps_append : (After : NamedState → Type 0) (t : NamedState) (xs ys : List VEntry) →
       Keeps (λ u. Keeps After u ys) t xs → Keeps After t (xs ++ ys)
-  keeps_append = copies.keeps_append cpus caller state
+  keeps_append = copies.keeps_append caller state
 
   keeps_weaker : (After Also : NamedState → Type 0) → ((u : NamedState) → After u → Also u) → (t : NamedState)
       (es : List VEntry) → Keeps After t es → Keeps Also t es
-  keeps_weaker = copies.keeps_weaker cpus caller state
+  keeps_weaker = copies.keeps_weaker caller state
 
   -- the entries of an attempt, and of a call, leave its state settled
   abbrev pub AttemptKeeps : NamedState → Attempt → Type 0
@@ -72,35 +72,28 @@ module _ (cpus : ℕ → List CpuEntry) (caller state : ℕ) where
       (point : Point) (GoesOn : VgetrandomState → List HostStep → Attempt → Type 0) (t : NamedState)
       (s : VgetrandomState) (steps : List HostStep) (attempt : Attempt) →
       ((u : NamedState) (r : VgetrandomState) (rest : List HostStep) (after : Attempt) → GoesOn r rest after →
-      KeyReads cpus rest → Before u r → AttemptKeeps u after) →
-      AtPoint point GoesOn s steps attempt → KeyReads cpus steps → Before t s → AttemptKeeps t attempt
-  point_keeps Before may wiped_before point GoesOn t s steps attempt on at reads h =
+      Before u r → AttemptKeeps u after) →
+      AtPoint point GoesOn s steps attempt → Before t s → AttemptKeeps t attempt
+  point_keeps Before may wiped_before point GoesOn t s steps attempt on at h =
       behind_keeps t (wipe_entry at.wiped) attempt at.attempt_after at.attempt_is (go at.wiped at.goes_on)
     where
-      rest_reads : KeyReads cpus at.rest
-      rest_reads = let P : List HostStep → Type 0 = λ x. KeyReads cpus x in
-          let m : KeyReads cpus (at_point point at.wiped ∷ at.rest) = subst P at.steps_are reads in m
-
       go : (b : Bool) → GoesOn (state_left b s) at.rest at.attempt_after →
           Keeps (λ u. AttemptKeeps u at.attempt_after) t (wipe_entry b)
-      go false g = record { lawful = tt; after = on t s at.rest at.attempt_after g rest_reads h }
+      go false g = record { lawful = tt; after = on t s at.rest at.attempt_after g h }
       go true g = record {
         lawful = (may t s h, tt);
-        after = on (step t Wipe) wiped_state at.rest at.attempt_after g rest_reads
+        after = on (step t Wipe) wiped_state at.rest at.attempt_after g
             (wiped_before (step t Wipe) (record
             { same_pos = refl; within = omega arith; expects = refl; zeros = refl }));
       }
 
   settled_start : (t : NamedState) (s : VgetrandomState) → Settled t s → MayStart t.expected
-  settled_start t s h = may_start t.expected (inl h.expects)
-
-  ready_start : (t : NamedState) (s : VgetrandomState) → Ready t s → MayStart t.expected
-  ready_start t s h = may_start t.expected (elim h.expects [ inl e ↦ inl e.0 | inr e ↦ inr e.0 ])
+  settled_start t s h = may_start t.expected h.expects
 
   end_keeps : (out : List ℕ) (c : ℕ) (t : NamedState) (s : VgetrandomState) (steps : List HostStep)
       (attempt : Attempt) →
-      FromEnd out c s steps attempt → KeyReads cpus steps → Settled t s → AttemptKeeps t attempt
-  end_keeps out c t s steps attempt e reads h =
+      FromEnd out c s steps attempt → Settled t s → AttemptKeeps t attempt
+  end_keeps out c t s steps attempt e h =
       let P : Attempt → Type 0 = λ a. AttemptKeeps t a in
       subst P (sym e.attempt_is) (let m : AttemptKeeps t
       (record {
@@ -114,49 +107,45 @@ module _ (cpus : ℕ → List CpuEntry) (caller state : ℕ) where
 
   from_serve_keeps : (n c : ℕ) → 1 ≤ n →
       (t : NamedState) (s : VgetrandomState) (steps : List HostStep) (attempt : Attempt) →
-      FromServe n c s steps attempt → KeyReads cpus steps → Ready t s → AttemptKeeps t attempt
-  from_serve_keeps n c some t s steps attempt from reads h =
+      FromServe n c s steps attempt → Ready t s → AttemptKeeps t attempt
+  from_serve_keeps n c some t s steps attempt from h =
       behind_keeps t (copy_entries s c n) attempt from.attempt_after from.attempt_is
       (keeps_weaker (λ u. Settled u (state_after_copy s c n)) (λ u. AttemptKeeps u from.attempt_after)
       (λ u settled. point_keeps Settled settled_start (λ v x. x) End
       (FromEnd (copy_bytes s c n) (block_after_copy s c n)) u (state_after_copy s c n) steps from.attempt_after
-      (λ v r rest after e reads x. end_keeps (copy_bytes s c n) (block_after_copy s c n) v r rest after e reads x)
-      from.goes_on reads settled)
-      t (copy_entries s c n) (copies.copy_keeps cpus caller state t s c n some h))
+      (λ v r rest after e x. end_keeps (copy_bytes s c n) (block_after_copy s c n) v r rest after e x)
+      from.goes_on settled)
+      t (copy_entries s c n) (copies.copy_keeps caller state t s c n some h))
 
   serve_point_keeps : (n c : ℕ) → 1 ≤ n →
       (t : NamedState) (s : VgetrandomState) (steps : List HostStep) (attempt : Attempt) →
-      AtPoint ServePoint (FromServe n c) s steps attempt → KeyReads cpus steps → Ready t s → AttemptKeeps t attempt
-  serve_point_keeps n c some t s steps attempt at reads h =
+      AtPoint ServePoint (FromServe n c) s steps attempt → Ready t s → AttemptKeeps t attempt
+  serve_point_keeps n c some t s steps attempt at h =
       point_keeps Ready ready_start (λ u x. ready u wiped_state x) ServePoint (FromServe n c) t s steps attempt
-      (λ u r rest after g reads x. from_serve_keeps n c some u r rest after g reads x) at reads h
+      (λ u r rest after g x. from_serve_keeps n c some u r rest after g x) at h
 
   keyed_keeps : (n c : ℕ) (key : List ℕ) (visit : Option CpuPlace) → 1 ≤ n →
       (t : NamedState) (s : VgetrandomState) (steps : List HostStep) (attempt : Attempt) →
-      IsKeyRead cpus (read key visit) → Keyed n c key visit s steps attempt → KeyReads cpus steps → Settled t s →
-      AttemptKeeps t attempt
-  keyed_keeps n c key None some t s steps attempt taken k reads h = absurd taken
-  keyed_keeps n c key (Some at) some t s steps attempt taken k reads h =
-      behind_keeps t (Rekey at.cpu at.place ∷ []) attempt k.attempt_after k.attempt_is
-      (let m : Keeps (λ u. AttemptKeeps u k.attempt_after) t (Rekey at.cpu at.place ∷ []) = record {
-        lawful = ((h.expects, taken), tt);
-        after = serve_point_keeps n c some (step t (Rekey at.cpu at.place)) (record s { key = key; pos = 96 })
-            steps k.attempt_after k.goes_on reads
-            (record { same_pos = refl; within = omega arith; expects = inr (refl, refl) });
-      } in m)
+      Keyed n c key visit s steps attempt → Settled t s → AttemptKeeps t attempt
+  keyed_keeps n c key visit some t s steps attempt k h =
+      behind_keeps t (rekey_entry visit) attempt k.attempt_after k.attempt_is (go visit)
+    where
+      serves : (u : NamedState) → MayStart u.expected → AttemptKeeps u k.attempt_after
+      serves u may = serve_point_keeps n c some u (record s { key = key; pos = 96 }) steps k.attempt_after k.goes_on
+          (record { within = omega arith; expects = inr (may, refl) })
+
+      go : (at : Option CpuPlace) → Keeps (λ u. AttemptKeeps u k.attempt_after) t (rekey_entry at)
+      go None = record { lawful = tt; after = serves t (settled_start t s h) }
+      go (Some at) = record { lawful = (h.expects, tt); after = serves (step t (Rekey at.cpu at.place)) tt }
 
   written_keeps : (n c : ℕ) → 1 ≤ n →
       (t : NamedState) (s : VgetrandomState) (steps : List HostStep) (attempt : Attempt) →
-      FromWritten n c s steps attempt → KeyReads cpus steps → Settled t s → AttemptKeeps t attempt
-  written_keeps n c some t s steps attempt from reads h =
-      let P : List HostStep → Type 0 = λ x. KeyReads cpus x in
-      let m : KeyReads cpus (system_call 32 0 from.answer ∷ from.rest) = subst P from.steps_are reads in
-      go from.answer (m.0 refl refl) from.goes_on m.1
+      FromWritten n c s steps attempt → Settled t s → AttemptKeeps t attempt
+  written_keeps n c some t s steps attempt from h = go from.answer from.goes_on
     where
-      go : (answer : SystemAnswer) → IsKeyRead cpus answer → AfterKeyRead n c answer s from.rest attempt →
-          KeyReads cpus from.rest → AttemptKeeps t attempt
-      go (read key visit) taken k rest_reads = keyed_keeps n c key visit some t s from.rest attempt taken k rest_reads h
-      go (failed errno) taken k rest_reads =
+      go : (answer : SystemAnswer) → AfterKeyRead n c answer s from.rest attempt → AttemptKeeps t attempt
+      go (read key visit) k = keyed_keeps n c key visit some t s from.rest attempt k h
+      go (failed errno) k =
           let P : Attempt → Type 0 = λ a. AttemptKeeps t a in
           subst P (sym k.attempt_is) (let m : AttemptKeeps t
           (record {
@@ -175,27 +164,25 @@ module _ (cpus : ℕ → List CpuEntry) (caller state : ℕ) where
 
   start_keeps : (n c published : ℕ) → 1 ≤ n →
       (t : NamedState) (s : VgetrandomState) (steps : List HostStep) (attempt : Attempt) →
-      FromStart n c published s steps attempt → KeyReads cpus steps → Settled t s → AttemptKeeps t attempt
-  start_keeps n c published some t s steps attempt from reads h =
+      FromStart n c published s steps attempt → Settled t s → AttemptKeeps t attempt
+  start_keeps n c published some t s steps attempt from h =
       match_cases (AtPoint ServePoint (FromServe n c) s steps attempt)
       (AtPoint Written (FromWritten n c) (record s { generation = published }) steps attempt)
       (AttemptKeeps t attempt) (s.generation == published)
-      (λ is at. serve_point_keeps n c some t s steps attempt at reads (ready t s h))
+      (λ is at. serve_point_keeps n c some t s steps attempt at (ready t s h))
       (λ is at. point_keeps Settled settled_start (λ u x. x) Written (FromWritten n c) t
       (record s { generation = published }) steps attempt
-      (λ u r rest after g reads x. written_keeps n c some u r rest after g reads x) at reads
+      (λ u r rest after g x. written_keeps n c some u r rest after g x) at
       (record { same_pos = h.same_pos; within = h.within; expects = h.expects; zeros = h.zeros }))
       from
 
-  -- an attempt keeps the list of its state lawful
+  -- an attempt keeps the list of its state in order
   pub attempt_keeps : (n c : ℕ) → 1 ≤ n →
       (t : NamedState) (s : VgetrandomState) (steps : List HostStep) (attempt : Attempt) →
-      IsAttempt n c s steps attempt → KeyReads cpus steps → Settled t s → AttemptKeeps t attempt
-  attempt_keeps n c some t s steps attempt is reads h =
-      let P : List HostStep → Type 0 = λ x. KeyReads cpus x in
-      let m : KeyReads cpus (publishes is.published ∷ is.rest) = subst P is.steps_are reads in
+      IsAttempt n c s steps attempt → Settled t s → AttemptKeeps t attempt
+  attempt_keeps n c some t s steps attempt is h =
       point_keeps Settled settled_start (λ u x. x) Start (FromStart n c is.published) t s is.rest attempt
-      (λ u r rest after g reads x. start_keeps n c is.published some u r rest after g reads x) is.goes_on m h
+      (λ u r rest after g x. start_keeps n c is.published some u r rest after g x) is.goes_on h
 
   -- an outcome without entries, on a state that has this one's batch
   none_keeps : (t : NamedState) (s : VgetrandomState) (outcome : Outcome) → outcome.entries ≡ [] →
@@ -220,52 +207,49 @@ module _ (cpus : ℕ → List CpuEntry) (caller state : ℕ) where
   tried_keeps : (n flags : ℕ) (Outdated : ℕ → VgetrandomState → List HostStep → Outcome → Type 0)
       (Tried : List HostStep → Attempt → Type 0) →
       (t : NamedState) (steps : List HostStep) (outcome : Outcome) →
-      ((tried : List HostStep) (attempt : Attempt) → Tried tried attempt → KeyReads cpus tried →
-      AttemptKeeps t attempt) →
+      ((tried : List HostStep) (attempt : Attempt) → Tried tried attempt → AttemptKeeps t attempt) →
       ((u : NamedState) (c : ℕ) (s : VgetrandomState) (rest : List HostStep) (after : Outcome) →
-      Outdated c s rest after → KeyReads cpus rest → Settled u s → OutcomeKeeps u after) →
-      AttemptAndRest n flags Outdated Tried steps outcome → KeyReads cpus steps → OutcomeKeeps t outcome
-  tried_keeps n flags Outdated Tried t steps outcome tries goes_on r reads =
+      Outdated c s rest after → Settled u s → OutcomeKeeps u after) →
+      AttemptAndRest n flags Outdated Tried steps outcome → OutcomeKeeps t outcome
+  tried_keeps n flags Outdated Tried t steps outcome tries goes_on r =
       let P : Outcome → Type 0 = λ o. OutcomeKeeps t o in
-      let Q : List HostStep → Type 0 = λ x. KeyReads cpus x in
-      let m = key_reads_append cpus r.tried r.rest (subst Q r.steps_are reads) in
       subst P (sym r.outcome_is)
       (keeps_append (λ u. Settled u r.outcome_after.state) t r.attempt.entries r.outcome_after.entries
       (keeps_weaker (λ u. Settled u r.attempt.state) (λ u. OutcomeKeeps u r.outcome_after)
-      (λ u h. go r.attempt.end u h m.1 r.goes_on) t r.attempt.entries
-      (tries r.tried r.attempt r.tries m.0)))
+      (λ u h. go r.attempt.end u h r.goes_on) t r.attempt.entries
+      (tries r.tried r.attempt r.tries)))
     where
-      go : (end : AttemptEnd) (u : NamedState) → Settled u r.attempt.state → KeyReads cpus r.rest →
+      go : (end : AttemptEnd) (u : NamedState) → Settled u r.attempt.state →
           AfterAttempt n flags Outdated end r.attempt r.rest r.outcome_after → OutcomeKeeps u r.outcome_after
-      go holds u h reads by = none_keeps u (state_after_call r.attempt.state) r.outcome_after
+      go holds u h by = none_keeps u (state_after_call r.attempt.state) r.outcome_after
           (ap (λ (o : Outcome). o.entries) by.outcome_is) (ap (λ (o : Outcome). o.state) by.outcome_is)
           (settled_after u r.attempt.state h)
-      go outdated u h reads by = goes_on u r.attempt.next_block r.attempt.state r.rest r.outcome_after by reads h
-      go not_keyed u h reads by = system_keeps n flags u (state_after_call r.attempt.state) r.rest r.outcome_after by
+      go outdated u h by = goes_on u r.attempt.next_block r.attempt.state r.rest r.outcome_after by h
+      go not_keyed u h by = system_keeps n flags u (state_after_call r.attempt.state) r.rest r.outcome_after by
           (settled_after u r.attempt.state h)
 
   second_keeps : (n flags : ℕ) → 1 ≤ n →
       (c : ℕ) (t : NamedState) (s : VgetrandomState) (steps : List HostStep) (outcome : Outcome) →
-      SecondAttempt n flags c s steps outcome → KeyReads cpus steps → Settled t s → OutcomeKeeps t outcome
-  second_keeps n flags some c t s steps outcome second reads h =
+      SecondAttempt n flags c s steps outcome → Settled t s → OutcomeKeeps t outcome
+  second_keeps n flags some c t s steps outcome second h =
       tried_keeps n flags (AfterBoth n flags) (IsAttempt n c s) t steps outcome
-      (λ tried attempt is r. attempt_keeps n c some t s tried attempt is r h)
-      (λ u d v rest after by r x. system_keeps n flags u (state_after_call v) rest after by (settled_after u v x))
-      second reads
+      (λ tried attempt is. attempt_keeps n c some t s tried attempt is h)
+      (λ u d v rest after by x. system_keeps n flags u (state_after_call v) rest after by (settled_after u v x))
+      second
 
   first_keeps : (n flags : ℕ) → 1 ≤ n →
       (t : NamedState) (s : VgetrandomState) (steps : List HostStep) (outcome : Outcome) →
-      FirstAttempt n flags s steps outcome → KeyReads cpus steps → Settled t s → OutcomeKeeps t outcome
-  first_keeps n flags some t s steps outcome first reads h =
+      FirstAttempt n flags s steps outcome → Settled t s → OutcomeKeeps t outcome
+  first_keeps n flags some t s steps outcome first h =
       tried_keeps n flags (SecondAttempt n flags) (IsAttempt n 0 s) t steps outcome
-      (λ tried attempt is r. attempt_keeps n 0 some t s tried attempt is r h)
-      (λ u c v rest after second r x. second_keeps n flags some c u v rest after second r x)
-      first reads
+      (λ tried attempt is. attempt_keeps n 0 some t s tried attempt is h)
+      (λ u c v rest after second x. second_keeps n flags some c u v rest after second x)
+      first
 
   published_keeps : (n flags published : ℕ) (t : NamedState) (s : VgetrandomState) (steps : List HostStep)
       (outcome : Outcome) →
-      FromPublished n flags s published steps outcome → KeyReads cpus steps → Settled t s → OutcomeKeeps t outcome
-  published_keeps n flags published t s steps outcome from reads h =
+      FromPublished n flags s published steps outcome → Settled t s → OutcomeKeeps t outcome
+  published_keeps n flags published t s steps outcome from h =
       match_cases (BySystem n flags s steps outcome) _ (OutcomeKeeps t outcome) (published == 0)
       (λ is by. system_keeps n flags t s steps outcome by h)
       (λ is. match_cases (ByNothing s steps outcome) _ (OutcomeKeeps t outcome) (n == 0)
@@ -274,20 +258,18 @@ module _ (cpus : ℕ → List CpuEntry) (caller state : ℕ) where
       (λ some. match_cases (BySystem n flags s steps outcome)
       (FirstAttempt n flags (record s { in_use = true }) steps outcome) (OutcomeKeeps t outcome) s.in_use
       (λ inside by. system_keeps n flags t s steps outcome by h)
-      (λ outside first. first_keeps n flags (some_bytes n some) t (record s { in_use = true }) steps outcome first reads
+      (λ outside first. first_keeps n flags (some_bytes n some) t (record s { in_use = true }) steps outcome first
       (record { same_pos = h.same_pos; within = h.within; expects = h.expects; zeros = h.zeros }))))
       from
 
-  -- a call of vgetrandom keeps the list of its state lawful
+  -- a call of vgetrandom keeps the list of its state in order
   pub call_keeps : (n flags : ℕ) (t : NamedState) (s : VgetrandomState) (steps : List HostStep) (outcome : Outcome) →
-      IsCall n flags s steps outcome → KeyReads cpus steps → Settled t s → OutcomeKeeps t outcome
-  call_keeps n flags t s steps outcome is reads h =
+      IsCall n flags s steps outcome → Settled t s → OutcomeKeeps t outcome
+  call_keeps n flags t s steps outcome is h =
       match_cases (BySystem n flags s steps outcome) (FromLook n flags s steps outcome) (OutcomeKeeps t outcome)
       (is_bad flags)
       (λ bad by. system_keeps n flags t s steps outcome by h)
-      (λ good look. published_keeps n flags look.published t s look.rest outcome look.goes_on
-      (let P : List HostStep → Type 0 = λ x. KeyReads cpus x in
-      let m : KeyReads cpus (publishes look.published ∷ look.rest) = subst P look.steps_are reads in m) h)
+      (λ good look. published_keeps n flags look.published t s look.rest outcome look.goes_on h)
       is
 
   -- and so does a wipe, and a copy with no call around it
@@ -306,17 +288,17 @@ module _ (cpus : ℕ → List CpuEntry) (caller state : ℕ) where
       keeps_weaker (λ u. (u.pos ≡ s.pos + n) × (u.expected ≡ anything)) (λ u. Settled u (state_of_same_batch s n))
       (λ u x. record { same_pos = x.0; within = fits; expects = x.1; zeros = zeros_more s.pos n s.batch h.zeros }) t
       (serve_entry s.pos n)
-      (copies.serve_keeps cpus caller state t s n h.expects h.same_pos fits)
+      (copies.serve_keeps caller state t s n h.expects h.same_pos fits)
 
-  use_keeps : (t : NamedState) (s : VgetrandomState) (u : StateUse) → StateUseStands cpus s u → Settled t s →
+  use_keeps : (t : NamedState) (s : VgetrandomState) (u : StateUse) → StateUseStands s u → Settled t s →
       Keeps (λ v. Settled v (state_after_use s u)) t (entries_of_use s u)
-  use_keeps t s (by_call n flags steps outcome) stands h = call_keeps n flags t s steps outcome stands.0 stands.1 h
+  use_keeps t s (by_call n flags steps outcome) stands h = call_keeps n flags t s steps outcome stands h
   use_keeps t s (by_copy n) stands h = local_keeps t s n stands h
   use_keeps t s by_wipe stands h = wipe_keeps t s h
 
-  -- any uses, one after another, keep the list lawful
+  -- any uses, one after another, keep the list in order
   pub uses_keep : (t : NamedState) (s : VgetrandomState) (uses : List StateUse) →
-      LawfulFrom (StateUseStands cpus) state_after_use s uses →
+      LawfulFrom StateUseStands state_after_use s uses →
       Settled t s → Keeps (λ v. Settled v (fold state_after_use s uses)) t (entries_of_uses s uses)
   uses_keep t s [] stands h = record { lawful = tt; after = h }
   uses_keep t s (u ∷ uses) stands h =
@@ -326,10 +308,29 @@ module _ (cpus : ℕ → List CpuEntry) (caller state : ℕ) where
       (λ v. Keeps (λ w. Settled w (fold state_after_use s (u ∷ uses))) v (entries_of_uses (state_after_use s u) uses))
       (λ v x. uses_keep v (state_after_use s u) uses stands.1 x) t (entries_of_use s u) (use_keeps t s u stands.0 h))
 
+-- a list in order is lawful where its rekeys take reads of 32 bytes
+lawful_by_reads : (cpus : ℕ → List CpuEntry) (caller state : ℕ) (t : NamedState) (es : List VEntry) →
+    LawfulFrom MayFollow (state_step caller state) t es → AllByRecursion (TakesRead cpus) es →
+    LawfulFrom (StateMayCome cpus) (state_step caller state) t es
+lawful_by_reads cpus caller state t [] follow reads = tt
+lawful_by_reads cpus caller state t (e ∷ es) follow reads =
+    ((follow.0, reads.0), lawful_by_reads cpus caller state (state_step caller state t e) es follow.1 reads.1)
+
+pub lawful_list : (cpus : ℕ → List CpuEntry) (caller state : ℕ) (es : List VEntry) →
+    OrderedStateList caller state es → AllByRecursion (TakesRead cpus) es → LawfulStateList cpus caller state es
+lawful_list cpus caller state es ordered reads =
+    record { comes = lawful_by_reads cpus caller state state_start es ordered.comes reads; ends = ordered.ends }
+
 pub uses_leave_lawful_lists : UsesLeaveLawfulLists
-uses_leave_lawful_lists cpus caller state uses stands =
-    let m : Keeps cpus caller state (λ v. Settled v (fold state_after_use wiped_state uses)) state_start
+uses_leave_lawful_lists caller state uses stands =
+    let m : Keeps caller state (λ v. Settled v (fold state_after_use wiped_state uses)) state_start
     (entries_of_uses wiped_state uses) =
-    uses_keep cpus caller state state_start wiped_state uses stands
+    uses_keep caller state state_start wiped_state uses stands
     (record { same_pos = refl; within = omega arith; expects = refl; zeros = refl }) in
-    record { list = record { comes = m.lawful; ends = (m.after).expects }; served_zero = (m.after).zeros }
+    let ordered : OrderedStateList caller state (entries_of_uses wiped_state uses) =
+    record { comes = m.lawful; ends = (m.after).expects } in
+    record {
+      ordered = ordered;
+      lawful = λ cpus reads. lawful_list cpus caller state (entries_of_uses wiped_state uses) ordered reads;
+      served_zero = (m.after).zeros;
+    }

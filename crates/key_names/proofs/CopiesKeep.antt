@@ -1,15 +1,17 @@
--- A copy out of a vgetrandom state leaves the list of the state lawful, and its served bytes 0.
-use Rattle.std.proofs.Common.{◌≡◌, ℕ, zero, suc, ◌+◌, ◌-◌, ◌*◌, drop, ◌≤◌, Bool, true, false, List, [], ◌++◌, ◌⊎◌, inl, inr, refl, sym, subst, arith}
+-- A copy out of a vgetrandom state leaves the list of the state in order, and its served bytes 0.
+use Rattle.std.proofs.Common.{◌≡◌, ℕ, zero, suc, ◌+◌, ◌-◌, ◌*◌, drop, ◌≤◌, Bool, true, false, List, [], ◌++◌, ◌⊎◌, inl}
+use Rattle.std.proofs.Common.{inr, refl, sym, subst, arith}
 use Rattle.std.specs.Prelude.{nat_le, if◌then◌else◌}
 use Rattle.std.specs.List.{fold}
 use Rattle.std.proofs.lemmas.List.Sums.{fold-append}
 use Rattle.std.proofs.lemmas.Bool.{leb-true}
-use Rattle.key_names.specs.declared.entries.CpuEntry.{CpuEntry}
 use Rattle.key_names.specs.declared.entries.VEntry.{VEntry}
 use Rattle.key_names.specs.LawfulList.{LawfulFrom}
-use Rattle.key_names.specs.StateList.{NamedState, anything, new_key, refill_from, Expected, MayStart, MayRefill, StateMayCome, state_step}
+use Rattle.key_names.specs.StateList.{NamedState, anything, new_key, refill_from, Expected, MayStart, MayRefill}
+use Rattle.key_names.specs.StateList.{MayFollow, state_step}
 use Rattle.key_names.specs.VgetrandomState.{VgetrandomState}
-use Rattle.key_names.specs.BatchCopy.{bytes_left, whole_blocks, new_batch_bytes, has_left, state_of_same_batch, state_of_new_batch, state_after_copy, serve_entry, refill_entries, copy_entries}
+use Rattle.key_names.specs.BatchCopy.{bytes_left, whole_blocks, new_batch_bytes, has_left, state_of_same_batch}
+use Rattle.key_names.specs.BatchCopy.{state_of_new_batch, state_after_copy, serve_entry, refill_entries, copy_entries}
 use Rattle.key_names.proofs.BatchBytes.{StartsZero, zeros_front, zeros_more}
 use Rattle.key_names.specs.Keystream.{keystream}
 use Rattle.key_names.proofs.Growing.{lawful_append}
@@ -21,40 +23,39 @@ pub record Settled (t : NamedState) (s : VgetrandomState) : Type 0 where
   pub expects : t.expected ≡ anything
   pub zeros : StartsZero s.pos s.batch
 
--- or the last entry was a rekey, and the batch is used up
+-- or a key was read that has no batch yet
 pub record Ready (t : NamedState) (s : VgetrandomState) : Type 0 where
-  pub same_pos : t.pos ≡ s.pos
   pub within : s.pos ≤ 96
-  pub expects : ((t.expected ≡ anything) × StartsZero s.pos s.batch) ⊎ ((t.expected ≡ new_key) × (s.pos ≡ 96))
+  pub expects : ((t.expected ≡ anything) × (t.pos ≡ s.pos) × StartsZero s.pos s.batch)
+      ⊎ (MayStart t.expected × (s.pos ≡ 96))
 
 pub ready : (t : NamedState) (s : VgetrandomState) → Settled t s → Ready t s
-ready t s h = record { same_pos = h.same_pos; within = h.within; expects = inl (h.expects, h.zeros) }
+ready t s h = record { within = h.within; expects = inl (h.expects, h.same_pos, h.zeros) }
 
-pub may_start : (x : Expected) → (x ≡ anything) ⊎ (x ≡ new_key) → MayStart x
-may_start anything h = tt
-may_start new_key h = tt
-may_start (refill_from n) (inl e) = cc
-may_start (refill_from n) (inr e) = cc
+pub may_start : (x : Expected) → x ≡ anything → MayStart x
+may_start x is = subst MayStart (sym is) tt
 
-may_refill : (x : Expected) (from : ℕ) → (x ≡ anything) ⊎ (x ≡ new_key) → MayRefill x from
-may_refill anything from h = tt
-may_refill new_key from h = tt
-may_refill (refill_from n) from (inl e) = cc
-may_refill (refill_from n) from (inr e) = cc
+pub ready_start : (t : NamedState) (s : VgetrandomState) → Ready t s → MayStart t.expected
+ready_start t s h = elim h.expects [ inl old ↦ may_start t.expected old.0 | inr new ↦ new.0 ]
 
-module _ (cpus : ℕ → List CpuEntry) (caller state : ℕ) where
+may_refill : (x : Expected) (from : ℕ) → MayStart x → MayRefill x from
+may_refill anything from may = tt
+may_refill new_key from may = tt
+may_refill (refill_from n) from may = absurd may
+
+module _ (caller state : ℕ) where
   abbrev step : NamedState → VEntry → NamedState
   step = state_step caller state
 
   -- entries that may come one after another, and what they leave
   pub record Keeps (After : NamedState → Type 0) (t : NamedState) (es : List VEntry) : Type 0 where
-    pub lawful : LawfulFrom (StateMayCome cpus) (state_step caller state) t es
+    pub lawful : LawfulFrom MayFollow (state_step caller state) t es
     pub after : After (fold (state_step caller state) t es)
 
   pub keeps_append : (After : NamedState → Type 0) (t : NamedState) (xs ys : List VEntry) →
       Keeps (λ u. Keeps After u ys) t xs → Keeps After t (xs ++ ys)
   keeps_append After t xs ys h = record {
-    lawful = lawful_append (StateMayCome cpus) step t xs ys h.lawful (h.after).lawful;
+    lawful = lawful_append MayFollow step t xs ys h.lawful (h.after).lawful;
     after = (let P : NamedState → Type 0 = After in subst P (sym (fold-append step t xs ys)) (h.after).after);
   }
 
@@ -78,7 +79,7 @@ module _ (cpus : ℕ → List CpuEntry) (caller state : ℕ) where
   from_zero r le = omega arith
 
   -- the entries of blocks and of a new batch
-  refill_keeps : (t : NamedState) (c m r : ℕ) → (t.expected ≡ anything) ⊎ (t.expected ≡ new_key) → r ≤ 96 →
+  refill_keeps : (t : NamedState) (c m r : ℕ) → MayStart t.expected → r ≤ 96 →
       Keeps (λ u. (u.pos ≡ r) × (u.expected ≡ anything)) t (refill_entries c m r)
   refill_keeps t c zero zero x fits = record { lawful = (may_refill t.expected (c + 0) x, tt); after = (refl, refl) }
   refill_keeps t c zero (suc r) x fits =
@@ -87,10 +88,10 @@ module _ (cpus : ℕ → List CpuEntry) (caller state : ℕ) where
         after =
             (zero_first (suc r), refl);
       }
-  refill_keeps t c (suc m) zero x fits = record { lawful = (may_start t.expected x, (refl, tt)); after = (refl, refl) }
+  refill_keeps t c (suc m) zero x fits = record { lawful = (x, (refl, tt)); after = (refl, refl) }
   refill_keeps t c (suc m) (suc r) x fits =
       record {
-        lawful = (may_start t.expected x, (refl, ((refl, refl, from_zero r fits), tt)));
+        lawful = (x, (refl, ((refl, refl, from_zero r fits), tt)));
         after =
             (zero_first (suc r), refl);
       }
@@ -103,31 +104,27 @@ module _ (cpus : ℕ → List CpuEntry) (caller state : ℕ) where
       fits : nat_le n (bytes_left s) ≡ true → s.pos + n ≤ 96
       fits is = let le : n ≤ 96 - s.pos = leb-true n (bytes_left s) is in let w = r.within in omega arith
 
-      any : nat_le n (bytes_left s) ≡ true → (t.expected ≡ anything) × StartsZero s.pos s.batch
-      any is = elim r.expects [
-        | inl e ↦ e
-        | inr e ↦ absurd (let le : n ≤ 96 - s.pos = leb-true n (bytes_left s) is in let p = e.1 in
+      -- a new key has no bytes left
+      old : nat_le n (bytes_left s) ≡ true → (t.expected ≡ anything) × (t.pos ≡ s.pos) × StartsZero s.pos s.batch
+      old is = elim r.expects [
+        | inl batch ↦ batch
+        | inr new ↦ absurd (let le : n ≤ 96 - s.pos = leb-true n (bytes_left s) is in let p = new.1 in
             omega arith)
       ]
-
-      expects : (t.expected ≡ anything) ⊎ (t.expected ≡ new_key)
-      expects = elim r.expects [ inl e ↦ inl e.0 | inr e ↦ inr e.0 ]
 
       small : new_batch_bytes s n ≤ 96
       small = omega arith
 
       -- what is left of the batch
-      rest_keeps : Keeps (λ u. (u.expected ≡ anything) ⊎ (u.expected ≡ new_key)) t (serve_entry s.pos (bytes_left s))
+      rest_keeps : Keeps (λ u. MayStart u.expected) t (serve_entry s.pos (bytes_left s))
       rest_keeps = elim r.expects [
-        | inl e ↦ keeps_weaker (λ u. (u.pos ≡ s.pos + bytes_left s) × (u.expected ≡ anything))
-            (λ u. (u.expected ≡ anything) ⊎ (u.expected ≡ new_key))
-            (λ u h. inl h.1) t (serve_entry s.pos (bytes_left s))
-            (serve_keeps t s (bytes_left s) e.0 r.same_pos (let w = r.within in omega arith))
-        | inr e ↦ (let none : 0 ≡ bytes_left s = (let p = e.1 in omega arith) in
-            let P : ℕ → Type 0 = λ x. Keeps (λ u. (u.expected ≡ anything) ⊎ (u.expected ≡ new_key)) t
-            (serve_entry s.pos x) in
-            let empty : Keeps (λ u. (u.expected ≡ anything) ⊎ (u.expected ≡ new_key)) t [] =
-            record { lawful = tt; after = inr e.0 } in
+        | inl batch ↦ keeps_weaker (λ u. (u.pos ≡ s.pos + bytes_left s) × (u.expected ≡ anything))
+            (λ u. MayStart u.expected)
+            (λ u h. may_start u.expected h.1) t (serve_entry s.pos (bytes_left s))
+            (serve_keeps t s (bytes_left s) batch.0 batch.1 (let w = r.within in omega arith))
+        | inr new ↦ (let none : 0 ≡ bytes_left s = (let p = new.1 in omega arith) in
+            let P : ℕ → Type 0 = λ x. Keeps (λ u. MayStart u.expected) t (serve_entry s.pos x) in
+            let empty : Keeps (λ u. MayStart u.expected) t [] = record { lawful = tt; after = new.0 } in
             subst P none empty)
       ]
 
@@ -143,12 +140,12 @@ module _ (cpus : ℕ → List CpuEntry) (caller state : ℕ) where
             within = fits is;
             expects = h.1;
             zeros =
-                zeros_more s.pos n s.batch (any is).1;
+                zeros_more s.pos n s.batch (old is).2;
           }) t (serve_entry s.pos n)
-          (serve_keeps t s n (any is).0 r.same_pos (fits is))
+          (serve_keeps t s n (old is).0 (old is).1 (fits is))
       go false is = keeps_append (λ u. Settled u (state_of_new_batch s (c + whole_blocks s n) (new_batch_bytes s n))) t
           (serve_entry s.pos (bytes_left s)) (refill_entries c (whole_blocks s n) (new_batch_bytes s n))
-          (keeps_weaker (λ u. (u.expected ≡ anything) ⊎ (u.expected ≡ new_key))
+          (keeps_weaker (λ u. MayStart u.expected)
           (λ u. Keeps (λ v. Settled v (state_of_new_batch s (c + whole_blocks s n) (new_batch_bytes s n))) u
           (refill_entries c (whole_blocks s n) (new_batch_bytes s n)))
           (λ u x. keeps_weaker (λ v. (v.pos ≡ new_batch_bytes s n) × (v.expected ≡ anything))

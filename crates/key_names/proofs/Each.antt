@@ -18,3 +18,16 @@ pub each_weaker : {X : Type 0} (P Q : X → Type 0) (xs : List X) → ((x : X) �
     AllByRecursion Q xs
 each_weaker P Q [] weaker all = tt
 each_weaker P Q (x ∷ xs) weaker all = (weaker x all.0, each_weaker P Q xs weaker all.1)
+
+-- what holds of each element of two lists together holds of each of either
+pub each_parts : {X : Type 0} (P : X → Type 0) (xs ys : List X) → AllByRecursion P (xs ++ ys) →
+    AllByRecursion P xs × AllByRecursion P ys
+each_parts P [] ys all = (tt, all)
+each_parts P (x ∷ xs) ys all =
+    let rest : AllByRecursion P xs × AllByRecursion P ys = each_parts P xs ys all.1 in ((all.0, rest.0), rest.1)
+
+-- two facts of each element together
+pub each_both : {X : Type 0} (P Q : X → Type 0) (xs : List X) → AllByRecursion P xs → AllByRecursion Q xs →
+    AllByRecursion (λ x. P x × Q x) xs
+each_both P Q [] all all' = tt
+each_both P Q (x ∷ xs) all all' = ((all.0, all'.0), each_both P Q xs all.1 all'.1)

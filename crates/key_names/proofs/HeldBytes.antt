@@ -128,12 +128,12 @@ module _ (lists : Lists) where
   cpu_rest_step w s Prepare used bytes in_use ok named = λ f k is key. cc
   cpu_rest_step w s Online used bytes in_use ok named = named
 
-  bytes_named : (c : ℕ) (s : CpuBytes) (es : List CpuEntry) →
+  pub bytes_named : (c : ℕ) (s : CpuBytes) (es : List CpuEntry) →
       (fold (cpu_bytes_step lists c) s es).named ≡ fold (cpu_step lists.base c) s.named es
   bytes_named c s [] = refl
   bytes_named c s (e ∷ es) = bytes_named c (cpu_bytes_step lists c s e) es
 
-  bytes_value : (c : ℕ) (s : CpuBytes) (es : List CpuEntry) →
+  pub bytes_value : (c : ℕ) (s : CpuBytes) (es : List CpuEntry) →
       (fold (cpu_bytes_step lists c) s es).value ≡ fold (cpu_value_step lists) s.value es
   bytes_value c s [] = refl
   bytes_value c s (e ∷ es) = bytes_value c (cpu_bytes_step lists c s e) es
@@ -191,10 +191,10 @@ module _ (lists : Lists) where
       keystream-drop b.key (64 * from) 0 96 ∙ ap (λ v. keystream v (64 * from + 0) (96 - 0)) (sym (named k is))
   state_rest_step caller state s b (Serve pos len) may named ok rest k is =
       let zeros : StartsZero pos b.batch =
-      (let P : ℕ → Type 0 = λ i. StartsZero i b.batch in subst P (sym may.1) (ok may.0)) in
+      (let P : ℕ → Type 0 = λ i. StartsZero i b.batch in subst P (sym may.0.1) (ok may.0.0)) in
       let before : drop pos b.batch ≡ keystream (value_of lists k) (64 * s.batch_from + pos) (96 - pos) =
       (let P : ℕ → Type 0 = λ i. drop i b.batch ≡ keystream (value_of lists k) (64 * s.batch_from + i) (96 - i) in
-      subst P (sym may.1) (rest k is)) in
+      subst P (sym may.0.1) (rest k is)) in
       less_rest (64 * s.batch_from) pos len (value_of lists k) b.batch zeros before
   state_rest_step caller state s b Wipe may named ok rest k is = cc
 

@@ -9,25 +9,18 @@ use Rattle.std.proofs.lemmas.Slice.Eq.{bytes_eq-Decides}
 use Rattle.hex.specs.Hex.{IsBytes, decode_of, decode_pairs, digit_or_error, encode_lower, encode_with, hex_digit_value, lower_digits, pair_value, value_at, ◌>>=◌}
 use Rattle.hex.specs.declared.error.FromHexError.{FromHexError}
 use Rattle.hex.proofs.HexLemmas.{decode_of-encode_lower, decode_of-even, decode_of-ok, length-encode_with}
-use Rattle.key_names.specs.Spelling.{hex}
+use Rattle.key_names.specs.Spelling.{hex, AllLower, is_lower_digit}
 use Rattle.key_names.specs.ScriptFaults.{bytes_of, spelt_bytes}
-
--- a digit of lower-case hexadecimal
-abbrev pub is_lower_digit : ℕ → Bool
-is_lower_digit c = (leb 48 c && leb c 57) || (leb 97 c && leb c 102)
-
-abbrev pub AllLower : List ℕ → Type 0
-AllLower text = AllByRecursion (λ c. is_lower_digit c ≡ true) text
 
 -- ---- one digit
 
 spells : (d : ℕ) → d < 16 → is_lower_digit (slice_index lower_digits d) ≡ true
 spells d small = agree_below_at (λ k. is_lower_digit (slice_index lower_digits k)) (λ k. true) 16 d refl small
 
-spells_number : (d : ℕ) → d < 10 → slice_index lower_digits d ≡ 48 + d
+pub spells_number : (d : ℕ) → d < 10 → slice_index lower_digits d ≡ 48 + d
 spells_number d small = eqb-true _ _ (agree_below_at (λ k. slice_index lower_digits k == 48 + k) (λ k. true) 10 d refl small)
 
-spells_letter : (d : ℕ) → d < 6 → slice_index lower_digits (10 + d) ≡ 97 + d
+pub spells_letter : (d : ℕ) → d < 6 → slice_index lower_digits (10 + d) ≡ 97 + d
 spells_letter d small = eqb-true _ _ (agree_below_at (λ k. slice_index lower_digits (10 + k) == 97 + k) (λ k. true) 6 d refl small)
 
 -- the value of a digit of lower case spells the digit

@@ -20,8 +20,8 @@ use Rattle.key_names.specs.Forms.{SysForm, LookedForm, ReadForm, CpuReadForm, Wa
 use Rattle.key_names.specs.Answers.{found_unready, was_interrupted, is_interrupt, system_answer}
 use Rattle.key_names.specs.Vgetrandom.{SystemAnswer, HostStep, publishes, system_call, at_point}
 use Rattle.key_names.specs.VreadSteps.{answer_behind, answer_with, errno_of, Shows}
-use Rattle.key_names.specs.StateCalls.{IsKeyRead, KeyReads}
 use Rattle.key_names.proofs.CallsKeep.{match_cases}
+use Rattle.key_names.proofs.KeyReads.{IsKeyRead, KeyReads}
 
 -- a visit of a CPU stands in its list
 abbrev pub IsThere : Lists → Deed → Type 0
@@ -67,7 +67,7 @@ there_append lists (x ∷ xs) ys h =
     let m : AllThere lists xs × AllThere lists ys = there_append lists xs ys h.1 in ((h.0, m.0), m.1)
 
 -- with no flags a system call is never told to come again
-answers_done : (deeds : List Deed) → was_interrupted deeds ≡ false → system_answer 0 deeds ≡ Done
+pub answers_done : (deeds : List Deed) → was_interrupted deeds ≡ false → system_answer 0 deeds ≡ Done
 answers_done deeds is = go (found_unready deeds) refl
   where
     go : (b : Bool) → found_unready deeds ≡ b → system_answer 0 deeds ≡ Done

@@ -12,9 +12,9 @@ use Rattle.std.proofs.lemmas.Str.Parse.{digit_from_value}
 use Rattle.hex.specs.Hex.{IsBytes}
 use Rattle.key_names.specs.declared.events.Word.{Word}
 use Rattle.key_names.specs.declared.events.Word.TheVariants.{At, On, Hw, Device, Write, Add, Credit, Bits, Irq, Input, Read, Vread, Kread, Dread, Uread, Int8, Int16, Int32, Int64, Reseed, Tick, Drop, Fork, Inside, Prepare, Online, Vmfork, State, End}
-use Rattle.key_names.specs.Spelling.{hex, spaced, lined, word_text}
+use Rattle.key_names.specs.Spelling.{AllLower, is_lower_digit, hex, spaced, lined, word_text}
 use Rattle.key_names.specs.ScriptFaults.{parts, is_unprintable}
-use Rattle.key_names.proofs.HexFields.{AllLower, is_lower_digit, lower_encoded}
+use Rattle.key_names.proofs.HexFields.{lower_encoded}
 use Rattle.key_names.proofs.Numbers.{IsNumber-decimal}
 use Rattle.key_names.proofs.Parts.{Lacks, parts_at, parts_whole}
 

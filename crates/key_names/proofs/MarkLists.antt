@@ -41,7 +41,7 @@ once_at i p (m ∷ ms) order from below =
         let here : m.place ≡ i = order.0 in let at : suc i ≤ p = grind (arith, nat_tests) in
         let rest : count_by (at_place p) ms ≡ 1 = later at in count_more p m ms ∙ rw (e, rest) refl
 
-each_once : (i n : ℕ) (ms : List Mark) → ((p : ℕ) → i ≤ p → p < i + n → count_by (at_place p) ms ≡ 1) →
+pub each_once : (i n : ℕ) (ms : List Mark) → ((p : ℕ) → i ≤ p → p < i + n → count_by (at_place p) ms ≡ 1) →
     AllByRecursion (λ p. count_by (at_place p) ms ≡ 1) (range_with_len i n)
 each_once i zero ms once = tt
 each_once i (suc n) ms once =

@@ -13,9 +13,19 @@ use Rattle.key_names.specs.declared.entries.CpuEntry.{CpuEntry}
 use Rattle.key_names.specs.BaseList.{base_step, base_start, base_after, base_erases, base_key_in_use}
 use Rattle.key_names.specs.CpuList.{CpuState, cpu_step, cpu_start, cpu_after, cpu_erases, cpu_key_in_use, call_or, base_refill_of}
 use Rattle.key_names.specs.Book.{Lists, cpu_list}
-use Rattle.key_names.specs.KeyInUse.{zero_key, value_of, root_value_or, base_value_in_use, base_value_step, base_value_after, base_used_at, base_key_at, call_value_or, cpu_value_in_use, cpu_value_step, cpu_value_after, cpu_used_at, cpu_key_at}
+use Rattle.key_names.specs.KeyInUse.{zero_key, value_of, root_value_or, base_value_in_use, base_value_step, base_value_after, base_used_at, call_value_or, cpu_value_in_use, cpu_value_step, cpu_value_after, cpu_used_at}
 use Rattle.key_names.proofs.BaseUses.{in_use_cases, after_cases}
 use Rattle.key_names.proofs.CpuNames.{after_cases as cpu_after_cases}
+
+-- the name of the key in use at an entry of the base, and of a CPU
+abbrev pub base_key_at : Lists → ℕ → Option KeyName
+base_key_at lists i =
+    option_and_then (λ e. base_key_in_use e (base_after (take i lists.base)).key) (slice_get lists.base i)
+
+abbrev pub cpu_key_at : Lists → ℕ → ℕ → Option KeyName
+cpu_key_at lists c k =
+    option_and_then (λ e. cpu_key_in_use e (cpu_after lists.base c (take k (cpu_list lists c))).key)
+    (slice_get (cpu_list lists c) k)
 
 -- what each entry keeps holds of each front of a list
 pub every_front : {A : Type 0} (P : List A → Type 0) (xs front rest : List A) → xs ≡ front ++ rest → P front →

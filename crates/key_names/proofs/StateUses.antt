@@ -267,9 +267,9 @@ module _ (caller state : ℕ) (rekeys : ℕ → Option (ℕ × ℕ)) where
       MayComeTold cpu_list s e → KeysApart s →
       StateFacts cpu_list s e
   state_facts cpu_list one s (Rekey cpu cpu_place) may ok = rekey_facts cpu_list s cpu cpu_place one may.1 ok may.0.0
-  state_facts cpu_list one s (Blocks from count) may ok = blocks_facts cpu_list s from count may.0 ok
-  state_facts cpu_list one s (Refill from) may ok = refill_facts cpu_list s from may.0 ok
-  state_facts cpu_list one s (Serve pos len) may ok = serve_facts cpu_list s pos len may.0.1 may.0.2 ok
+  state_facts cpu_list one s (Blocks from count) may ok = blocks_facts cpu_list s from count may.0.0 ok
+  state_facts cpu_list one s (Refill from) may ok = refill_facts cpu_list s from may.0.0 ok
+  state_facts cpu_list one s (Serve pos len) may ok = serve_facts cpu_list s pos len may.0.0.1 may.0.0.2 ok
   state_facts cpu_list one s Wipe may ok = wipe_facts cpu_list s ok
 
   keys_at_start : KeysApart state_start

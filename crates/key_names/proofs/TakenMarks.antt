@@ -3,7 +3,6 @@ use Rattle.std.proofs.Common.{◌≡◌, ℕ, zero, suc, ◌+◌, ◌<◌, ◌�
 use Rattle.std.specs.Prelude.{count_by, ◌==◌, ◌&&◌, nat_lt, if◌then◌else◌, slice_get}
 use Rattle.std.specs.List.{AllByRecursion, range_with_len, flat_map}
 use Rattle.std.proofs.lemmas.List.Sums.{sum_by-cons}
-use Rattle.std.proofs.lemmas.Bool.{eqb-true, eq-eqb}
 use Rattle.std.proofs.lemmas.Bool.Decides.{nat_tests}
 use Rattle.key_names.specs.declared.names.LaneId.{LaneId}
 use Rattle.key_names.specs.declared.names.LaneId.TheVariants.{Pool as PoolLane, Base as BaseLane, Cpu as CpuLane}
@@ -16,32 +15,11 @@ use Rattle.key_names.specs.declared.entries.CpuEntry.{CpuEntry}
 use Rattle.key_names.specs.Book.{Lists, cpu_list}
 use Rattle.key_names.specs.Deeds.{Deed, at_pool, at_base, at_cpu, deed_or, deed_at, deeds_of, pool_visit, base_visit, cpu_visit}
 use Rattle.key_names.specs.SeenLine.{SeenLine}
-use Rattle.key_names.specs.IsTranscript.{MarkBy, marks_from, line_marks, all_marks, is_same_number, is_same_lane, lane_marks, PlacesStand}
+use Rattle.key_names.specs.IsTranscript.{MarkBy, marks_from, line_marks, all_marks, is_same_lane, lane_marks, PlacesStand}
 use Rattle.key_names.proofs.KeyTakes.{is_here, deed_takes}
 
 abbrev hit : Bool → ℕ
 hit b = cond b 1 0
-
-same_self : (a : ℕ) → is_same_number a a ≡ true
-same_self zero = refl
-same_self (suc a) = same_self a
-
-same_true : (a b : ℕ) → is_same_number a b ≡ true → a ≡ b
-same_true zero zero h = refl
-same_true zero (suc b) h = cc
-same_true (suc a) zero h = cc
-same_true (suc a) (suc b) h = ap suc (same_true a b h)
-
-same_number : (a b : ℕ) → is_same_number a b ≡ (a == b)
-same_number a b = go (is_same_number a b) (a == b) refl refl
-  where
-    go : (x y : Bool) → is_same_number a b ≡ x → (a == b) ≡ y → is_same_number a b ≡ (a == b)
-    go true true p q = p ∙ sym q
-    go false false p q = p ∙ sym q
-    go true false p q = let yes : (a == b) ≡ true = eq-eqb a b (same_true a b p) in cc
-    go false true p q =
-        let P : ℕ → Type 0 = λ i. is_same_number a i ≡ true in
-        let yes : is_same_number a b ≡ true = subst P (eqb-true a b q) (same_self a) in cc
 
 module _ (c p : ℕ) where
   abbrev lane_takes : LaneId → ℕ → ℕ
@@ -97,10 +75,10 @@ module _ (c p : ℕ) where
   lane_count_is : (lane : LaneId) (place : ℕ) → lane_count lane place ≡ lane_takes lane place
   lane_count_is PoolLane place = refl
   lane_count_is BaseLane place = refl
-  lane_count_is (CpuLane d) place = go (d == c) (same_number d c)
+  lane_count_is (CpuLane d) place = go (d == c) refl
     where
-      go : (b : Bool) → is_same_number d c ≡ b →
-          (if is_same_number d c then hit (place == p) else 0) ≡ hit (b && place == p)
+      go : (b : Bool) → (d == c) ≡ b →
+          (if d == c then hit (place == p) else 0) ≡ hit (b && place == p)
       go true is = rw is refl
       go false is = rw is refl
 
@@ -209,7 +187,7 @@ no_room n q (m ∷ ms) le =
     let rest : below n ms + at_place q ms ≤ length ms = no_room n q ms le in
     let one : cond (nat_lt m.place n) 1 0 + cond (m.place == q) 1 0 ≤ 1 = one_of_both m.place n q le in omega arith
 
-from_range : (P : ℕ → Type 0) (from n : ℕ) → AllByRecursion P (range_with_len from n) → (i : ℕ) → i < n → P (from + i)
+pub from_range : (P : ℕ → Type 0) (from n : ℕ) → AllByRecursion P (range_with_len from n) → (i : ℕ) → i < n → P (from + i)
 from_range P from zero all i lt = absurd (omega arith)
 from_range P from (suc n) all zero lt = let p : from ≡ from + 0 = omega arith in subst P p all.0
 from_range P from (suc n) all (suc i) lt =

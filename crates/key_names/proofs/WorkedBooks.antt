@@ -1,23 +1,22 @@
--- A lawful book with every kind of list, its uses and what is still live, and books that are refused.
-use Rattle.std.proofs.Common.{◌≡◌, ℕ, zero, suc, ◌≤◌, true, false, List, [], ◌∷◌, inl, inr, refl, sym, ap, ◌∙◌, arith, Some, None, take, replicate}
+-- A lawful book with every kind of list, its uses and what is still live.
+use Rattle.std.proofs.Common.{◌≡◌, ℕ, zero, suc, true, false, [], ◌∷◌, inl, inr, refl, sym, ap, ◌∙◌, arith, Some, None, replicate}
 use Rattle.key_names.specs.declared.names.LaneId.TheVariants.{Base as BaseLane, Cpu as CpuLane}
 use Rattle.key_names.specs.declared.names.KeyName.TheVariants.{Root, Base, Cpu, Call, Vdso}
 use Rattle.key_names.specs.declared.entries.Taken.TheVariants.{User}
 use Rattle.key_names.specs.declared.entries.PoolEntry.TheVariants.{Mix, Extract}
-use Rattle.key_names.specs.declared.entries.BaseEntry.TheVariants.{Reseed, Refill as BaseRefill, End}
+use Rattle.key_names.specs.declared.entries.BaseEntry.TheVariants.{Reseed, Refill as BaseRefill}
 use Rattle.key_names.specs.declared.entries.CpuEntry.TheVariants.{Read, Int}
 use Rattle.key_names.specs.declared.entries.VEntry.TheVariants.{Rekey, Blocks, Refill, Serve}
 use Rattle.key_names.specs.PoolList.{extraction_at}
 use Rattle.key_names.specs.BaseList.{refill_at}
-use Rattle.std.specs.Prelude.{slice_get}
 use Rattle.std.specs.Option.{option_map_or}
 use Rattle.key_names.specs.LawfulList.{LawfulFrom}
 use Rattle.key_names.specs.CpuList.{LawfulCpu, CpuMayCome, cpu_step, cpu_start, base_refill_at}
 use Rattle.key_names.proofs.Growing.{lawful_append}
 use Rattle.key_names.specs.StateList.{LawfulStateList}
-use Rattle.key_names.specs.Book.{Lists, cpu_list, state_list, HalfFinishedLanes, LawfulBook, StatePlace, rekey_in, ExtractionAnswered, RefillAnswered}
-use Rattle.key_names.specs.Uses.{kept, served, use_of, uses, HoldsByte, IsDisjoint}
-use Rattle.key_names.specs.LiveMaterial.{base_key, cpu_key, state_key, cpu_batch, state_batch, live_key, live_rest, named_span, IsErased}
+use Rattle.key_names.specs.Book.{Lists, cpu_list, state_list, LawfulBook, StatePlace, rekey_in, ExtractionAnswered, RefillAnswered}
+use Rattle.key_names.specs.Uses.{kept, served, use_of, uses}
+use Rattle.key_names.specs.LiveMaterial.{base_key, cpu_key, state_key, cpu_batch, state_batch, live_key, live_rest, named_span}
 
 -- one reseed, a CPU that fills a batch and reads a key for a vgetrandom state, and 140 bytes from that state
 abbrev book : Lists
@@ -95,7 +94,10 @@ cpus_lawful (suc c) = tt
 
 states_lawful : (caller state : ℕ) → LawfulStateList (cpu_list book) caller state (state_list book caller state)
 states_lawful zero zero = record {
-  comes = ((refl, refl), (tt, (refl, ((refl, refl, omega arith), ((refl, refl, omega arith), tt)))));
+  comes = (
+    (refl, refl),
+    ((tt, tt), ((refl, tt), (((refl, refl, omega arith), tt), (((refl, refl, omega arith), tt), tt)))),
+  );
   ends = refl;
 }
 states_lawful zero (suc state) = record { comes = tt; ends = refl }
@@ -153,35 +155,3 @@ book_is_lawful = record {
         (only_taker b.caller b.state b.place read q);
   };
 }
-
--- two CPUs that take one refill use its key twice
-abbrev shared : Lists
-shared = record {
-  pool = Mix [] 256 ∷ Extract (replicate 32 0) 0 ∷ [];
-  base = Reseed 1 0 ∷ BaseRefill 0 0 ∷ [];
-  cpus = (Read 1 (Some 1) (User 8) ∷ []) ∷ (Read 1 (Some 1) (User 8) ∷ []) ∷ [];
-  callers = [];
-}
-
-pub shared_refill_is_refused : IsDisjoint shared → ⊥
-shared_refill_is_refused d =
-    let byte : HoldsByte (use_of kept (Call BaseLane 1) 0 32).span (Call BaseLane 1) 0 =
-    record { same_key = refl; from = omega arith; below = omega arith } in
-    d.1.1.0 (Call BaseLane 1) 0 byte (inr (inl byte))
-
--- an extraction whose base place is there, and names nothing
-pub unanswered_is_refused : HalfFinishedLanes (record shared { base = End ∷ []; cpus = [] }) → ⊥
-unanswered_is_refused lanes = elim (lanes.extractions 1 0 refl)
-    [ inl answered ↦ cc | inr later ↦ (let le : 1 ≤ 0 = later in omega arith) ]
-
-first_byte : List ℕ → ℕ
-first_byte bytes = option_map_or (λ (x : ℕ). x) (slice_get bytes 0) 0
-
-not_both : (n : ℕ) → n ≡ 1 → n ≡ 0 → ⊥
-not_both n p q = omega arith
-
--- served bytes that are still in a batch
-pub served_bytes_are_refused : IsErased book (λ batch. replicate 96 1) → ⊥
-unfolding first_byte
-served_bytes_are_refused erased =
-    not_both (first_byte (take 8 (replicate 96 1))) refl (ap first_byte (erased.served_zero (cpu_batch 0 4)))

@@ -1,10 +1,12 @@
 -- What the base's list means: its state after its entries, and which entry may come when.
-use Rattle.std.specs.Prelude.{ℕ, suc, ◌+◌, ◌-◌, ◌/◌, ◌*◌, ◌^◌, min, max, ◌≡◌, ◌≢◌, ◌≤◌, Bool, true, false, ◌&&◌, ⊤, Option, Some, None, List, take, nat_lt, slice_get, option_and_then, if◌then◌else◌}
+use Rattle.std.specs.Prelude.{ℕ, suc, ◌+◌, ◌-◌, ◌/◌, ◌*◌, ◌^◌, min, max, ◌≡◌, ◌≢◌, ◌≤◌, Bool, true, false, ◌&&◌, ⊤}
+use Rattle.std.specs.Prelude.{Option, Some, None, List, take, nat_lt, slice_get, option_and_then, if◌then◌else◌}
 use Rattle.std.specs.List.{fold}
 use Rattle.key_names.specs.declared.names.KeyName.{KeyName}
 use Rattle.key_names.specs.declared.names.KeyName.TheVariants.{Root, Base}
 use Rattle.key_names.specs.declared.entries.BaseEntry.{BaseEntry}
-use Rattle.key_names.specs.declared.entries.BaseEntry.TheVariants.{Early, Reseed, Tick, Draw, Refill, Fork, End, Wait, Resume, Interrupt, Stall, Unstall}
+use Rattle.key_names.specs.declared.entries.BaseEntry.TheVariants.{Early, Reseed, Tick, Draw, Refill, Fork, End, Wait}
+use Rattle.key_names.specs.declared.entries.BaseEntry.TheVariants.{Resume, Interrupt, Stall, Unstall}
 use Rattle.key_names.specs.declared.entries.PoolEntry.{PoolEntry}
 use Rattle.key_names.specs.PoolList.{extraction_at}
 use Rattle.key_names.specs.LawfulList.{LawfulFrom}
@@ -47,18 +49,44 @@ root_of (Early root) = root
 root_of (Reseed root now) = Some root
 root_of (Tick now root) = root
 root_of (Draw root taken) = root
-root_of _ = None
+root_of (Refill cpu cpu_place) = None
+root_of (Fork child) = None
+root_of End = None
+root_of Wait = None
+root_of Resume = None
+root_of Interrupt = None
+root_of Stall = None
+root_of Unstall = None
 
 -- the CPU and its place that a refill names
 abbrev pub refill_of : BaseEntry → Option (ℕ × ℕ)
+refill_of (Early root) = None
+refill_of (Reseed root now) = None
+refill_of (Tick now root) = None
+refill_of (Draw root taken) = None
 refill_of (Refill cpu cpu_place) = Some (cpu, cpu_place)
-refill_of _ = None
+refill_of (Fork child) = None
+refill_of End = None
+refill_of Wait = None
+refill_of Resume = None
+refill_of Interrupt = None
+refill_of Stall = None
+refill_of Unstall = None
 
 -- whether an entry erases the key in use: it keeps bytes 0 to 32 of its keystream as the next key
 abbrev pub base_erases : BaseEntry → Bool
+base_erases (Early root) = false
+base_erases (Reseed root now) = false
+base_erases (Tick now root) = false
 base_erases (Draw root taken) = true
 base_erases (Refill cpu cpu_place) = true
-base_erases _ = false
+base_erases (Fork child) = false
+base_erases End = false
+base_erases Wait = false
+base_erases Resume = false
+base_erases Interrupt = false
+base_erases Stall = false
+base_erases Unstall = false
 
 abbrev pub root_or : Option ℕ → Option KeyName → Option KeyName
 root_or None key = key
@@ -79,15 +107,35 @@ roots_after (Some r) least = suc r
 
 -- the moment of a reseed, if the entry is one
 abbrev pub reseeds_at : BaseEntry → Option ℕ
+reseeds_at (Early root) = None
 reseeds_at (Reseed root now) = Some now
 reseeds_at (Tick now (Some root)) = Some now
-reseeds_at _ = None
+reseeds_at (Tick now None) = None
+reseeds_at (Draw root taken) = None
+reseeds_at (Refill cpu cpu_place) = None
+reseeds_at (Fork child) = None
+reseeds_at End = None
+reseeds_at Wait = None
+reseeds_at Resume = None
+reseeds_at Interrupt = None
+reseeds_at Stall = None
+reseeds_at Unstall = None
 
 abbrev pub phase_after : BaseEntry → Phase → Phase
 phase_after (Early (Some root)) phase = early
+phase_after (Early None) phase = phase
 phase_after (Reseed root now) phase = ready
 phase_after (Tick now (Some root)) phase = ready
-phase_after _ phase = phase
+phase_after (Tick now None) phase = phase
+phase_after (Draw root taken) phase = phase
+phase_after (Refill cpu cpu_place) phase = phase
+phase_after (Fork child) phase = phase
+phase_after End phase = phase
+phase_after Wait phase = phase
+phase_after Resume phase = phase
+phase_after Interrupt phase = phase
+phase_after Stall phase = phase
+phase_after Unstall phase = phase
 
 abbrev pub generation_after : Option ℕ → ℕ → ℕ
 generation_after None g = g
@@ -109,9 +157,19 @@ timer_or None due = Some due
 timer_or (Some pending) due = Some pending
 
 abbrev pub timer_after : Bool → BaseEntry → Option ℕ → Option ℕ
+timer_after early_boot (Early root) timer = timer
 timer_after early_boot (Reseed root now) timer = timer_or timer (now + interval early_boot now)
 timer_after early_boot (Tick now (Some root)) timer = Some (now + interval early_boot now)
-timer_after early_boot _ timer = timer
+timer_after early_boot (Tick now None) timer = timer
+timer_after early_boot (Draw root taken) timer = timer
+timer_after early_boot (Refill cpu cpu_place) timer = timer
+timer_after early_boot (Fork child) timer = timer
+timer_after early_boot End timer = timer
+timer_after early_boot Wait timer = timer
+timer_after early_boot Resume timer = timer
+timer_after early_boot Interrupt timer = timer
+timer_after early_boot Stall timer = timer
+timer_after early_boot Unstall timer = timer
 
 -- a running count of 32 bits stays at its ends
 abbrev pub one_more : ℕ → ℕ

@@ -1,8 +1,10 @@
 -- A copy of bytes out of a vgetrandom state: what is left of the batch first, then whole blocks of the key, then the
 -- front of a new batch. A key that makes blocks is erased (fast key erasure), and bytes that were served become 0.
-use Rattle.std.specs.Prelude.{ℕ, zero, suc, ◌+◌, ◌-◌, ◌*◌, ◌/◌, ◌%◌, min, Bool, not, ◌&&◌, ◌==◌, List, [], ◌∷◌, ◌++◌, take, drop, replicate, nat_le, if◌then◌else◌}
+use Rattle.std.specs.Prelude.{ℕ, zero, suc, ◌+◌, ◌-◌, ◌*◌, ◌/◌, ◌%◌, min, Bool, not, ◌&&◌, ◌==◌, List, [], ◌∷◌, ◌++◌}
+use Rattle.std.specs.Prelude.{take, drop, nat_le, if◌then◌else◌}
 use Rattle.key_names.specs.declared.entries.VEntry.{VEntry}
 use Rattle.key_names.specs.declared.entries.VEntry.TheVariants.{Blocks, Refill, Serve}
+use Rattle.key_names.specs.Batches.{with_zeros}
 use Rattle.key_names.specs.Keystream.{keystream}
 use Rattle.key_names.specs.VgetrandomState.{VgetrandomState}
 
@@ -22,18 +24,14 @@ abbrev pub copy_bytes : VgetrandomState → ℕ → ℕ → List ℕ
 copy_bytes s c n =
     take (min n (bytes_left s)) (drop s.pos s.batch) ++ keystream s.key (64 * c) (n - bytes_left s)
 
--- the batch with len bytes from pos on set to 0
-abbrev pub with_zeros : List ℕ → ℕ → ℕ → List ℕ
-with_zeros batch pos len = take pos batch ++ replicate len 0 ++ drop (pos + len) batch
-
 -- the state after a copy that the batch alone served
 abbrev pub state_of_same_batch : VgetrandomState → ℕ → VgetrandomState
-state_of_same_batch s n = record s { batch = with_zeros s.batch s.pos n; pos = s.pos + n }
+state_of_same_batch s n = record s { batch = with_zeros s.pos n s.batch; pos = s.pos + n }
 
 -- the state with the batch and the key that begin at block c, of which r bytes are served
 abbrev pub state_of_new_batch : VgetrandomState → ℕ → ℕ → VgetrandomState
 state_of_new_batch s c r = record s {
-  batch = with_zeros (keystream s.key (64 * c) 96) 0 r;
+  batch = with_zeros 0 r (keystream s.key (64 * c) 96);
   key = keystream s.key (64 * c + 96) 32;
   pos = r;
 }

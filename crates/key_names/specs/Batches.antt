@@ -1,6 +1,7 @@
 -- Batched integers: when a batch is filled, what it serves, and the bytes that it still holds (get_random_u8 to
 -- get_random_u64). A batch has 96 bytes of one key's keystream, and serves integers of one width.
-use Rattle.std.specs.Prelude.{ℕ, suc, ◌+◌, ◌*◌, ◌/◌, Bool, true, false, not, ◌||◌, ◌==◌, Option, Some, None, List, ◌++◌, take, drop, replicate, nat_le, if◌then◌else◌}
+use Rattle.std.specs.Prelude.{ℕ, suc, ◌+◌, ◌*◌, ◌/◌, Bool, true, false, not, ◌||◌, ◌==◌, Option, Some, None, List, ◌++◌}
+use Rattle.std.specs.Prelude.{take, drop, replicate, nat_le, if◌then◌else◌}
 use Rattle.key_names.specs.declared.names.KeyName.{KeyName}
 use Rattle.key_names.specs.declared.entries.CpuEntry.{CpuEntry}
 use Rattle.key_names.specs.declared.entries.CpuEntry.TheVariants.{Read, Int, Irq, Dump, Prepare, Online}

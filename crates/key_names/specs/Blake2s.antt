@@ -1,5 +1,6 @@
 -- BLAKE2s-256 with a key of 32 bytes or none, as in RFC 7693. Words have 32 bits and stand low byte first.
-use Rattle.std.specs.Prelude.{ℕ, ◌+◌, ◌-◌, ◌*◌, ◌/◌, ◌%◌, ◌^◌, Bool, true, false, Option, Some, None, List, [], ◌∷◌, ◌++◌, length, map, take, drop, replicate, bit_xor, slice_index, slice_set, if◌then◌else◌}
+use Rattle.std.specs.Prelude.{ℕ, ◌+◌, ◌-◌, ◌*◌, ◌/◌, ◌%◌, ◌^◌, Bool, true, false, Option, Some, None, List, [], ◌∷◌}
+use Rattle.std.specs.Prelude.{◌++◌, length, map, take, drop, replicate, bit_xor, slice_index, slice_set, if◌then◌else◌}
 use Rattle.std.specs.Int.{w32, bit_not, rotate_right, from_le_bytes, to_le_bytes}
 use Rattle.std.specs.List.{fold, flat_map, range_with_len}
 unfoldable pub use Rattle.rand_core.specs.Steps.{u32_at}

@@ -96,6 +96,8 @@ pub record LawfulStates (lists : Lists) : Type 0 where
   pub one_taker : (a b : StatePlace) (read : ℕ × ℕ) → rekey_in lists a ≡ Some read →
       rekey_in lists b ≡ Some read → a ≡ b
 
+-- all of the lists is lawful; that samples of interrupts are where they belong is a fact about who made which visit,
+-- and stands apart (LawfulSamples)
 pub record LawfulBook (lists : Lists) : Type 0 where
   pub lanes : LawfulLanes lists
   pub states : LawfulStates lists

@@ -1,8 +1,13 @@
 -- What a caller's events ask for, one call after another, and the setting that each call finds.
-use Rattle.std.specs.Prelude.{ℕ, zero, suc, Bool, true, false, Option, Some, None, List, [], ◌∷◌, ◌++◌, ◌==◌, replicate, if◌then◌else◌}
+use Rattle.std.specs.Prelude.{ℕ, zero, suc, Bool, true, false, Option, Some, None, List, [], ◌∷◌, ◌++◌, ◌==◌, replicate}
+use Rattle.std.specs.Prelude.{if◌then◌else◌}
 use Rattle.std.specs.List.{fold}
 use Rattle.key_names.specs.declared.events.Event.{Event}
-use Rattle.key_names.specs.declared.events.Event.TheVariants.{At, On, Hw, Vread, Fork, Inside}
+use Rattle.key_names.specs.declared.events.Event.TheVariants.{At, On, Hw, Device, Write, Add, Credit, Bits, Irq, Input}
+use Rattle.key_names.specs.declared.events.Event.TheVariants.{Read, Vread, Kread, Dread, Uread, Int8, Int16, Int32}
+use Rattle.key_names.specs.declared.events.Event.TheVariants.{Int64}
+use Rattle.key_names.specs.declared.events.Event.TheVariants.{Reseed, Tick, Drop, Fork, Inside, Prepare, Online, Vmfork}
+use Rattle.key_names.specs.declared.events.Event.TheVariants.{State}
 use Rattle.key_names.specs.declared.events.InsideAct.{InsideAct}
 use Rattle.key_names.specs.SeenLine.{SeenLine}
 
@@ -20,7 +25,31 @@ abbrev pub setting_after : Setting → Event → Setting
 setting_after set (At moment) = record set { now = moment }
 setting_after set (On cpu) = record set { cpu = cpu }
 setting_after set (Hw bytes) = record set { hw = bytes }
-setting_after set _ = set
+setting_after set (Device word text) = set
+setting_after set (Write text) = set
+setting_after set (Add text bits) = set
+setting_after set (Credit bits) = set
+setting_after set Bits = set
+setting_after set (Irq v1 v2) = set
+setting_after set (Input word kind code value) = set
+setting_after set (Read len flags) = set
+setting_after set (Vread len flags) = set
+setting_after set (Kread len) = set
+setting_after set (Dread len flag) = set
+setting_after set (Uread len) = set
+setting_after set Int8 = set
+setting_after set Int16 = set
+setting_after set Int32 = set
+setting_after set Int64 = set
+setting_after set Reseed = set
+setting_after set Tick = set
+setting_after set Drop = set
+setting_after set (Fork child) = set
+setting_after set (Inside point act) = set
+setting_after set (Prepare cpu) = set
+setting_after set (Online cpu) = set
+setting_after set (Vmfork word text) = set
+setting_after set (State number) = set
 
 -- an act that waits for a point of a vread: the point, what it does, and its line
 pub record BoundAct : Type 0 where
@@ -66,22 +95,25 @@ all_calls (events ∷ callers) (lines ∷ t) = calls_of events lines ∷ all_cal
 -- the setting after a call: only events by themselves set anything
 abbrev pub setting_after_call : Setting → Call → Setting
 setting_after_call set (alone event line) = setting_after set event
-setting_after_call set _ = set
+setting_after_call set (vread_call len flags line acts) = set
+setting_after_call set (unbound bound) = set
+setting_after_call set (ending line) = set
 
 -- where a list of calls forks a caller: the calls before the fork, and the fork's line
 pub record ForkPoint : Type 0 where
   pub before : List Call
   pub line : SeenLine
 
-abbrev pub behind : Call → Option ForkPoint → Option ForkPoint
-behind call None = None
-behind call (Some fork) = Some (record fork { before = call ∷ fork.before })
+abbrev pub with_call_before : Call → Option ForkPoint → Option ForkPoint
+with_call_before call None = None
+with_call_before call (Some fork) = Some (record fork { before = call ∷ fork.before })
 
 abbrev pub fork_point : ℕ → List Call → Option ForkPoint
 fork_point c [] = None
 fork_point c (alone (Fork child) line ∷ calls) =
-    if child == c then Some (record { before = []; line = line }) else behind (alone (Fork child) line) (fork_point c calls)
-fork_point c (call ∷ calls) = behind call (fork_point c calls)
+    if child == c then Some (record { before = []; line = line })
+    else with_call_before (alone (Fork child) line) (fork_point c calls)
+fork_point c (call ∷ calls) = with_call_before call (fork_point c calls)
 
 -- the parent of a caller, and where it forks it
 pub record Parent : Type 0 where

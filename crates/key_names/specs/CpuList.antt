@@ -1,5 +1,6 @@
 -- What a CPU's list means: its generation, its key and its batches after its entries, and which entry may come when.
-use Rattle.std.specs.Prelude.{ℕ, suc, ◌≡◌, ◌≤◌, ◌↔◌, ◌⊎◌, Bool, true, false, ⊤, Option, Some, None, List, slice_get, option_and_then, if◌then◌else◌}
+use Rattle.std.specs.Prelude.{ℕ, suc, ◌≡◌, ◌≤◌, ◌↔◌, ◌⊎◌, Bool, true, false, ⊤, Option, Some, None, List, slice_get}
+use Rattle.std.specs.Prelude.{option_and_then, if◌then◌else◌}
 use Rattle.std.specs.List.{fold}
 use Rattle.key_names.specs.declared.names.LaneId.TheVariants.{Base as BaseLane}
 use Rattle.key_names.specs.declared.names.KeyName.{KeyName}
@@ -140,7 +141,11 @@ base_refill_at es k = option_and_then base_refill_of (slice_get es k)
 -- what a read takes
 abbrev pub taken_of : CpuEntry → Option Taken
 taken_of (Read look refill taken) = Some taken
-taken_of _ = None
+taken_of (Int look refill width filled) = None
+taken_of (Irq v1 v2 now) = None
+taken_of (Dump now) = None
+taken_of Prepare = None
+taken_of Online = None
 
 abbrev pub taken_at : List CpuEntry → ℕ → Option Taken
 taken_at es k = option_and_then taken_of (slice_get es k)

@@ -6,14 +6,16 @@ use Rattle.key_names.specs.declared.names.Step.{Step}
 use Rattle.key_names.specs.declared.names.Step.TheVariants.{Look, Visit as Marked}
 use Rattle.key_names.specs.declared.entries.PoolEntry.{PoolEntry}
 use Rattle.key_names.specs.declared.entries.BaseEntry.{BaseEntry}
-use Rattle.key_names.specs.declared.entries.BaseEntry.TheVariants.{Early, Reseed, Tick, Draw, Refill, Fork, End, Wait, Resume, Interrupt, Stall, Unstall}
+use Rattle.key_names.specs.declared.entries.BaseEntry.TheVariants.{Early, Reseed, Tick, Draw, Refill, Fork, End, Wait}
+use Rattle.key_names.specs.declared.entries.BaseEntry.TheVariants.{Resume, Interrupt, Stall, Unstall}
 use Rattle.key_names.specs.declared.entries.CpuEntry.{CpuEntry}
 use Rattle.key_names.specs.declared.entries.CpuEntry.TheVariants.{Read, Int, Irq, Dump, Prepare, Online}
 use Rattle.key_names.specs.PoolList.{PoolState, pool_after, pool_step}
 use Rattle.key_names.specs.BaseList.{BaseState, base_after, base_step}
 use Rattle.key_names.specs.Batches.{Fill, batched_int}
 use Rattle.key_names.specs.CpuList.{CpuState, cpu_step, cpu_after}
-use Rattle.key_names.specs.KeyInUse.{base_value_in_use, base_value_after, cpu_value_in_use, cpu_value_after, taken_bytes, next_int}
+use Rattle.key_names.specs.KeyInUse.{base_value_in_use, base_value_after, cpu_value_in_use, cpu_value_after}
+use Rattle.key_names.specs.KeyInUse.{taken_bytes, next_int}
 use Rattle.key_names.specs.Book.{Lists, cpu_list}
 
 -- a visit of the pool: its place, the pool's state before and after it, and its entry

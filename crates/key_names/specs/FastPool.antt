@@ -1,5 +1,6 @@
 -- A CPU's fast pool: four words that interrupts are mixed into, and when they are dumped (add_interrupt_randomness).
-use Rattle.std.specs.Prelude.{ℕ, ◌+◌, ◌/◌, ◌%◌, ◌^◌, max, min, Bool, ◌&&◌, ◌||◌, List, ◌++◌, bit_xor, nat_lt, nat_le, if◌then◌else◌}
+use Rattle.std.specs.Prelude.{ℕ, ◌+◌, ◌/◌, ◌%◌, ◌^◌, max, min, Bool, ◌&&◌, ◌||◌, List, ◌++◌, bit_xor, nat_lt, nat_le}
+use Rattle.std.specs.Prelude.{if◌then◌else◌}
 use Rattle.std.specs.Int.{w64, rotate_left, to_le_bytes}
 use Rattle.std.specs.List.{fold}
 use Rattle.key_names.specs.declared.entries.CpuEntry.{CpuEntry}

@@ -1,119 +1,109 @@
 -- In what order a caller's steps happen, with those of its ancestors before it, and what it has seen.
-use Rattle.std.specs.Prelude.{ℕ, zero, suc, ◌+◌, ◌≤◌, ◌==◌, max, Bool, true, false, ⊤, Option, Some, None, List, [], ◌∷◌, ◌++◌, length, take, drop, slice_get, if◌then◌else◌}
+use Rattle.std.specs.Prelude.{ℕ, zero, suc, ◌≤◌, ◌==◌, max, Bool, true, false, ⊤, Option, Some, None, List, []}
+use Rattle.std.specs.Prelude.{◌∷◌, ◌++◌, length, take, drop, slice_get, if◌then◌else◌}
 use Rattle.std.specs.Option.{option_map_or}
-use Rattle.std.specs.List.{flat_map}
+use Rattle.std.specs.List.{flat_map, fold}
 use Rattle.key_names.specs.declared.names.Step.{Step}
 use Rattle.key_names.specs.declared.names.Step.TheVariants.{Look, Visit as Marked}
 use Rattle.key_names.specs.Book.{list_at}
 use Rattle.key_names.specs.Calls.{Call, alone, vread_call, unbound, ending, BoundAct, Parent, parent_from}
 use Rattle.key_names.specs.Deeds.{Deed, looked, at_pool, at_base, at_cpu, nothing_there}
-use Rattle.key_names.specs.SeenLine.{SeenLine}
-
--- a step, with the number of its event and its own number among the steps of that event's line
-pub record Item : Type 0 where
-  pub event : ℕ
-  pub number : ℕ
-  pub step : Step
-
--- the steps of a line, i being the number of the first
-abbrev pub items_from : ℕ → ℕ → List Step → List Item
-items_from event i [] = []
-items_from event i (step ∷ steps) = record { event = event; number = i; step = step } ∷ items_from event (suc i) steps
-
-abbrev pub line_items : SeenLine → List Item
-line_items line = items_from line.event 0 line.steps
 
 abbrev pub is_mark : Step → Bool
 is_mark (Look g) = false
 is_mark (Marked mark) = true
 
 -- the steps up to and with the first visit
-abbrev pub through_visit : List Item → List Item
+abbrev pub through_visit : List Step → List Step
 through_visit [] = []
-through_visit (item ∷ items) = if is_mark item.step then item ∷ [] else item ∷ through_visit items
-
--- the visits that stand together at the front
-abbrev pub leading_visits : List Item → List Item
-leading_visits [] = []
-leading_visits (item ∷ items) = if is_mark item.step then item ∷ leading_visits items else []
+through_visit (step ∷ steps) = if is_mark step then step ∷ [] else step ∷ through_visit steps
 
 -- the steps of the acts at a point, in the order of the script
-abbrev pub items_at_point : List BoundAct → ℕ → List Item
-items_at_point [] point = []
-items_at_point (bound ∷ acts) point =
-    if bound.point == point then line_items bound.line ++ items_at_point acts point else items_at_point acts point
+abbrev pub steps_at_point : List BoundAct → ℕ → List Step
+steps_at_point [] point = []
+steps_at_point (bound ∷ acts) point =
+    if bound.point == point then bound.line.steps ++ steps_at_point acts point else steps_at_point acts point
 
--- between points 2 and 3 of a vread: where its fifth step is a visit, the steps from the third up to the end of the
--- visits that stand together from the fifth on
-abbrev pub rekey_items : List Item → List Item
-rekey_items items =
-    if option_map_or (λ item. is_mark item.step) (slice_get items 4) false
-    then take 2 (drop 2 items) ++ leading_visits (drop 4 items) else []
+-- the steps cut in two behind the visits that stand together at the front
+abbrev pub cut_behind_visits : List Step → List Step × List Step
+cut_behind_visits [] = ([], [])
+cut_behind_visits (step ∷ steps) =
+    if is_mark step then (let cut = cut_behind_visits steps in (step ∷ cut.0, cut.1)) else ([], step ∷ steps)
+
+-- the steps of a vread from the third on, cut in two at its points 3 and 4: where its fifth step is a visit, they are
+-- behind the visits that stand together from the fifth on, and else where points 1 and 2 are
+abbrev pub cut_behind_rekey : List Step → List Step × List Step
+cut_behind_rekey steps =
+    if option_map_or is_mark (slice_get steps 2) false
+    then (let cut = cut_behind_visits (drop 2 steps) in (take 2 steps ++ cut.0, cut.1)) else ([], steps)
 
 -- the steps of a vread with those of its acts at their points
-abbrev pub vread_items : List Item → List BoundAct → List Item
-vread_items items acts =
-    take 2 items ++ items_at_point acts 1 ++ items_at_point acts 2 ++ rekey_items items
-    ++ items_at_point acts 3 ++ items_at_point acts 4 ++ drop (2 + length (rekey_items items)) items
+abbrev pub vread_steps : List Step → List BoundAct → List Step
+vread_steps steps acts =
+    let cut = cut_behind_rekey (drop 2 steps) in
+    take 2 steps ++ steps_at_point acts 1 ++ steps_at_point acts 2 ++ cut.0 ++ steps_at_point acts 3
+    ++ steps_at_point acts 4 ++ cut.1
 
-abbrev pub call_items : Call → List Item
-call_items (alone event line) = line_items line
-call_items (vread_call len flags line acts) = vread_items (line_items line) acts
-call_items (unbound bound) = line_items bound.line
-call_items (ending line) = line_items line
+abbrev pub call_steps : Call → List Step
+call_steps (alone event line) = line.steps
+call_steps (vread_call len flags line acts) = vread_steps line.steps acts
+call_steps (unbound bound) = bound.line.steps
+call_steps (ending line) = line.steps
 
 -- the steps of some calls, one call after another
-abbrev pub calls_items : List Call → List Item
-calls_items calls = flat_map call_items calls
+abbrev pub calls_steps : List Call → List Step
+calls_steps calls = flat_map call_steps calls
 
 -- what a child's ancestors did up to and with the visit that forks it
-abbrev pub inherited_items : List (List Item) → Option Parent → List Item
-inherited_items ancestors None = []
-inherited_items ancestors (Some parent) =
-    list_at ancestors parent.caller ++ calls_items parent.fork.before ++ through_visit (line_items parent.fork.line)
+abbrev pub inherited_steps : List (List Step) → Option Parent → List Step
+inherited_steps ancestors None = []
+inherited_steps ancestors (Some parent) =
+    list_at ancestors parent.caller ++ calls_steps parent.fork.before ++ through_visit parent.fork.line.steps
 
 -- what stands before the own steps of the first n callers; a parent has a lower number than its child
-abbrev pub ancestors_items : List (List Call) → ℕ → List (List Item)
-ancestors_items callers zero = []
-ancestors_items callers (suc c) =
-    let earlier = ancestors_items callers c in earlier ++ inherited_items earlier (parent_from c 0 callers) ∷ []
+abbrev pub ancestors_steps : List (List Call) → ℕ → List (List Step)
+ancestors_steps callers zero = []
+ancestors_steps callers (suc c) =
+    let earlier = ancestors_steps callers c in earlier ++ inherited_steps earlier (parent_from c 0 callers) ∷ []
 
 -- the order of each caller: what its ancestors did before it, and then its own calls
-abbrev pub orders_from : List (List Item) → List (List Call) → List (List Item)
+abbrev pub orders_from : List (List Step) → List (List Call) → List (List Step)
 orders_from ancestors [] = []
-orders_from [] (calls ∷ rest) = calls_items calls ∷ orders_from [] rest
-orders_from (before ∷ ancestors) (calls ∷ rest) = (before ++ calls_items calls) ∷ orders_from ancestors rest
+orders_from [] (calls ∷ rest) = calls_steps calls ∷ orders_from [] rest
+orders_from (before ∷ ancestors) (calls ∷ rest) = (before ++ calls_steps calls) ∷ orders_from ancestors rest
 
-abbrev pub caller_orders : List (List Call) → List (List Item)
-caller_orders callers = orders_from (ancestors_items callers (length callers)) callers
+abbrev pub caller_orders : List (List Call) → List (List Step)
+caller_orders callers = orders_from (ancestors_steps callers (length callers)) callers
 
 -- the stamps of the visits among some steps
-abbrev pub stamps_of : List Item → List ℕ
+abbrev pub stamps_of : List Step → List ℕ
 stamps_of [] = []
-stamps_of (item ∷ items) = step_stamp item.step ++ stamps_of items
-  where
-    step_stamp : Step → List ℕ
-    step_stamp (Look g) = []
-    step_stamp (Marked mark) = mark.stamp ∷ []
+stamps_of (Look g ∷ steps) = stamps_of steps
+stamps_of (Marked mark ∷ steps) = mark.stamp ∷ stamps_of steps
 
--- what a caller has seen after a step: the greatest of its looks, and of the generations of the base and the CPUs
--- after its visits
+-- what a caller has seen after one more step: the greatest of its looks, and of the generations of the base and the
+-- CPUs after its visits
 abbrev pub seen_after : ℕ → Deed → ℕ
-seen_after seen (looked g) = max seen g
-seen_after seen (at_pool v) = seen
-seen_after seen (at_base v) = max seen v.after.generation
-seen_after seen (at_cpu v) = max seen v.after.generation
-seen_after seen nothing_there = seen
+seen_after before (looked g) = max before g
+seen_after before (at_pool v) = before
+seen_after before (at_base v) = max before v.after.generation
+seen_after before (at_cpu v) = max before v.after.generation
+seen_after before nothing_there = before
+
+-- what a caller has seen after these steps
+abbrev pub seen : List Deed → ℕ
+seen deeds = fold seen_after 0 deeds
 
 -- a look finds at least what its caller has seen, and at most the number of reseeds
 abbrev pub LookStands : ℕ → ℕ → Deed → Type 0
-LookStands reseeds seen (looked g) = (seen ≤ g) × (g ≤ reseeds)
-LookStands reseeds seen (at_pool v) = ⊤
-LookStands reseeds seen (at_base v) = ⊤
-LookStands reseeds seen (at_cpu v) = ⊤
-LookStands reseeds seen nothing_there = ⊤
+LookStands reseeds before (looked g) = (before ≤ g) × (g ≤ reseeds)
+LookStands reseeds before (at_pool v) = ⊤
+LookStands reseeds before (at_base v) = ⊤
+LookStands reseeds before (at_cpu v) = ⊤
+LookStands reseeds before nothing_there = ⊤
 
--- each look of some steps stands, given what the caller had seen before them
-abbrev pub LooksStand : ℕ → ℕ → List Deed → Type 0
-LooksStand reseeds seen [] = ⊤
-LooksStand reseeds seen (deed ∷ deeds) = LookStands reseeds seen deed × LooksStand reseeds (seen_after seen deed) deeds
+-- each look of some steps stands, given the steps of its caller before them
+abbrev pub LooksStand : ℕ → List Deed → List Deed → Type 0
+LooksStand reseeds before [] = ⊤
+LooksStand reseeds before (deed ∷ deeds) =
+    LookStands reseeds (seen before) deed × LooksStand reseeds (before ++ deed ∷ []) deeds

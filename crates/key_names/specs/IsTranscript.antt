@@ -1,5 +1,6 @@
 -- When a transcript is lawful for a script.
-use Rattle.std.specs.Prelude.{Bool, true, false, ℕ, zero, suc, ◌+◌, ◌≡◌, ◌<◌, ◌==◌, ⊤, Option, Some, List, [], ◌∷◌, ◌++◌, map, length, slice_get, option_and_then, count_by, if◌then◌else◌}
+use Rattle.std.specs.Prelude.{Bool, true, false, ℕ, suc, ◌+◌, ◌≡◌, ◌<◌, ◌==◌, ⊤, Option, Some, List, [], ◌∷◌}
+use Rattle.std.specs.Prelude.{◌++◌, map, length, slice_get, option_and_then, count_by, if◌then◌else◌}
 use Rattle.std.specs.List.{sum_by, flat_map, range_with_len, AllByRecursion}
 use Rattle.key_names.specs.declared.names.LaneId.{LaneId}
 use Rattle.key_names.specs.declared.names.LaneId.TheVariants.{Pool as PoolLane, Base as BaseLane, Cpu as CpuLane}
@@ -15,8 +16,9 @@ use Rattle.key_names.specs.BaseList.{base_after}
 use Rattle.key_names.specs.Book.{Book, Lists, Visit, lists_of, list_at, LawfulLanes}
 use Rattle.key_names.specs.Samples.{LawfulSamples}
 use Rattle.key_names.specs.ScriptGrammar.{Script, event_word}
-use Rattle.key_names.specs.Calls.{Setting, Call, alone, vread_call, unbound, ending, BoundAct, all_calls, setting_of, first_settings}
-use Rattle.key_names.specs.Deeds.{deeds_of, deed_of}
+use Rattle.key_names.specs.Calls.{Setting, Call, alone, vread_call, unbound, ending, BoundAct, all_calls, setting_of}
+use Rattle.key_names.specs.Calls.{first_settings}
+use Rattle.key_names.specs.Deeds.{deeds_of}
 use Rattle.key_names.specs.SeenLine.{SeenLine}
 use Rattle.key_names.specs.History.{caller_orders, stamps_of, LooksStand}
 use Rattle.key_names.specs.Meaning.{CallerState, caller_start, LineMeaning, CallMeaning, Means}
@@ -71,24 +73,21 @@ all_marks t = flat_map (λ lines. flat_map line_marks lines) t
 -- each place below their number stands once among some marks of one lane, and of any two the one with the higher
 -- place has the higher stamp
 pub record PlacesStand (marks : List Mark) : Type 0 where
-  pub once : AllByRecursion (λ place. count_by (λ mark. mark.place == place) marks ≡ 1) (range_with_len 0 (length marks))
+  pub once : AllByRecursion (λ place. count_by (λ mark. mark.place == place) marks ≡ 1)
+      (range_with_len 0 (length marks))
   pub rise : AllByRecursion (λ a. AllByRecursion (λ b. a.place < b.place → a.stamp < b.stamp) marks) marks
-
-abbrev pub is_same_number : ℕ → ℕ → Bool
-is_same_number zero zero = true
-is_same_number (suc a) (suc b) = is_same_number a b
-is_same_number _ _ = false
 
 abbrev pub is_same_lane : LaneId → LaneId → Bool
 is_same_lane PoolLane PoolLane = true
 is_same_lane BaseLane BaseLane = true
-is_same_lane (CpuLane c) (CpuLane d) = is_same_number c d
+is_same_lane (CpuLane c) (CpuLane d) = c == d
 is_same_lane _ _ = false
 
 -- the marks of one lane
 abbrev pub lane_marks : LaneId → List MarkBy → List Mark
 lane_marks lane [] = []
-lane_marks lane (by ∷ marks) = if is_same_lane by.mark.lane lane then by.mark ∷ lane_marks lane marks else lane_marks lane marks
+lane_marks lane (by ∷ marks) =
+    if is_same_lane by.mark.lane lane then by.mark ∷ lane_marks lane marks else lane_marks lane marks
 
 abbrev pub Rises : List ℕ → Type 0
 Rises [] = ⊤
@@ -162,7 +161,8 @@ abbrev pub start_setting : List (List Call) → ℕ → Setting
 start_setting callers c = setting_of (first_settings callers (length callers)) c
 
 -- each line's steps are a form of its word, and the lists that they make are lawful
-pub record FormsStand (script : Script) (t : List (List SeenLine)) (book : Book) (ms : List (List CallMeaning)) : Type 0 where
+pub record FormsStand (script : Script) (t : List (List SeenLine)) (book : Book)
+    (ms : List (List CallMeaning)) : Type 0 where
   pub cpus : length book.cpus ≡ script.cpus
   pub visits : VisitsAre book (all_marks t)
   pub callers : EachCaller (λ c calls ms. CallerMeans (lists_of book) (start_setting (script_calls script t) c) calls
@@ -185,11 +185,12 @@ DataStand script t ms =
 -- each look is at least what its caller had seen, and at most the number of reseeds
 abbrev pub SeenStands : Script → List (List SeenLine) → Lists → Type 0
 SeenStands script t lists =
-    AllByRecursion (λ order. LooksStand (base_after lists.base).generation 0 (map (λ item. deed_of lists item.step) order))
+    AllByRecursion (λ order. LooksStand (base_after lists.base).generation [] (deeds_of lists order))
     (caller_orders (script_calls script t))
 
 -- the transcript is lawful for the script, with this book and these meanings of its calls
-pub record IsTranscriptBy (script : Script) (t : List (List SeenLine)) (book : Book) (ms : List (List CallMeaning)) : Type 0 where
+pub record IsTranscriptBy (script : Script) (t : List (List SeenLine)) (book : Book)
+    (ms : List (List CallMeaning)) : Type 0 where
   pub lines : HasLines script t
   pub marks : MarksStand script t
   pub forms : FormsStand script t book ms

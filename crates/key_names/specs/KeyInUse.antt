@@ -1,6 +1,7 @@
--- The key in use at a place, and the value of each key's name. A key begins as 32 zeros without a name; a kept key
+-- The value of the key in use at a place, and of each key's name. A key begins as 32 zeros without a name; a kept key
 -- is bytes 0 to 32 of the keystream of the key in use, and a handed-over key is bytes 32 to 64.
-use Rattle.std.specs.Prelude.{ℕ, zero, suc, ◌+◌, ◌*◌, Option, Some, None, List, [], ◌∷◌, take, replicate, slice_get, option_and_then, nat_lt, if◌then◌else◌}
+use Rattle.std.specs.Prelude.{ℕ, zero, suc, ◌+◌, ◌*◌, Option, Some, None, List, [], ◌∷◌, take, replicate, slice_get}
+use Rattle.std.specs.Prelude.{nat_lt, if◌then◌else◌}
 use Rattle.std.specs.List.{fold}
 use Rattle.key_names.specs.declared.names.LaneId.TheVariants.{Pool as PoolLane, Base as BaseLane, Cpu as CpuLane}
 use Rattle.key_names.specs.declared.names.KeyName.{KeyName}
@@ -14,23 +15,13 @@ use Rattle.key_names.specs.declared.entries.VEntry.{VEntry}
 use Rattle.key_names.specs.declared.entries.VEntry.TheVariants.{Rekey, Blocks, Refill, Serve, Wipe}
 use Rattle.key_names.specs.Keystream.{keystream}
 use Rattle.key_names.specs.PoolList.{root_value}
-use Rattle.key_names.specs.BaseList.{base_after, base_key_in_use, base_erases, root_of}
+use Rattle.key_names.specs.BaseList.{base_erases, root_of}
 use Rattle.key_names.specs.Batches.{Fill, batched_int}
-use Rattle.key_names.specs.CpuList.{cpu_after, cpu_key_in_use, cpu_erases, base_refill_of}
+use Rattle.key_names.specs.CpuList.{cpu_erases, base_refill_of}
 use Rattle.key_names.specs.Book.{Lists, cpu_list, state_list}
 
 abbrev pub zero_key : List ℕ
 zero_key = replicate 32 0
-
--- the name of the key in use at a place of the base, and of a CPU
-abbrev pub base_key_at : Lists → ℕ → Option KeyName
-base_key_at lists i =
-    option_and_then (λ e. base_key_in_use e (base_after (take i lists.base)).key) (slice_get lists.base i)
-
-abbrev pub cpu_key_at : Lists → ℕ → ℕ → Option KeyName
-cpu_key_at lists c k =
-    option_and_then (λ e. cpu_key_in_use e (cpu_after lists.base c (take k (cpu_list lists c))).key)
-    (slice_get (cpu_list lists c) k)
 
 -- the value of the root that is named, or else the value before
 abbrev pub root_value_or : List PoolEntry → Option ℕ → List ℕ → List ℕ

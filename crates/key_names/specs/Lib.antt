@@ -15,6 +15,7 @@ pub mod Flags
 pub mod Calls
 pub mod Deeds
 pub mod Forms
+pub mod PoolNotes
 pub mod Answers
 pub mod History
 pub mod VgetrandomState
@@ -25,6 +26,7 @@ pub mod VreadSteps
 pub mod Meaning
 pub mod IsTranscript
 pub mod TranscriptBook
+pub mod BookHistory
 pub mod Uses
 pub mod LiveMaterial
 pub mod ScriptFaults

@@ -1,5 +1,6 @@
 -- What a book's states still hold, what was replaced, and when nothing that was used or replaced is still held.
-use Rattle.std.specs.Prelude.{ℕ, ◌+◌, ◌-◌, ◌*◌, ◌≡◌, ◌⊎◌, IsTrue, IsSome, Option, Some, None, List, take, drop, replicate}
+use Rattle.std.specs.Prelude.{ℕ, ◌+◌, ◌-◌, ◌*◌, ◌≡◌, ◌⊎◌, IsTrue, IsSome, Option, Some, None, List, take, drop}
+use Rattle.std.specs.Prelude.{replicate}
 use Rattle.std.specs.List.{fold}
 use Rattle.key_names.specs.declared.names.KeyName.{KeyName}
 use Rattle.key_names.specs.declared.names.Span.{Span}
@@ -9,10 +10,13 @@ use Rattle.key_names.specs.declared.entries.VEntry.{VEntry}
 use Rattle.key_names.specs.declared.entries.VEntry.TheVariants.{Rekey, Blocks, Refill, Serve, Wipe}
 use Rattle.key_names.specs.Keystream.{keystream}
 use Rattle.key_names.specs.Batches.{Fill, batch_pos, batch_step, with_zeros}
-use Rattle.key_names.specs.BaseList.{BaseState, base_start, base_step, base_after, base_erases, base_key_in_use, root_of}
-use Rattle.key_names.specs.CpuList.{CpuState, cpu_start, cpu_step, cpu_after, cpu_erases, cpu_key_in_use, base_refill_of}
+use Rattle.key_names.specs.BaseList.{BaseState, base_start, base_step, base_after, base_erases, base_key_in_use}
+use Rattle.key_names.specs.BaseList.{root_of}
+use Rattle.key_names.specs.CpuList.{CpuState, cpu_start, cpu_step, cpu_after, cpu_erases, cpu_key_in_use}
+use Rattle.key_names.specs.CpuList.{base_refill_of}
 use Rattle.key_names.specs.StateList.{NamedState, state_start, state_step, state_after}
-use Rattle.key_names.specs.KeyInUse.{zero_key, base_value_after, cpu_value_in_use, cpu_value_step, cpu_value_after, state_value_step, state_value_after, value_of}
+use Rattle.key_names.specs.KeyInUse.{zero_key, base_value_after, cpu_value_in_use, cpu_value_step, cpu_value_after}
+use Rattle.key_names.specs.KeyInUse.{state_value_step, state_value_after, value_of}
 use Rattle.key_names.specs.LawfulList.{SomeFrom}
 use Rattle.key_names.specs.Book.{Lists, cpu_list, state_list, LawfulBook, HalfFinishedBook}
 use Rattle.key_names.specs.Uses.{uses, HoldsByte, IsUsed, IsDisjoint}

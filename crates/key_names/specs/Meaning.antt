@@ -1,13 +1,19 @@
 -- What a call means: what stands behind its lines' steps, their answers and data, and where the caller stands after it.
-use Rattle.std.specs.Prelude.{ℕ, ◌≡◌, Bool, not, ◌&&◌, ◌==◌, MatchBool, ⊤, List, [], ◌∷◌, replicate, slice_get, slice_set, unwrap_or, length}
+use Rattle.std.specs.Prelude.{ℕ, ◌≡◌, Bool, not, ◌&&◌, ◌==◌, MatchBool, ⊤, List, [], ◌∷◌, replicate, slice_get}
+use Rattle.std.specs.Prelude.{slice_set, unwrap_or, length}
 use Rattle.key_names.specs.declared.entries.VEntry.{VEntry}
 use Rattle.key_names.specs.declared.entries.VEntry.TheVariants.{Wipe}
 use Rattle.key_names.specs.declared.events.Event.{Event}
-use Rattle.key_names.specs.declared.events.Event.TheVariants.{Reseed, Drop, State}
+use Rattle.key_names.specs.declared.events.Event.TheVariants.{At, On, Hw, Device, Write, Add, Credit, Bits, Irq, Input}
+use Rattle.key_names.specs.declared.events.Event.TheVariants.{Read, Vread, Kread, Dread, Uread, Int8, Int16, Int32}
+use Rattle.key_names.specs.declared.events.Event.TheVariants.{Int64}
+use Rattle.key_names.specs.declared.events.Event.TheVariants.{Reseed, Tick, Drop, Fork, Inside, Prepare, Online, Vmfork}
+use Rattle.key_names.specs.declared.events.Event.TheVariants.{State}
 use Rattle.key_names.specs.declared.events.Answer.{Answer}
 use Rattle.key_names.specs.declared.events.Answer.TheVariants.{Ok as Done, Unused}
 use Rattle.key_names.specs.declared.events.InsideAct.{InsideAct}
-use Rattle.key_names.specs.declared.events.InsideAct.TheVariants.{Wipe as WipeAct, Vread as VreadAct, Reseed as ReseedAct}
+use Rattle.key_names.specs.declared.events.InsideAct.TheVariants.{Wipe as WipeAct, Vread as VreadAct}
+use Rattle.key_names.specs.declared.events.InsideAct.TheVariants.{Reseed as ReseedAct}
 use Rattle.key_names.specs.Flags.{is_bad}
 use Rattle.key_names.specs.Calls.{Setting, setting_after, Call, alone, vread_call, unbound, ending, BoundAct}
 use Rattle.key_names.specs.Deeds.{Deed}
@@ -17,9 +23,10 @@ use Rattle.key_names.specs.SeenLine.{Shown, no_data, bytes_or_none}
 use Rattle.key_names.specs.VgetrandomState.{VgetrandomState, wiped_state}
 use Rattle.key_names.specs.BatchCopy.{copy_bytes, copy_entries, state_after_copy, serves_locally}
 use Rattle.key_names.specs.Vgetrandom.{HostStep, Outcome, IsCall}
-use Rattle.key_names.specs.VreadSteps.{Shows, WipesStand, points_of, is_reached, ending_answer, ending_shown, published_by, NeverFall, looks_of}
+use Rattle.key_names.specs.VreadSteps.{Shows, WipesStand, points_of, is_reached, ending_answer, ending_shown}
+use Rattle.key_names.specs.VreadSteps.{published_by, NeverFall, looks_of}
 
--- where a caller stands between two calls: its setting, its sixteen vgetrandom states, and the number of the current one
+-- where a caller stands between two calls: its setting, its sixteen vgetrandom states, and which of them is current
 pub record CallerState : Type 0 where
   pub setting : Setting
   pub states : List VgetrandomState
@@ -28,6 +35,13 @@ pub record CallerState : Type 0 where
 -- a caller starts with all states wiped, and the first is current
 abbrev pub caller_start : Setting → CallerState
 caller_start setting = record { setting = setting; states = replicate 16 wiped_state; current = 0 }
+
+-- the vgetrandom state that a caller reads from and drops
+abbrev pub current_state : CallerState → VgetrandomState
+current_state s = unwrap_or (slice_get s.states s.current) wiped_state
+
+abbrev pub with_state : CallerState → VgetrandomState → CallerState
+with_state s state = record s { states = slice_set s.states s.current state }
 
 -- what a line means: what stands behind its steps, its answer, and its data
 pub record LineMeaning : Type 0 where
@@ -47,11 +61,37 @@ pub record CallMeaning : Type 0 where
 -- what an event by itself leaves in the list of the current state
 abbrev pub event_entries : Event → List VEntry
 event_entries Drop = Wipe ∷ []
-event_entries _ = []
+event_entries (At moment) = []
+event_entries (On cpu) = []
+event_entries (Hw bytes) = []
+event_entries (Device word text) = []
+event_entries (Write text) = []
+event_entries (Add text bits) = []
+event_entries (Credit bits) = []
+event_entries Bits = []
+event_entries (Irq v1 v2) = []
+event_entries (Input word kind code value) = []
+event_entries (Read len flags) = []
+event_entries (Vread len flags) = []
+event_entries (Kread len) = []
+event_entries (Dread len flag) = []
+event_entries (Uread len) = []
+event_entries Int8 = []
+event_entries Int16 = []
+event_entries Int32 = []
+event_entries Int64 = []
+event_entries Reseed = []
+event_entries Tick = []
+event_entries (Fork child) = []
+event_entries (Inside point act) = []
+event_entries (Prepare cpu) = []
+event_entries (Online cpu) = []
+event_entries (Vmfork word text) = []
+event_entries (State number) = []
 
 -- where the caller stands after an event by itself
 abbrev pub state_after : CallerState → Event → CallerState
-state_after s Drop = record s { states = slice_set s.states s.current wiped_state }
+state_after s Drop = with_state s wiped_state
 state_after s (State number) = record s { current = number }
 state_after s event = record s { setting = setting_after s.setting event }
 
@@ -83,13 +123,6 @@ pub record EndingMeans (m : CallMeaning) : Type 0 where
   pub no_acts : m.acts ≡ []
   pub entries : m.entries ≡ []
   pub after : m.after ≡ m.before
-
--- the vgetrandom state that a caller reads from and drops
-abbrev pub current_state : CallerState → VgetrandomState
-current_state s = unwrap_or (slice_get s.states s.current) wiped_state
-
-abbrev pub with_state : CallerState → VgetrandomState → CallerState
-with_state s state = record s { states = slice_set s.states s.current state }
 
 -- an act inside a vread, with the setting of the vread: a nested read goes to the system call
 abbrev pub ActMeans : Setting → InsideAct → LineMeaning → Type 0

@@ -1,6 +1,7 @@
 -- What the pool's list means: key, text, bits and input timer after its entries, what a credit crosses, and the root
 -- that an extraction gives (extract_entropy).
-use Rattle.std.specs.Prelude.{ℕ, ◌+◌, min, ◌&&◌, Option, Some, None, List, [], ◌++◌, take, nat_lt, nat_le, ◌==◌, slice_get, option_and_then, if◌then◌else◌}
+use Rattle.std.specs.Prelude.{ℕ, ◌+◌, min, ◌&&◌, Option, Some, None, List, [], ◌++◌, take, nat_lt, nat_le, ◌==◌}
+use Rattle.std.specs.Prelude.{slice_get, option_and_then, if◌then◌else◌}
 use Rattle.std.specs.Int.{w32, w64, to_le_bytes}
 use Rattle.std.specs.List.{fold}
 use Rattle.key_names.specs.declared.entries.PoolEntry.{PoolEntry}
@@ -76,7 +77,10 @@ root_of_extraction s hw = blake2s (Some (seed s)) (seed_block hw 1)
 -- no bytes where there is no extraction
 abbrev pub root_given : PoolState → Option PoolEntry → List ℕ
 root_given s (Some (Extract hw base_place)) = root_of_extraction s hw
-root_given s _ = []
+root_given s (Some (Mix text bits)) = []
+root_given s (Some (Input word kind code value now)) = []
+root_given s (Some Bits) = []
+root_given s None = []
 
 -- the value of the root of a pool place
 abbrev pub root_value : List PoolEntry → ℕ → List ℕ

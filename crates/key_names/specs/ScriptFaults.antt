@@ -1,5 +1,7 @@
 -- The first fault of a text that is no script, by its lines.
-use Rattle.std.specs.Prelude.{⊤, ◌<◌, ℕ, zero, suc, ◌+◌, ◌^◌, ◌==◌, ◌&&◌, ◌||◌, Bool, false, nat_lt, nat_le, if◌then◌else◌, Option, Some, None, Result, Ok, Err, List, [], ◌∷◌, ◌++◌, codes, find, fold, length, sum_by}
+use Rattle.std.specs.Prelude.{⊤, ◌<◌, ℕ, zero, suc, ◌+◌, ◌^◌, ◌==◌, ◌&&◌, ◌||◌, Bool, false, nat_lt, nat_le}
+use Rattle.std.specs.Prelude.{if◌then◌else◌, Option, Some, None, Result, Ok, Err, List, [], ◌∷◌, ◌++◌, codes, find}
+use Rattle.std.specs.Prelude.{fold, length, sum_by}
 use Rattle.std.specs.Fmt.{decimal}
 use Rattle.std.specs.List.{join_with_byte, list_any, slice_split}
 use Rattle.std.specs.Option.{ok_or}
@@ -7,13 +9,18 @@ use Rattle.std.specs.Str.{bytes_eq}
 use Rattle.std.specs.Str.Parse.{digits_value}
 use Rattle.hex.specs.Hex.{decode_of}
 use Rattle.key_names.specs.declared.events.Event.{Event}
-use Rattle.key_names.specs.declared.events.Event.TheVariants.{At, On, Hw, Device, Write, Add, Credit, Bits, Irq, Input, Read, Vread, Kread, Dread, Uread, Int8, Int16, Int32, Int64, Reseed, Tick, Drop, Fork, Inside, Prepare, Online, Vmfork, State}
+use Rattle.key_names.specs.declared.events.Event.TheVariants.{At, On, Hw, Device, Write, Add, Credit, Bits, Irq, Input}
+use Rattle.key_names.specs.declared.events.Event.TheVariants.{Read, Vread, Kread, Dread, Uread, Int8, Int16, Int32}
+use Rattle.key_names.specs.declared.events.Event.TheVariants.{Int64, Reseed, Tick, Drop, Fork, Inside, Prepare, Online}
+use Rattle.key_names.specs.declared.events.Event.TheVariants.{Vmfork, State}
 use Rattle.key_names.specs.declared.events.InsideAct.{InsideAct}
 use Rattle.key_names.specs.declared.events.InsideAct.TheVariants.{Wipe, Vread as VreadAct, Reseed as ReseedAct}
 use Rattle.key_names.specs.declared.events.Word.{Word}
 use Rattle.key_names.specs.declared.events.Word.TheVariants as words
 use Rattle.key_names.specs.declared.faults.FaultKind.{FaultKind}
-use Rattle.key_names.specs.declared.faults.FaultKind.TheVariants.{TooLong, BadByte, BadHead, BadCpus, UnknownWord, BadNumber, BadHex, BadCaller, BadFork, Unforked, TooMany, Unfinished}
+use Rattle.key_names.specs.declared.faults.FaultKind.TheVariants.{TooLong, BadByte, BadHead, BadCpus, UnknownWord}
+use Rattle.key_names.specs.declared.faults.FaultKind.TheVariants.{BadNumber, BadHex, BadCaller, BadFork, Unforked}
+use Rattle.key_names.specs.declared.faults.FaultKind.TheVariants.{TooMany, Unfinished}
 use Rattle.key_names.specs.declared.faults.ScriptFault.{ScriptFault}
 use Rattle.key_names.specs.Spelling.{hex, word_text}
 use Rattle.key_names.specs.ScriptGrammar.{InRange, Script, most_cpus, times_forked, bytes_read, acts_after}
@@ -291,7 +298,8 @@ after d (SaysEvent event) =
     else if is_past_limits d event then Err TooMany
     else Ok (GoesOn (with_event d event))
 after d (SaysCaller c) =
-    if c == length (blocks_of d) then (if times_forked (blocks_of d) c == 0 then Err Unforked else Ok (GoesOn (with_block d)))
+    if c == length (blocks_of d)
+    then (if times_forked (blocks_of d) c == 0 then Err Unforked else Ok (GoesOn (with_block d)))
     else Err BadCaller
 after d SaysEnd = if has_orphan d then Err Unforked else Ok Ends
 
@@ -341,7 +349,8 @@ unfoldable pub script_from : Draft → ℕ → List (List ℕ) → Result Script
 script_from d n [] = Err (record { line = n; kind = Unfinished })
 script_from d n (line ∷ more) =
     at_line n (behind_first d (line ∷ more))
-    >>= by_next (λ later. script_from later (n + 1) more) (nothing_behind (n + 1) more >>= λ none. Ok (script_of_draft d))
+    >>= by_next (λ later. script_from later (n + 1) more)
+    (nothing_behind (n + 1) more >>= λ none. Ok (script_of_draft d))
 
 -- what the first of the lines is as line 1, 2 and 3
 abbrev pub version_in : List (List ℕ) → Result ℕ FaultKind

@@ -1,10 +1,14 @@
 -- The scripts, and the one text of each.
-use Rattle.std.specs.Prelude.{◌≡◌, ℕ, suc, ◌+◌, ◌<◌, ◌≤◌, ◌^◌, ◌==◌, ◌&&◌, Bool, false, nat_lt, if◌then◌else◌, ⊤, List, [], ◌∷◌, ◌++◌, codes, count_by, length, map, sum_by}
+use Rattle.std.specs.Prelude.{◌≡◌, ℕ, suc, ◌+◌, ◌<◌, ◌≤◌, ◌^◌, ◌==◌, ◌&&◌, Bool, false, nat_lt, if◌then◌else◌, ⊤, List}
+use Rattle.std.specs.Prelude.{[], ◌∷◌, ◌++◌, codes, count_by, length, map, sum_by}
 use Rattle.std.specs.Fmt.{decimal}
 use Rattle.std.specs.List.{AllByRecursion}
 use Rattle.hex.specs.Hex.{IsBytes}
 use Rattle.key_names.specs.declared.events.Event.{Event}
-use Rattle.key_names.specs.declared.events.Event.TheVariants.{At, On, Hw, Device, Write, Add, Credit, Bits, Irq, Input, Read, Vread, Kread, Dread, Uread, Int8, Int16, Int32, Int64, Reseed, Tick, Drop, Fork, Inside, Prepare, Online, Vmfork, State}
+use Rattle.key_names.specs.declared.events.Event.TheVariants.{At, On, Hw, Device, Write, Add, Credit, Bits, Irq, Input}
+use Rattle.key_names.specs.declared.events.Event.TheVariants.{Read, Vread, Kread, Dread, Uread, Int8, Int16, Int32}
+use Rattle.key_names.specs.declared.events.Event.TheVariants.{Int64, Reseed, Tick, Drop, Fork, Inside, Prepare, Online}
+use Rattle.key_names.specs.declared.events.Event.TheVariants.{Vmfork, State}
 use Rattle.key_names.specs.declared.events.InsideAct.{InsideAct}
 use Rattle.key_names.specs.declared.events.InsideAct.TheVariants.{Wipe, Vread as VreadAct, Reseed as ReseedAct}
 use Rattle.key_names.specs.declared.events.Word.{Word}
@@ -76,7 +80,14 @@ arguments (Prepare cpu) = decimal cpu ∷ []
 arguments (Online cpu) = decimal cpu ∷ []
 arguments (Vmfork word text) = decimal word ∷ hex text ∷ []
 arguments (State number) = decimal number ∷ []
-arguments _ = []
+arguments Bits = []
+arguments Int8 = []
+arguments Int16 = []
+arguments Int32 = []
+arguments Int64 = []
+arguments Reseed = []
+arguments Tick = []
+arguments Drop = []
 
 abbrev pub event_fields : Event → List (List ℕ)
 event_fields event = word_text (event_word event) ∷ arguments event
@@ -128,7 +139,14 @@ InRange version cpus (Prepare cpu) = (2 ≤ version) × (cpu < cpus)
 InRange version cpus (Online cpu) = (2 ≤ version) × (cpu < cpus)
 InRange version cpus (Vmfork word text) = (2 ≤ version) × (word < 2 ^ 64) × IsBytes text
 InRange version cpus (State number) = (3 ≤ version) × (number < 16)
-InRange version cpus _ = ⊤
+InRange version cpus Bits = ⊤
+InRange version cpus Int8 = ⊤
+InRange version cpus Int16 = ⊤
+InRange version cpus Int32 = ⊤
+InRange version cpus Int64 = ⊤
+InRange version cpus Reseed = ⊤
+InRange version cpus Tick = ⊤
+InRange version cpus Drop = ⊤
 
 -- an event that forks the number
 abbrev pub is_fork_of : ℕ → Event → Bool
@@ -157,7 +175,30 @@ bytes_read (Kread len) = len
 bytes_read (Dread len flag) = len
 bytes_read (Uread len) = len
 bytes_read (Inside point (VreadAct len)) = len
-bytes_read _ = 0
+bytes_read (Inside point Wipe) = 0
+bytes_read (Inside point ReseedAct) = 0
+bytes_read (At moment) = 0
+bytes_read (On cpu) = 0
+bytes_read (Hw bytes) = 0
+bytes_read (Device word text) = 0
+bytes_read (Write text) = 0
+bytes_read (Add text bits) = 0
+bytes_read (Credit bits) = 0
+bytes_read Bits = 0
+bytes_read (Irq v1 v2) = 0
+bytes_read (Input word kind code value) = 0
+bytes_read Int8 = 0
+bytes_read Int16 = 0
+bytes_read Int32 = 0
+bytes_read Int64 = 0
+bytes_read Reseed = 0
+bytes_read Tick = 0
+bytes_read Drop = 0
+bytes_read (Fork child) = 0
+bytes_read (Prepare cpu) = 0
+bytes_read (Online cpu) = 0
+bytes_read (Vmfork word text) = 0
+bytes_read (State number) = 0
 
 -- how many acts wait for a vread behind an event, where so many waited before it
 abbrev pub acts_after : ℕ → Event → ℕ

@@ -1,14 +1,24 @@
 -- How numbers, bytes, words, fields and lines are spelt, in a script and in a transcript. A number is its `decimal`.
-use Rattle.std.specs.Prelude.{ℕ, List, [], ◌∷◌, ◌++◌, codes}
-use Rattle.std.specs.List.{flat_map, join_with_byte}
+use Rattle.std.specs.Prelude.{◌≡◌, ℕ, nat_le, Bool, true, ◌&&◌, ◌||◌, List, [], ◌∷◌, ◌++◌, codes}
+use Rattle.std.specs.List.{AllByRecursion, flat_map, join_with_byte}
 use Rattle.hex.specs.Hex.{encode_lower}
 use Rattle.key_names.specs.declared.events.Word.{Word}
-use Rattle.key_names.specs.declared.events.Word.TheVariants.{At, On, Hw, Device, Write, Add, Credit, Bits, Irq, Input, Read, Vread, Kread, Dread, Uread, Int8, Int16, Int32, Int64, Reseed, Tick, Drop, Fork, Inside, Prepare, Online, Vmfork, State, End}
+use Rattle.key_names.specs.declared.events.Word.TheVariants.{At, On, Hw, Device, Write, Add, Credit, Bits, Irq, Input}
+use Rattle.key_names.specs.declared.events.Word.TheVariants.{Read, Vread, Kread, Dread, Uread, Int8, Int16, Int32}
+use Rattle.key_names.specs.declared.events.Word.TheVariants.{Int64, Reseed, Tick, Drop, Fork, Inside, Prepare, Online}
+use Rattle.key_names.specs.declared.events.Word.TheVariants.{Vmfork, State, End}
 
 -- bytes in lower-case hexadecimal, and a dash for none
 abbrev pub hex : List ℕ → List ℕ
 hex [] = codes "-"
 hex (b ∷ bytes) = encode_lower (b ∷ bytes)
+
+-- a digit of lower-case hexadecimal
+abbrev pub is_lower_digit : ℕ → Bool
+is_lower_digit c = (nat_le 48 c && nat_le c 57) || (nat_le 97 c && nat_le c 102)
+
+abbrev pub AllLower : List ℕ → Type 0
+AllLower text = AllByRecursion (λ c. is_lower_digit c ≡ true) text
 
 -- the fields of a line, with one space between each two
 abbrev pub spaced : List (List ℕ) → List ℕ

@@ -85,16 +85,31 @@ MayRefill anything from = ⊤
 MayRefill new_key from = ⊤
 MayRefill (refill_from n) from = from ≡ n
 
--- a rekey takes a read of 32 bytes, and served bytes follow those before; cpu_list gives each CPU's list
-abbrev pub StateMayCome : (ℕ → List CpuEntry) → NamedState → VEntry → Type 0
-StateMayCome cpu_list s (Rekey cpu cpu_place) =
-    (s.expected ≡ anything) × (taken_at (cpu_list cpu) cpu_place ≡ Some (User 32))
-StateMayCome cpu_list s (Blocks from count) = MayStart s.expected
-StateMayCome cpu_list s (Refill from) = MayRefill s.expected from
-StateMayCome cpu_list s (Serve pos len) = (s.expected ≡ anything) × (pos ≡ s.pos) × (pos + len ≤ 96)
-StateMayCome cpu_list s Wipe = MayStart s.expected
+-- an entry follows those before it: served bytes come without a gap
+abbrev pub MayFollow : NamedState → VEntry → Type 0
+MayFollow s (Rekey cpu cpu_place) = s.expected ≡ anything
+MayFollow s (Blocks from count) = MayStart s.expected
+MayFollow s (Refill from) = MayRefill s.expected from
+MayFollow s (Serve pos len) = (s.expected ≡ anything) × (pos ≡ s.pos) × (pos + len ≤ 96)
+MayFollow s Wipe = MayStart s.expected
 
--- each entry may come, and the last one is followed by what it asks for
+-- a rekey takes a read of 32 bytes; cpu_list gives each CPU's list
+abbrev pub TakesRead : (ℕ → List CpuEntry) → VEntry → Type 0
+TakesRead cpu_list (Rekey cpu cpu_place) = taken_at (cpu_list cpu) cpu_place ≡ Some (User 32)
+TakesRead cpu_list (Blocks from count) = ⊤
+TakesRead cpu_list (Refill from) = ⊤
+TakesRead cpu_list (Serve pos len) = ⊤
+TakesRead cpu_list Wipe = ⊤
+
+abbrev pub StateMayCome : (ℕ → List CpuEntry) → NamedState → VEntry → Type 0
+StateMayCome cpu_list s e = MayFollow s e × TakesRead cpu_list e
+
+-- each entry follows those before it, and the last one is followed by what it asks for
+pub record OrderedStateList (caller state : ℕ) (es : List VEntry) : Type 0 where
+  pub comes : LawfulFrom MayFollow (state_step caller state) state_start es
+  pub ends : (state_after caller state es).expected ≡ anything
+
+-- each rekey takes a read of 32 bytes, besides
 pub record LawfulStateList (cpu_list : ℕ → List CpuEntry) (caller state : ℕ) (es : List VEntry) : Type 0 where
   pub comes : LawfulFrom (StateMayCome cpu_list) (state_step caller state) state_start es
   pub ends : (state_after caller state es).expected ≡ anything

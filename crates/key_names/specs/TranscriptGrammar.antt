@@ -3,7 +3,8 @@ use Rattle.std.specs.Prelude.{ℕ, suc, ◌+◌, ◌≡◌, ◌≢◌, ◌<◌, 
 use Rattle.std.specs.List.{flat_map, AllByRecursion}
 use Rattle.hex.specs.Hex.{encode_lower, IsBytes}
 use Rattle.key_names.specs.declared.events.Answer.{Answer}
-use Rattle.key_names.specs.declared.events.Answer.TheVariants.{Ok, Again, Invalid, NoData, Interrupted, Fired, Idle, Unused}
+use Rattle.key_names.specs.declared.events.Answer.TheVariants.{Ok, Again, Invalid, NoData, Interrupted, Fired, Idle}
+use Rattle.key_names.specs.declared.events.Answer.TheVariants.{Unused}
 use Rattle.key_names.specs.declared.events.Word.{Word}
 use Rattle.key_names.specs.declared.events.Word.TheVariants.{Bits}
 use Rattle.key_names.specs.declared.names.LaneId.{LaneId}

@@ -1,5 +1,6 @@
 -- Which bytes of which key were put to use, and when no byte was used twice.
-use Rattle.std.specs.Prelude.{ℕ, ◌+◌, ◌*◌, ◌≡◌, ◌≤◌, ◌<◌, ◌⊎◌, Bool, true, false, ◌&&◌, ◌==◌, ⊤, Option, Some, None, List, [], ◌∷◌, ◌++◌, length, nat_lt, if◌then◌else◌}
+use Rattle.std.specs.Prelude.{ℕ, ◌+◌, ◌*◌, ◌≡◌, ◌≤◌, ◌<◌, ◌⊎◌, Bool, true, false, ◌&&◌, ◌==◌, ⊤, Option, Some, None}
+use Rattle.std.specs.Prelude.{List, [], ◌∷◌, ◌++◌, length, nat_lt, if◌then◌else◌}
 use Rattle.std.specs.List.{list_any, flat_map, range_with_len}
 use Rattle.key_names.specs.declared.names.LaneId.TheVariants.{Base as BaseLane, Cpu as CpuLane}
 use Rattle.key_names.specs.declared.names.KeyName.{KeyName}
@@ -8,7 +9,9 @@ use Rattle.key_names.specs.declared.names.Span.{Span}
 use Rattle.key_names.specs.declared.entries.Taken.{Taken}
 use Rattle.key_names.specs.declared.entries.Taken.TheVariants.{User, Kernel}
 use Rattle.key_names.specs.declared.entries.BaseEntry.{BaseEntry}
-use Rattle.key_names.specs.declared.entries.BaseEntry.TheVariants.{Draw, Refill as BaseRefill}
+use Rattle.key_names.specs.declared.entries.BaseEntry.TheVariants.{Early, Reseed, Tick, Draw, Refill as BaseRefill}
+use Rattle.key_names.specs.declared.entries.BaseEntry.TheVariants.{Fork, End, Wait, Resume}
+use Rattle.key_names.specs.declared.entries.BaseEntry.TheVariants.{Interrupt, Stall, Unstall}
 use Rattle.key_names.specs.declared.entries.CpuEntry.{CpuEntry}
 use Rattle.key_names.specs.declared.entries.CpuEntry.TheVariants.{Read, Int, Irq, Dump, Prepare, Online}
 use Rattle.key_names.specs.declared.entries.VEntry.{VEntry}
@@ -55,7 +58,16 @@ base_uses_at s (Draw root taken) =
     named_uses (base_key_in_use (Draw root taken) s.key) (λ key. read_uses false key (Call BaseLane s.place) taken)
 base_uses_at s (BaseRefill cpu cpu_place) =
     named_uses s.key (λ key. use_of kept key 0 32 ∷ use_of kept key 32 32 ∷ [])
-base_uses_at s _ = []
+base_uses_at s (Early root) = []
+base_uses_at s (Reseed root now) = []
+base_uses_at s (Tick now root) = []
+base_uses_at s (Fork child) = []
+base_uses_at s End = []
+base_uses_at s Wait = []
+base_uses_at s Resume = []
+base_uses_at s Interrupt = []
+base_uses_at s Stall = []
+base_uses_at s Unstall = []
 
 -- the next integer of a batch
 abbrev pub batch_uses : ℕ → Option Fill → List Use

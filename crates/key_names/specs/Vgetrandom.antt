@@ -1,6 +1,7 @@
 -- A call of vgetrandom, for any host: which steps of the host lead to which state, ending and entries. The relation is
 -- told from each point of a call to its end, so that it can also be begun at a point.
-use Rattle.std.specs.Prelude.{ℕ, ◌≡◌, Bool, true, false, ◌==◌, MatchBool, Option, Some, None, List, [], ◌∷◌, ◌++◌, if◌then◌else◌}
+use Rattle.std.specs.Prelude.{ℕ, ◌≡◌, Bool, true, false, ◌==◌, MatchBool, Option, Some, None, List, [], ◌∷◌, ◌++◌}
+use Rattle.std.specs.Prelude.{if◌then◌else◌}
 use Rattle.key_names.specs.declared.entries.VEntry.{VEntry}
 use Rattle.key_names.specs.declared.entries.VEntry.TheVariants.{Rekey, Wipe}
 use Rattle.key_names.specs.declared.errno.Errno.{Errno}

@@ -1,13 +1,17 @@
 -- How a call of vgetrandom shows in the steps of a vread's line and of the lines of the acts inside it: the host of the
 -- call is the caller itself, over the lanes.
-use Rattle.std.specs.Prelude.{ℕ, zero, suc, ◌≡◌, ◌≤◌, Bool, true, false, ◌&&◌, ◌==◌, ⊤, Option, Some, None, List, [], ◌∷◌, ◌++◌, if◌then◌else◌}
+use Rattle.std.specs.Prelude.{ℕ, zero, suc, ◌≡◌, ◌≤◌, Bool, true, false, ◌&&◌, ◌==◌, ⊤, Option, Some, None, List, []}
+use Rattle.std.specs.Prelude.{◌∷◌, ◌++◌, if◌then◌else◌}
 use Rattle.std.specs.List.{list_any, AllByRecursion}
 use Rattle.key_names.specs.declared.events.InsideAct.{InsideAct}
-use Rattle.key_names.specs.declared.events.InsideAct.TheVariants.{Wipe as WipeAct, Vread as VreadAct, Reseed as ReseedAct}
+use Rattle.key_names.specs.declared.events.InsideAct.TheVariants.{Wipe as WipeAct, Vread as VreadAct}
+use Rattle.key_names.specs.declared.events.InsideAct.TheVariants.{Reseed as ReseedAct}
 use Rattle.key_names.specs.declared.events.Answer.{Answer}
-use Rattle.key_names.specs.declared.events.Answer.TheVariants.{Ok as Done, Again, Invalid, NoData, Interrupted, Fired, Idle, Unused}
+use Rattle.key_names.specs.declared.events.Answer.TheVariants.{Ok as Done, Again, Invalid, NoData, Interrupted, Fired}
+use Rattle.key_names.specs.declared.events.Answer.TheVariants.{Idle, Unused}
 use Rattle.key_names.specs.declared.errno.Errno.{Errno}
-use Rattle.key_names.specs.declared.errno.Errno.TheVariants.{Again as EAGAIN, Invalid as EINVAL, NoData as ENODATA, Interrupted as EINTR}
+use Rattle.key_names.specs.declared.errno.Errno.TheVariants.{Again as EAGAIN, Invalid as EINVAL, NoData as ENODATA}
+use Rattle.key_names.specs.declared.errno.Errno.TheVariants.{Interrupted as EINTR}
 use Rattle.key_names.specs.declared.point.Point.{Point}
 use Rattle.key_names.specs.declared.point.Point.TheVariants.{Start, Written, Serve, End}
 use Rattle.key_names.specs.Calls.{Setting, BoundAct}
@@ -15,7 +19,8 @@ use Rattle.key_names.specs.Deeds.{Deed, looked, at_pool, at_base, at_cpu, nothin
 use Rattle.key_names.specs.Forms.{SysForm, Looked}
 use Rattle.key_names.specs.SeenLine.{Shown, no_data, bytes_or_none}
 use Rattle.key_names.specs.Answers.{system_answer, served_bytes}
-use Rattle.key_names.specs.Vgetrandom.{CpuPlace, SystemAnswer, read, failed, HostStep, publishes, system_call, at_point, Ending, no_bytes, by_batch, by_system}
+use Rattle.key_names.specs.Vgetrandom.{CpuPlace, SystemAnswer, read, failed, HostStep, publishes, system_call, at_point}
+use Rattle.key_names.specs.Vgetrandom.{Ending, no_bytes, by_batch, by_system}
 
 -- the generation that a look publishes: 0 where the core is not ready, and otherwise one more than the look found
 abbrev pub published_by : ℕ → ℕ

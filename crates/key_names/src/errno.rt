@@ -3,7 +3,7 @@
 /// Why a system call failed, with the number that Linux gives it.
 #[derive(Clone, Copy, Debug, PartialEq, Eq)]
 pub enum Errno {
-    /// A signal came while the call waited.
+    /// The call waited, and no caller ran any more that could have made the core ready.
     Interrupted = 4,
     /// The core is not ready, and the caller does not want to wait.
     Again = 11,

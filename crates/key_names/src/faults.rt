@@ -13,7 +13,7 @@ pub enum FaultKind {
     BadHead,
     /// Line 2 is not `cpus N` with a number of CPUs that the version allows.
     BadCpus,
-    /// The word is unknown, or it has not this number of fields, or the line follows `end`.
+    /// The word, or the word of an act, is unknown, or it has not this number of fields, or the line follows `end`.
     UnknownWord,
     /// A number is misspelt or out of its range.
     BadNumber,

@@ -8,7 +8,7 @@ pub enum Data {
     None,
     /// The `len` bytes from `start` on among the bytes that are kept for the caller.
     Bytes { start: u64, len: u32 },
-    /// How many bits were credited.
+    /// How many bits the pool had before the visit that read them.
     Count(u32),
 }
 

@@ -1,8 +1,10 @@
 -- The lists of the first form are lawful, and its looks find what they must.
-use Rattle.std.proofs.Common.{ℕ, zero, suc, ◌+◌, ◌≡◌, ◌≤◌, List, [], ◌∷◌, take, refl, sym, ap, ◌∙◌, arith, None, Some}
-use Rattle.std.specs.Prelude.{map, option_and_then}
+use Rattle.std.proofs.Common.{ℕ, zero, suc, ◌+◌, ◌≡◌, ◌≤◌, List, [], ◌∷◌, ◌++◌, take, refl, sym, subst, ap, ◌∙◌, arith}
+use Rattle.std.proofs.Common.{None, Some}
+use Rattle.std.specs.Prelude.{option_and_then, max}
 use Rattle.std.specs.List.{AllByRecursion, fold}
-use Rattle.key_names.specs.declared.names.LaneId.TheVariants.{Base as BaseLane}
+use Rattle.std.proofs.lemmas.List.Sums.{fold-append}
+use Rattle.key_names.specs.declared.names.LaneId.TheVariants.{Pool as PoolLane, Base as BaseLane}
 use Rattle.key_names.specs.declared.entries.PoolEntry.{PoolEntry}
 use Rattle.key_names.specs.declared.entries.PoolEntry.TheVariants.{Mix, Extract}
 use Rattle.key_names.specs.declared.entries.BaseEntry.{BaseEntry}
@@ -10,10 +12,11 @@ use Rattle.key_names.specs.declared.entries.BaseEntry.TheVariants.{End}
 use Rattle.key_names.specs.declared.events.Event.{Event}
 use Rattle.key_names.specs.LawfulList.{LawfulFrom}
 use Rattle.key_names.specs.PoolList.{extraction_at, base_place_of}
-use Rattle.key_names.specs.BaseList.{BaseState, BaseMayCome, base_step, base_after, empty, root_of, root_at, refill_at, refill_of}
+use Rattle.key_names.specs.BaseList.{BaseState, BaseMayCome, base_step, base_after, empty, root_of, root_at, refill_at}
+use Rattle.key_names.specs.BaseList.{refill_of}
 use Rattle.key_names.specs.Book.{Book, Visit, entries_of, lists_of}
-use Rattle.key_names.specs.Deeds.{Deed, BaseVisit, PoolVisit, at_pool, at_base, deed_at, deed_of}
-use Rattle.key_names.specs.History.{LooksStand, calls_items}
+use Rattle.key_names.specs.Deeds.{Deed, BaseVisit, PoolVisit, looked, at_pool, at_base, deed_at, deeds_of}
+use Rattle.key_names.specs.History.{LooksStand, LookStands, seen, seen_after, calls_steps}
 use Rattle.rng_tool.specs.FirstForm.{IsFirst, Places, pool_visits, base_visits}
 use Rattle.rng_tool.proofs.Induction.{along}
 use Rattle.rng_tool.proofs.FirstMarks.{calls_made}
@@ -131,39 +134,55 @@ no_generation = along (λ n at es. (s : BaseState) → s.generation ≡ 0 → (i
     at_draw e es s none later step zero = none
     at_draw e es s none later step (suc i) = later (base_step s e) step i
 
+-- of the steps before it only what they showed counts
+looks_after : (reseeds : ℕ) (before others deeds : List Deed) → seen before ≡ seen others →
+    LooksStand reseeds others deeds → LooksStand reseeds before deeds
+looks_after reseeds before others [] same looks = tt
+looks_after reseeds before others (deed ∷ deeds) same looks = (
+  subst (λ n. LookStands reseeds n deed) (sym same) looks.0,
+  looks_after reseeds (before ++ deed ∷ []) (others ++ deed ∷ []) deeds
+      (fold-append seen_after 0 before (deed ∷ []) ∙ ap (λ n. seen_after n deed) same
+      ∙ sym (fold-append seen_after 0 others (deed ∷ []))) looks.1,
+)
+
 looks_pool : (reseeds : ℕ) (deed : Deed) (v : PoolVisit) (deeds : List Deed) → deed ≡ at_pool v →
-    LooksStand reseeds 0 deeds → LooksStand reseeds 0 (deed ∷ deeds)
-looks_pool reseeds deed v deeds is rest = rw is (tt, rest)
+    LooksStand reseeds [] deeds → LooksStand reseeds [] (deed ∷ deeds)
+looks_pool reseeds deed v deeds is rest = rw is (tt, looks_after reseeds (at_pool v ∷ []) [] deeds refl rest)
 
 looks_base : (reseeds : ℕ) (deed : Deed) (v : BaseVisit) (deeds : List Deed) → deed ≡ at_base v →
     v.after.generation ≡ 0 →
-    LooksStand reseeds 0 deeds → LooksStand reseeds 0 (deed ∷ deeds)
-looks_base reseeds deed v deeds is none rest = rw (is, none) (tt, rest)
+    LooksStand reseeds [] deeds → LooksStand reseeds [] (deed ∷ deeds)
+looks_base reseeds deed v deeds is none rest =
+    rw is (tt, looks_after reseeds (at_base v ∷ []) [] deeds (ap (λ n. max 0 n) none) rest)
+
+-- a look of 0, before which nothing was seen
+looks_nothing : (reseeds : ℕ) (deeds : List Deed) → LooksStand reseeds [] deeds →
+    LooksStand reseeds [] (looked 0 ∷ deeds)
+looks_nothing reseeds deeds rest =
+    ((omega arith, omega arith), looks_after reseeds (looked 0 ∷ []) [] deeds refl rest)
 
 -- what stands behind the steps from an event on
 abbrev pub deeds_from : Book → ℕ → Places → List Event → List Deed
-deeds_from book n at es = map (λ item. deed_of (lists_of book) item.step)
-    (calls_items (calls_made (entries_of book.pool) n at es))
+deeds_from book n at es = deeds_of (lists_of book) (calls_steps (calls_made (entries_of book.pool) n at es))
 
 -- each look finds 0, and nothing else was to be seen
 pub looks_stand : (book : Book) (reseeds : ℕ) →
     ((i : ℕ) → (base_after (take i (entries_of book.base))).generation ≡ 0) →
     (n : ℕ) (at : Places) (es : List Event) → AllByRecursion IsFirst es → Placed book.pool book.base n at es →
-    LooksStand reseeds 0 (deeds_from book n at es)
+    LooksStand reseeds [] (deeds_from book n at es)
 looks_stand book reseeds none =
-    along (λ n at es. Placed book.pool book.base n at es → LooksStand reseeds 0 (deeds_from book n at es)) (record {
+    along (λ n at es. Placed book.pool book.base n at es → LooksStand reseeds [] (deeds_from book n at es)) (record {
       ends = λ n at placed. looks_base reseeds _ _ []
           (base_deed (lists_of book) at.base _ (entry_at book.base at.base _ placed)) (none at.base) tt;
       writes = λ n at text es rest placed.
           looks_pool reseeds _ _ (deeds_from book (suc n) (record at { pool = suc at.pool }) es)
           (pool_deed (lists_of book) at.pool _ (entry_at book.pool at.pool _ placed.0)) (rest placed.1);
-      skips = λ n at es rest placed. ((omega arith, omega arith), rest placed);
+      skips = λ n at es rest placed. looks_nothing reseeds (deeds_from book (suc n) at es) (rest placed);
       reads = λ n at len es rest placed.
-          let more = deeds_from book (suc n) (record { pool = suc at.pool; base = suc at.base }) es in (
-            (omega arith, omega arith),
-            looks_pool reseeds _ _ (deed_at (lists_of book) BaseLane at.base ∷ more)
-                (pool_deed (lists_of book) at.pool _ (entry_at book.pool at.pool _ placed.0))
-                (looks_base reseeds _ _ more (base_deed (lists_of book) at.base _ (entry_at book.base at.base _ placed.1))
-                (none at.base) (rest placed.2)),
-          );
+          let more = deeds_from book (suc n) (record { pool = suc at.pool; base = suc at.base }) es in
+          let drawn = deed_at (lists_of book) BaseLane at.base ∷ more in
+          looks_nothing reseeds (deed_at (lists_of book) PoolLane at.pool ∷ drawn) (looks_pool reseeds _ _ drawn
+          (pool_deed (lists_of book) at.pool _ (entry_at book.pool at.pool _ placed.0))
+          (looks_base reseeds _ _ more (base_deed (lists_of book) at.base _ (entry_at book.base at.base _ placed.1))
+          (none at.base) (rest placed.2)));
     })

@@ -8,7 +8,7 @@ use Rattle.key_names.specs.declared.names.Mark.{Mark}
 use Rattle.key_names.specs.declared.events.Event.{Event}
 use Rattle.key_names.specs.declared.entries.PoolEntry.{PoolEntry}
 use Rattle.key_names.specs.Calls.{Call, calls_from, fork_point}
-use Rattle.key_names.specs.History.{calls_items, stamps_of}
+use Rattle.key_names.specs.History.{calls_steps, stamps_of}
 use Rattle.key_names.specs.IsTranscript.{LinesFit, line_marks, lane_marks, Rises}
 use Rattle.key_names.proofs.Each.{each_weaker}
 use Rattle.key_names.proofs.MarkLists.{InOrder}
@@ -109,9 +109,9 @@ rises k (x ∷ []) above = tt
 rises k (x ∷ y ∷ xs) above = (above.1.0, rises x (y ∷ xs) above.1)
 
 stamps_above : (pool : List PoolEntry) (n : ℕ) (at : Places) (es : List Event) → AllByRecursion IsFirst es →
-    (k : ℕ) → k < next_stamp at → RisesAbove k (stamps_of (calls_items (calls_made pool n at es)))
+    (k : ℕ) → k < next_stamp at → RisesAbove k (stamps_of (calls_steps (calls_made pool n at es)))
 stamps_above pool = along (λ n at es. (k : ℕ) → k < next_stamp at →
-    RisesAbove k (stamps_of (calls_items (calls_made pool n at es)))) (record {
+    RisesAbove k (stamps_of (calls_steps (calls_made pool n at es)))) (record {
       ends = λ n at k lt. (lt, tt);
       writes = λ n at text es rest k lt. (lt, rest (next_stamp at) (omega arith));
       skips = λ n at es rest. rest;
@@ -119,7 +119,7 @@ stamps_above pool = along (λ n at es. (k : ℕ) → k < next_stamp at →
     })
 
 pub stamps_rise : (pool : List PoolEntry) (n : ℕ) (at : Places) (es : List Event) → AllByRecursion IsFirst es →
-    Rises (stamps_of (calls_items (calls_made pool n at es)))
+    Rises (stamps_of (calls_steps (calls_made pool n at es)))
 stamps_rise pool n at es first = rises 0 _ (stamps_above pool n at es first 0 (omega arith))
 
 -- there is at least the last line

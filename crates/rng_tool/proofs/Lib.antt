@@ -6,4 +6,3 @@ pub mod FirstLawful
 pub mod FirstTranscript
 pub mod Going
 pub mod Inputs
-pub mod WorkedRuns

@@ -11,6 +11,7 @@ use Rattle.key_names.specs.SeenLine.{SeenLine}
 use Rattle.key_names.specs.ScriptGrammar.{Script}
 use Rattle.key_names.specs.TranscriptGrammar.{transcript_text}
 use Rattle.event_script.specs.FirstForm.{IsFirstScript, first_script}
+use Rattle.rng_tool.specs.Refusal.{refusal_of}
 use Rattle.rng_tool.specs.declared.status.Status.{Status}
 use Rattle.rng_tool.specs.declared.status.Status.TheVariants.{Done, No, Usage, ReadFault, WriteFault, Refused, NoMemory}
 
@@ -23,7 +24,7 @@ code_of WriteFault = 4
 code_of Refused = 5
 code_of NoMemory = 6
 
--- no run of these events is known but those of the first form
+-- the input is no script of one caller that only writes and reads, the one form of scripts that has a run so far
 abbrev pub HasNoRun : List ℕ → Type 0
 HasNoRun input = (events : List Event) → IsFirstScript events input → ⊥
 
@@ -36,14 +37,15 @@ pub record RunOf (script : Script) (output : List ℕ) : Type 0 where
   pub disjoint : IsDisjoint (lists_of book)
   pub written : output ≡ transcript_text lines
 
-abbrev pub refusal : List ℕ
-refusal = codes "refused 0 0\n"
+-- the input is not run, and the output tells why
+pub record IsRefusal (input output : List ℕ) : Type 0 where
+  pub no_run : HasNoRun input
+  pub line : output ≡ refusal_of input
 
 -- the output that an input calls for
 abbrev pub CallsFor : List ℕ → List ℕ → Type 0
 CallsFor input output =
-    ((events : List Event) × IsFirstScript events input × RunOf (first_script events) output)
-    ⊎ HasNoRun input × (output ≡ refusal)
+    ((events : List Event) × IsFirstScript events input × RunOf (first_script events) output) ⊎ IsRefusal input output
 
 -- the whole input was read, and the transcript was written
 pub record WasRun (left left_after held held_after : Option (List ℕ)) : Type 0 where
@@ -56,20 +58,22 @@ pub record WasRun (left left_after held held_after : Option (List ℕ)) : Type 0
   pub run : RunOf (first_script events) output
   pub written : Appends held held_after output
 
--- what was read has no run, and neither has all that was left; the line that says so was written
+-- the refusal of what was read was written; it is also that of all that was left
 pub record WasRefused (left left_after held held_after : Option (List ℕ)) : Type 0 where
   pub input : List ℕ
+  pub output : List ℕ
   pub read : Consumes left left_after input
-  pub no_run : HasNoRun input
-  pub none_of_all : IfSome left HasNoRun
-  pub written : Appends held held_after refusal
+  pub refusal : IsRefusal input output
+  pub of_all : IfSome left (λ all. IsRefusal all output)
+  pub written : Appends held held_after output
 
--- the sink failed, and holds a prefix of the output that the input calls for
+-- the sink failed, and holds a prefix of the output that what was read calls for; so does all that was left
 pub record WasCutShort (left left_after held held_after : Option (List ℕ)) : Type 0 where
   pub input : List ℕ
   pub output : List ℕ
   pub read : Consumes left left_after input
   pub output_is : CallsFor input output
+  pub of_all : IfSome left (λ all. CallsFor all output)
   pub written : AppendsPrefix held held_after output
 
 -- the one word of the command line

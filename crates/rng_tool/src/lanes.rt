@@ -9,7 +9,7 @@ ghost use Rattle.rng_tool.specs.FirstForm.{mark_step, next_stamp, no_places};
 ghost use Rattle.input_pool.specs.PoolStands.{PoolStands};
 ghost use Rattle.rng_tool.specs.Lanes.{places_of};
 
-use base_gen::user_read;
+use chacha_blocks::user_read;
 use input_pool::Pool;
 use key_names::{LaneId, Mark, Step, Trace};
 

@@ -3,6 +3,7 @@
 
 mod lanes;
 mod one_caller;
+mod refusal;
 mod run;
 mod status;
 #[cfg(test)]

@@ -10,8 +10,9 @@ ghost use Rattle.rng_tool.specs.FirstForm.{IsFirst, first_lines, first_pool};
 ghost use Rattle.rng_tool.specs.Running.{Goes, HasRoom, IsSmall};
 
 use crate::lanes::Lanes;
+use event_script::reads::{bytes_of, bytes_of_all};
 use io_edges::NoMemory;
-use key_names::{Answer, Data, Event, InsideAct, Line, Step, Trace, Word};
+use key_names::{Answer, Data, Event, Line, Step, Trace, Word};
 use std::alloc::Global;
 use transcript_text::CallerLines;
 
@@ -21,33 +22,6 @@ pub(crate) struct Run {
     pub(crate) lanes: Lanes,
     pub(crate) event: u32,
     pub(crate) lines: CallerLines,
-}
-
-// How many bytes an event reads.
-fn bytes_of(event: &Event) -> u32
-    ensures { result ≡ bytes_read event.now }
-{
-    match event {
-        Event::Read { len, .. } | Event::Vread { len, .. } | Event::Dread { len, .. } => *len,
-        Event::Kread { len } | Event::Uread { len } => *len,
-        Event::Inside {
-            act: InsideAct::Vread(len),
-            ..
-        } => *len,
-        _ => 0,
-    }
-}
-
-// How many bytes the events read.
-fn read_total(events: &[Event]) -> usize
-    requires { length events.now ≤ 65536 }
-    ensures { result ≡ sum_by bytes_read events.now }
-{
-    let mut sum = 0;
-    for event in events {
-        sum += bytes_of(event) as usize;
-    }
-    sum
 }
 
 // The most bytes that one of the events reads.
@@ -73,7 +47,7 @@ impl Run {
         Ok(Run {
             lanes: Lanes::start(),
             event: 0,
-            lines: CallerLines::with_room(alloc, events.len() + 1, read_total(events))?,
+            lines: CallerLines::with_room(alloc, events.len() + 1, bytes_of_all(events) as usize)?,
         })
     }
 

@@ -8,9 +8,11 @@ ghost use Rattle.io_edges.specs.Pieces.{AppendsPrefix};
 ghost use Rattle.key_names.specs.ScriptGrammar.{bytes_read};
 ghost use Rattle.key_names.specs.TranscriptGrammar.{transcript_text};
 ghost use Rattle.rng_tool.specs.FirstForm.{first_lines};
-ghost use Rattle.rng_tool.specs.Outcome.{IsRun, RunOf, WasCutShort, WasRefused, WasRun, refusal};
+ghost use Rattle.rng_tool.specs.Outcome.{IsRun, RunOf, WasCutShort, WasRefused, WasRun};
+ghost use Rattle.rng_tool.specs.Refusal.{refusal_of};
 
 use crate::one_caller::run_events;
+use crate::refusal::refusal_of;
 use crate::status::Status;
 use event_script::read_first_form;
 use io_edges::{Failed, NoMemory, ReadError, Sink, Source, put_all, read_to_limit};
@@ -43,13 +45,18 @@ fn transcript_of(alloc: Global, events: &[Event]) -> Result<Transcript, NoMemory
 }
 
 // The refusal of an input that has no run.
-fn refuse<K: Sink>(sink: &mut K) -> Status
-    ensures either { (result ≡ Status.Refused) ⊎ (result ≡ Status.WriteFault) }
-    ensures whole { result ≡ Status.Refused → Appends (K.held sink.old) (K.held sink.new) refusal }
+fn refuse<K: Sink>(alloc: Global, input: &[u8], sink: &mut K) -> Status
+    ensures either { (result ≡ Status.Refused) ⊎ (result ≡ Status.WriteFault) ⊎ (result ≡ Status.NoMemory) }
+    ensures whole { result ≡ Status.Refused → Appends (K.held sink.old) (K.held sink.new) (refusal_of input.now) }
     ensures cut { result ≡ Status.WriteFault → Rose (K.faults sink.old) (K.faults sink.new) }
-    ensures prefix { AppendsPrefix (K.held sink.old) (K.held sink.new) refusal }
+    ensures prefix { result ≡ Status.WriteFault
+        → AppendsPrefix (K.held sink.old) (K.held sink.new) (refusal_of input.now) }
+    ensures silent { result ≡ Status.NoMemory → Keeps (K.held sink.old) (K.held sink.new) }
 {
-    match put_all(sink, b"refused 0 0\n") {
+    let Ok(line) = refusal_of(alloc, input) else {
+        return Status::NoMemory;
+    };
+    match put_all(sink, line.as_bytes()) {
         Ok(()) => Status::Refused,
         Err(Failed) => Status::WriteFault,
     }
@@ -80,12 +87,12 @@ fn run_script<K: Sink>(alloc: Global, events: &[Event], sink: &mut K) -> Status
 /// Runs a command.
 ///
 /// The one form of the words is `run`. The input, read to its end, is a script of version 1 with one CPU and one
-/// caller, whose events are `write` and `read N 4`; the output is its transcript. Any other input is answered by the
-/// line `refused 0 0`.
+/// caller, whose events are `write` and `read N 4`; the output is its transcript. An input that is no script is
+/// answered by the line `refused LINE KIND`, its first fault, and any other script by `refused 0 0`.
 ///
 /// - `Usage`: exactly where the words are not the one word `run`. Nothing is read or written.
 /// - `ReadFault`: the source failed. Nothing is written.
-/// - `Refused`: the input is no such script, and the line was written.
+/// - `Refused`: the input is no such script, and the line that says why was written.
 /// - `WriteFault`: the sink failed. What it got in this call is a prefix of the output.
 /// - `NoMemory`: there was no memory, before anything was written.
 /// - `Done`: the input was read to its end, and the transcript was written.
@@ -119,7 +126,7 @@ pub fn run<S: Source, K: Sink>(
     };
     match read_first_form(alloc, &input) {
         Ok(Some(events)) => run_script(alloc, &events, sink),
-        Ok(None) => refuse(sink),
+        Ok(None) => refuse(alloc, &input, sink),
         Err(_) => Status::NoMemory,
     }
 }

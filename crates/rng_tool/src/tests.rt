@@ -28,8 +28,6 @@ const LONG_TRANSCRIPT: &[u8] = b"rngtranscript 1\n\
     0.3 end ok b:1@4 -\n\
     end\n";
 
-const REFUSAL: &[u8] = b"refused 0 0\n";
-
 // More than any output here.
 const ROOM: usize = 1000;
 
@@ -96,24 +94,51 @@ fn transcripts_of_the_worked_cases(rt: HostRuntime) -> Result<(), Fail> {
 }
 
 #[test]
-fn other_scripts_are_refused(rt: HostRuntime) -> Result<(), Fail> {
+fn faults_are_told(rt: HostRuntime) -> Result<(), Fail> {
     let alloc = rt.alloc();
-    let scripts: [&[u8]; 10] = [
-        b"",
-        b"rngscript 1\ncpus 1\ncaller 0\nwrite 616263\nread 16 4\nend",
+    let rows: [(&[u8], &[u8]); 8] = [
+        (b"", b"refused 1 12\n"),
+        (b"rngscript 4\n", b"refused 1 3\n"),
+        (b"rngscript 1\ncpus 0\n", b"refused 2 4\n"),
+        (b"rngscript 1\ncpus 1\nbits\n", b"refused 3 8\n"),
+        (
+            b"rngscript 1\ncpus 1\ncaller 0\nread 8\nend\n",
+            b"refused 4 5\n",
+        ),
+        (
+            b"rngscript 1\ncpus 1\ncaller 0\nwrite abc\nend\n",
+            b"refused 4 7\n",
+        ),
+        (
+            b"rngscript 1\ncpus 1\ncaller 0\nfork 1\nfork 1\nend\n",
+            b"refused 5 9\n",
+        ),
+        (
+            b"rngscript 1\ncpus 1\ncaller 0\nwrite 616263\nread 16 4\nend",
+            b"refused 6 12\n",
+        ),
+    ];
+    for (row, (script, refusal)) in rows.iter().enumerate() {
+        let (status, _, sink) = run_over(&rt, alloc, &["run"], script, WHOLE)?;
+        assert_eq!(rt; status, Status::Refused, "row {row}");
+        assert_eq!(rt; sink.held(), *refusal, "row {row}");
+    }
+    Ok(())
+}
+
+#[test]
+fn scripts_of_other_forms_have_no_fault(rt: HostRuntime) -> Result<(), Fail> {
+    let alloc = rt.alloc();
+    let scripts: [&[u8]; 4] = [
         b"rngscript 1\ncpus 1\ncaller 0\nread 16 0\nend\n",
-        b"rngscript 1\ncpus 1\ncaller 0\nwrite AB\nend\n",
         b"rngscript 1\ncpus 1\ncaller 0\nfork 1\ncaller 1\nend\n",
         b"rngscript 1\ncpus 2\ncaller 0\nend\n",
         b"rngscript 2\ncpus 1\ncaller 0\nend\n",
-        b"rngscript 1\ncpus 1\ncaller 0\n# a comment\nend\n",
-        b"rngscript 1\ncpus 1\ncaller 0\nread 1048577 4\nend\n",
-        b"rngscript 1\ncpus 1\ncaller 0\nend\nend\n",
     ];
     for (row, script) in scripts.iter().enumerate() {
         let (status, _, sink) = run_over(&rt, alloc, &["run"], script, WHOLE)?;
         assert_eq!(rt; status, Status::Refused, "row {row}");
-        assert_eq!(rt; sink.held(), REFUSAL, "row {row}");
+        assert_eq!(rt; sink.held(), b"refused 0 0\n".as_slice(), "row {row}");
     }
     Ok(())
 }

@@ -11,7 +11,7 @@ use Rattle.key_names.specs.SeenLine.{Shown, no_data, bytes, count, bytes_or_none
 use Rattle.key_names.specs.ScriptFaults.{bytes_of}
 use Rattle.key_names.specs.Spelling.{hex}
 use Rattle.key_names.specs.TranscriptGrammar.{shown_text, ShownFits}
-use Rattle.key_names.proofs.HexFields.{AllLower, bytes_takes, bytes_again, bytes_none}
+use Rattle.key_names.proofs.HexFields.{bytes_takes, bytes_again}
 
 pub shown_text-bytes : (shown : List ℕ) → shown_text (bytes_or_none shown) ≡ hex shown
 unfolding shown_text
@@ -58,11 +58,3 @@ unfolding shown_text
 reads_no_count word text is dash none no_data fits e = dash e
 reads_no_count word text is dash none (bytes shown) fits e = fits.0 is
 reads_no_count word text is dash none (count n) fits e = none n fits.1 e
-
--- ---- hexadecimal
-
-pub no_dash : (text : List ℕ) → (text ≡ codes "-" → ⊥) → bytes_eq text (hex []) ≡ false
-no_dash text not = false_from_ne_true _ (λ e. not ((bytes_eq-Decides text (hex [])).0 e))
-
-pub no_hex : (text : List ℕ) → (text ≡ codes "-" → ⊥) → (0 < length text → AllLower text → ⊥) → bytes_of text ≡ None
-no_hex text dash not = bytes_none text (no_dash text dash) (λ found some lower e. not some lower)

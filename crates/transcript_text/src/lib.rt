@@ -9,6 +9,8 @@ mod gathering;
 mod head;
 pub mod laws;
 mod line;
+#[cfg(test)]
+mod long_texts;
 mod names;
 mod piece;
 mod reading;

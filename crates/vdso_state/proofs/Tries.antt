@@ -8,7 +8,7 @@ use Rattle.key_names.specs.declared.point.Point.{Point}
 use Rattle.key_names.specs.declared.point.Point.TheVariants.{Start, Written, Serve, End}
 use Rattle.key_names.specs.VgetrandomState.{VgetrandomState, state_left}
 use Rattle.key_names.specs.BatchCopy.{copy_bytes, state_after_copy, block_after_copy}
-use Rattle.key_names.specs.Vgetrandom.{SystemAnswer, read, failed, HostStep, publishes, system_call, at_point, Attempt, AttemptEnd, holds, outdated, not_keyed, attempt_behind, wipe_entry, rekey_entry, AtPoint, FromServe, FromWritten, FromStart, IsAttempt}
+use Rattle.key_names.specs.Vgetrandom.{SystemAnswer, read, failed, HostStep, publishes, system_call, at_point, Attempt, holds, outdated, not_keyed, attempt_behind, wipe_entry, rekey_entry, AtPoint, FromServe, FromWritten, FromStart, IsAttempt}
 use Rattle.key_names.proofs.Attempts.{match_true, match_false, served_attempt, from_serve}
 use Rattle.vdso_state.specs.declared.attempt.Ended.{Ended}
 use Rattle.vdso_state.specs.declared.attempt.Ended.TheVariants.{Holds, Outdated, NotKeyed}

@@ -6,16 +6,15 @@ ghost use Rattle.key_names.specs.VgetrandomState.{VgetrandomState, wiped_state};
 ghost use Rattle.key_names.specs.BatchCopy.{bytes_left, copy_bytes, state_after_copy, block_after_copy};
 ghost use Rattle.key_names.specs.BatchCopy.{state_of_same_batch, state_of_new_batch};
 
-use chacha_blocks::Reader;
+use chacha_blocks::fill;
 use std::marker::Model;
 
 /// Bytes of a batch: three halves of a block of the keystream, so that a batch and the next key take two blocks.
 const BATCH_BYTES: usize = 96;
 
-const BLOCK_BYTES: usize = 64;
+const KEY_BYTES: usize = 32;
 
-/// Words of 4 bytes of a block.
-const BLOCK_WORDS: u64 = 16;
+const BLOCK_BYTES: usize = 64;
 
 /// A vgetrandom state. The bytes of the batch before `pos` were served and are 0.
 #[derive(Drop)]
@@ -143,13 +142,15 @@ impl VState {
     {
         let whole = out.len() / BLOCK_BYTES;
         let (blocks, front) = out.split_at_mut(whole * BLOCK_BYTES);
-        let mut reader = Reader::at(&self.key, next_block * BLOCK_WORDS);
-        reader.read(blocks);
-        reader.read(&mut self.batch);
-        reader.read(&mut self.key);
+        let behind = next_block + whole as u64;
+        fill(&self.key, BLOCK_BYTES as u64 * next_block, blocks);
+        let mut made = [0; BATCH_BYTES + KEY_BYTES];
+        fill(&self.key, BLOCK_BYTES as u64 * behind, &mut made);
+        self.batch.copy_from_slice(&made[..BATCH_BYTES]);
+        self.key.copy_from_slice(&made[BATCH_BYTES..]);
         self.pos = 0;
         self.copy_from_batch(front);
-        next_block + whole as u64 + 2
+        behind + 2
     }
 
     /// Copies bytes over all of `out`, those left in the batch first. The key's next block is `next_block`; answers the

@@ -1,7 +1,0 @@
-use Rattle.std.proofs.Common.{take}
-use Rattle.std.specs.Prelude.{MatchBool}
-use Rattle.key_names.proofs.HexFields.{AllLower}
-use Rattle.event_script.proofs.hexes.is_lower_hex.Given as goal
-
-abbrev pub invariant-loop-byte : goal.invariant-loop-byte
-invariant-loop-byte l = MatchBool l.bad (AllLower l.fn.field → ⊥) (AllLower (take l.byte-index l.field))

@@ -1,0 +1,48 @@
+//! Fields of events: bytes, lengths, flags, and bits of credit.
+
+ghost use Rattle.std.specs.Prelude.{◌≡◌, ◌^◌};
+ghost use Rattle.event_script.specs.Views.{Gives, Tells};
+ghost use Rattle.key_names.specs.ScriptFaults.{bytes, number};
+
+use crate::error::LineError;
+use crate::hexes::bytes;
+use crate::numbers::number;
+use key_names::{FaultKind, Text};
+use std::alloc::Global;
+
+/// The most bytes of one read.
+const MOST_LEN: u64 = 1_048_576;
+
+const MOST_FLAGS: u64 = (1 << 32) - 1;
+
+/// The most bits that a line credits.
+const MOST_BITS: u64 = (1 << 31) - 1;
+
+pub(crate) fn text(alloc: Global, field: &[u8]) -> Result<Text, LineError>
+    ensures { Gives (λ text. text) result (bytes field.now) }
+{
+    let bytes = bytes(alloc, field)?;
+    Ok(Text::of(bytes))
+}
+
+/// The number of bytes of a read.
+pub(crate) fn read_len(field: &[u8]) -> Result<u32, FaultKind>
+    ensures { Tells (λ len. len) result (number 1048577 field.now) }
+{
+    let len = number(MOST_LEN, field)?;
+    Ok(len as u32)
+}
+
+pub(crate) fn read_flags(field: &[u8]) -> Result<u32, FaultKind>
+    ensures { Tells (λ flags. flags) result (number (2 ^ 32) field.now) }
+{
+    let flags = number(MOST_FLAGS, field)?;
+    Ok(flags as u32)
+}
+
+pub(crate) fn bits(field: &[u8]) -> Result<u32, FaultKind>
+    ensures { Tells (λ bits. bits) result (number (2 ^ 31) field.now) }
+{
+    let bits = number(MOST_BITS, field)?;
+    Ok(bits as u32)
+}

@@ -1,0 +1,5 @@
+use Rattle.key_names.proofs.UniqueBook as books
+use Rattle.key_names.proofs.laws.first_fail_is_unique.Goals as goal
+
+pub returns : goal.returns
+returns c = books.first_fail_is_unique

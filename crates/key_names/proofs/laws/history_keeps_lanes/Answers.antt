@@ -1,0 +1,5 @@
+use Rattle.key_names.proofs.HistoryLanes as histories
+use Rattle.key_names.proofs.laws.history_keeps_lanes.Goals as goal
+
+pub returns : goal.returns
+returns c = histories.history_keeps_lanes

@@ -1,0 +1,28 @@
+//! Entries of the pool's list whose bytes stay with the caller.
+
+/// An entry of the pool's list by reference: what a caller hands over when it has visited the pool. `specs/PoolNotes`
+/// says which entry each is.
+#[derive(Clone, Copy)]
+pub enum PoolNote<'a> {
+    Mix {
+        text: &'a [u8],
+        bits: u32,
+    },
+    /// A sample of a device: a word, low byte first, and a text, with no bits (`add_device_randomness`).
+    Device {
+        word: u64,
+        text: &'a [u8],
+    },
+    Input {
+        word: u64,
+        kind: u16,
+        code: u16,
+        value: u8,
+        now: u64,
+    },
+    Bits,
+    Extract {
+        hw: [u8; 32],
+        base_place: u64,
+    },
+}

@@ -1,0 +1,5 @@
+use Rattle.lane_table.proofs.BookAnswers.{lawful_lanes}
+use Rattle.lane_table.proofs.laws.answered_is_lawful.Goals as goal
+
+pub returns : goal.returns
+returns c = lawful_lanes

@@ -1,0 +1,98 @@
+-- What the lanes' lists of visits are in the words of the book: lawful, with values that are those of the entries.
+use Rattle.std.specs.Prelude.{◌≡◌, ℕ, ◌+◌, ◌*◌, ◌<◌, ◌≤◌, IsTrue, Option, Some, None, List, take, replicate, slice_get}
+use Rattle.std.specs.List.{fold}
+use Rattle.key_names.specs.declared.entries.BaseEntry.{BaseEntry}
+use Rattle.key_names.specs.declared.entries.Taken.{Taken}
+use Rattle.key_names.specs.declared.entries.CpuEntry.{CpuEntry}
+use Rattle.key_names.specs.declared.entries.CpuEntry.TheVariants.{Read}
+use Rattle.key_names.specs.PoolList.{pool_after, root_value}
+use Rattle.key_names.specs.BaseList.{base_erases, generation_at, refill_of}
+use Rattle.key_names.specs.Batches.{Fill}
+use Rattle.key_names.specs.CpuList.{cpu_after}
+use Rattle.key_names.specs.FastPool.{fast_after}
+use Rattle.key_names.specs.KeyInUse.{base_call_value, cpu_call_value, cpu_used_at}
+use Rattle.key_names.specs.LiveMaterial.{cpu_bytes_start, cpu_bytes_step}
+use Rattle.key_names.specs.Book.{Lists, cpu_list, ForwardLawful, HalfFinishedLanes, LawfulLanes}
+use Rattle.base_gen.specs.BaseValue as base
+use Rattle.cpu_gen.specs.CpuValue as cpu
+use Rattle.int_batch.specs.BatchValue.{BatchValue, IsBatchOf}
+use Rattle.lane_table.specs.declared.view.LaneEntry.TheVariants.{Base as BaseVisited, Cpu as CpuVisited}
+use Rattle.lane_table.specs.declared.view.Visit.{Visit}
+use Rattle.lane_table.specs.Meaning.{CpuModel, batch_at, replay}
+use Rattle.lane_table.specs.References.{Closed, LawfulLists, AllAnswered, AllHalfAnswered}
+use Rattle.lane_table.specs.BookLists.{StateLists, book_lists}
+
+-- the lists of some lanes, a pool and a base among them, are each lawful, and their references backwards agree
+pub record ClosedLanes (lanes : ℕ) (visits : ℕ → List Visit) : Type 0 where
+  pub low : 2 ≤ lanes
+  pub closed : Closed lanes visits
+  pub lawful : LawfulLists lanes visits
+
+-- such lists are lawful so far as each lane looks backwards
+abbrev pub ClosedIsForwardLawful : Type 0
+ClosedIsForwardLawful = (lanes : ℕ) (visits : ℕ → List Visit) (callers : StateLists) →
+    ClosedLanes lanes visits →
+    ForwardLawful (book_lists lanes visits callers)
+
+-- where references forwards are answered, or name a place that is not yet in its list, they are half finished
+abbrev pub HalfAnsweredIsHalfFinished : Type 0
+HalfAnsweredIsHalfFinished = (lanes : ℕ) (visits : ℕ → List Visit) (callers : StateLists) →
+    ClosedLanes lanes visits → AllHalfAnswered lanes visits →
+    HalfFinishedLanes (book_lists lanes visits callers)
+
+-- where each is answered, they are lawful
+abbrev pub AnsweredIsLawful : Type 0
+AnsweredIsLawful = (lanes : ℕ) (visits : ℕ → List Visit) (callers : StateLists) →
+    ClosedLanes lanes visits → AllAnswered lanes visits →
+    LawfulLanes (book_lists lanes visits callers)
+
+-- what a lane keeps of a batch's last fill: not its key, and not its place
+abbrev pub bare : Option Fill → Option Fill
+bare None = None
+bare (Some fill) = Some (record { key = None; place = 0; count = fill.count; look = fill.look })
+
+-- a batch after a fill of CPU c: what was served is 0, and the rest is of the keystream of the key in use at the fill
+pub record BatchReplays (lists : Lists) (c width : ℕ) (fill : Fill) (b : BatchValue) : Type 0 where
+  pub served : take (width * fill.count) b.bytes ≡ replicate (width * fill.count) 0
+  pub rest : IsBatchOf width (cpu_used_at lists c fill.place) fill b
+
+-- a CPU's model is what these entries of its list mean
+pub record CpuReplays (lists : Lists) (c : ℕ) (es : List CpuEntry) (m : CpuModel) : Type 0 where
+  pub cpu : m.cpu ≡ cpu.after_entries lists c es
+  pub fast : m.fast ≡ fast_after es
+  pub fills : (width : ℕ) → m.fills width ≡ bare ((cpu_after lists.base c es).fills width)
+  pub bytes : (width : ℕ) → m.bytes width ≡ (fold (cpu_bytes_step lists c) cpu_bytes_start es).batch width
+  pub unfilled : (width : ℕ) → (cpu_after lists.base c es).fills width ≡ None → m.bytes width ≡ replicate 96 0
+  pub batches : (width : ℕ) (fill : Fill) → 1 ≤ width → width ≤ 96 →
+      (cpu_after lists.base c es).fills width ≡ Some fill →
+      BatchReplays lists c width fill (batch_at width m)
+
+-- each lane's model is what its list of entries means
+pub record LanesReplay (lanes : ℕ) (visits : ℕ → List Visit) (lists : Lists) : Type 0 where
+  pub pool : (replay (visits 0)).pool ≡ pool_after lists.pool
+  pub base : (replay (visits 1)).base ≡ base.after_entries lists.pool lists.base
+  pub cpus : (c : ℕ) → c + 2 < lanes → CpuReplays lists c (cpu_list lists c) (replay (visits (c + 2))).cpu
+
+-- what visits hand on is the value of the name that their places have
+pub record VisitsGive (lanes : ℕ) (visits : ℕ → List Visit) (lists : Lists) : Type 0 where
+  pub roots : (place : ℕ) (x : Visit) → slice_get (visits 0) place ≡ Some x → x.gave.key ≡ root_value lists.pool place
+  pub base_keys : (place : ℕ) (x : Visit) (e : BaseEntry) → slice_get (visits 1) place ≡ Some x →
+      x.entry ≡ BaseVisited e → IsTrue (base_erases e) →
+      x.gave.key ≡ base_call_value lists place
+  pub generations : (place : ℕ) (x : Visit) (e : BaseEntry) (named : ℕ × ℕ) → slice_get (visits 1) place ≡ Some x →
+      x.entry ≡ BaseVisited e → refill_of e ≡ Some named →
+      x.gave.generation ≡ generation_at lists.base place
+  pub cpu_keys : (c place look : ℕ) (refill : Option ℕ) (taken : Taken) (x : Visit) → c + 2 < lanes →
+      slice_get (visits (c + 2)) place ≡ Some x → x.entry ≡ CpuVisited (Read look refill taken) →
+      x.gave.key ≡ cpu_call_value lists c place
+
+-- such lanes have the values that the book tells, and hand on what it tells
+abbrev pub ClosedReplays : Type 0
+ClosedReplays = (lanes : ℕ) (visits : ℕ → List Visit) (callers : StateLists) →
+    ClosedLanes lanes visits →
+    LanesReplay lanes visits (book_lists lanes visits callers)
+
+abbrev pub ClosedGives : Type 0
+ClosedGives = (lanes : ℕ) (visits : ℕ → List Visit) (callers : StateLists) →
+    ClosedLanes lanes visits →
+    VisitsGive lanes visits (book_lists lanes visits callers)

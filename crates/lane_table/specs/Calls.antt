@@ -1,0 +1,268 @@
+-- What the calls ask, and what they tell, in the words of the layer above: what a pass knows of each lane before and
+-- after. Nobody who calls has to know the rule.
+use Rattle.std.specs.Prelude.{◌≡◌, ◌≢◌, ◌⊎◌, ℕ, ◌+◌, ◌^◌, ◌<◌, ◌≤◌, List, [], ◌∷◌, ◌++◌, length, Option, Some, None, slice_get}
+use Rattle.atomic_table.specs.Table.{rest}
+use Rattle.key_names.specs.declared.names.Who.{Who}
+use Rattle.lane_table.specs.declared.view.Visit.{Visit}
+use Rattle.lane_table.specs.declared.view.LaneEntry.{LaneEntry}
+use Rattle.lane_table.specs.declared.view.LaneView.{LaneView}
+use Rattle.lane_table.specs.declared.view.View.{View}
+use Rattle.lane_table.specs.declared.view.Plan.{Plan}
+use Rattle.lane_table.specs.declared.view.Content.{Content}
+use Rattle.lane_table.specs.declared.view.Stage.TheVariants.{Away, Holding}
+use Rattle.lane_table.specs.declared.lanes.Lanes.{Lanes}
+use Rattle.lane_table.specs.declared.lanes.Pass.{Pass}
+use Rattle.lane_table.specs.declared.lanes.Held.{Held}
+use Rattle.lane_table.specs.declared.lanes.TakeFault.{TakeFault}
+use Rattle.lane_table.specs.declared.lanes.TakeFault.TheVariants.{Spent, Busy}
+use Rattle.lane_table.specs.Meaning.{nothing, replay, made_of, ahead_of, IsOf, Fits, ValueStands}
+use Rattle.lane_table.specs.References.{LawfulLists, AllAnswered, Closed}
+use Rattle.lane_table.specs.WorldRule.{Replays, AllBegin, Rising, Consistent, last_stamp, times, once_below, at, known_of}
+use Rattle.lane_table.specs.Steps.{Seated, Grows, KeepsHeld, OwesNothing, MayName, handed, raising, visited}
+
+-- Tables and passes
+
+abbrev pub count_of : Lanes → ℕ
+count_of t = t.cpus + 2
+
+-- the table's first ticket and stamp
+abbrev pub first_of : Lanes → ℕ
+first_of t = t.table.shared.key.first
+
+abbrev pub view : Pass → View
+view p = p.seat.me.0
+
+-- the slots that are out with a pass, the one that was taken last in front
+abbrev pub slots : Pass → List (ℕ × Option Content)
+slots p = p.seat.me.1
+
+pub record IsPassOf (t : Lanes) (p : Pass) : Type 0 where
+  pub table : p.seat.table_id ≡ t.table.shared.table_id
+  pub share : 0 < (view p).share
+  pub stamp : p.stamp ≡ (view p).stamp
+  pub sized : length (view p).lanes ≡ count_of t
+  pub first : (view p).first ≡ first_of t
+
+abbrev pub plan_of : ℕ → ℕ → Plan
+plan_of count first = record { count = count; first = first }
+
+-- the pass is of this table as before, and of its caller
+pub record IsSamePass (t : Lanes) (p q : Pass) : Type 0 where
+  pub pass : IsPassOf t q
+  pub caller : q.caller ≡ p.caller
+
+-- the pass does not stand at the lane
+abbrev pub IsAway : ℕ → View → Type 0
+IsAway lane v = (at lane v).stage ≡ Away
+
+-- nor at any other
+abbrev pub IsIdle : View → Type 0
+IsIdle v = (lane : ℕ) → IsAway lane v
+
+-- What is held
+
+-- the value stands for the model of the lane's list as it is known, and its next place and last stamp are the list's
+pub record Stands (lane : ℕ) (h : Held) (v : View) : Type 0 where
+  pub value : ValueStands lane h.state (replay (known_of v lane))
+  pub place : h.turn.place ≡ length (known_of v lane)
+  pub stamp : h.turn.stamp ≡ last_stamp v.first (known_of v lane)
+
+-- this pass took the lane that is held, and none after it that it still holds
+pub record Holds (t : Lanes) (p : Pass) (h : Held) : Type 0 where
+  pub near : h.turn.lane < count_of t
+  pub stage : (at h.turn.lane (view p)).stage ≡ Holding h.turn.ticket
+  pub last : slots p ≡ (h.turn.lane, None) ∷ rest (slots p)
+  pub place : h.turn.place ≡ length (known_of (view p) h.turn.lane)
+  pub stamp : h.turn.stamp ≡ last_stamp (view p).first (known_of (view p) h.turn.lane)
+
+-- the entry makes the held value of the value as taken, and may come at the held place
+pub record CanPut (t : Lanes) (p : Pass) (h : Held) (e : LaneEntry) : Type 0 where
+  pub holds : Holds t p h
+  pub kind : IsOf h.turn.lane e
+  pub makes : ValueStands h.turn.lane h.state
+      (made_of (replay (known_of (view p) h.turn.lane)) e (handed h.turn.lane e (view p)))
+  pub fits : Fits (replay (known_of (view p) h.turn.lane)) (handed h.turn.lane e (view p)) e
+  pub names : MayName h.turn.lane e (view p)
+
+-- the value is as taken, no half-finished reference names the place, and this hold has not raised the generation
+pub record CanLeave (t : Lanes) (p : Pass) (h : Held) : Type 0 where
+  pub holds : Holds t p h
+  pub value : ValueStands h.turn.lane h.state (replay (known_of (view p) h.turn.lane))
+  pub free : OwesNothing h.turn.lane (view p)
+
+-- What stays
+
+-- what no call but split and join changes
+pub record SameView (v w : View) : Type 0 where
+  pub first : w.first ≡ v.first
+  pub share : w.share ≡ v.share
+  pub halvings : w.halvings ≡ v.halvings
+  pub sized : length w.lanes ≡ length v.lanes
+
+-- what a pass did at a lane, and heard of it, is as before
+pub record Still (j : ℕ) (v w : View) : Type 0 where
+  pub made : (at j w).made ≡ (at j v).made
+  pub places : (at j w).places ≡ (at j v).places
+  pub heard : (at j w).heard ≡ (at j v).heard
+
+-- and so is how it stands there
+pub record Aside (j : ℕ) (v w : View) : Type 0 where
+  pub stage : (at j w).stage ≡ (at j v).stage
+  pub owed : (at j w).owes ≡ (at j v).owes
+  pub raise : (at j w).raised ≡ (at j v).raised
+  pub still : Still j v w
+
+-- the same, where an answer may be owed now
+pub record Beside (j : ℕ) (v w : View) : Type 0 where
+  pub known : known_of w j ≡ known_of v j
+  pub stage : (at j w).stage ≡ (at j v).stage
+  pub raise : (at j w).raised ≡ (at j v).raised
+  pub still : Still j v w
+
+-- What the calls tell
+
+-- the lane was taken
+pub record Taken (lane : ℕ) (h : Held) (m m' : Seated) : Type 0 where
+  pub of_lane : h.turn.lane ≡ lane
+  pub consistent : Consistent m'.0
+  pub same : SameView m.0 m'.0
+  pub stands : Stands lane h m'.0
+  pub holding : (at lane m'.0).stage ≡ Holding h.turn.ticket
+  pub free : OwesNothing lane m'.0
+  pub still : Still lane m.0 m'.0
+  pub keeps : KeepsHeld lane m.0 m'.0
+  pub aside : (j : ℕ) → j < length m.0.lanes → j ≢ lane → Aside j m.0 m'.0
+  pub grows : Grows m.0 m'.0
+  -- a base is as far as all that the pass has seen
+  pub fresh : lane ≡ 1 → m.0.seen ≤ (replay (known_of m'.0 1)).base.generation
+  pub early : lane ≡ 1 → (replay (known_of m'.0 1)).base.generation < 2 ^ 62
+  pub slots : m'.1 ≡ (lane, None) ∷ m.1
+  pub looks : m'.0.looks ≡ m.0.looks
+  pub seen : m'.0.seen ≡ m.0.seen
+  pub stamp : m'.0.stamp ≡ m.0.stamp
+  pub stamps : m'.0.stamps ≡ m.0.stamps
+  pub drawn : m'.0.drawn ≡ m.0.drawn + 1
+
+-- one of three numbers was found at 2^62 or above: the pass's stamp, the lane's ticket word, or, once the lane was got,
+-- its last stamp
+abbrev pub IsSpent : ℕ → Seated → Seated → Type 0
+IsSpent lane m m' = (2 ^ 62 ≤ m.0.stamp) ⊎ (2 ^ 62 ≤ (at lane m'.0).found)
+    ⊎ ((m'.0.drawn ≡ m.0.drawn + 1) × (2 ^ 62 ≤ last_stamp m'.0.first (known_of m'.0 lane)))
+
+-- none of the three was
+pub record Unspent (lane : ℕ) (m m' : Seated) : Type 0 where
+  pub stamp : m.0.stamp < 2 ^ 62
+  pub ticket : (at lane m'.0).found < 2 ^ 62
+  pub last : m'.0.drawn ≡ m.0.drawn + 1 → last_stamp m'.0.first (known_of m'.0 lane) < 2 ^ 62
+
+-- the exchange found another ticket than the serving number that was loaded, and drew none
+pub record IsBusy (lane serving ticket : ℕ) (m m' : Seated) : Type 0 where
+  pub unspent : Unspent lane m m'
+  pub above : serving < ticket
+  pub loaded : (at lane m'.0).loaded ≡ serving
+  pub found : (at lane m'.0).found ≡ ticket
+  pub drawn : m'.0.drawn ≡ m.0.drawn
+
+abbrev pub Refused : ℕ → Seated → Seated → TakeFault → Type 0
+Refused lane m m' Spent = IsSpent lane m m'
+Refused lane m m' (Busy serving ticket) = IsBusy lane serving ticket m m'
+
+-- the lane was not got: the pass stands nowhere else than before
+pub record Tried (lane : ℕ) (m m' : Seated) : Type 0 where
+  pub consistent : Consistent m.0 → Consistent m'.0
+  pub same : SameView m.0 m'.0
+  pub keeps : KeepsHeld lane m.0 m'.0
+  pub aside : (j : ℕ) → j < length m.0.lanes → Aside j m.0 m'.0
+  pub grows : Grows m.0 m'.0
+  pub slots : m'.1 ≡ m.1
+  pub looks : m'.0.looks ≡ m.0.looks
+  pub seen : m'.0.seen ≡ m.0.seen
+  pub stamp : m'.0.stamp ≡ m.0.stamp
+  pub stamps : m'.0.stamps ≡ m.0.stamps
+
+-- a visit as its maker tells it, before it is known what is handed to it
+abbrev pub visit_by : Who → ℕ → LaneEntry → Visit
+visit_by who stamp e = record { who = who; stamp = stamp; entry = e; got = nothing; gave = nothing }
+
+-- the visit was made
+pub record Added (lane : ℕ) (x : Visit) (m m' : Seated) : Type 0 where
+  pub consistent : Consistent m'.0
+  pub same : SameView m.0 m'.0
+  pub here : at lane m'.0 ≡ visited x (at lane m.0)
+  -- the lane ahead that the entry names owes the answer
+  pub ahead : (l b : ℕ) → ahead_of x.entry ≡ Some (l, b) → l < length m.0.lanes
+      → at l m'.0 ≡ record (at l m.0) { owes = Some (length (known_of m.0 lane)) }
+  pub others : (j : ℕ) → j ≢ lane → ((l b : ℕ) → ahead_of x.entry ≡ Some (l, b) → j ≢ l) → at j m'.0 ≡ at j m.0
+  pub beside : (j : ℕ) → j ≢ lane → Beside j m.0 m'.0
+  pub grows : Grows m.0 m'.0
+  pub slots : m'.1 ≡ rest m.1
+  pub looks : m'.0.looks ≡ m.0.looks
+  pub seen : m'.0.seen ≡ m.0.seen
+  pub later : m.0.stamp < x.stamp
+  pub stamp : m'.0.stamp ≡ x.stamp
+  pub stamps : m'.0.stamps ≡ m.0.stamps ++ x.stamp ∷ []
+  pub drawn : m'.0.drawn ≡ m.0.drawn
+
+-- the lane was given back without a visit
+pub record Left (lane : ℕ) (m m' : Seated) : Type 0 where
+  pub consistent : Consistent m.0 → Consistent m'.0
+  pub same : SameView m.0 m'.0
+  pub stage : (at lane m'.0).stage ≡ Away
+  pub known : known_of m'.0 lane ≡ known_of m.0 lane
+  pub still : Still lane m.0 m'.0
+  pub others : (j : ℕ) → j ≢ lane → at j m'.0 ≡ at j m.0
+  pub grows : Grows m.0 m'.0
+  pub slots : m'.1 ≡ rest m.1
+  pub looks : m'.0.looks ≡ m.0.looks
+  pub seen : m'.0.seen ≡ m.0.seen
+  pub stamp : m'.0.stamp ≡ m.0.stamp
+  pub stamps : m'.0.stamps ≡ m.0.stamps
+  pub drawn : m'.0.drawn ≡ m.0.drawn
+
+-- a look: at least all that the pass has seen of the generation, in a look, in the base or in a CPU
+pub record Looked (g : ℕ) (m m' : Seated) : Type 0 where
+  pub consistent : Consistent m'.0
+  pub same : SameView m.0 m'.0
+  pub lanes : m'.0.lanes ≡ m.0.lanes
+  pub looks : m'.0.looks ≡ m.0.looks ++ g ∷ []
+  pub seen : m'.0.seen ≡ g
+  pub not_less : m.0.seen ≤ g
+  pub base : (replay (known_of m.0 1)).base.generation ≤ g
+  pub cpus : (i : ℕ) → 2 ≤ i → i < length m.0.lanes → (replay (known_of m.0 i)).cpu.cpu.generation ≤ g
+  pub small : g < 2 ^ 63
+  pub slots : m'.1 ≡ m.1
+  pub stamp : m'.0.stamp ≡ m.0.stamp
+  pub stamps : m'.0.stamps ≡ m.0.stamps
+  pub drawn : m'.0.drawn ≡ m.0.drawn
+
+-- the generation that this hold of the base makes was stored
+pub record Raised (g : ℕ) (m m' : Seated) : Type 0 where
+  pub consistent : Consistent m'.0
+  pub same : SameView m.0 m'.0
+  pub here : at 1 m'.0 ≡ raising (at 1 m.0)
+  pub others : (j : ℕ) → j ≢ 1 → at j m'.0 ≡ at j m.0
+  pub grows : Grows m.0 m'.0
+  pub looks : m'.0.looks ≡ m.0.looks
+  pub seen : m'.0.seen ≡ g
+  pub slots : m'.1 ≡ m.1
+  pub stamp : m'.0.stamp ≡ m.0.stamp
+  pub stamps : m'.0.stamps ≡ m.0.stamps
+  pub drawn : m'.0.drawn ≡ m.0.drawn
+
+-- at the end the pass with the whole share knows each lane's whole list, and made all of its visits, each once
+pub record Ended (lanes : ℕ) (v : View) : Type 0 where
+  pub lawful : LawfulLists lanes (known_of v)
+  pub closed : Closed lanes (known_of v)
+  pub answered : AllAnswered lanes (known_of v)
+  pub rising : (i : ℕ) → i < lanes → Rising v.first (known_of v i)
+  pub heard : (i : ℕ) → i < lanes → AllBegin (at i v).heard (known_of v i)
+  pub made : (i : ℕ) → i < lanes → (at i v).made ≡ length (known_of v i)
+  pub placed : (i p : ℕ) → i < lanes → times p (at i v).places ≡ once_below p (length (known_of v i))
+
+abbrev pub made_in : LaneView → ℕ
+made_in a = a.made
+
+-- what lies in the first lanes at the start: the value of an empty list
+abbrev pub AreStarts : ℕ → ℕ → List (Option Content) → Type 0
+AreStarts first count contents = (length contents ≡ count)
+    × ((lane : ℕ) → lane < count → (c : Content) × (slice_get contents lane ≡ Some (Some c)) × Replays lane first [] c)

@@ -1,0 +1,12 @@
+pub mod LaneNumbers
+pub mod Meaning
+pub mod References
+pub mod WorldRule
+pub mod Steps
+pub mod Calls
+pub mod Deeds
+pub mod Examples
+pub mod Lending
+pub mod BookLists
+pub mod BookLaws
+pub mod VisitsMet

@@ -1,0 +1,283 @@
+-- What a lane's list of visits means: its value after them, what each visit hands on, and which may come when. All of it
+-- is read from the lane's own list, since a visit keeps what was handed to it. A lane's model has a part for each kind
+-- of lane, and an entry changes the part of its own kind.
+use Rattle.std.specs.Prelude.{◌≡◌, ℕ, suc, ◌+◌, ◌/◌, ◌<◌, ◌≤◌, ◌==◌, ⊤, List, [], Option, Some, None, nat_lt, replicate, slice_index_or, if◌then◌else◌}
+use Rattle.std.specs.List.{fold}
+use Rattle.key_names.specs.declared.names.Who.{Who}
+use Rattle.key_names.specs.declared.entries.PoolEntry.{PoolEntry}
+use Rattle.key_names.specs.declared.entries.PoolEntry.TheVariants.{Mix, Input, Bits, Extract}
+use Rattle.key_names.specs.declared.entries.BaseEntry.{BaseEntry}
+use Rattle.key_names.specs.declared.entries.BaseEntry.TheVariants.{Draw, Refill}
+use Rattle.key_names.specs.declared.entries.CpuEntry.{CpuEntry}
+use Rattle.key_names.specs.declared.entries.CpuEntry.TheVariants.{Read, Int, Irq, Dump, Prepare, Online}
+use Rattle.key_names.specs.Keystream.{keystream}
+use Rattle.key_names.specs.LawfulList.{LawfulFrom}
+use Rattle.key_names.specs.PoolList.{PoolState, pool_start, pool_step, root_of_extraction, base_place_of}
+use Rattle.key_names.specs.BaseList.{BaseState, BaseFits, root_of, refill_of, reseeds_at}
+use Rattle.key_names.specs.CpuList.{CpuState, CpuFits, base_refill_of}
+use Rattle.key_names.specs.Batches.{Fill, fills_after, batch_step}
+use Rattle.key_names.specs.FastPool.{FastPool, fast_start, fast_step}
+use Rattle.input_pool.specs.PoolStands.{PoolStands}
+use Rattle.base_gen.specs.BaseValue.{BaseValue, key_in_use}
+use Rattle.base_gen.specs.BaseValue as base
+use Rattle.cpu_gen.specs.CpuValue.{CpuValue, refilled}
+use Rattle.cpu_gen.specs.CpuValue as cpu
+use Rattle.int_batch.specs.BatchValue.{BatchValue}
+use Rattle.lane_table.specs.declared.values.PoolLane.{PoolLane}
+use Rattle.lane_table.specs.declared.values.CpuLane.{CpuLane}
+use Rattle.lane_table.specs.declared.values.LaneState.{LaneState}
+use Rattle.lane_table.specs.declared.values.LaneState.TheVariants.{Pool as PoolValue, Base as BaseLaneValue, Cpu as CpuLaneValue}
+use Rattle.lane_table.specs.declared.view.LaneEntry.{LaneEntry}
+use Rattle.lane_table.specs.declared.view.LaneEntry.TheVariants.{Pool, Base, Cpu}
+use Rattle.lane_table.specs.declared.view.Handed.{Handed}
+use Rattle.lane_table.specs.declared.view.Visit.{Visit}
+
+-- which lane an entry is of: the pool is the lane 0, the base 1, and CPU c is 2 + c
+abbrev pub IsOf : ℕ → LaneEntry → Type 0
+IsOf lane (Pool e) = lane ≡ 0
+IsOf lane (Base e) = lane ≡ 1
+IsOf lane (Cpu e) = 2 ≤ lane
+
+-- the lane of the entries that those of a lane name behind them: the pool for the base, and the base for a CPU
+abbrev pub parent : ℕ → ℕ
+parent lane = if lane == 1 then 0 else 1
+
+-- the place that an entry names in the lane behind it: a root, or a refill
+abbrev pub behind_of : LaneEntry → Option ℕ
+behind_of (Pool e) = None
+behind_of (Base e) = root_of e
+behind_of (Cpu e) = base_refill_of e
+
+abbrev pub base_lane : Option ℕ → Option (ℕ × ℕ)
+base_lane None = None
+base_lane (Some place) = Some (1, place)
+
+abbrev pub cpu_lane : Option (ℕ × ℕ) → Option (ℕ × ℕ)
+cpu_lane None = None
+cpu_lane (Some named) = Some (named.0 + 2, named.1)
+
+-- the lane ahead of it, and its place there, that an entry names
+abbrev pub ahead_of : LaneEntry → Option (ℕ × ℕ)
+ahead_of (Pool e) = base_lane (base_place_of e)
+ahead_of (Base e) = cpu_lane (refill_of e)
+ahead_of (Cpu e) = None
+
+abbrev pub once : Option ℕ → ℕ
+once None = 0
+once (Some now) = 1
+
+-- by how much an entry raises the generation
+abbrev pub raise_of : LaneEntry → ℕ
+raise_of (Pool e) = 0
+raise_of (Base e) = once (reseeds_at e)
+raise_of (Cpu e) = 0
+
+-- a CPU's generator, the last fill of each width of integers, the bytes of each width's batch, and the fast pool
+pub record CpuModel : Type 0 where
+  pub cpu : CpuValue
+  pub fills : ℕ → Option Fill
+  pub bytes : ℕ → List ℕ
+  pub fast : FastPool
+
+pub record Model : Type 0 where
+  pub pool : PoolState
+  pub base : BaseValue
+  pub cpu : CpuModel
+  -- the least place that may be named behind next
+  pub least : ℕ
+
+abbrev pub cpu_start : CpuModel
+cpu_start = record { cpu = cpu.start; fills = λ w. None; bytes = λ w. replicate 96 0; fast = fast_start }
+
+abbrev pub start_model : Model
+start_model = record { pool = pool_start; base = base.start; cpu = cpu_start; least = 0 }
+
+abbrev pub hand : List ℕ → ℕ → Handed
+hand key generation = record { key = key; generation = generation }
+
+-- what an entry has that is handed nothing, or hands nothing on
+abbrev pub nothing : Handed
+nothing = hand [] 0
+
+abbrev pub pool_after : LaneEntry → PoolState → PoolState
+pool_after (Pool e) s = pool_step s e
+pool_after (Base e) s = s
+pool_after (Cpu e) s = s
+
+abbrev pub base_after : LaneEntry → Handed → BaseValue → BaseValue
+base_after (Pool e) got b = b
+base_after (Base e) got b = base.after_entry e got.key b
+base_after (Cpu e) got b = b
+
+-- a CPU's generator as the base hands it over
+abbrev pub generator_of : Handed → CpuValue
+generator_of got = record { key = got.key; generation = got.generation }
+
+-- the value of the key in use at an entry of a CPU
+abbrev pub cpu_used : CpuEntry → Handed → CpuValue → List ℕ
+cpu_used e got c = (refilled (base_refill_of e) (generator_of got) c).key
+
+-- a fill's key and place are not kept, as no batch keeps them
+abbrev pub cpu_entered : CpuEntry → Handed → CpuModel → CpuModel
+cpu_entered e got c = record {
+  cpu = cpu.after_entry e (generator_of got) c.cpu;
+  fills = fills_after 0 e None c.fills;
+  bytes = λ w. batch_step w (cpu_used e got c.cpu) (c.fills w) (c.bytes w) e;
+  fast = fast_step c.fast e;
+}
+
+abbrev pub cpu_after : LaneEntry → Handed → CpuModel → CpuModel
+cpu_after (Pool e) got c = c
+cpu_after (Base e) got c = c
+cpu_after (Cpu e) got c = cpu_entered e got c
+
+-- the places that are named behind rise along the list
+abbrev pub least_after : Option ℕ → ℕ → ℕ
+least_after None least = least
+least_after (Some place) least = suc place
+
+-- a lane's model after an entry, given what was handed to it
+abbrev pub made_of : Model → LaneEntry → Handed → Model
+made_of s e got = record {
+  pool = pool_after e s.pool;
+  base = base_after e got s.base;
+  cpu = cpu_after e got s.cpu;
+  least = least_after (behind_of e) s.least;
+}
+
+-- the key that an erasure hands on
+abbrev pub call_key : List ℕ → List ℕ
+call_key used = keystream used 32 32
+
+-- what an entry of each kind hands on
+abbrev pub pool_gives : PoolState → PoolEntry → Handed
+pool_gives s (Mix text bits) = nothing
+pool_gives s (Input word kind code value now) = nothing
+pool_gives s Bits = nothing
+pool_gives s (Extract hw base_place) = hand (root_of_extraction s hw) 0
+
+abbrev pub base_gives : BaseValue → Handed → BaseEntry → Handed
+base_gives b got (Draw root taken) = hand (call_key (key_in_use root got.key b.key)) 0
+base_gives b got (Refill cpu cpu_place) = hand (call_key b.key) b.generation
+base_gives b got _ = nothing
+
+abbrev pub cpu_gives : CpuValue → Handed → CpuEntry → Handed
+cpu_gives c got (Read look refill taken) = hand (call_key (refilled refill (generator_of got) c).key) 0
+cpu_gives c got (Int look refill width filled) = nothing
+cpu_gives c got (Irq v1 v2 now) = nothing
+cpu_gives c got (Dump now) = nothing
+cpu_gives c got Prepare = nothing
+cpu_gives c got Online = nothing
+
+-- what an entry hands on: an extraction its root, a refill a key with the base's generation, and a read the key of a
+-- longer one
+abbrev pub gave_of : Model → LaneEntry → Handed → Handed
+gave_of s (Pool e) got = pool_gives s.pool e
+gave_of s (Base e) got = base_gives s.base got e
+gave_of s (Cpu e) got = cpu_gives s.cpu.cpu got e
+
+abbrev pub model_step : Model → Visit → Model
+model_step s x = made_of s x.entry x.got
+
+-- the model of a lane after these visits
+abbrev pub replay : List Visit → Model
+replay xs = fold model_step start_model xs
+
+-- the generation that a lane has: a CPU's is that of its generator
+abbrev pub generation_of : ℕ → Model → ℕ
+generation_of lane s = if nat_lt lane 2 then s.base.generation else s.cpu.cpu.generation
+
+-- the state of a list that the words of a base's and a CPU's list are read on; what they do not read is left out
+abbrev pub base_state : BaseValue → BaseState
+base_state b = record {
+  place = 0;
+  phase = b.phase;
+  generation = b.generation;
+  timer = b.timer;
+  early_boot = b.early_boot;
+  running = b.running;
+  roots = 0;
+  key = None;
+}
+
+abbrev pub cpu_state : CpuModel → CpuState
+cpu_state c = record { place = 0; generation = c.cpu.generation; key = None; fills = c.fills }
+
+-- a look that comes with a refill is at most the generation that is handed over
+abbrev pub Reaches : Option ℕ → ℕ → Handed → Type 0
+Reaches None look got = ⊤
+Reaches (Some place) look got = look ≤ got.generation
+
+abbrev pub LookReached : CpuEntry → Handed → Type 0
+LookReached (Read look refill taken) got = Reaches refill look got
+LookReached (Int look refill width filled) got = Reaches refill look got
+LookReached (Irq v1 v2 now) got = ⊤
+LookReached (Dump now) got = ⊤
+LookReached Prepare got = ⊤
+LookReached Online got = ⊤
+
+-- the entry fits the model before it and what is handed to it
+abbrev pub Fits : Model → Handed → LaneEntry → Type 0
+Fits s got (Pool e) = ⊤
+Fits s got (Base e) = BaseFits (base_state s.base) e
+Fits s got (Cpu e) = CpuFits (cpu_state s.cpu) e × LookReached e got
+
+abbrev pub IsLater : ℕ → Option ℕ → Type 0
+IsLater least None = ⊤
+IsLater least (Some place) = least ≤ place
+
+-- a lane that is named is one of those that there are
+abbrev pub NamesWithin : ℕ → Option (ℕ × ℕ) → Type 0
+NamesWithin lanes None = ⊤
+NamesWithin lanes (Some named) = named.0 < lanes
+
+-- the visit may come in a lane whose model is s
+pub record MayCome (lanes lane : ℕ) (s : Model) (x : Visit) : Type 0 where
+  pub kind : IsOf lane x.entry
+  pub within : NamesWithin lanes (ahead_of x.entry)
+  pub gave_is : x.gave ≡ gave_of s x.entry x.got
+  pub later : IsLater s.least (behind_of x.entry)
+  pub fits : Fits s x.got x.entry
+
+abbrev pub LawfulLane : ℕ → ℕ → List Visit → Type 0
+LawfulLane lanes lane xs = LawfulFrom (MayCome lanes lane) model_step start_model xs
+
+-- a value of the pool stands for a state of its list; many do, as a hash may stand for a text in several ways
+pub record PoolLaneStands (lane : PoolLane) (s : PoolState) : Type 0 where
+  pub pool : PoolStands lane.pool s
+  pub value : lane.timer.value ≡ s.value
+  pub timer : lane.timer.timer ≡ s.timer
+
+-- a batch of this width after its last fill, with these bytes
+abbrev pub batch_of : ℕ → Option Fill → List ℕ → BatchValue
+batch_of width None bytes = record { bytes = bytes; position = 96 / width; generation = 0 }
+batch_of width (Some fill) bytes = record { bytes = bytes; position = fill.count; generation = fill.look }
+
+abbrev pub batch_at : ℕ → CpuModel → BatchValue
+batch_at width c = batch_of width (c.fills width) (c.bytes width)
+
+-- each part of a CPU is that of the model, zeros of the batches included
+pub record CpuLaneStands (lane : CpuLane) (c : CpuModel) : Type 0 where
+  pub cpu : lane.cpu ≡ c.cpu
+  pub b8 : lane.b8 ≡ batch_at 1 c
+  pub b16 : lane.b16 ≡ batch_at 2 c
+  pub b32 : lane.b32 ≡ batch_at 4 c
+  pub b64 : lane.b64 ≡ batch_at 8 c
+  pub fast : lane.fast ≡ c.fast
+
+-- the value of this lane is of its kind, and stands for the model
+abbrev pub ValueStands : ℕ → LaneState → Model → Type 0
+ValueStands lane (PoolValue value) s = (lane ≡ 0) × PoolLaneStands value s.pool
+ValueStands lane (BaseLaneValue value) s = (lane ≡ 1) × (value.base ≡ s.base)
+ValueStands lane (CpuLaneValue value) s = (2 ≤ lane) × CpuLaneStands value s.cpu
+
+abbrev pub no_one : Who
+no_one = record { caller = 0; event = 0; step = 0 }
+
+abbrev pub no_visit : Visit
+no_visit = record { who = no_one; stamp = 0; entry = Pool Bits; got = nothing; gave = nothing }
+
+-- what the visit at the named place hands on
+abbrev pub got_of : Option ℕ → List Visit → Handed
+got_of None behind = nothing
+got_of (Some place) behind = (slice_index_or behind place no_visit).gave

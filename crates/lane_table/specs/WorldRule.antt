@@ -1,0 +1,222 @@
+-- The rule of the lanes. It speaks of the words, the values at home in their slots, and what all passes know, between
+-- any two atomic steps. Word 0 is the generation; each lane has a ticket word and a serving word, and the slot of its
+-- number has its value.
+use Rattle.std.specs.Prelude.{◌≡◌, ◌⊎◌, ℕ, ◌+◌, ◌*◌, ◌-◌, ◌^◌, ◌<◌, ◌≤◌, List, [], ◌∷◌, ◌++◌, All, map, length, Option, Some, None, slice_index_or, ◌==◌, nat_lt, if◌then◌else◌}
+use Rattle.std.specs.List.{sum_by}
+use mathlib.Core.Option.{some, none}
+use mathlib.Core.Option as maybe
+use lib.ListN.{get_elem?}
+use Rattle.atomic_table.specs.Table.{State}
+use Rattle.lane_table.specs.declared.view.Visit.{Visit}
+use Rattle.lane_table.specs.declared.view.LaneView.{LaneView}
+use Rattle.lane_table.specs.declared.view.View.{View}
+use Rattle.lane_table.specs.declared.view.Content.{Content}
+use Rattle.lane_table.specs.declared.view.Stage.{Stage}
+use Rattle.lane_table.specs.declared.view.Stage.TheVariants.{Away, Queued, Holding}
+use Rattle.lane_table.specs.Meaning.{behind_of, ahead_of, raise_of, parent, replay, ValueStands}
+use Rattle.lane_table.specs.References.{Closed, LawfulLists, ConsistentLists}
+
+-- Words and slots. A lane's two words have 128 bytes to themselves, so that lanes share no cache line
+
+abbrev pub ticket_word : ℕ → ℕ
+ticket_word lane = 16 * lane + 16
+
+abbrev pub serving_word : ℕ → ℕ
+serving_word lane = 16 * lane + 17
+
+abbrev pub words_of : ℕ → ℕ
+words_of lanes = 16 * lanes + 16
+
+-- what the table has in the slot of a lane: nothing known of it, or out with a pass, or at home
+abbrev pub Home : Type 0
+Home = maybe.Option (maybe.Option (Option Content))
+
+abbrev pub St : Type 0
+St = State (Option Content) View
+
+-- Lists of visits
+
+abbrev pub Begins : List Visit → List Visit → Type 0
+Begins xs ys = (rest : List Visit) × (ys ≡ xs ++ rest)
+
+abbrev pub AllBegin : List (List Visit) → List Visit → Type 0
+AllBegin [] log = Unit {0}
+AllBegin (xs ∷ lists) log = Begins xs log × AllBegin lists log
+
+-- the stamp of the last visit, or first where there is none
+abbrev pub last_stamp : ℕ → List Visit → ℕ
+last_stamp first [] = first
+last_stamp first (x ∷ xs) = last_stamp x.stamp xs
+
+-- stamps rise along the list, and all are above first
+abbrev pub Rising : ℕ → List Visit → Type 0
+Rising first [] = Unit {0}
+Rising first (x ∷ xs) = (first < x.stamp) × Rising x.stamp xs
+
+-- how often the visits raised the generation
+abbrev pub raises : List Visit → ℕ
+raises xs = sum_by (λ x. raise_of x.entry) xs
+
+-- what lies in the lane stands for its list
+pub record Replays (lane first : ℕ) (log : List Visit) (c : Content) : Type 0 where
+  pub value : ValueStands lane c.state (replay log)
+  pub place : c.place ≡ length log
+  pub stamp : c.stamp ≡ last_stamp first log
+
+-- Views
+
+abbrev pub blank : LaneView
+blank = record {
+  known = [];
+  made = 0;
+  places = [];
+  stage = Away;
+  owes = None;
+  raised = 0;
+  loaded = 0;
+  found = 0;
+  heard = [];
+}
+
+-- what a view has of a lane
+abbrev pub at : ℕ → View → LaneView
+at lane v = slice_index_or v.lanes lane blank
+
+abbrev pub known_of : View → ℕ → List Visit
+known_of v lane = (at lane v).known
+
+-- what all views have of a lane
+abbrev pub column : ℕ → List View → List LaneView
+column lane views = map (at lane) views
+
+abbrev pub IsHolding : LaneView → Type 0
+IsHolding a = (t : ℕ) × (a.stage ≡ Holding t)
+
+abbrev pub has_ticket : Stage → ℕ
+has_ticket Away = 0
+has_ticket (Queued t) = 1
+has_ticket (Holding t) = 1
+
+-- the lists that a view knows are consistent
+abbrev pub Consistent : View → Type 0
+Consistent v = ConsistentLists (length v.lanes) (known_of v)
+
+-- One lane
+
+-- where the pass of number j stands: owner says whose each ticket is, and who is served knows the whole list, while the
+-- slot is out
+module _ (ticket serving : ℕ) (owner : ℕ → ℕ) (home : Home) (log : List Visit) (j : ℕ) (known : List Visit) where
+  abbrev pub Stands : Stage → Type 0
+  Stands Away = Unit {0}
+  Stands (Queued t) = (serving ≤ t) × (t < ticket) × (owner t ≡ j)
+  Stands (Holding t) = (t ≡ serving) × (t < ticket) × (owner t ≡ j) × (known ≡ log) × (home ≡ some none)
+
+pub record PassOk (ticket serving : ℕ) (owner : ℕ → ℕ) (home : Home) (log : List Visit) (j : ℕ) (a : LaneView) : Type 0 where
+  pub begins : Begins a.known log
+  pub heard : AllBegin a.heard log
+  pub stands : Stands ticket serving owner home log j a.known a.stage
+  pub loaded : a.loaded ≤ serving
+  pub found : a.found ≤ ticket
+
+-- the value is at home and stands for the list, or it is out with the pass that is served
+abbrev pub Whereabouts : ℕ → ℕ → ℕ → Home → List LaneView → List Visit → Type 0
+Whereabouts lane first serving home col log =
+    ((c : Content) × (home ≡ some (some (Some c))) × Replays lane first log c)
+    ⊎ ((j : ℕ) × (a : LaneView) × (get_elem? col j ≡ some a) × (a.stage ≡ Holding serving))
+
+-- how often a place stands in a list of places, and 1 for a place below n
+abbrev pub times : ℕ → List ℕ → ℕ
+times place places = sum_by (λ p. if p == place then 1 else 0) places
+
+abbrev pub once_below : ℕ → ℕ → ℕ
+once_below place n = if nat_lt place n then 1 else 0
+
+-- some view knows the whole list
+abbrev pub KnownWhole : List LaneView → List Visit → Type 0
+KnownWhole col log = (j : ℕ) × (a : LaneView) × (get_elem? col j ≡ some a) × (a.known ≡ log)
+
+pub record LaneOk (lane first ticket serving : ℕ) (home : Home) (col : List LaneView) (log : List Visit) (owner : ℕ → ℕ) : Type 0 where
+  -- each ticket from the one that is served on is one pass's
+  pub ordered : serving ≤ ticket
+  pub counted : serving + sum_by (λ a. has_ticket a.stage) col ≡ ticket
+  pub passes : (j : ℕ) (a : LaneView) → get_elem? col j ≡ some a → PassOk ticket serving owner home log j a
+  pub whereabouts : Whereabouts lane first serving home col log
+  -- the passes made all visits of the list, each once
+  pub made : sum_by (λ a. a.made) col ≡ length log
+  pub placed : (p : ℕ) → sum_by (λ a. times p a.places) col ≡ once_below p (length log)
+  pub known : KnownWhole col log
+  pub rising : Rising first log
+
+-- References
+
+-- a pass that owes an answer holds the place that is named, the entry that names it stands in the lane behind, and may
+-- be named by the answer
+abbrev pub OwedAt : ℕ → LaneView → List Visit → Type 0
+OwedAt lane a behind = (p : ℕ) → a.owes ≡ Some p → IsHolding a
+    × ((y : Visit) × (get_elem? behind p ≡ some y) × (ahead_of y.entry ≡ Some (lane, length a.known)))
+    × ((replay a.known).least ≤ p)
+
+abbrev pub Owed : ℕ → View → Type 0
+Owed lanes v = (lane : ℕ) → lane < lanes → OwedAt lane (at lane v) (known_of v (parent lane))
+
+-- some pass owes the answer to place p
+abbrev pub Owes : ℕ → ℕ → List View → Type 0
+Owes lane p views = (j : ℕ) × (v : View) × (get_elem? views j ≡ some v) × ((at lane v).owes ≡ Some p)
+
+-- a place of the lane that an entry behind it names is that of a visit that names the entry; or it is the next place,
+-- and a pass owes the answer
+abbrev pub Pending : ℕ → List Visit → List Visit → List View → Type 0
+Pending lane behind here views =
+    (p b : ℕ) (x : Visit) → get_elem? behind p ≡ some x → ahead_of x.entry ≡ Some (lane, b)
+    → ((y : Visit) × (get_elem? here b ≡ some y) × (behind_of y.entry ≡ Some p))
+    ⊎ ((b ≡ length here) × Owes lane p views)
+
+abbrev pub AllPending : ℕ → (ℕ → List Visit) → List View → Type 0
+AllPending lanes logs views = (lane : ℕ) → 1 ≤ lane → lane < lanes
+    → Pending lane (logs (parent lane)) (logs lane) views
+
+-- the lists that the value of a lane carries: what the pass knew that gave it home last
+pub record Carries (lanes : ℕ) (logs : ℕ → List Visit) (lane : ℕ) (lists : ℕ → List Visit) : Type 0 where
+  pub begins : (j : ℕ) → j < lanes → Begins (lists j) (logs j)
+  pub own : lists lane ≡ logs lane
+  pub closed : Closed lanes lists
+
+-- Passes
+
+-- only who holds the base can have raised the generation
+abbrev pub RaisedOk : LaneView → Type 0
+RaisedOk a = (a.raised ≡ 0) ⊎ ((a.raised ≡ 1) × IsHolding a)
+
+-- what a view's share weighs, where the whole weighs 2 ^ top
+abbrev pub weight : ℕ → View → ℕ
+weight top v = v.share * 2 ^ (top - v.halvings)
+
+-- a view by itself. One without a share knows of no lane
+pub record ViewOk (first lanes top : ℕ) (v : View) : Type 0 where
+  pub sized : 0 < v.share → (length v.lanes ≡ lanes) × (v.first ≡ first)
+  pub spent : v.share ≡ 0 → v.lanes ≡ []
+  pub below : v.halvings ≤ top
+  pub stamped : All (λ n. n ≤ v.stamp) v.stamps
+  pub closed : Closed lanes (known_of v)
+  pub owed : Owed lanes v
+
+-- The whole
+
+pub record WorldRule (first : ℕ) (s : St) : Type 0 where
+  pub wide : length s.words ≡ words_of (length s.homes)
+  pub two : 2 ≤ length s.homes
+  pub logs : ℕ → List Visit
+  pub owners : ℕ → ℕ → ℕ
+  pub lane : (i : ℕ) → i < length s.homes → LaneOk i first
+      (slice_index_or s.words (ticket_word i) 0) (slice_index_or s.words (serving_word i) 0)
+      (get_elem? s.homes i) (column i s.views) (logs i) (owners i)
+  pub lawful : LawfulLists (length s.homes) logs
+  pub carried : ℕ → ℕ → List Visit
+  pub carries : (i : ℕ) → i < length s.homes → Carries (length s.homes) logs i (carried i)
+  pub pending : AllPending (length s.homes) logs s.views
+  pub generation : slice_index_or s.words 0 0 ≡ raises (logs 1) + sum_by (λ a. a.raised) (column 1 s.views)
+  pub small : slice_index_or s.words 0 0 < 2 ^ 63
+  pub seen : (j : ℕ) (v : View) → get_elem? s.views j ≡ some v → (v.seen ≤ slice_index_or s.words 0 0) × RaisedOk (at 1 v)
+  pub top : ℕ
+  pub views : (j : ℕ) (v : View) → get_elem? s.views j ≡ some v → ViewOk first (length s.homes) top v
+  pub whole : sum_by (weight top) s.views ≡ 2 ^ top

@@ -1,0 +1,38 @@
+//! The generation word, which is read without a lane.
+ghost use Rattle.std.specs.Prelude.{◌≡◌, ◌+◌, ◌^◌, ◌<◌};
+ghost use Rattle.lane_table.specs.Meaning.{replay};
+ghost use Rattle.lane_table.specs.WorldRule.{at, known_of};
+ghost use Rattle.lane_table.specs.Calls.{view, IsPassOf, IsSamePass, Holds, Looked, Raised};
+
+use crate::lanes::{GENERATION, Held, Lanes, Pass};
+use crate::plays::{Look, Raise};
+
+impl Lanes {
+    /// One look at the generation: a load, which takes no lane and waits for nobody. It is below 2^63, and never below
+    /// a generation that the pass has seen, by a look, in the base or a CPU, or by a raise of its own.
+    pub fn generation(&self, pass: &mut Pass) -> u64
+        requires { IsPassOf self.now pass.old }
+        ensures pass { IsSamePass self.now pass.old pass.new }
+        ensures looked { Looked result pass.old.seat.me pass.new.seat.me }
+    {
+        self.table.shared.load::<Look>(&mut pass.seat, GENERATION)
+    }
+
+    /// Stores the generation that the entry of this hold of the base makes, before its `put`.
+    pub fn raise(&self, pass: &mut Pass, held: &Held, g: u64)
+        requires pass { IsPassOf self.now pass.old }
+        requires held { Holds self.now pass.old held.now }
+        requires base { held.now.turn.lane ≡ 1 }
+        requires once { (at 1 (view pass.old)).raised ≡ 0 }
+        requires next { g ≡ (replay (known_of (view pass.old) 1)).base.generation + 1 }
+        requires small { g < 2 ^ 63 }
+        ensures pass { IsSamePass self.now pass.old pass.new }
+        ensures held { Holds self.now pass.new held.now }
+        ensures raised { Raised g pass.old.seat.me pass.new.seat.me }
+    {
+        let _base = held.turn.lane;
+        self.table
+            .shared
+            .store::<Raise>(&mut pass.seat, GENERATION, g);
+    }
+}

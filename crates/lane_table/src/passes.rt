@@ -1,0 +1,160 @@
+//! How a table starts and ends, and how passes are split and joined.
+ghost use Rattle.std.specs.Prelude.{◌≡◌, ◌+◌, ◌*◌, ◌^◌, ◌<◌, ◌≤◌, ℕ, [], IfOk, length, replicate, slice_set, slice_get, Some, vec_len};
+ghost use Rattle.std.specs.List.{sum_by};
+ghost use Rattle.lane_table.specs.WorldRule.{Replays, words_of};
+ghost use Rattle.lane_table.specs.Steps.{newcomer, halved, child, both_of};
+ghost use Rattle.lane_table.specs.Calls.{view, slots, count_of, first_of, plan_of, made_in, IsPassOf, IsSamePass, IsIdle, Ended, AreStarts};
+
+use crate::lanes::{GENERATION, LINE, Lanes, Pass};
+use crate::plays::{Halves, Merges};
+use crate::values::{BaseLane, CpuLane, LaneState, PoolLane};
+use crate::view::{Content, Plan};
+use atomic_table::Table;
+use base_gen::Base;
+use cpu_gen::Cpu;
+use input_pool::Pool;
+use int_batch::Batch;
+use sample_credit::{FastPool, InputTimer};
+use std::alloc::{AllocError, Global};
+
+// A lane in its starting state.
+fn start_state(lane: usize) -> LaneState
+    ensures { (first : ℕ) → Replays lane first [] (record { state = result; place = 0; stamp = first }) }
+{
+    match lane {
+        0 => LaneState::Pool(PoolLane {
+            pool: Pool::start(),
+            timer: InputTimer::start(),
+        }),
+        1 => LaneState::Base(BaseLane {
+            base: Base::start(),
+        }),
+        _ => LaneState::Cpu(CpuLane {
+            cpu: Cpu::start(),
+            b8: Batch::start(),
+            b16: Batch::start(),
+            b32: Batch::start(),
+            b64: Batch::start(),
+            fast: FastPool::start(),
+        }),
+    }
+}
+
+fn start_contents(
+    alloc: Global,
+    count: usize,
+    first: u64,
+) -> Result<Vec<Option<Content>>, AllocError>
+    ensures { IfOk result (λ v. AreStarts first count v.items) }
+{
+    let mut slots = Vec::with_capacity(alloc, count)?;
+    for lane in 0..count {
+        slots.push(Some(Content {
+            state: start_state(lane),
+            place: 0,
+            stamp: first,
+        }))?;
+    }
+    Ok(slots)
+}
+
+fn start_words(alloc: Global, count: usize, first: u64) -> Result<Vec<u64>, AllocError>
+    requires { count ≤ 258 }
+    ensures { IfOk result (λ v. v.items ≡ slice_set (replicate (words_of count) first) 0 0) }
+{
+    let mut words = Vec::from_elem(alloc, first, LINE * count + LINE)?;
+    words[GENERATION] = 0;
+    Ok(words)
+}
+
+impl Lanes {
+    /// A table with this many CPUs, 1 to 256, each lane in its starting state and the generation 0, and the pass of
+    /// caller 0, which has the whole share. Tickets, serving numbers and stamps start at `first`, at most 2^62.
+    ///
+    /// # Errors
+    ///
+    /// There is no memory.
+    pub fn start(alloc: Global, cpus: u32, first: u64) -> Result<(Lanes, Pass), AllocError>
+        requires cpus { (1 ≤ cpus) × (cpus ≤ 256) }
+        requires first { first ≤ 2 ^ 62 }
+        ensures table { IfOk result (λ r. (r.0.cpus ≡ cpus) × (first_of r.0 ≡ first)) }
+        ensures pass { IfOk result (λ r. IsPassOf r.0 r.1 × (r.1.caller ≡ 0)) }
+        ensures seat { IfOk result (λ r. r.1.seat.me ≡ (newcomer (plan_of (cpus + 2) first), [])) }
+    {
+        let count = cpus as usize + 2;
+        let words = start_words(alloc, count, first)?;
+        let slots = start_contents(alloc, count, first)?;
+        let plan = Plan { count, first };
+        match Table::new(alloc, words.as_slice(), slots, &plan) {
+            Ok((table, seat)) => Ok((
+                Lanes { table, cpus },
+                Pass {
+                    seat,
+                    stamp: first,
+                    caller: 0,
+                },
+            )),
+            Err(_) => Err(AllocError),
+        }
+    }
+
+    /// A pass of this caller number that has seen what `pass` has, and has its stamp. Each of the two then has half of
+    /// the share.
+    pub fn split(&self, pass: &mut Pass, caller: u32) -> Pass
+        requires { IsPassOf self.now pass.old }
+        ensures pass { IsSamePass self.now pass.old pass.new }
+        ensures child { IsPassOf self.now result × (result.caller ≡ caller) }
+        ensures halved { pass.new.seat.me ≡ (halved (view pass.old), slots pass.old) }
+        ensures seat { result.seat.me ≡ (child (view pass.old), []) }
+    {
+        let seat = self.table.shared.split_seat::<Halves>(&mut pass.seat);
+        Pass {
+            seat,
+            stamp: pass.stamp,
+            caller,
+        }
+    }
+
+    /// The pass has then seen and done also what the other had, has the greater stamp, and the sum of both shares.
+    pub fn join(&self, pass: &mut Pass, other: Pass)
+        requires pass { IsPassOf self.now pass.old }
+        requires other { IsPassOf self.now other }
+        requires idle { IsIdle (view other) × (slots other ≡ []) }
+        ensures pass { IsSamePass self.now pass.old pass.new }
+        ensures both { pass.new.seat.me ≡ (both_of (view pass.old) (view other), slots pass.old) }
+    {
+        let Pass {
+            seat,
+            stamp,
+            caller: _,
+        } = other;
+        self.table.shared.join_seat::<Merges>(&mut pass.seat, seat);
+        pass.stamp = pass.stamp.max(stamp);
+    }
+
+    /// Ends the table, and answers the number of visits of all lanes.
+    pub fn close(self, pass: Pass) -> u128
+        requires pass { IsPassOf self pass }
+        requires idle { IsIdle (view pass) }
+        requires whole { (view pass).share ≡ 2 ^ (view pass).halvings }
+        ensures count { result ≡ sum_by made_in (view pass).lanes }
+        ensures ended { Ended (count_of self) (view pass) }
+    {
+        let Lanes { table, cpus } = self;
+        let Pass {
+            seat,
+            stamp: _,
+            caller: _,
+        } = pass;
+        let mut closed = table.close_with(seat);
+        let mut visits = 0u128;
+        for lane in 0..cpus as usize + 2 {
+            match closed.take(lane) {
+                Some(content) => visits += u128::from(content.place()),
+                None => unreachable!(),
+            }
+        }
+        closed.free();
+        visits
+    }
+}

@@ -1,0 +1,134 @@
+//! The rule of the table, and what each kind of atomic step tells. These types are for the proofs alone.
+
+use crate::view::{Content, Plan, View, Visit};
+use atomic_table::{Join, Play, Split, TableRule};
+use std::marker::{Brand, PhantomData};
+
+pub struct World;
+
+impl TableRule<Option<Content>, View, Plan> for World {
+    ghost use Rattle.lane_table.specs.WorldRule.{WorldRule};
+    ghost use Rattle.lane_table.specs.Steps.{newcomer};
+
+    ghost holds = { λ plan. WorldRule plan.first };
+
+    ghost first = { newcomer };
+}
+
+/// The visit that a step makes.
+pub trait Tells {
+    ghost use Rattle.lane_table.specs.declared.view.Visit.{Visit};
+
+    ghost visit: { Visit };
+}
+
+impl Tells for Brand {
+    ghost use Rattle.lane_table.specs.Meaning.{no_visit};
+
+    ghost visit = { no_visit };
+}
+
+/// A ticket is drawn by an exchange of the ticket word.
+pub struct Draw;
+
+impl Play<Option<Content>, View> for Draw {
+    ghost use Rattle.lane_table.specs.Steps.{draws};
+
+    ghost then = { draws };
+}
+
+/// The same, where the number that is found is kept.
+pub struct Try;
+
+impl Play<Option<Content>, View> for Try {
+    ghost use Rattle.lane_table.specs.Steps.{tries};
+
+    ghost then = { tries };
+}
+
+/// A load of the ticket word.
+pub struct Find;
+
+impl Play<Option<Content>, View> for Find {
+    ghost use Rattle.lane_table.specs.Steps.{finds};
+
+    ghost then = { finds };
+}
+
+/// A load of the serving word by who has no ticket.
+pub struct Load;
+
+impl Play<Option<Content>, View> for Load {
+    ghost use Rattle.lane_table.specs.Steps.{loads};
+
+    ghost then = { loads };
+}
+
+/// A load of the serving word by who waits. Where it is the ticket, the slot goes out.
+pub struct Serve;
+
+impl Play<Option<Content>, View> for Serve {
+    ghost use Rattle.lane_table.specs.Steps.{serves};
+
+    ghost then = { serves };
+}
+
+/// The store of the serving word that makes the visit of `N`. The slot goes home.
+pub struct Put<N> {
+    marker: PhantomData<N>,
+}
+
+impl<N: Tells> Play<Option<Content>, View> for Put<N> {
+    ghost use Rattle.lane_table.specs.Steps.{puts};
+
+    ghost then = { puts N.visit };
+}
+
+/// The store of the serving word without a visit. The slot goes home.
+pub struct Leave;
+
+impl Play<Option<Content>, View> for Leave {
+    ghost use Rattle.lane_table.specs.Steps.{leaves};
+
+    ghost then = { leaves };
+}
+
+/// A load of the generation word.
+pub struct Look;
+
+impl Play<Option<Content>, View> for Look {
+    ghost use Rattle.lane_table.specs.Steps.{looks};
+
+    ghost then = { looks };
+}
+
+/// The store of the generation word.
+pub struct Raise;
+
+impl Play<Option<Content>, View> for Raise {
+    ghost use Rattle.lane_table.specs.Steps.{lifts};
+
+    ghost then = { lifts };
+}
+
+/// A pass is split.
+pub struct Halves;
+
+impl Split<View> for Halves {
+    ghost use Rattle.lane_table.specs.Steps.{halved, child};
+
+    ghost left = { halved };
+
+    ghost right = { child };
+}
+
+/// A pass takes in another.
+pub struct Merges;
+
+impl Join<View> for Merges {
+    ghost use Rattle.lane_table.specs.Steps.{both_of, nobody};
+
+    ghost both = { both_of };
+
+    ghost spent = { nobody };
+}

@@ -1,0 +1,101 @@
+-- Steps that are no form of their event's word.
+use Rattle.std.proofs.Common.{◌≡◌, ◌≤◌, ℕ, zero, suc, Some, List, [], ◌∷◌, refl, sym, ◌∙◌, ap, is_some, true, length}
+use Rattle.std.proofs.Common.{arith, inl, inr}
+use Rattle.std.specs.List.{AllByRecursion}
+use Rattle.key_names.specs.declared.names.Step.TheVariants.{Look}
+use Rattle.key_names.specs.declared.names.Who.{Who}
+use Rattle.key_names.specs.Book.{Lists, Visit, lists_of, list_at}
+use Rattle.key_names.specs.Calls.{Setting, Call}
+use Rattle.key_names.specs.Deeds.{looked, deeds_of}
+use Rattle.key_names.specs.Meaning.{CallerState, CallMeaning, Means, VreadMeans, caller_start}
+use Rattle.key_names.specs.IsTranscript.{EachOfCall, EachLine, EachCaller, CallsMean, CallerMeans, script_calls}
+use Rattle.key_names.specs.IsTranscript.{forms_clause, stamped, start_setting}
+use Rattle.key_names.proofs.VreadRefused.{looks_do_not_fall}
+use Rattle.worked_cases.specs.Runs.{Case, FailsFirst, transcript_with}
+use Rattle.worked_cases.specs.UnfitSteps.{read_without_a_look, fork_without_a_visit, visit_of_no_cpu, looks_that_fall}
+use Rattle.worked_cases.proofs.Decided.{no_first, none_is_not_some}
+use Rattle.worked_cases.proofs.FoundMeanings.{Behind}
+use Rattle.worked_cases.proofs.TextVerdicts.{text_verdict, script_in, lines_in, no_form, front_found}
+
+-- what a call means in some book
+pub record CallHas (lists : Lists) (call : Call) : Type 0 where
+  pub m : CallMeaning
+  pub means : Means call m
+  pub deeds : EachOfCall (Behind lists) call m
+
+calls_have : (lists : Lists) (s : CallerState) (calls : List Call) (ms : List CallMeaning) → CallsMean s calls ms →
+    EachLine (Behind lists) calls ms → AllByRecursion (CallHas lists) calls
+calls_have lists s [] ms follows deeds = tt
+calls_have lists s (call ∷ calls) [] follows deeds = absurd follows
+calls_have lists s (call ∷ calls) (m ∷ ms) follows deeds =
+    (record { m = m; means = follows.1; deeds = deeds.0 }, calls_have lists m.after calls ms follows.2 deeds.1)
+
+callers_have : (lists : Lists) (settings : ℕ → Setting) (first : ℕ) (callers : List (List Call))
+    (ms : List (List CallMeaning)) →
+    EachCaller (λ c calls ms. CallerMeans lists (settings c) calls ms) first callers ms →
+    AllByRecursion (AllByRecursion (CallHas lists)) callers
+callers_have lists settings first [] ms h = tt
+callers_have lists settings first (calls ∷ callers) [] h = absurd h
+callers_have lists settings first (calls ∷ callers) (m ∷ ms) h = (
+  calls_have lists (caller_start (settings first)) calls m h.0.follows h.0.deeds,
+  callers_have lists settings (suc first) callers ms h.1,
+)
+
+abbrev case_calls : Case → List (List Call)
+case_calls case = script_calls (script_in case.script) (lines_in case.script (transcript_with case.lines))
+
+-- what the calls of a case mean in some book
+abbrev CallsHave : Case → Lists → Type 0
+CallsHave case lists = AllByRecursion (AllByRecursion (CallHas lists)) (case_calls case)
+
+-- the texts are a script's and a transcript's, with its lines and marks as they must be
+abbrev HasFront : Case → Type 0
+HasFront case = is_some (front_found case.script (transcript_with case.lines)) ≡ true
+
+abbrev FailsByForms : Case → Type 0
+FailsByForms case = FailsFirst forms_clause case.script (transcript_with case.lines)
+
+by_calls : (case : Case) → HasFront case → ((lists : Lists) → CallsHave case lists → ⊥) → FailsByForms case
+by_calls case front none = no_form case.script (transcript_with case.lines)
+    (front_found case.script (transcript_with case.lines)) front
+    (λ made. none (lists_of made.book) (callers_have (lists_of made.book) (start_setting (case_calls case)) 0
+    (case_calls case) made.meanings made.forms.callers))
+
+pub read_without_a_look_fails : FailsByForms read_without_a_look
+unfolding text_verdict
+read_without_a_look_fails = by_calls read_without_a_look refl
+    (λ lists calls. no_first _ _ (calls.0.0.deeds ∙ calls.0.0.means.form.2))
+
+pub fork_without_a_visit_fails : FailsByForms fork_without_a_visit
+unfolding text_verdict
+fork_without_a_visit_fails = by_calls fork_without_a_visit refl (λ lists calls. elim calls.0.0.means.form [
+  | inl forked ↦ no_first _ _ (calls.0.0.deeds ∙ forked.deeds_are)
+  | inr stalled ↦ no_first _ _ (calls.0.0.deeds ∙ stalled.deeds_are)
+])
+
+no_fall : (lists : Lists) (m : CallMeaning) → deeds_of lists (Look 2 ∷ Look 1 ∷ Look 1 ∷ []) ≡ m.own.deeds →
+    VreadMeans 8 0 [] m → ⊥
+no_fall lists m deeds means =
+    let falls : 2 ≤ 1 = looks_do_not_fall 8 0 2 1 [] m (looked 1 ∷ []) (sym deeds) means in omega arith
+
+pub looks_that_fall_fails : FailsByForms looks_that_fall
+unfolding text_verdict
+looks_that_fall_fails = by_calls looks_that_fall refl
+    (λ lists calls. no_fall lists calls.0.1.0.m calls.0.1.0.deeds.0 calls.0.1.0.means)
+
+no_list : {E : Type 0} (lists : List (List E)) (c : ℕ) → length lists ≤ c → list_at lists c ≡ []
+no_list [] c le = refl
+no_list (es ∷ lists) zero le = absurd (omega arith)
+no_list (es ∷ lists) (suc c) le = no_list lists c (omega arith)
+
+no_stamp : {E : Type 0} (lists : List (List (Visit E))) (w : ℕ × Who) → length lists ≡ 1 →
+    stamped (list_at lists 1) 0 ≡ Some w → ⊥
+no_stamp {E} lists w one is =
+    let none = no_list lists 1 (omega (arith, one)) in
+    none_is_not_some w (sym (ap (λ (visits : List (Visit E)). stamped visits 0) none) ∙ is)
+
+pub visit_of_no_cpu_fails : FailsByForms visit_of_no_cpu
+unfolding text_verdict
+visit_of_no_cpu_fails = no_form visit_of_no_cpu.script (transcript_with visit_of_no_cpu.lines)
+    (front_found visit_of_no_cpu.script (transcript_with visit_of_no_cpu.lines)) refl
+    (λ made. no_stamp made.book.cpus _ made.forms.cpus made.forms.visits.stand.1.1.1.1.0)

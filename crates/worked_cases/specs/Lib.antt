@@ -1,0 +1,12 @@
+pub mod Runs
+pub mod Readiness
+pub mod Generators
+pub mod SampleEvents
+pub mod Vreads
+pub mod ManyCallers
+pub mod VreadActs
+pub mod UnfitSteps
+pub mod Rules
+pub mod ShortScripts
+pub mod RefusedBooks
+pub mod Refusal

@@ -1,0 +1,65 @@
+-- What a worked case says: the text of a transcript is lawful for the text of a script, and its near misses are not.
+use Rattle.std.specs.Prelude.{ℕ, suc, List, [], ◌∷◌, ◌++◌, codes, take, drop, slice_set}
+use Rattle.std.specs.List.{AllByRecursion}
+use Rattle.key_names.specs.SeenLine.{SeenLine}
+use Rattle.key_names.specs.Spelling.{lined}
+use Rattle.key_names.specs.ScriptGrammar.{Script, IsScript}
+use Rattle.key_names.specs.TranscriptGrammar.{IsTranscriptText}
+use Rattle.key_names.specs.IsTranscript.{IsTranscript, FirstFails, Clause, lines_clause}
+
+-- the input is the text of a script, and the output that of a transcript, which is lawful for it
+pub record IsLawfulRun (input output : List ℕ) : Type 0 where
+  pub script : Script
+  pub lines : List (List SeenLine)
+  pub script_is : IsScript script input
+  pub lines_are : IsTranscriptText output lines
+  pub lawful : IsTranscript script lines
+
+-- the input is the text of a script, and the output that of a transcript, of which this clause is the first that fails
+pub record FailsFirst (clause : Clause) (input output : List ℕ) : Type 0 where
+  pub script : Script
+  pub lines : List (List SeenLine)
+  pub script_is : IsScript script input
+  pub lines_are : IsTranscriptText output lines
+  pub fails : FirstFails script lines clause
+
+-- a change of a transcript, its lines being numbered from 0: one is left out, or others stand in the place of one or
+-- two; and then the clause that is the first to fail
+pub data NearMiss : Type 0 where
+  left_out : ℕ → NearMiss
+  instead : ℕ → List ℕ → Clause → NearMiss
+  instead_both : ℕ → List ℕ → ℕ → List ℕ → Clause → NearMiss
+
+abbrev pub clause_missed : NearMiss → Clause
+clause_missed (left_out n) = lines_clause
+clause_missed (instead n line clause) = clause
+clause_missed (instead_both n line m other clause) = clause
+
+abbrev pub lines_with : List (List ℕ) → NearMiss → List (List ℕ)
+lines_with lines (left_out n) = take n lines ++ drop (suc n) lines
+lines_with lines (instead n line clause) = slice_set lines n line
+lines_with lines (instead_both n line m other clause) = slice_set (slice_set lines n line) m other
+
+-- the text of a script, the lines of a transcript between its first line and its last, and changes of them
+pub record Case : Type 0 where
+  pub script : List ℕ
+  pub lines : List (List ℕ)
+  pub near_misses : List NearMiss
+
+abbrev pub transcript_with : List (List ℕ) → List ℕ
+transcript_with lines = lined (codes "rngtranscript 1" ∷ lines ++ codes "end" ∷ [])
+
+-- the transcript is lawful, and no near miss is
+pub record Holds (case : Case) : Type 0 where
+  pub lawful : IsLawfulRun case.script (transcript_with case.lines)
+  pub near_misses : AllByRecursion
+      (λ miss. FailsFirst (clause_missed miss) case.script (transcript_with (lines_with case.lines miss)))
+      case.near_misses
+
+-- the text of a script of this version and number of CPUs, with the lines between caller 0's first and the last
+abbrev pub script_with : List ℕ → List ℕ → List (List ℕ) → List ℕ
+script_with version cpus lines = lined (
+    (codes "rngscript " ++ version) ∷ (codes "cpus " ++ cpus) ∷ codes "caller 0" ∷ lines ++ codes "end" ∷ [])
+
+abbrev pub one_cpu : List (List ℕ) → List ℕ
+one_cpu lines = script_with (codes "1") (codes "1") lines

@@ -1,0 +1,53 @@
+//! The base and the CPUs of a ready core: refills, reseeds and their timer, batched integers.
+ghost use Rattle.worked_cases.specs.Runs.{Holds};
+ghost use Rattle.worked_cases.specs.Generators.{two_cpus, cpu_255, reseed_timer, late_interval};
+ghost use Rattle.worked_cases.specs.Generators.{int16_across_readiness_and_reseed, prepare_refills};
+ghost use Rattle.worked_cases.specs.Generators.{vmfork_before_and_after_readiness, int8_batch_of_96};
+
+/// Each CPU is refilled on its own, and again after a reseed.
+#[tactic(auto, using(crate::proofs::GeneratorLanes::two_cpus_holds))]
+pub fn two_cpus()
+    ensures { Holds two_cpus }
+{}
+
+/// The last of 256 CPUs.
+#[tactic(auto, using(crate::proofs::GeneratorLanes::cpu_255_holds))]
+pub fn cpu_255()
+    ensures { Holds cpu_255 }
+{}
+
+/// The reseed timer fires when it is due, and a forced reseed leaves it.
+#[tactic(auto, using(crate::proofs::GeneratorLanes::reseed_timer_holds))]
+pub fn reseed_timer()
+    ensures { Holds reseed_timer }
+{}
+
+/// Intervals at 120 seconds and later, also where the moments go back.
+#[tactic(auto, using(crate::proofs::GeneratorLanes::late_interval_holds))]
+pub fn late_interval()
+    ensures { Holds late_interval }
+{}
+
+/// Integers before readiness, after it, and after a reseed.
+#[tactic(auto, using(crate::proofs::GeneratorLanes::int16_across_readiness_and_reseed_holds))]
+pub fn int16_across_readiness_and_reseed()
+    ensures { Holds int16_across_readiness_and_reseed }
+{}
+
+/// A CPU that was prepared is refilled.
+#[tactic(auto, using(crate::proofs::GeneratorLanes::prepare_refills_holds))]
+pub fn prepare_refills()
+    ensures { Holds prepare_refills }
+{}
+
+/// A VM fork reseeds a ready core, and one that is not ready only mixes.
+#[tactic(auto, using(crate::proofs::GeneratorLanes::vmfork_before_and_after_readiness_holds))]
+pub fn vmfork_before_and_after_readiness()
+    ensures { Holds vmfork_before_and_after_readiness }
+{}
+
+/// A batch of 96 bytes used up, and the next one.
+#[tactic(auto, using(crate::proofs::GeneratorLanes::int8_batch_of_96_holds))]
+pub fn int8_batch_of_96()
+    ensures { Holds int8_batch_of_96 }
+{}

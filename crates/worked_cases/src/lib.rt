@@ -1,0 +1,18 @@
+//! Worked cases of scripts and transcripts, each as the contract of a function without code.
+//!
+//! Every transcript was made by an implementation that shares nothing with this repository, and its bytes are those of
+//! the kernel's own C code (`drivers/char/random.c`, `lib/vdso/getrandom.c`). A contract says that the transcript is
+//! lawful for its script, down to every byte, and of each near miss which clause is the first that fails.
+#![tactic(auto)]
+
+pub mod generators;
+pub mod many_callers;
+pub mod readiness;
+pub mod refusal;
+pub mod refused_books;
+pub mod rules;
+pub mod sample_events;
+pub mod script_faults;
+pub mod unfit_steps;
+pub mod vread_acts;
+pub mod vreads;

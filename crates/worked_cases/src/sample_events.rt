@@ -1,0 +1,28 @@
+//! Interrupts and input events.
+ghost use Rattle.worked_cases.specs.Runs.{Holds};
+ghost use Rattle.worked_cases.specs.SampleEvents.{irq_at_1000_no_dump, irq_at_1001_dumps, input_timer};
+ghost use Rattle.worked_cases.specs.SampleEvents.{input_bytes_mixed};
+
+/// An interrupt at 1,000 milliseconds makes no dump due.
+#[tactic(auto, using(crate::proofs::SampleLanes::irq_at_1000_no_dump_holds))]
+pub fn irq_at_1000_no_dump()
+    ensures { Holds irq_at_1000_no_dump }
+{}
+
+/// One at 1,001 milliseconds dumps, with one bit.
+#[tactic(auto, using(crate::proofs::SampleLanes::irq_at_1001_dumps_holds))]
+pub fn irq_at_1001_dumps()
+    ensures { Holds irq_at_1001_dumps }
+{}
+
+/// What input events are worth by their times, and that a repeated value is worth nothing.
+#[tactic(auto, using(crate::proofs::SampleLanes::input_timer_holds))]
+pub fn input_timer()
+    ensures { Holds input_timer }
+{}
+
+/// The bytes that an input event mixes.
+#[tactic(auto, using(crate::proofs::SampleLanes::input_bytes_mixed_holds))]
+pub fn input_bytes_mixed()
+    ensures { Holds input_bytes_mixed }
+{}

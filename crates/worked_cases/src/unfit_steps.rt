@@ -1,0 +1,29 @@
+//! Steps that are no form of their event's word: no entries stand behind them, whatever the lanes hold.
+ghost use Rattle.key_names.specs.IsTranscript.{forms_clause};
+ghost use Rattle.worked_cases.specs.Runs.{FailsFirst, transcript_with};
+ghost use Rattle.worked_cases.specs.UnfitSteps.{read_without_a_look, fork_without_a_visit, looks_that_fall};
+ghost use Rattle.worked_cases.specs.UnfitSteps.{visit_of_no_cpu};
+
+/// A read that is turned away looks first.
+#[tactic(auto, using(crate::proofs::UnfitForms::read_without_a_look_fails))]
+pub fn read_without_a_look()
+    ensures { FailsFirst forms_clause read_without_a_look.script (transcript_with read_without_a_look.lines) }
+{}
+
+/// A fork visits the base.
+#[tactic(auto, using(crate::proofs::UnfitForms::fork_without_a_visit_fails))]
+pub fn fork_without_a_visit()
+    ensures { FailsFirst forms_clause fork_without_a_visit.script (transcript_with fork_without_a_visit.lines) }
+{}
+
+/// The looks of a vgetrandom call never fall.
+#[tactic(auto, using(crate::proofs::UnfitForms::looks_that_fall_fails))]
+pub fn looks_that_fall()
+    ensures { FailsFirst forms_clause looks_that_fall.script (transcript_with looks_that_fall.lines) }
+{}
+
+/// No visit is one of a CPU that the script does not have.
+#[tactic(auto, using(crate::proofs::UnfitForms::visit_of_no_cpu_fails))]
+pub fn visit_of_no_cpu()
+    ensures { FailsFirst forms_clause visit_of_no_cpu.script (transcript_with visit_of_no_cpu.lines) }
+{}

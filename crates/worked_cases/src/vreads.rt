@@ -1,0 +1,46 @@
+//! Calls of vgetrandom.
+ghost use Rattle.worked_cases.specs.Runs.{Holds};
+ghost use Rattle.worked_cases.specs.Vreads.{vread_batch, vread_of_nothing, wipe_inside_with_nested_read};
+ghost use Rattle.worked_cases.specs.Vreads.{reseed_inside_vread, point_not_reached, two_vgetrandom_states, load_1_1_8};
+
+/// Three reads from one state: with a new key, out of the batch, and with a new batch.
+#[tactic(auto, using(crate::proofs::VreadLanes::vread_batch_holds))]
+pub fn vread_batch()
+    ensures { Holds vread_batch }
+{}
+
+/// A read of no bytes looks once.
+#[tactic(auto, using(crate::proofs::VreadLanes::vread_of_nothing_holds))]
+pub fn vread_of_nothing()
+    ensures { Holds vread_of_nothing }
+{}
+
+/// A wipe in the middle of a read, with a read inside it: the second attempt has a new key.
+#[tactic(auto, using(crate::proofs::VreadLanes::wipe_inside_with_nested_read_holds))]
+pub fn wipe_inside_with_nested_read()
+    ensures { Holds wipe_inside_with_nested_read }
+{}
+
+/// A reseed in the middle of a read outdates its first attempt.
+#[tactic(auto, using(crate::proofs::VreadLanes::reseed_inside_vread_holds))]
+pub fn reseed_inside_vread()
+    ensures { Holds reseed_inside_vread }
+{}
+
+/// An act at a point that its read does not come to is not done.
+#[tactic(auto, using(crate::proofs::VreadLanes::point_not_reached_holds))]
+pub fn point_not_reached()
+    ensures { Holds point_not_reached }
+{}
+
+/// Two states have keys of their own.
+#[tactic(auto, using(crate::proofs::VreadLanes::two_vgetrandom_states_holds))]
+pub fn two_vgetrandom_states()
+    ensures { Holds two_vgetrandom_states }
+{}
+
+/// The load script of one CPU, one caller and eight events.
+#[tactic(auto, using(crate::proofs::VreadLanes::load_1_1_8_holds))]
+pub fn load_1_1_8()
+    ensures { Holds load_1_1_8 }
+{}
