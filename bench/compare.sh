@@ -8,6 +8,7 @@ bytes=16777216
 reads=4000
 samples=$((bytes / 64))
 interrupts=1000000
+visits=20000000
 loops=crates/bench_words/out/bench_words
 room=$(mktemp -d)
 trap 'rm -rf "$room"' EXIT
@@ -148,7 +149,9 @@ echo "nanoseconds of each, by the least of five"
 printf '%-52s %12s\n' "BLAKE2s of a sample, many at once" "$(nanoseconds bulk $((16 * samples)))" \
     "BLAKE2s of a sample, one by one" "$(nanoseconds updated $((16 * samples)))" \
     "input pool: a sample mixed" "$(nanoseconds mixed $((16 * samples)))" \
-    "fast pool: an interrupt mixed" "$(nanoseconds interrupts $((200 * interrupts)))"
+    "fast pool: an interrupt mixed" "$(nanoseconds interrupts $((200 * interrupts)))" \
+    "lane: taken, an interrupt mixed, and put" "$(nanoseconds visits "$visits")" \
+    "Mutex: locked, and unlocked" "$(nanoseconds locks "$visits")"
 
 # What was counted was also right: the last bytes of the last read are those that the direct calls gave.
 from_run=$(awk '/ read / { last = $NF } END { print substr(last, length(last) - 15) }' "$room/transcript")

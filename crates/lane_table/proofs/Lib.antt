@@ -1,3 +1,7 @@
+pub mod HandLemmas
+pub mod WentLemmas
+pub mod Floors
+pub mod Lent
 pub mod Lists
 pub mod VisitLists
 pub mod LawfulLists
@@ -17,11 +21,6 @@ pub mod Starting
 pub mod Ending
 pub mod Restaging
 pub mod Telling
-pub mod Trying
-pub mod Holding
-pub mod Doing
-pub mod Extracting
-pub mod Refilling
 pub mod Places
 pub mod BookEntries
 pub mod BookValues
@@ -37,5 +36,10 @@ pub mod DeedGrowth
 pub mod BookGrows
 pub mod BookMarks
 pub mod BookSamples
+pub mod Trying
+pub mod Holding
+pub mod Doing
+pub mod Extracting
+pub mod Refilling
 pub mod BookEnds
 pub mod WorkedLanes

@@ -7,6 +7,8 @@ pub mod Calls
 pub mod Deeds
 pub mod Examples
 pub mod Lending
+pub mod Hands
+pub mod Went
 pub mod BookLists
 pub mod BookLaws
 pub mod VisitsMet

@@ -132,7 +132,11 @@ impl Lanes {
         requires away { IsAway (index_of lane) (view pass.old) }
         ensures pass { IsSamePass self.now pass.old pass.new }
         ensures taken { Taken (index_of lane) result pass.old.seat.me pass.new.seat.me }
+        ensures early { pass.new.stamp < 2 ^ 62 }
     {
+        if pass.stamp >= LAST {
+            wait_for_ever(rt);
+        }
         self.take_at(rt, pass, index_of(lane))
     }
 }

@@ -1,0 +1,64 @@
+-- What a pass has in its hands: the lanes that it holds, the one that it took last in front.
+use Rattle.std.specs.Prelude.{◌≡◌, ◌≢◌, ℕ, ◌<◌, ⊤, List, [], ◌∷◌, map, Option, Some, None, length}
+use Rattle.lane_table.specs.declared.view.View.{View}
+use Rattle.lane_table.specs.declared.view.Content.{Content}
+use Rattle.lane_table.specs.declared.view.Stage.TheVariants.{Holding}
+use Rattle.lane_table.specs.declared.lanes.Lanes.{Lanes}
+use Rattle.lane_table.specs.declared.lanes.Pass.{Pass}
+use Rattle.lane_table.specs.declared.lanes.Turn.{Turn}
+use Rattle.lane_table.specs.Meaning.{Model, replay}
+use Rattle.lane_table.specs.WorldRule.{at, known_of, last_stamp}
+use Rattle.lane_table.specs.Calls.{IsPassOf, IsAway, count_of, slots, view}
+
+-- a lane that is held, with its next place and its last stamp as taken
+pub record Hand : Type 0 where
+  pub lane : ℕ
+  pub ticket : ℕ
+  pub place : ℕ
+  pub stamp : ℕ
+  -- the place of the entry that names the held place
+  pub owes : Option ℕ
+  -- 1 where this hold raised the generation
+  pub raised : ℕ
+
+abbrev pub hand : Turn → Option ℕ → ℕ → Hand
+hand turn owes raised = record {
+  lane = turn.lane;
+  ticket = turn.ticket;
+  place = turn.place;
+  stamp = turn.stamp;
+  owes = owes;
+  raised = raised;
+}
+
+pub record IsInHand (v : View) (h : Hand) : Type 0 where
+  pub near : h.lane < length v.lanes
+  pub stage : (at h.lane v).stage ≡ Holding h.ticket
+  pub owed : (at h.lane v).owes ≡ h.owes
+  pub raise : h.lane ≡ 1 → (at 1 v).raised ≡ h.raised
+  pub next : h.place ≡ length (known_of v h.lane)
+  pub last : h.stamp ≡ last_stamp v.first (known_of v h.lane)
+
+abbrev pub NotIn : ℕ → List Hand → Type 0
+NotIn lane [] = ⊤
+NotIn lane (h ∷ hands) = (lane ≢ h.lane) × NotIn lane hands
+
+-- each is held, and no lane twice
+abbrev pub AllInHand : View → List Hand → Type 0
+AllInHand v [] = ⊤
+AllInHand v (h ∷ hands) = IsInHand v h × NotIn h.lane hands × AllInHand v hands
+
+abbrev pub slot_of : Hand → ℕ × Option Content
+slot_of h = (h.lane, None)
+
+-- the pass, of this table and this caller, has these lanes in its hands and stands at no other
+pub record Has (t : Lanes) (caller : ℕ) (hands : List Hand) (p : Pass) : Type 0 where
+  pub pass : IsPassOf t p
+  pub own : p.caller ≡ caller
+  pub out : slots p ≡ map slot_of hands
+  pub held : AllInHand (view p) hands
+  pub away : (lane : ℕ) → lane < count_of t → NotIn lane hands → IsAway lane (view p)
+
+-- what the pass knows of a lane's list makes this of the lane
+abbrev pub model : Pass → ℕ → Model
+model p lane = replay (known_of (view p) lane)

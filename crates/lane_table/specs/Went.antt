@@ -1,0 +1,88 @@
+-- What a pass did between two moments: its looks and its visits, with their entries, in order.
+use Rattle.std.specs.Prelude.{◌≡◌, ℕ, suc, ◌+◌, ◌<◌, ◌==◌, ◌≤◌, ◌↔◌, max, ⊤, List, [], ◌∷◌, ◌++◌, length, if◌then◌else◌}
+use mathlib.Core.Option.{some}
+use lib.ListN.{get_elem?}
+use Rattle.key_names.specs.declared.names.Mark.{Mark}
+use Rattle.key_names.specs.declared.names.Step.{Step}
+use Rattle.key_names.specs.declared.names.Step.TheVariants.{Look, Visit as Marked}
+use Rattle.key_names.specs.declared.names.Who.{Who}
+use Rattle.lane_table.specs.declared.view.Visit.{Visit}
+use Rattle.lane_table.specs.declared.view.View.{View}
+use Rattle.lane_table.specs.declared.view.LaneEntry.{LaneEntry}
+use Rattle.key_names.specs.BaseList.{ready}
+use Rattle.base_gen.specs.BaseValue.{BaseValue}
+use Rattle.lane_table.specs.Meaning.{replay}
+use Rattle.lane_table.specs.WorldRule.{at, known_of}
+use Rattle.lane_table.specs.Steps.{Grows}
+use Rattle.lane_table.specs.LaneNumbers.{index_of}
+use Rattle.lane_table.specs.Calls.{SameView}
+
+-- a look, or a visit with its entry
+pub data Deal : Type 0 where
+  looked : ℕ → Deal
+  visited : Mark → LaneEntry → Deal
+
+abbrev pub step_of : Deal → Step
+step_of (looked g) = Look g
+step_of (visited mark e) = Marked mark
+
+-- the mark is that of a visit which is known
+pub record IsMarkOf (v : View) (mark : Mark) (who : Who) (e : LaneEntry) : Type 0 where
+  pub near : index_of mark.lane < length v.lanes
+  pub visit : Visit
+  pub there : get_elem? (known_of v (index_of mark.lane)) mark.place ≡ some visit
+  pub by : visit.who ≡ who
+  pub stamped : visit.stamp ≡ mark.stamp
+  pub is : visit.entry ≡ e
+
+abbrev pub maker : ℕ → ℕ → ℕ → Who
+maker caller event step = record { caller = caller; event = event; step = step }
+
+-- each visit is known and of this event of the caller, the steps being numbered from n on
+abbrev pub AllStand : View → ℕ → ℕ → ℕ → List Deal → Type 0
+AllStand v caller event n [] = ⊤
+AllStand v caller event n (looked g ∷ deals) = AllStand v caller event (suc n) deals
+AllStand v caller event n (visited mark e ∷ deals) =
+    IsMarkOf v mark (maker caller event n) e × AllStand v caller event (suc n) deals
+
+abbrev pub looks_in : List Deal → List ℕ
+looks_in [] = []
+looks_in (looked g ∷ deals) = g ∷ looks_in deals
+looks_in (visited mark e ∷ deals) = looks_in deals
+
+abbrev pub places_in : ℕ → List Deal → List ℕ
+places_in lane [] = []
+places_in lane (looked g ∷ deals) = places_in lane deals
+places_in lane (visited mark e ∷ deals) =
+    if index_of mark.lane == lane then mark.place ∷ places_in lane deals else places_in lane deals
+
+abbrev pub stamps_in : List Deal → List ℕ
+stamps_in [] = []
+stamps_in (looked g ∷ deals) = stamps_in deals
+stamps_in (visited mark e ∷ deals) = mark.stamp ∷ stamps_in deals
+
+-- stamps that rise, from above the first number to the last
+abbrev pub Climbs : ℕ → List ℕ → ℕ → Type 0
+Climbs low [] high = low ≡ high
+Climbs low (stamp ∷ stamps) high = (low < stamp) × Climbs stamp stamps high
+
+-- what a view has seen of the generation: no look is below it
+abbrev pub floor : View → ℕ
+floor v = max v.seen (replay (known_of v 1)).base.generation
+
+-- the core is ready exactly where it was reseeded
+abbrev pub Agrees : BaseValue → Type 0
+Agrees b = (b.phase ≡ ready) ↔ (1 ≤ b.generation)
+
+-- from v to w the pass did exactly this, in an event of a caller, the steps being numbered from n on
+pub record Went (caller event n : ℕ) (v w : View) (deals : List Deal) : Type 0 where
+  pub same : SameView v w
+  pub grows : Grows v w
+  pub looks : w.looks ≡ v.looks ++ looks_in deals
+  pub places : (lane : ℕ) → lane < length v.lanes → (at lane w).places ≡ (at lane v).places ++ places_in lane deals
+  pub made : (lane : ℕ) → lane < length v.lanes → (at lane w).made ≡ (at lane v).made + length (places_in lane deals)
+  pub heard : (lane : ℕ) → lane < length v.lanes → (at lane w).heard ≡ (at lane v).heard
+  pub stamps : w.stamps ≡ v.stamps ++ stamps_in deals
+  pub climbs : Climbs v.stamp (stamps_in deals) w.stamp
+  pub floors : floor v ≤ floor w
+  pub stand : AllStand w caller event n deals

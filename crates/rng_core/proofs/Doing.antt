@@ -1,0 +1,235 @@
+-- Calls out of visits: what is done one after another, and the forms of the most used pieces.
+use Rattle.std.proofs.Common.{◌≡◌, ℕ, ◌+◌, ◌<◌, length, arith, List, [], ◌∷◌, ◌++◌, map, Some, None, sym, refl, ap, ◌∙◌, subst, append-nil}
+use Rattle.key_names.specs.declared.entries.Taken.{Taken}
+use Rattle.key_names.specs.declared.entries.PoolEntry.{PoolEntry}
+use Rattle.key_names.specs.declared.entries.PoolEntry.TheVariants.{Extract, Bits}
+use Rattle.key_names.specs.declared.entries.BaseEntry.{BaseEntry}
+use Rattle.key_names.specs.declared.entries.BaseEntry.TheVariants.{Refill}
+use Rattle.key_names.specs.declared.entries.CpuEntry.{CpuEntry}
+use Rattle.key_names.specs.declared.entries.CpuEntry.TheVariants.{Read}
+use Rattle.key_names.specs.Deeds.{Deed, looked, deed_of, deeds_of}
+use Rattle.key_names.specs.Answers.{deed_bytes, served_bytes, bits_read}
+use Rattle.key_names.specs.SeenLine.{count}
+use Rattle.key_names.specs.declared.events.Event.TheVariants.{Bits as BitsEvent}
+use Rattle.key_names.specs.declared.events.Answer.TheVariants.{Ok as Done}
+use Rattle.key_names.specs.PoolList.{PoolState, Crossing, crossing, pool_step}
+use Rattle.key_names.specs.Forms.{Rooted, BaseOnly, PoolOnly, CpuOnly, PlainRead, RefilledRead, CreditForm, Cross}
+use Rattle.key_names.specs.Forms as forms
+use Rattle.lane_table.specs.declared.view.Handed.{Handed}
+use Rattle.lane_table.specs.declared.view.LaneEntry.{LaneEntry}
+use Rattle.lane_table.specs.declared.view.LaneEntry.TheVariants.{Pool, Base, Cpu}
+use Rattle.lane_table.specs.Meaning.{Model}
+use Rattle.lane_table.specs.BookLists.{book_lists}
+use Rattle.lane_table.specs.VisitsMet.{IsIntOfBatch}
+use Rattle.lane_table.specs.Went.{Deal, visited, step_of}
+use Rattle.lane_table.specs.Went as went
+use Rattle.lane_table.specs.WorldRule.{known_of}
+use Rattle.lane_table.proofs.WentLemmas.{went_idly}
+use Rattle.rng_core.specs.declared.setting.Setting.{Setting}
+use Rattle.rng_core.specs.Told.{Moment, Told, Visited}
+use Rattle.rng_core.specs.Did.{Did, Serving, Served, Fulfils, setting_of, serving}
+use Rattle.rng_core.proofs.TellLemmas.{told_then, told_idly}
+use Rattle.rng_core.proofs.Finding.{continues_before, found_pool, found_base, found_cpu}
+
+map_append : {A B : Type 0} (f : A → B) (xs ys : List A) → map f (xs ++ ys) ≡ map f xs ++ map f ys
+map_append f [] ys = refl
+map_append f (x ∷ xs) ys = ap (λ l. f x ∷ l) (map_append f xs ys)
+
+pub did_map : {P Q : List Deed → Type 0} (set : Setting) (m n : Moment) → ((deeds : List Deed) → P deeds → Q deeds) → Did P set m n → Did Q set m n
+did_map set m n f k = record { deals = k.deals; told = k.told; stands = λ lanes visits callers c. f _ (k.stands lanes visits callers c) }
+
+-- the form alone
+pub formed : {F : List Deed → Type 0} {bytes : List ℕ} (set : Setting) (m n : Moment) → Did (Serving F bytes) set m n → Did F set m n
+formed set m n k = did_map set m n (λ deeds h. h.form) k
+
+pub served_of : (set : Setting) (m n : Moment) (lane place : ℕ) (s : Model) (e : LaneEntry) (got : Handed) → Visited set m n lane place s e got → Served set m n lane place e (serving e s got)
+served_of set m n lane place s e got x = record { model = s; got = got; visited = x; serves = refl }
+
+-- behind what no step tells
+pub did_after : {P : List Deed → Type 0} (set : Setting) (l m n : Moment) → Told set l m [] → Did P set m n → Did P set l n
+did_after set l m n a k = record { deals = k.deals; told = told_then set l m n [] k.deals a k.told; stands = k.stands }
+
+-- and before it
+pub did_before : {P : List Deed → Type 0} (set : Setting) (l m n : Moment) → Did P set l m → Told set m n [] → Did P set l n
+did_before {P} set l m n k a = record {
+  deals = k.deals ++ [];
+  told = told_then set l m n k.deals [] k.told a;
+  stands = λ lanes visits callers c. subst (λ (ds : List Deal). P (deeds_of (book_lists lanes visits callers) (map step_of ds))) (sym (append-nil k.deals)) (k.stands lanes visits callers (continues_before lanes _ _ _ _ _ visits [] a.went c));
+}
+
+-- behind a look
+pub did_looked : {P : ℕ → List Deed → Type 0} (set : Setting) (l m n : Moment) (g : ℕ) → Told set l m (went.looked g ∷ []) → Did (P g) set m n → Did (forms.Looked P) set l n
+did_looked set l m n g a k = record {
+  deals = went.looked g ∷ k.deals;
+  told = told_then set l m n (went.looked g ∷ []) k.deals a k.told;
+  stands = λ lanes visits callers c. (g, _, refl, k.stands lanes visits callers c);
+}
+
+served_behind_look : (g : ℕ) (deeds : List Deed) → served_bytes (looked g ∷ deeds) ≡ served_bytes deeds
+served_behind_look g [] = refl
+served_behind_look g (d ∷ deeds) = refl
+
+pub serving_looked : {P : ℕ → List Deed → Type 0} {bytes : List ℕ} (set : Setting) (l m n : Moment) (g : ℕ) → Told set l m (went.looked g ∷ []) → Did (Serving (P g) bytes) set m n → Did (Serving (forms.Looked P) bytes) set l n
+serving_looked set l m n g a k = record {
+  deals = went.looked g ∷ k.deals;
+  told = told_then set l m n (went.looked g ∷ []) k.deals a k.told;
+  stands = λ lanes visits callers c. let h = k.stands lanes visits callers c in record { form = (g, _, refl, h.form); bytes_are = h.bytes_are ∙ sym (served_behind_look g (deeds_of (book_lists lanes visits callers) (map step_of k.deals))) };
+}
+
+-- one visit of the pool, the base or a CPU
+pub did_pool : (set : Setting) (m n : Moment) (place : ℕ) (s : Model) (e : PoolEntry) (got : Handed) → Visited set m n 0 place s (Pool e) got → Did (PoolOnly e) set m n
+did_pool set m n place s e got x = record {
+  deals = visited x.mark (Pool e) ∷ [];
+  told = x.told;
+  stands = λ lanes visits callers c. let f = found_pool lanes visits callers set m n place s got c e x in record { pool = f.visit; deeds_are = ap (λ (d : Deed). d ∷ []) f.deed_is; is = f.is };
+}
+
+pub did_base : (set : Setting) (m n : Moment) (place : ℕ) (e : BaseEntry) (bytes : List ℕ) → Served set m n 1 place (Base e) bytes → Did (Serving (BaseOnly e) bytes) set m n
+did_base set m n place e bytes x = record {
+  deals = visited x.visited.mark (Base e) ∷ [];
+  told = x.visited.told;
+  stands = λ lanes visits callers c. let f = found_base lanes visits callers set m n place x.model x.got c e x.visited in record {
+    form = record { base = f.visit; deeds_are = ap (λ (d : Deed). d ∷ []) f.deed_is; is = f.is };
+    bytes_are = x.serves ∙ sym f.serves ∙ ap deed_bytes (sym f.deed_is);
+  };
+}
+
+pub did_cpu : (set : Setting) (m n : Moment) (cpu place : ℕ) (e : CpuEntry) (bytes : List ℕ) → IsIntOfBatch e → Served set m n (cpu + 2) place (Cpu e) bytes → Did (Serving (CpuOnly cpu e) bytes) set m n
+did_cpu set m n cpu place e bytes fits x = record {
+  deals = visited x.visited.mark (Cpu e) ∷ [];
+  told = x.visited.told;
+  stands = λ lanes visits callers c. let f = found_cpu lanes visits callers set m n place x.model x.got c cpu e x.visited fits in record {
+    form = record { visit = f.visit; deeds_are = ap (λ (d : Deed). d ∷ []) f.deed_is; on = f.on; is = f.is };
+    bytes_are = x.serves ∙ sym f.serves ∙ ap deed_bytes (sym f.deed_is);
+  };
+}
+
+-- a root, and a visit of the base that names it
+pub did_rooted : (set : Setting) (l m n : Moment) (root base : ℕ) (s : Model) (got : Handed) (entry : ℕ → BaseEntry) (bytes : List ℕ) → Visited set l m 0 root s (Pool (Extract set.hw base)) got → Served set m n 1 base (Base (entry root)) bytes
+    → Did (Serving (Rooted (setting_of set) entry) bytes) set l n
+did_rooted set l m n root base s got entry bytes x y = record {
+  deals = visited x.mark (Pool (Extract set.hw base)) ∷ visited y.visited.mark (Base (entry root)) ∷ [];
+  told = told_then set l m n (visited x.mark (Pool (Extract set.hw base)) ∷ []) (visited y.visited.mark (Base (entry root)) ∷ []) x.told y.visited.told;
+  stands = λ lanes visits callers c.
+      let f = found_pool lanes visits callers set l m root s got (continues_before lanes _ _ _ _ _ visits _ y.visited.told.went c) (Extract set.hw base) x in
+      let g = found_base lanes visits callers set m n base y.model y.got c (entry root) y.visited in record {
+        form = record {
+          pool = f.visit;
+          base = g.visit;
+          deeds_are = (λ i. f.deed_is i ∷ g.deed_is i ∷ []);
+          extracts = f.is ∙ ap (λ (p : ℕ). Extract set.hw p) (sym g.at);
+          names = g.is ∙ ap entry (sym f.at);
+        };
+        bytes_are = y.serves ∙ sym g.serves ∙ ap deed_bytes (sym g.deed_is);
+      };
+}
+
+-- a read from a CPU, behind its look
+pub did_plain_read : (set : Setting) (l m n : Moment) (g place : ℕ) (taken : Taken) (bytes : List ℕ) → Told set l m (went.looked g ∷ []) → Served set m n (set.cpu + 2) place (Cpu (Read g None taken)) bytes
+    → Did (Serving (PlainRead (setting_of set) taken) bytes) set l n
+did_plain_read set l m n g place taken bytes a x = record {
+  deals = went.looked g ∷ visited x.visited.mark (Cpu (Read g None taken)) ∷ [];
+  told = told_then set l m n (went.looked g ∷ []) (visited x.visited.mark (Cpu (Read g None taken)) ∷ []) a x.visited.told;
+  stands = λ lanes visits callers c. let f = found_cpu lanes visits callers set m n place x.model x.got c set.cpu (Read g None taken) x.visited tt in record {
+    form = record { look = g; cpu = f.visit; deeds_are = (λ i. looked g ∷ f.deed_is i ∷ []); on = f.on; reads = f.is };
+    bytes_are = x.serves ∙ sym f.serves ∙ ap deed_bytes (sym f.deed_is);
+  };
+}
+
+pub did_refilled_read : (set : Setting) (k l m n : Moment) (g base place : ℕ) (s : Model) (got : Handed) (taken : Taken) (bytes : List ℕ) → Told set k l (went.looked g ∷ []) → Visited set l m 1 base s (Base (Refill set.cpu place)) got
+    → Served set m n (set.cpu + 2) place (Cpu (Read g (Some base) taken)) bytes → Did (Serving (RefilledRead (setting_of set) taken) bytes) set k n
+did_refilled_read set k l m n g base place s got taken bytes a x y = record {
+  deals = went.looked g ∷ visited x.mark (Base (Refill set.cpu place)) ∷ visited y.visited.mark (Cpu (Read g (Some base) taken)) ∷ [];
+  told = told_then set k l n (went.looked g ∷ []) (visited x.mark (Base (Refill set.cpu place)) ∷ visited y.visited.mark (Cpu (Read g (Some base) taken)) ∷ []) a
+      (told_then set l m n (visited x.mark (Base (Refill set.cpu place)) ∷ []) (visited y.visited.mark (Cpu (Read g (Some base) taken)) ∷ []) x.told y.visited.told);
+  stands = λ lanes visits callers c.
+      let f = found_base lanes visits callers set l m base s got (continues_before lanes _ _ _ _ _ visits _ y.visited.told.went c) (Refill set.cpu place) x in
+      let h = found_cpu lanes visits callers set m n place y.model y.got c set.cpu (Read g (Some base) taken) y.visited tt in record {
+        form = record {
+          look = g;
+          base = f.visit;
+          cpu = h.visit;
+          deeds_are = (λ i. looked g ∷ f.deed_is i ∷ h.deed_is i ∷ []);
+          on = h.on;
+          refills = f.is ∙ ap (λ (p : ℕ). Refill set.cpu p) (sym h.at);
+          reads = h.is ∙ ap (λ (p : ℕ). Read g (Some p) taken) (sym f.at);
+        };
+        bytes_are = y.serves ∙ sym h.serves ∙ ap deed_bytes (sym h.deed_is);
+      };
+}
+
+-- nothing at all
+pub did_nothing : {P : List Deed → Type 0} (set : Setting) (m : Moment) → 1 < length m.view.lanes → P [] → Did P set m m
+did_nothing set m two p = record {
+  deals = [];
+  told = told_idly set m m refl (went_idly set.caller set.event (length m.steps) m.view m.view (record { first = refl; share = refl; halvings = refl; sized = refl })
+      (λ lane low. ([], sym (append-nil (known_of m.view lane)))) refl refl refl two (omega arith) (λ lane low. record { made = refl; places = refl; heard = refl }));
+  stands = λ lanes visits callers c. p;
+}
+
+-- a look alone
+pub did_look : (set : Setting) (l m : Moment) (g : ℕ) → Told set l m (went.looked g ∷ []) → Did (λ (deeds : List Deed). deeds ≡ looked g ∷ []) set l m
+did_look set l m g a = record { deals = went.looked g ∷ []; told = a; stands = λ lanes visits callers c. refl }
+
+-- a visit of the pool that credits bits, and what they cross
+pub did_credit : (set : Setting) (l m n : Moment) (place : ℕ) (s : Model) (e : PoolEntry) (got : Handed) (crossed : Crossing) → Visited set l m 0 place s (Pool e) got → crossed ≡ crossing s.pool.bits (pool_step s.pool e).bits
+    → Did (Cross (setting_of set) crossed) set m n → Did (CreditForm (setting_of set) e) set l n
+did_credit set l m n place s e got crossed x is k = record {
+  deals = visited x.mark (Pool e) ∷ k.deals;
+  told = told_then set l m n (visited x.mark (Pool e) ∷ []) k.deals x.told k.told;
+  stands = λ lanes visits callers c.
+      let f = found_pool lanes visits callers set l m place s got (continues_before lanes _ _ _ _ _ visits _ k.told.went c) e x in
+      let rest = deeds_of (book_lists lanes visits callers) (map step_of k.deals) in record {
+        pool = f.visit;
+        rest = rest;
+        deeds_are = ap (λ (d : Deed). d ∷ rest) f.deed_is;
+        credits = f.is;
+        crosses = subst (λ (z : Crossing). Cross (setting_of set) z rest) (is ∙ (λ i. crossing (sym f.before i).bits (sym f.after i).bits)) (k.stands lanes visits callers c);
+      };
+}
+
+-- the bits that a visit reads
+pub did_bits : (set : Setting) (m n : Moment) (place b : ℕ) (s : Model) (got : Handed) → Visited set m n 0 place s (Pool Bits) got → b ≡ s.pool.bits → Did (Fulfils (setting_of set) BitsEvent Done (count b)) set m n
+did_bits set m n place b s got x is = record {
+  deals = visited x.mark (Pool Bits) ∷ [];
+  told = x.told;
+  stands = λ lanes visits callers c. let f = found_pool lanes visits callers set m n place s got c Bits x in record {
+    form = record { pool = f.visit; deeds_are = ap (λ (d : Deed). d ∷ []) f.deed_is; is = f.is };
+    answers = refl;
+    shows = ap count (is ∙ ap (λ (z : PoolState). z.bits) (sym f.before)) ∙ ap (λ (d : Deed). bits_read (d ∷ [])) (sym f.deed_is);
+  };
+}
+
+-- one call after another
+pub record After (P Q : List Deed → Type 0) (deeds : List Deed) : Type 0 where
+  pub first : List Deed
+  pub rest : List Deed
+  pub deeds_are : deeds ≡ first ++ rest
+  pub before : P first
+  pub behind : Q rest
+
+pub did_then : {P Q : List Deed → Type 0} (set : Setting) (l m n : Moment) → Did P set l m → Did Q set m n → Did (After P Q) set l n
+did_then set l m n a b = record {
+  deals = a.deals ++ b.deals;
+  told = told_then set l m n a.deals b.deals a.told b.told;
+  stands = λ lanes visits callers c. let book = book_lists lanes visits callers in record {
+    first = deeds_of book (map step_of a.deals);
+    rest = deeds_of book (map step_of b.deals);
+    deeds_are = ap (deeds_of book) (map_append step_of a.deals b.deals) ∙ map_append (deed_of book) (map step_of a.deals) (map step_of b.deals);
+    before = a.stands lanes visits callers (continues_before lanes _ _ _ _ _ visits b.deals b.told.went c);
+    behind = b.stands lanes visits callers c;
+  };
+}
+
+-- behind a look that found g
+pub record Behind (g : ℕ) (P : List Deed → Type 0) (deeds : List Deed) : Type 0 where
+  pub rest : List Deed
+  pub deeds_are : deeds ≡ looked g ∷ rest
+  pub holds : P rest
+
+pub did_behind : {P : List Deed → Type 0} (set : Setting) (l m n : Moment) (g : ℕ) → Told set l m (went.looked g ∷ []) → Did P set m n → Did (Behind g P) set l n
+did_behind set l m n g a k = record {
+  deals = went.looked g ∷ k.deals;
+  told = told_then set l m n (went.looked g ∷ []) k.deals a k.told;
+  stands = λ lanes visits callers c. record { rest = deeds_of (book_lists lanes visits callers) (map step_of k.deals); deeds_are = refl; holds = k.stands lanes visits callers c };
+}

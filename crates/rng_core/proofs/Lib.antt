@@ -1,0 +1,6 @@
+pub mod Doing
+pub mod Finding
+pub mod Fulfilling
+pub mod Parents
+pub mod TellLemmas
+pub mod SysFulfilling

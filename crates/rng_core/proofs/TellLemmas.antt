@@ -1,0 +1,84 @@
+-- What is told, call after call.
+use Rattle.std.proofs.Common.{◌≡◌, ℕ, List, [], ◌∷◌, ◌++◌, map, take, length, ◌<◌, sym, refl, ap, ◌∙◌, subst, arith, append_assoc, append-nil, length-append}
+use Rattle.std.proofs.Math.Seq.{take-append_seam}
+use lib.ListN.{get_elem?}
+use Rattle.atomic_table.proofs.Lists.{at_last}
+use Rattle.key_names.specs.declared.names.Step.{Step}
+use Rattle.key_names.specs.declared.names.Step.TheVariants.{Visit as Marked}
+use Rattle.key_names.specs.declared.names.Mark.{Mark}
+use Rattle.key_names.specs.declared.names.Who.{Who}
+use Rattle.lane_table.specs.declared.view.LaneEntry.{LaneEntry}
+use Rattle.lane_table.specs.declared.view.LaneView.{LaneView}
+use Rattle.lane_table.specs.LaneNumbers.{index_of}
+use Rattle.lane_table.specs.Meaning.{Model, replay}
+use Rattle.lane_table.specs.declared.view.Handed.{Handed}
+use Rattle.lane_table.specs.WorldRule.{known_of}
+use Rattle.lane_table.specs.Steps.{Seated, filled, handed}
+use Rattle.lane_table.specs.Calls.{Added, visit_by}
+use Rattle.lane_table.specs.Went.{Deal, visited, maker, step_of, Went}
+use Rattle.lane_table.proofs.WentLemmas.{went_then, went_put}
+use Rattle.rng_core.specs.declared.setting.Setting.{Setting}
+use Rattle.rng_core.specs.Told.{Moment, Told, Visited}
+
+pub map_append : (xs ys : List Deal) → map step_of (xs ++ ys) ≡ map step_of xs ++ map step_of ys
+map_append [] ys = refl
+map_append (x ∷ xs) ys = ap (λ (l : List Step). step_of x ∷ l) (map_append xs ys)
+
+length_map : (xs : List Deal) → length (map step_of xs) ≡ length xs
+length_map [] = refl
+length_map (x ∷ xs) = let e = length_map xs in omega arith
+
+-- one after another
+pub told_then : (set : Setting) (l m n : Moment) (xs ys : List Deal) → Told set l m xs → Told set m n ys → Told set l n (xs ++ ys)
+told_then set l m n xs ys a b = record {
+  trace = b.trace ∙ ap (λ (s : List Step). s ++ map step_of ys) a.trace ∙ append_assoc l.steps (map step_of xs) (map step_of ys) ∙ ap (λ (s : List Step). l.steps ++ s) (sym (map_append xs ys));
+  went = went_then set.caller set.event (length l.steps) (length m.steps) l.view m.view n.view xs ys (ap length a.trace ∙ (let e = length_map xs in omega (arith, length-append l.steps (map step_of xs)))) a.went b.went;
+}
+
+-- no step
+pub told_idly : (set : Setting) (m n : Moment) → n.steps ≡ m.steps → Went set.caller set.event (length m.steps) m.view n.view [] → Told set m n []
+told_idly set m n same went = record { trace = same ∙ sym (append-nil m.steps); went = went }
+
+pub told_is : (set : Setting) (m n : Moment) (xs ys : List Deal) → xs ≡ ys → Told set m n xs → Told set m n ys
+told_is set m n xs ys e k = subst (Told set m n) e k
+
+-- a visit that was put
+pub visited_by_put : (set : Setting) (m m' : Seated) (told told' : List Step) (mark : Mark) (who : Who) (e : LaneEntry) (lane : ℕ) → index_of mark.lane ≡ lane → mark.place ≡ length (known_of m.0 lane) → lane < length m.0.lanes → 1 < length m.0.lanes → who ≡ maker set.caller set.event (length told)
+    → told' ≡ told ++ Marked mark ∷ [] → Added lane (filled lane (visit_by who mark.stamp e) m.0) m m' → Visited set (record { view = m.0; steps = told }) (record { view = m'.0; steps = told' }) lane mark.place (replay (known_of m.0 lane)) e (handed lane e m.0)
+visited_by_put set m m' told told' mark who e lane on there near two by trace k = record {
+  mark = mark;
+  lane_is = on;
+  place_is = refl;
+  told = record {
+    trace = trace;
+    went = subst (λ (l : ℕ). mark.place ≡ length (known_of m.0 l) → l < length m.0.lanes → Added l (filled l (visit_by who mark.stamp e) m.0) m m' → Went set.caller set.event (length told) m.0 m'.0 (visited mark e ∷ [])) on
+        (λ t n a. went_put set.caller set.event (length told) m m' two (filled (index_of mark.lane) (visit_by who mark.stamp e) m.0) mark e n t refl by refl a) there near k;
+  };
+  met = record {
+    near = (let s = k.same.sized in omega arith);
+    visit = filled lane (visit_by who mark.stamp e) m.0;
+    there = ap (λ (l : ℕ). get_elem? (known_of m'.0 l) mark.place) on ∙ ap (λ (a : LaneView). get_elem? a.known mark.place) k.here ∙ at_last (known_of m.0 lane) (filled lane (visit_by who mark.stamp e) m.0) mark.place (sym there);
+    is = refl;
+    was_handed = refl;
+    before = ap (λ (l : ℕ). replay (take mark.place (known_of m'.0 l))) on ∙ ap (λ (a : LaneView). replay (take mark.place a.known)) k.here
+        ∙ ap (λ (p : ℕ). replay (take p (known_of m.0 lane ++ filled lane (visit_by who mark.stamp e) m.0 ∷ []))) there ∙ ap replay (take-append_seam (known_of m.0 lane) (filled lane (visit_by who mark.stamp e) m.0 ∷ []));
+  };
+}
+
+-- a visit behind what no step tells
+pub visited_after : (set : Setting) (l m n : Moment) (lane place : ℕ) (s : Model) (e : LaneEntry) (got : Handed) → Told set l m [] → Visited set m n lane place s e got → Visited set l n lane place s e got
+visited_after set l m n lane place s e got a b = record { mark = b.mark; lane_is = b.lane_is; place_is = b.place_is; told = told_then set l m n [] (visited b.mark e ∷ []) a b.told; met = b.met }
+
+pub visited_is : (set : Setting) (m n : Moment) (lane place : ℕ) (s : Model) (e e' : LaneEntry) (got : Handed) → e ≡ e' → Visited set m n lane place s e got → Visited set m n lane place s e' got
+visited_is set m n lane place s e e' got is k = subst (λ (z : LaneEntry). Visited set m n lane place s z got) is k
+
+-- a visit of the lane that was held
+pub visited_at : (set : Setting) (m m' : Seated) (told told' : List Step) (mark : Mark) (who : Who) (e : LaneEntry) (held lane : ℕ) → held ≡ lane → index_of mark.lane ≡ held → mark.place ≡ length (known_of m.0 held) → held < length m.0.lanes → 1 < length m.0.lanes
+    → who ≡ maker set.caller set.event (length told) → told' ≡ told ++ Marked mark ∷ [] → Added held (filled held (visit_by who mark.stamp e) m.0) m m'
+    → Visited set (record { view = m.0; steps = told }) (record { view = m'.0; steps = told' }) lane mark.place (replay (known_of m.0 lane)) e (handed lane e m.0)
+visited_at set m m' told told' mark who e held lane same on there near two by trace k =
+    subst (λ (l : ℕ). Visited set (record { view = m.0; steps = told }) (record { view = m'.0; steps = told' }) l mark.place (replay (known_of m.0 l)) e (handed l e m.0)) same (visited_by_put set m m' told told' mark who e held on there near two by trace k)
+
+-- by the place as it was taken
+pub visited_place : (set : Setting) (m n : Moment) (lane p q : ℕ) (s : Model) (e : LaneEntry) (got : Handed) → p ≡ q → Visited set m n lane p s e got → Visited set m n lane q s e got
+visited_place set m n lane p q s e got is k = subst (λ (z : ℕ). Visited set m n lane z s e got) is k

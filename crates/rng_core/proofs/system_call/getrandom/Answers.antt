@@ -1,0 +1,48 @@
+use Rattle.std.proofs.Common.{◌≡◌, ◌<◌, ◌++◌, ◌∷◌, [], ℕ, List, length, sym, ap, ◌∙◌, subst, arith, rules}
+use Rattle.key_names.specs.declared.errno.Errno.{Errno}
+use Rattle.key_names.specs.declared.events.Event.TheVariants.{Read}
+use Rattle.key_names.specs.declared.events.Answer.TheVariants.{Ok as Done}
+use Rattle.key_names.specs.SeenLine.{bytes_or_none}
+use Rattle.key_names.specs.Deeds.{Deed, looked}
+use Rattle.rng_core.specs.Did.{Did, Fulfils, setting_of, errno_answer}
+use Rattle.rng_core.specs.Told.{moment}
+use Rattle.rng_core.proofs.Doing.{did_nothing, did_map, did_look, did_behind, did_then}
+use Rattle.rng_core.proofs.SysFulfilling.{sys_invalid, sys_again, sys_interrupted, sys_waited_none, sys_waited, sys_none, sys_read, nil_of}
+use Rattle.rng_core.proofs.system_call.getrandom.Goals as goal
+
+pub returns-then-are_bad-clause-did : goal.returns-then-are_bad-clause-did
+returns-then-are_bad-clause-did g c = did_nothing _ _ (let a = c.requires.has.pass.sized in let b = c.args.lanes.now.few in omega arith) (sys_invalid _ _ _ (sym c.are_bad.ensures ∙ c.if-are_bad.true))
+
+pub returns-then-is_nonblock-clause-did : goal.returns-then-is_nonblock-clause-did
+returns-then-is_nonblock-clause-did g c = let good = sym c.are_bad.ensures ∙ c.if-are_bad.false in let must = sym c.must_wait.ensures ∙ c.if-must_wait.true in
+    did_map _ _ _ (λ deeds e. sys_again (setting_of c.args.set.now) (length c.args.buf.now) c.args.flags c.look-found.result good must (sym c.is_nonblock.ensures ∙ c.if-is_nonblock.true) deeds e) (did_look _ _ _ _ c.look-found.ensures.told)
+
+pub returns-in-Err-clause-did : goal.returns-in-Err-clause-did
+returns-in-Err-clause-did g c = let good = sym c.are_bad.ensures ∙ c.if-are_bad.false in let must = sym c.must_wait.ensures ∙ c.if-must_wait.true in let patient = sym c.is_nonblock.ensures ∙ c.if-is_nonblock.false in let w = c.in-Err.ensures.waited in
+    subst (λ (e : Errno). Did (Fulfils (setting_of c.args.set.now) (Read (length c.args.buf.now) c.args.flags) (errno_answer e) (bytes_or_none [])) c.args.set.now (moment c.args.pass.now c.args.trace.now) (moment c.wait_ready.new.pass c.wait_ready.new.trace)) (sym w.0)
+    (did_map _ _ _ (λ deeds h. sys_interrupted (setting_of c.args.set.now) (length c.args.buf.now) c.args.flags c.look-found.result good must patient h.holds.first h.holds.rest deeds h.holds.before h.holds.behind (h.deeds_are ∙ ap (λ (l : List Deed). looked c.look-found.result ∷ l) h.holds.deeds_are))
+    (did_behind _ _ _ _ c.look-found.result c.look-found.ensures.told (did_then _ _ _ _ c.wait.ensures.did w.1)))
+
+pub returns-then-is_empty-clause-did : goal.returns-then-is_empty-clause-did
+returns-then-is_empty-clause-did g c = let good = sym c.are_bad.ensures ∙ c.if-are_bad.false in let must = sym c.must_wait.ensures ∙ c.if-must_wait.true in let patient = sym c.is_nonblock.ensures ∙ c.if-is_nonblock.false in let w = c.in-Ok.ensures.waited in
+    let none : length c.args.buf.now ≡ 0 = search rules in
+    subst (λ (z : List ℕ). Did (Fulfils (setting_of c.args.set.now) (Read (length c.args.buf.now) c.args.flags) Done (bytes_or_none z)) c.args.set.now (moment c.args.pass.now c.args.trace.now) (moment c.wait_ready.new.pass c.wait_ready.new.trace)) (sym (nil_of c.args.buf.now none))
+    (did_map _ _ _ (λ deeds h. sys_waited_none (setting_of c.args.set.now) (length c.args.buf.now) c.args.flags c.look-found.result good must patient none h.holds.first h.holds.rest deeds h.holds.before h.holds.behind (h.deeds_are ∙ ap (λ (l : List Deed). looked c.look-found.result ∷ l) h.holds.deeds_are))
+    (did_behind _ _ _ _ c.look-found.result c.look-found.ensures.told (did_then _ _ _ _ c.wait.ensures.did w.1)))
+
+pub returns-in-Ok-clause-did : goal.returns-in-Ok-clause-did
+returns-in-Ok-clause-did g c = let good = sym c.are_bad.ensures ∙ c.if-are_bad.false in let must = sym c.must_wait.ensures ∙ c.if-must_wait.true in let patient = sym c.is_nonblock.ensures ∙ c.if-is_nonblock.false in let w = c.in-Ok.ensures.waited in
+    let some : 0 < length c.args.buf.now = search rules in
+    did_map _ _ _ (λ deeds h. sys_waited (setting_of c.args.set.now) (length c.args.buf.now) c.args.flags c.look-found.result good must patient some h.holds.first h.holds.behind.first h.holds.behind.rest deeds _ h.holds.before h.holds.behind.before.form h.holds.behind.behind
+    (h.deeds_are ∙ (λ i. looked c.look-found.result ∷ (h.holds.deeds_are ∙ ap (λ (l : List Deed). h.holds.first ++ l) h.holds.behind.deeds_are) i)))
+    (did_behind _ _ _ _ c.look-found.result c.look-found.ensures.told (did_then _ _ _ _ c.wait.ensures.did (did_then _ _ _ _ w.1 c.read_cpu.ensures.did)))
+
+pub returns-then-is_empty-2-clause-did : goal.returns-then-is_empty-2-clause-did
+returns-then-is_empty-2-clause-did g c = let good = sym c.are_bad.ensures ∙ c.if-are_bad.false in let takes = sym c.must_wait.ensures ∙ c.if-must_wait.false in let none : length c.args.buf.now ≡ 0 = search rules in
+    subst (λ (z : List ℕ). Did (Fulfils (setting_of c.args.set.now) (Read (length c.args.buf.now) c.args.flags) Done (bytes_or_none z)) c.args.set.now (moment c.args.pass.now c.args.trace.now) (moment c.look-found.new.pass c.look-found.new.trace)) (sym (nil_of c.args.buf.now none))
+    (did_map _ _ _ (λ deeds e. sys_none (setting_of c.args.set.now) (length c.args.buf.now) c.args.flags c.look-found.result good takes none deeds e) (did_look _ _ _ _ c.look-found.ensures.told))
+
+pub returns-clause-did : goal.returns-clause-did
+returns-clause-did g c = let good = sym c.are_bad.ensures ∙ c.if-are_bad.false in let takes = sym c.must_wait.ensures ∙ c.if-must_wait.false in let some : 0 < length c.args.buf.now = search rules in
+    did_map _ _ _ (λ deeds h. sys_read (setting_of c.args.set.now) (length c.args.buf.now) c.args.flags c.look-found.result good takes some h.rest deeds _ h.holds h.deeds_are)
+    (did_behind _ _ _ _ c.look-found.result c.look-found.ensures.told c.read_behind.ensures.did)

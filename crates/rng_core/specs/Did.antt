@@ -1,0 +1,87 @@
+-- What a call did, in the words of the book: for all lists of visits in the end, of which the pass knows beginnings.
+use Rattle.std.specs.Prelude.{◌≡◌, ℕ, ◌<◌, List, [], length, map, Bool, true, false, Result, Ok, Err}
+use Rattle.key_names.specs.declared.entries.VEntry.{VEntry}
+use Rattle.key_names.specs.Calls.{Setting as Told}
+use Rattle.key_names.specs.Deeds.{Deed, deeds_of}
+use Rattle.key_names.specs.declared.events.Event.{Event}
+use Rattle.key_names.specs.declared.events.Answer.{Answer}
+use Rattle.key_names.specs.declared.events.Answer.TheVariants.{Ok as Done, Again as AgainAnswer, Invalid as InvalidAnswer, NoData as NoDataAnswer, Interrupted as InterruptedAnswer, Fired, Idle}
+use Rattle.key_names.specs.declared.errno.Errno.{Errno}
+use Rattle.key_names.specs.declared.errno.Errno.TheVariants.{NoData, Again, Invalid, Interrupted}
+use Rattle.key_names.specs.SeenLine.{Shown}
+use Rattle.key_names.specs.Forms.{Form}
+use Rattle.key_names.specs.Answers.{served_bytes, answer_of, shown_of}
+use Rattle.lane_table.specs.declared.view.Visit.{Visit}
+use Rattle.lane_table.specs.declared.view.View.{View}
+use Rattle.lane_table.specs.declared.view.Handed.{Handed}
+use Rattle.lane_table.specs.declared.view.LaneEntry.{LaneEntry}
+use Rattle.lane_table.specs.declared.view.LaneEntry.TheVariants.{Pool, Base, Cpu}
+use Rattle.lane_table.specs.Meaning.{Model}
+use Rattle.lane_table.specs.WorldRule.{Begins, known_of}
+use Rattle.lane_table.specs.BookLists.{book_lists}
+use Rattle.lane_table.specs.BookLaws.{ClosedLanes}
+use Rattle.lane_table.specs.VisitsMet.{base_serving, cpu_serving}
+use Rattle.lane_table.specs.Went.{Deal, step_of}
+use Rattle.rng_core.specs.Told.{Moment, Visited}
+use Rattle.rng_core.specs.Told as told
+use Rattle.rng_core.specs.declared.setting.Setting.{Setting}
+
+-- the part of the setting that a form reads
+abbrev pub setting_of : Setting → Told
+setting_of set = record { cpu = set.cpu; now = set.now; hw = set.hw }
+
+-- these visits of the lanes go on from what the view knows
+pub record Continues (lanes : ℕ) (v : View) (visits : ℕ → List Visit) : Type 0 where
+  pub long : length v.lanes ≡ lanes
+  pub begins : (lane : ℕ) → lane < lanes → Begins (known_of v lane) (visits lane)
+  pub closed : ClosedLanes lanes visits
+
+-- from m to n the pass did what the trace tells, and the deeds behind its steps are these
+pub record Did (P : List Deed → Type 0) (set : Setting) (m n : Moment) : Type 0 where
+  pub deals : List Deal
+  pub told : told.Told set m n deals
+  pub stands : (lanes : ℕ) (visits : ℕ → List Visit) (callers : List (List (List VEntry))) →
+      Continues lanes n.view visits → P (deeds_of (book_lists lanes visits callers) (map step_of deals))
+
+-- deeds of a form, of which the last serves these bytes
+pub record Serving (F : List Deed → Type 0) (bytes : List ℕ) (deeds : List Deed) : Type 0 where
+  pub form : F deeds
+  pub bytes_are : bytes ≡ served_bytes deeds
+
+-- what an entry serves of a lane as it was met
+abbrev pub serving : LaneEntry → Model → Handed → List ℕ
+serving (Pool e) s got = []
+serving (Base e) s got = base_serving s.base got e
+serving (Cpu e) s got = cpu_serving s.cpu got e
+
+-- one visit was made, and it served these bytes
+pub record Served (set : Setting) (m n : Moment) (lane place : ℕ) (e : LaneEntry) (bytes : List ℕ) : Type 0 where
+  pub model : Model
+  pub got : Handed
+  pub visited : Visited set m n lane place model e got
+  pub serves : bytes ≡ serving e model got
+
+-- deeds that are those of an event, with the answer and the data of its line
+pub record Fulfils (set : Told) (event : Event) (answer : Answer) (shown : Shown) (deeds : List Deed) : Type 0 where
+  pub form : Form set event deeds
+  pub answers : answer ≡ answer_of event deeds
+  pub shows : shown ≡ shown_of event deeds
+
+abbrev pub errno_answer : Errno → Answer
+errno_answer NoData = NoDataAnswer
+errno_answer Again = AgainAnswer
+errno_answer Invalid = InvalidAnswer
+errno_answer Interrupted = InterruptedAnswer
+
+abbrev pub result_answer : {T : Type 0} → Result T Errno → Answer
+result_answer (Ok x) = Done
+result_answer (Err e) = errno_answer e
+
+abbrev pub tick_result : Bool → Answer
+tick_result true = Fired
+tick_result false = Idle
+
+-- the bytes that a call gives out: none where it failed
+abbrev pub given : {T : Type 0} → Result T Errno → List ℕ → List ℕ
+given (Ok x) bytes = bytes
+given (Err e) bytes = []

@@ -1,0 +1,4 @@
+pub mod Did
+pub mod Reading
+pub mod Told
+pub mod Waits

@@ -1,0 +1,47 @@
+-- What a call did, as its trace tells it, and the deeds that stand behind its steps in the end.
+use Rattle.std.specs.Prelude.{◌≡◌, ℕ, ◌<◌, List, [], ◌∷◌, ◌++◌, length, map, take}
+use mathlib.Core.Option.{some}
+use lib.ListN.{get_elem?}
+use Rattle.key_names.specs.declared.names.Mark.{Mark}
+use Rattle.key_names.specs.declared.names.Step.{Step}
+use Rattle.lane_table.specs.declared.view.Visit.{Visit}
+use Rattle.lane_table.specs.declared.view.View.{View}
+use Rattle.lane_table.specs.declared.view.Handed.{Handed}
+use Rattle.lane_table.specs.declared.view.LaneEntry.{LaneEntry}
+use Rattle.lane_table.specs.declared.lanes.Pass.{Pass}
+use Rattle.lane_table.specs.Meaning.{Model, replay}
+use Rattle.lane_table.specs.LaneNumbers.{index_of}
+use Rattle.lane_table.specs.WorldRule.{known_of}
+use Rattle.lane_table.specs.Calls.{view}
+use Rattle.lane_table.specs.Went.{Deal, visited, step_of, Went}
+use Rattle.rng_core.specs.declared.setting.Setting.{Setting}
+
+-- what a pass knows, and the steps so far
+pub record Moment : Type 0 where
+  pub view : View
+  pub steps : List Step
+
+abbrev pub moment : Pass → List Step → Moment
+moment pass steps = record { view = view pass; steps = steps }
+
+-- from m to n the pass did exactly this, and the trace tells it
+pub record Told (set : Setting) (m n : Moment) (deals : List Deal) : Type 0 where
+  pub trace : n.steps ≡ m.steps ++ map step_of deals
+  pub went : Went set.caller set.event (length m.steps) m.view n.view deals
+
+-- what stands at a mark: the entry, with what was handed to it, and the lane's model before it
+pub record Met (v : View) (mark : Mark) (s : Model) (e : LaneEntry) (got : Handed) : Type 0 where
+  pub near : index_of mark.lane < length v.lanes
+  pub visit : Visit
+  pub there : get_elem? (known_of v (index_of mark.lane)) mark.place ≡ some visit
+  pub is : visit.entry ≡ e
+  pub was_handed : visit.got ≡ got
+  pub before : replay (take mark.place (known_of v (index_of mark.lane))) ≡ s
+
+-- one visit was made, of this lane and at this place
+pub record Visited (set : Setting) (m n : Moment) (lane place : ℕ) (s : Model) (e : LaneEntry) (got : Handed) : Type 0 where
+  pub mark : Mark
+  pub lane_is : index_of mark.lane ≡ lane
+  pub place_is : mark.place ≡ place
+  pub told : Told set m n (visited mark e ∷ [])
+  pub met : Met n.view mark s e got

@@ -1,0 +1,14 @@
+-- How a wait ends.
+use Rattle.std.specs.Prelude.{◌≡◌, ℕ, [], ◌≤◌, Result, Ok, Err}
+use Rattle.key_names.specs.declared.errno.Errno.{Errno}
+use Rattle.key_names.specs.declared.errno.Errno.TheVariants.{Interrupted}
+use Rattle.key_names.specs.declared.entries.BaseEntry.TheVariants.{Resume, Interrupt}
+use Rattle.key_names.specs.Forms.{BaseOnly}
+use Rattle.rng_core.specs.declared.setting.Setting.{Setting}
+use Rattle.rng_core.specs.Told.{Moment}
+use Rattle.rng_core.specs.Did.{Did, Serving}
+
+-- the core was found ready, or nobody runs
+abbrev pub Waits : {T : Type 0} → Result T Errno → Setting → Moment → Moment → ℕ → Type 0
+Waits (Ok x) set m n seen = (1 ≤ seen) × Did (Serving (BaseOnly Resume) []) set m n
+Waits (Err e) set m n seen = (e ≡ Interrupted) × Did (Serving (BaseOnly Interrupt) []) set m n

@@ -1,0 +1,120 @@
+//! What a call makes of a CPU's value, as the entry that it puts.
+ghost use Rattle.std.specs.Prelude.{◌≡◌, ◌≢◌, ℕ, ◌<◌, ◌≤◌, ◌+◌, ◌^◌, None, Some, length};
+ghost use Rattle.key_names.specs.declared.entries.CpuEntry.TheVariants.{Read, Irq, Dump as DumpEntry, Prepare, Online};
+ghost use Rattle.key_names.specs.KeyInUse.{taken_bytes};
+ghost use Rattle.key_names.specs.FastPool.{makes_due, dump_bits, dump_bytes};
+ghost use Rattle.lane_table.specs.declared.view.LaneEntry.TheVariants.{Cpu as OfCpu};
+ghost use Rattle.lane_table.specs.declared.view.Handed.{Handed};
+ghost use Rattle.lane_table.specs.Meaning.{Model, ValueStands, made_of};
+ghost use Rattle.rng_core.specs.Reading.{taken_count, IsCpuValue};
+
+use key_names::Taken;
+use lane_table::LaneState;
+use sample_credit::Dump;
+
+/// The generation of the CPU's key.
+pub(crate) fn cpu_generation(state: &LaneState) -> u64
+    requires { IsCpuValue state.now }
+    ensures { (lane : ℕ) (s : Model) → 2 ≤ lane → ValueStands lane state.now s → result ≡ s.cpu.cpu.generation }
+{
+    match state {
+        LaneState::Cpu(lane) => lane.cpu.generation(),
+        _ => unreachable!(),
+    }
+}
+
+/// A read of the CPU's key.
+pub(crate) fn read(state: &mut LaneState, buf: &mut [u8], taken: Taken)
+    requires stands { IsCpuValue state.old }
+    requires count { taken_count taken ≡ length buf.old }
+    requires some { 0 < length buf.old }
+    ensures made { (lane : ℕ) (s : Model) (got : Handed) (look : ℕ) → 2 ≤ lane → ValueStands lane state.old s → ValueStands lane state.new (made_of s (OfCpu (Read look None taken)) got) }
+    ensures bytes { (lane : ℕ) (s : Model) → 2 ≤ lane → ValueStands lane state.old s → buf.new ≡ taken_bytes s.cpu.cpu.key taken }
+{
+    match state {
+        LaneState::Cpu(lane) => match taken {
+            Taken::User(_) => lane.cpu.user_read(buf),
+            Taken::Kernel(_) => lane.cpu.kernel_read(buf),
+        },
+        _ => unreachable!(),
+    }
+}
+
+/// A read of the key that the base hands over.
+pub(crate) fn read_refilled(
+    state: &mut LaneState,
+    key: [u8; 32],
+    generation: u64,
+    buf: &mut [u8],
+    taken: Taken,
+)
+    requires stands { IsCpuValue state.old }
+    requires count { taken_count taken ≡ length buf.old }
+    requires some { 0 < length buf.old }
+    ensures made { (lane : ℕ) (s : Model) (got : Handed) (look place : ℕ) → 2 ≤ lane → got.key ≡ key → got.generation ≡ generation → ValueStands lane state.old s → ValueStands lane state.new (made_of s (OfCpu (Read look (Some place) taken)) got) }
+    ensures bytes { buf.new ≡ taken_bytes key taken }
+{
+    match state {
+        LaneState::Cpu(lane) => {
+            lane.cpu.refill(key, generation);
+            match taken {
+                Taken::User(_) => lane.cpu.user_read(buf),
+                Taken::Kernel(_) => lane.cpu.kernel_read(buf),
+            }
+        }
+        _ => unreachable!(),
+    }
+}
+
+/// An interrupt's sample. The answer is whether a dump is due.
+pub(crate) fn sample(state: &mut LaneState, v1: u64, v2: u64, now: u64) -> bool
+    requires { IsCpuValue state.old }
+    ensures made { (lane : ℕ) (s : Model) (got : Handed) → 2 ≤ lane → ValueStands lane state.old s → ValueStands lane state.new (made_of s (OfCpu (Irq v1 v2 now)) got) }
+    ensures due { (lane : ℕ) (s : Model) → 2 ≤ lane → ValueStands lane state.old s → result ≡ makes_due s.cpu.fast now }
+{
+    match state {
+        LaneState::Cpu(lane) => lane.fast.mix(v1, v2, now),
+        _ => unreachable!(),
+    }
+}
+
+/// What the fast pool holds for the input pool.
+pub(crate) fn dump(state: &mut LaneState, now: u64) -> Dump
+    requires { IsCpuValue state.old }
+    ensures made { (lane : ℕ) (s : Model) (got : Handed) → 2 ≤ lane → ValueStands lane state.old s → ValueStands lane state.new (made_of s (OfCpu (DumpEntry now)) got) }
+    ensures bytes { (lane : ℕ) (s : Model) → 2 ≤ lane → ValueStands lane state.old s → result.bytes ≡ dump_bytes s.cpu.fast }
+    ensures bits { (lane : ℕ) (s : Model) → 2 ≤ lane → ValueStands lane state.old s → result.bits ≡ dump_bits s.cpu.fast }
+{
+    match state {
+        LaneState::Cpu(lane) => lane.fast.dump(now),
+        _ => unreachable!(),
+    }
+}
+
+/// The CPU comes online.
+pub(crate) fn online(state: &mut LaneState)
+    requires { IsCpuValue state.old }
+    ensures { (lane : ℕ) (s : Model) (got : Handed) → 2 ≤ lane → ValueStands lane state.old s → ValueStands lane state.new (made_of s (OfCpu Online) got) }
+{
+    match state {
+        LaneState::Cpu(lane) => lane.fast.online(),
+        _ => unreachable!(),
+    }
+}
+
+/// The CPU is about to come online: its key counts as old, and its batches as used up.
+pub(crate) fn prepare(state: &mut LaneState)
+    requires { IsCpuValue state.old }
+    ensures { (lane : ℕ) (s : Model) (got : Handed) → 2 ≤ lane → ValueStands lane state.old s → ValueStands lane state.new (made_of s (OfCpu Prepare) got) }
+{
+    match state {
+        LaneState::Cpu(lane) => {
+            lane.cpu.prepare();
+            lane.b8.drop_rest();
+            lane.b16.drop_rest();
+            lane.b32.drop_rest();
+            lane.b64.drop_rest();
+        }
+        _ => unreachable!(),
+    }
+}

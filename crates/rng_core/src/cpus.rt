@@ -1,0 +1,70 @@
+//! CPUs that come online.
+ghost use Rattle.std.specs.Prelude.{◌≡◌, ◌<◌, [], length};
+ghost use Rattle.key_names.specs.declared.entries.CpuEntry.TheVariants.{Prepare, Online};
+ghost use Rattle.key_names.specs.Forms.{CpuOnly};
+ghost use Rattle.lane_table.specs.Hands.{Has};
+ghost use Rattle.rng_core.specs.Told.{moment};
+ghost use Rattle.rng_core.specs.Did.{Did};
+
+use crate::cpu_values;
+use crate::desk::{enter, leave};
+use crate::setting::Setting;
+use key_names::{CpuEntry, LaneId, Trace};
+use lane_table::{Lanes, Pass};
+use std::sync::Wait;
+
+/// A CPU is about to come online (`random_prepare_cpu`).
+pub fn prepare<R: Wait>(
+    rt: &R,
+    lanes: &Lanes,
+    pass: &mut Pass,
+    trace: &mut Trace,
+    set: &Setting,
+    cpu: u32,
+)
+    requires has { Has lanes.now set.now.caller [] pass.old }
+    requires cpu { cpu < lanes.now.cpus }
+    requires room { length trace.old < 20 }
+    ensures has { Has lanes.now set.entry.now.caller [] pass.new }
+    ensures did { Did (CpuOnly cpu Prepare) set.entry.now (moment pass.old trace.old) (moment pass.new trace.new) }
+{
+    let mut held = enter(rt, lanes, pass, trace, set, LaneId::Cpu(cpu));
+    cpu_values::prepare(held.state_mut());
+    leave(
+        lanes,
+        pass,
+        trace,
+        set,
+        held,
+        LaneId::Cpu(cpu),
+        CpuEntry::Prepare,
+    );
+}
+
+/// A CPU came online (`random_online_cpu`).
+pub fn online<R: Wait>(
+    rt: &R,
+    lanes: &Lanes,
+    pass: &mut Pass,
+    trace: &mut Trace,
+    set: &Setting,
+    cpu: u32,
+)
+    requires has { Has lanes.now set.now.caller [] pass.old }
+    requires cpu { cpu < lanes.now.cpus }
+    requires room { length trace.old < 20 }
+    ensures has { Has lanes.now set.entry.now.caller [] pass.new }
+    ensures did { Did (CpuOnly cpu Online) set.entry.now (moment pass.old trace.old) (moment pass.new trace.new) }
+{
+    let mut held = enter(rt, lanes, pass, trace, set, LaneId::Cpu(cpu));
+    cpu_values::online(held.state_mut());
+    leave(
+        lanes,
+        pass,
+        trace,
+        set,
+        held,
+        LaneId::Cpu(cpu),
+        CpuEntry::Online,
+    );
+}

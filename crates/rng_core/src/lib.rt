@@ -1,0 +1,24 @@
+//! The calls of the core: reads, samples, reseeds and what else a caller asks of the lanes.
+#![tactic(auto)]
+
+mod cpu_values;
+mod cpus;
+mod desk;
+mod interrupts;
+mod lane_values;
+mod pairs;
+mod reads;
+mod reseeds;
+mod running;
+mod samples;
+mod setting;
+mod system_call;
+
+pub use cpus::{online, prepare};
+pub use interrupts::irq;
+pub use reads::{kernel_read, urandom_file};
+pub use reseeds::{reseed, tick};
+pub use running::{end, stall, unstall};
+pub use samples::{add, bits, device, mix, vmfork};
+pub use setting::Setting;
+pub use system_call::getrandom;

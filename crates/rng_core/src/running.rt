@@ -1,0 +1,66 @@
+//! How many callers run: entries of the base that raise and lower the count.
+ghost use Rattle.std.specs.Prelude.{◌≡◌, ◌<◌, [], length};
+ghost use Rattle.key_names.specs.declared.entries.BaseEntry.TheVariants.{Stall, Unstall, End};
+ghost use Rattle.key_names.specs.Forms.{BaseOnly};
+ghost use Rattle.lane_table.specs.Hands.{Has};
+ghost use Rattle.rng_core.specs.Told.{moment};
+ghost use Rattle.rng_core.specs.Did.{Did};
+
+use crate::desk::{enter, leave};
+use crate::lane_values;
+use crate::setting::Setting;
+use key_names::{BaseEntry, LaneId, Trace};
+use lane_table::{Lanes, Pass};
+use std::sync::Wait;
+
+/// The caller waits for a thread.
+pub fn stall<R: Wait>(rt: &R, lanes: &Lanes, pass: &mut Pass, trace: &mut Trace, set: &Setting)
+    requires has { Has lanes.now set.now.caller [] pass.old }
+    requires room { length trace.old < 20 }
+    ensures has { Has lanes.now set.entry.now.caller [] pass.new }
+    ensures did { Did (BaseOnly Stall) set.entry.now (moment pass.old trace.old) (moment pass.new trace.new) }
+{
+    let mut base = enter(rt, lanes, pass, trace, set, LaneId::Base);
+    lane_values::down(base.state_mut());
+    leave(
+        lanes,
+        pass,
+        trace,
+        set,
+        base,
+        LaneId::Base,
+        BaseEntry::Stall,
+    );
+}
+
+/// The caller goes on.
+pub fn unstall<R: Wait>(rt: &R, lanes: &Lanes, pass: &mut Pass, trace: &mut Trace, set: &Setting)
+    requires has { Has lanes.now set.now.caller [] pass.old }
+    requires room { length trace.old < 20 }
+    ensures has { Has lanes.now set.entry.now.caller [] pass.new }
+    ensures did { Did (BaseOnly Unstall) set.entry.now (moment pass.old trace.old) (moment pass.new trace.new) }
+{
+    let mut base = enter(rt, lanes, pass, trace, set, LaneId::Base);
+    lane_values::up(base.state_mut());
+    leave(
+        lanes,
+        pass,
+        trace,
+        set,
+        base,
+        LaneId::Base,
+        BaseEntry::Unstall,
+    );
+}
+
+/// The caller ends.
+pub fn end<R: Wait>(rt: &R, lanes: &Lanes, pass: &mut Pass, trace: &mut Trace, set: &Setting)
+    requires has { Has lanes.now set.now.caller [] pass.old }
+    requires room { length trace.old < 20 }
+    ensures has { Has lanes.now set.entry.now.caller [] pass.new }
+    ensures did { Did (BaseOnly End) set.entry.now (moment pass.old trace.old) (moment pass.new trace.new) }
+{
+    let mut base = enter(rt, lanes, pass, trace, set, LaneId::Base);
+    lane_values::down(base.state_mut());
+    leave(lanes, pass, trace, set, base, LaneId::Base, BaseEntry::End);
+}

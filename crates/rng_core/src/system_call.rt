@@ -1,0 +1,179 @@
+//! The system call getrandom(2).
+ghost use Rattle.std.specs.Prelude.{◌≡◌, ◌≢◌, ◌<◌, ◌≤◌, ◌+◌, ◌^◌, ◌∷◌, [], ℕ, ◌==◌, ◌&&◌, not, None, length};
+ghost use Rattle.key_names.specs.declared.entries.BaseEntry.TheVariants.{Wait as WaitEntry, Resume, Interrupt};
+ghost use Rattle.key_names.specs.Forms.{BaseOnly};
+ghost use Rattle.lane_table.specs.Meaning.{ValueStands};
+ghost use Rattle.lane_table.specs.Calls.{view};
+ghost use Rattle.lane_table.specs.Hands.{Has, hand, model};
+ghost use Rattle.lane_table.specs.Went.{floor};
+ghost use Rattle.rng_core.specs.Told.{moment};
+ghost use Rattle.key_names.specs.declared.events.Event.TheVariants.{Read};
+ghost use Rattle.key_names.specs.Flags.{is_nonblock, is_insecure};
+ghost use Rattle.key_names.specs.SeenLine.{bytes_or_none};
+ghost use Rattle.rng_core.specs.Did.{Did, Serving, Fulfils, setting_of, result_answer, given};
+ghost use Rattle.rng_core.specs.Waits.{Waits};
+
+use crate::desk::{enter, give_back, leave, look};
+use crate::lane_values;
+use crate::reads::{read_behind, read_cpu};
+use crate::setting::Setting;
+use key_names::flags::{GRND_INSECURE, GRND_NONBLOCK, are_bad};
+use key_names::{BaseEntry, Errno, LaneId, Taken, Trace};
+use lane_table::{Held, Lanes, Pass};
+use std::sync::Wait;
+
+// The caller stops running.
+fn wait<R: Wait>(rt: &R, lanes: &Lanes, pass: &mut Pass, trace: &mut Trace, set: &Setting)
+    requires has { Has lanes.now set.now.caller [] pass.old }
+    requires room { length trace.old < 20 }
+    ensures has { Has lanes.now set.entry.now.caller [] pass.new }
+    ensures room { length trace.new ≡ length trace.old + 1 }
+    ensures did { Did (BaseOnly WaitEntry) set.entry.now (moment pass.old trace.old) (moment pass.new trace.new) }
+{
+    let mut base = enter(rt, lanes, pass, trace, set, LaneId::Base);
+    lane_values::down(base.state_mut());
+    leave(lanes, pass, trace, set, base, LaneId::Base, BaseEntry::Wait);
+}
+
+// The caller runs again, since the core is ready.
+fn resume(lanes: &Lanes, pass: &mut Pass, trace: &mut Trace, set: &Setting, mut base: Held)
+    requires has { Has lanes.now set.now.caller (hand base.turn None 0 ∷ []) pass.old }
+    requires lane { base.turn.lane ≡ 1 }
+    requires value { ValueStands 1 base.state (model pass.old 1) }
+    requires ready { 1 ≤ (model pass.old 1).base.generation }
+    requires room { length trace.old < 20 }
+    requires early { pass.old.stamp < 2 ^ 62 }
+    ensures has { Has lanes.now set.entry.now.caller [] pass.new }
+    ensures ready { 1 ≤ floor (view pass.new) }
+    ensures room { length trace.new ≡ length trace.old + 1 }
+    ensures did { Did (Serving (BaseOnly Resume) []) set.entry.now (moment pass.old trace.old) (moment pass.new trace.new) }
+{
+    lane_values::up(base.state_mut());
+    leave(
+        lanes,
+        pass,
+        trace,
+        set,
+        base,
+        LaneId::Base,
+        BaseEntry::Resume,
+    );
+}
+
+// The caller runs again, since nobody runs who could make the core ready.
+fn interrupt(lanes: &Lanes, pass: &mut Pass, trace: &mut Trace, set: &Setting, mut base: Held)
+    requires has { Has lanes.now set.now.caller (hand base.turn None 0 ∷ []) pass.old }
+    requires lane { base.turn.lane ≡ 1 }
+    requires value { ValueStands 1 base.state (model pass.old 1) }
+    requires unready { (model pass.old 1).base.generation ≡ 0 }
+    requires idle { (model pass.old 1).base.running ≡ 0 }
+    requires room { length trace.old < 20 }
+    requires early { pass.old.stamp < 2 ^ 62 }
+    ensures has { Has lanes.now set.entry.now.caller [] pass.new }
+    ensures room { length trace.new ≡ length trace.old + 1 }
+    ensures did { Did (Serving (BaseOnly Interrupt) []) set.entry.now (moment pass.old trace.old) (moment pass.new trace.new) }
+{
+    lane_values::up(base.state_mut());
+    leave(
+        lanes,
+        pass,
+        trace,
+        set,
+        base,
+        LaneId::Base,
+        BaseEntry::Interrupt,
+    );
+}
+
+// Takes the base again and again, until the core is ready or nobody runs (`wait_for_random_bytes`).
+fn wait_ready<R: Wait>(
+    rt: &R,
+    lanes: &Lanes,
+    pass: &mut Pass,
+    trace: &mut Trace,
+    set: &Setting,
+) -> Result<(), Errno>
+    requires has { Has lanes.now set.now.caller [] pass.old }
+    requires room { length trace.old < 20 }
+    ensures has { Has lanes.now set.entry.now.caller [] pass.new }
+    ensures waited { Waits result set.entry.now (moment pass.old trace.old) (moment pass.new trace.new) (floor (view pass.new)) }
+    ensures room { length trace.new ≡ length trace.old + 1 }
+{
+    for _ in rt.forever() {
+        let base = enter(rt, lanes, pass, trace, set, LaneId::Base);
+        if lane_values::base_generation(base.state()) >= 1 {
+            resume(lanes, pass, trace, set, base);
+            return Ok(());
+        }
+        if lane_values::is_idle(base.state()) {
+            interrupt(lanes, pass, trace, set, base);
+            return Err(Errno::Interrupted);
+        }
+        give_back(lanes, pass, trace, set, base, LaneId::Base);
+    }
+    unreachable!()
+}
+
+// Whether a read that is to be ready waits, or fails.
+fn must_wait(found: u64, flags: u32) -> bool
+    ensures { result ≡ (found == 0 && not (is_insecure flags)) }
+{
+    found == 0 && flags / GRND_INSECURE % 2 != 1
+}
+
+fn is_nonblock(flags: u32) -> bool
+    ensures { result ≡ is_nonblock flags }
+{
+    flags % 2 == GRND_NONBLOCK
+}
+
+/// Random bytes for a user (`getrandom`).
+///
+/// # Errors
+///
+/// `Invalid` where the flags are bad. Where the core is not ready and `GRND_INSECURE` is not set: `Again` with
+/// `GRND_NONBLOCK`, and `Interrupted` where nobody runs who could make it ready. The buffer is unspecified then.
+pub fn getrandom<R: Wait>(
+    rt: &R,
+    lanes: &Lanes,
+    pass: &mut Pass,
+    trace: &mut Trace,
+    set: &Setting,
+    buf: &mut [u8],
+    flags: u32,
+) -> Result<(), Errno>
+    requires has { Has lanes.now set.now.caller [] pass.old }
+    requires cpu { set.now.cpu < lanes.now.cpus }
+    requires short { length buf.old ≤ 2 ^ 20 }
+    requires room { length trace.old < 15 }
+    ensures has { Has lanes.now set.entry.now.caller [] pass.new }
+    ensures did { Did (Fulfils (setting_of set.entry.now) (Read (length buf.old) flags) (result_answer result) (bytes_or_none (given result buf.new))) set.entry.now (moment pass.old trace.old) (moment pass.new trace.new) }
+{
+    if are_bad(flags) {
+        return Err(Errno::Invalid);
+    }
+    let found = look(lanes, pass, trace, set);
+    if must_wait(found, flags) {
+        if is_nonblock(flags) {
+            return Err(Errno::Again);
+        }
+        wait(rt, lanes, pass, trace, set);
+        match wait_ready(rt, lanes, pass, trace, set) {
+            Err(errno) => return Err(errno),
+            Ok(()) => {
+                if buf.is_empty() {
+                    return Ok(());
+                }
+                let taken = Taken::User(buf.len() as u32);
+                read_cpu(rt, lanes, pass, trace, set, buf, taken);
+                return Ok(());
+            }
+        }
+    }
+    if buf.is_empty() {
+        return Ok(());
+    }
+    let taken = Taken::User(buf.len() as u32);
+    read_behind(rt, lanes, pass, trace, set, found, buf, taken);
+    Ok(())
+}
