@@ -1,0 +1,98 @@
+-- What some calls did, one after another: what a loop over a caller's calls keeps, with one call more.
+use Rattle.std.proofs.Common.{◌≡◌, ℕ, List, [], ◌∷◌, ◌++◌, refl, sym, ap, ◌∙◌, arith, append-nil}
+use Rattle.std.proofs.lemmas.List.{map-append}
+use Rattle.std.proofs.lemmas.Grind.{flat_map-append}
+use Rattle.key_names.specs.Calls.{Call}
+use Rattle.caller_run.specs.Items.{call_items, calls_items}
+use Rattle.key_names.specs.IsTranscript.{EachOfCall, EachLine, CallsMean}
+use Rattle.key_names.specs.Meaning.{CallerState, CallMeaning, LineMeaning, Means}
+use Rattle.key_names.specs.SeenLine.{SeenLine}
+use Rattle.key_names.specs.Book.{Lists}
+use Rattle.key_names.proofs.Each.{each_more}
+use Rattle.lane_table.specs.declared.view.Visit.{Visit}
+use Rattle.lane_table.specs.declared.view.View.{View}
+use Rattle.lane_table.specs.WorldRule.{known_of}
+use Rattle.lane_table.specs.BookLists.{book_lists}
+use Rattle.lane_table.proofs.VisitLists.{begins_trans}
+use Rattle.caller_run.specs.Doings.{Doing, item_of}
+use Rattle.caller_run.specs.Ran.{Ran, Continues}
+use Rattle.caller_run.specs.Done.{PointsFit, CallMeant, CallSamples, CallDone, state_reached, CallsMeant, CallsDone, fast_in}
+use Rattle.caller_run.proofs.Chains.{ran_nothing, ran_then}
+
+-- what goes on from the later view goes on from the earlier one
+pub continues_before : (caller lanes : ℕ) (v w : View) (doings : List Doing) (visits : ℕ → List Visit) →
+    Ran caller v w doings → Continues lanes w visits → Continues lanes v visits
+continues_before caller lanes v w doings visits ran c = record {
+  long = sym ran.same.sized ∙ c.long;
+  begins = λ lane low. begins_trans (known_of v lane) (known_of w lane) (visits lane)
+      (ran.grows lane (let s = ran.same.sized in let l = c.long in omega arith)) (c.begins lane low);
+  closed = c.closed;
+}
+
+each_line_more : (P : SeenLine → LineMeaning → Type 0) (calls : List Call) (ms : List CallMeaning) (call : Call)
+    (m : CallMeaning) → EachLine P calls ms → EachOfCall P call m → EachLine P (calls ++ call ∷ []) (ms ++ m ∷ [])
+each_line_more P [] [] call m all here = (here, tt)
+each_line_more P [] (n ∷ ms) call m all here = absurd all
+each_line_more P (c ∷ calls) [] call m all here = absurd all
+each_line_more P (c ∷ calls) (n ∷ ms) call m all here = (all.0, each_line_more P calls ms call m all.1 here)
+
+calls_mean_more : (s : CallerState) (calls : List Call) (ms : List CallMeaning) (call : Call) (m : CallMeaning) →
+    CallsMean s calls ms → m.before ≡ state_reached s ms → Means call m →
+    CallsMean s (calls ++ call ∷ []) (ms ++ m ∷ [])
+calls_mean_more s [] [] call m all from here = (from, here, tt)
+calls_mean_more s [] (n ∷ ms) call m all from here = absurd all
+calls_mean_more s (c ∷ calls) [] call m all from here = absurd all
+calls_mean_more s (c ∷ calls) (n ∷ ms) call m all from here =
+    (all.0, all.1, calls_mean_more n.after calls ms call m all.2 from here)
+
+reached_more : (s : CallerState) (ms : List CallMeaning) (m : CallMeaning) → state_reached s (ms ++ m ∷ []) ≡ m.after
+reached_more s [] m = refl
+reached_more s (n ∷ ms) m = reached_more n.after ms m
+
+meant_more : (lists : Lists) (s t u : CallerState) (calls : List Call) (call : Call) → CallsMeant lists s calls t →
+    CallMeant lists t call u → CallsMeant lists s (calls ++ call ∷ []) u
+meant_more lists s t u calls call a b = record {
+  meanings = a.meanings ++ b.meaning ∷ [];
+  means = calls_mean_more s calls a.meanings call b.meaning a.means (b.before ∙ sym a.reaches) b.means;
+  reaches = reached_more s a.meanings b.meaning ∙ b.after;
+  deeds = each_line_more _ calls a.meanings call b.meaning a.deeds b.deeds;
+  answers = each_line_more _ calls a.meanings call b.meaning a.answers b.answers;
+  shown = each_line_more _ calls a.meanings call b.meaning a.shown b.shown;
+}
+
+-- no call
+pub calls_done_nothing : (caller : ℕ) (v : View) (s : CallerState) → CallsDone caller v v s s []
+calls_done_nothing caller v s = record {
+  doings = [];
+  ran = ran_nothing caller v;
+  order = refl;
+  points = tt;
+  meant = λ lanes visits callers c. record {
+    meanings = [];
+    means = tt;
+    reaches = refl;
+    deeds = tt;
+    answers = tt;
+    shown = tt;
+  };
+  samples = λ lanes visits callers c. tt;
+}
+
+-- one call more
+pub calls_done_then : (caller : ℕ) (u v w : View) (s t r : CallerState) (calls : List Call) (call : Call) →
+    CallsDone caller u v s t calls → CallDone caller v w t r call → CallsDone caller u w s r (calls ++ call ∷ [])
+calls_done_then caller u v w s t r calls call a b = record {
+  doings = a.doings ++ b.doings;
+  ran = ran_then caller u v w a.doings b.doings a.ran b.ran;
+  order = map-append item_of a.doings b.doings ∙ (λ i. a.order i ++ b.order i)
+      ∙ sym (flat_map-append call_items calls (call ∷ []) ∙ ap (λ l. calls_items calls ++ l) (append-nil (call_items call)));
+  points = each_more PointsFit calls call a.points b.points;
+  meant = λ lanes visits callers c.
+      meant_more (book_lists lanes visits callers) s t r calls call
+      (a.meant lanes visits callers (continues_before caller lanes v w b.doings visits b.ran c))
+      (b.meant lanes visits callers c);
+  samples = λ lanes visits callers c.
+      each_more (CallSamples (fast_in visits) (book_lists lanes visits callers)) calls call
+      (a.samples lanes visits callers (continues_before caller lanes v w b.doings visits b.ran c))
+      (b.samples lanes visits callers c);
+}

@@ -1,0 +1,87 @@
+-- What one call of a caller's script did, and what some calls did one after another.
+use Rattle.std.specs.Prelude.{◌≡◌, ℕ, ◌+◌, ◌≤◌, ⊤, List, [], ◌∷◌, ◌++◌, take, map}
+use Rattle.std.specs.List.{AllByRecursion}
+use Rattle.key_names.specs.Book.{Lists}
+use Rattle.key_names.specs.Calls.{Call, alone, vread_call, unbound, ending}
+use Rattle.key_names.specs.Deeds.{deeds_of}
+use Rattle.key_names.specs.FastPool.{FastPool}
+use Rattle.caller_run.specs.Items.{call_items, calls_items}
+use Rattle.key_names.specs.IsTranscript.{EachOfCall, EachLine, CallsMean}
+use Rattle.key_names.specs.Meaning.{CallerState, CallMeaning, Means}
+use Rattle.key_names.specs.SeenLine.{SeenLine}
+use Rattle.lane_table.specs.declared.view.Visit.{Visit}
+use Rattle.lane_table.specs.declared.view.View.{View}
+use Rattle.lane_table.specs.Meaning.{replay}
+use Rattle.lane_table.specs.BookLists.{StateLists, book_lists}
+use Rattle.caller_run.specs.Doings.{Doing, items_of}
+use Rattle.caller_run.specs.Ran.{Ran, Continues}
+use Rattle.caller_run.specs.SampleDeeds.{SamplesStand}
+
+-- the lines of a call: those of the acts inside it, and its own
+abbrev pub call_lines : Call → List SeenLine
+call_lines (alone event line) = line ∷ []
+call_lines (vread_call len flags line acts) = map (λ bound. bound.line) acts ++ line ∷ []
+call_lines (unbound bound) = bound.line ∷ []
+call_lines (ending line) = line ∷ []
+
+-- each act has one of the four points
+abbrev pub PointsFit : Call → Type 0
+PointsFit (alone event line) = ⊤
+PointsFit (vread_call len flags line acts) = AllByRecursion (λ bound. (1 ≤ bound.point) × (bound.point ≤ 4)) acts
+PointsFit (unbound bound) = ⊤
+PointsFit (ending line) = ⊤
+
+-- a CPU's fast pool before a place of its list
+abbrev pub fast_in : (ℕ → List Visit) → ℕ → ℕ → FastPool
+fast_in visits cpu place = (replay (take place (visits (cpu + 2)))).cpu.fast
+
+-- a meaning of a call that goes from one state of the caller to another, and fits its lines
+pub record CallMeant (lists : Lists) (s : CallerState) (call : Call) (t : CallerState) : Type 0 where
+  pub meaning : CallMeaning
+  pub before : meaning.before ≡ s
+  pub means : Means call meaning
+  pub after : meaning.after ≡ t
+  pub deeds : EachOfCall (λ line m. deeds_of lists line.steps ≡ m.deeds) call meaning
+  pub answers : EachOfCall (λ line m. line.answer ≡ m.answer) call meaning
+  pub shown : EachOfCall (λ line m. line.shown ≡ m.shown) call meaning
+
+-- the samples of each line of a call stand
+abbrev pub CallSamples : (ℕ → ℕ → FastPool) → Lists → Call → Type 0
+CallSamples fast lists call = AllByRecursion (λ line. SamplesStand fast (deeds_of lists line.steps)) (call_lines call)
+
+-- from v to w, and from s to t, the caller made this call; what it meant is said of all lists in the end of which its
+-- pass knows beginnings
+pub record CallDone (caller : ℕ) (v w : View) (s t : CallerState) (call : Call) : Type 0 where
+  pub doings : List Doing
+  pub ran : Ran caller v w doings
+  pub order : items_of doings ≡ call_items call
+  pub points : PointsFit call
+  pub meant : (lanes : ℕ) (visits : ℕ → List Visit) (callers : StateLists) → Continues lanes w visits →
+      CallMeant (book_lists lanes visits callers) s call t
+  pub samples : (lanes : ℕ) (visits : ℕ → List Visit) (callers : StateLists) → Continues lanes w visits →
+      CallSamples (fast_in visits) (book_lists lanes visits callers) call
+
+-- where a caller that was at s stands after the last call
+abbrev pub state_reached : CallerState → List CallMeaning → CallerState
+state_reached s [] = s
+state_reached s (m ∷ ms) = state_reached m.after ms
+
+-- the same of some calls
+pub record CallsMeant (lists : Lists) (s : CallerState) (calls : List Call) (t : CallerState) : Type 0 where
+  pub meanings : List CallMeaning
+  pub means : CallsMean s calls meanings
+  pub reaches : state_reached s meanings ≡ t
+  pub deeds : EachLine (λ line m. deeds_of lists line.steps ≡ m.deeds) calls meanings
+  pub answers : EachLine (λ line m. line.answer ≡ m.answer) calls meanings
+  pub shown : EachLine (λ line m. line.shown ≡ m.shown) calls meanings
+
+-- what a loop over a caller's calls keeps
+pub record CallsDone (caller : ℕ) (v w : View) (s t : CallerState) (calls : List Call) : Type 0 where
+  pub doings : List Doing
+  pub ran : Ran caller v w doings
+  pub order : items_of doings ≡ calls_items calls
+  pub points : AllByRecursion PointsFit calls
+  pub meant : (lanes : ℕ) (visits : ℕ → List Visit) (callers : StateLists) → Continues lanes w visits →
+      CallsMeant (book_lists lanes visits callers) s calls t
+  pub samples : (lanes : ℕ) (visits : ℕ → List Visit) (callers : StateLists) → Continues lanes w visits →
+      AllByRecursion (CallSamples (fast_in visits) (book_lists lanes visits callers)) calls

@@ -1,0 +1,61 @@
+-- The order of a caller's calls, with the maker of each step: the event of its line, and its own number there.
+use Rattle.std.specs.Prelude.{ℕ, suc, ◌==◌, false, List, [], ◌∷◌, ◌++◌, map, take, drop, slice_get, if◌then◌else◌}
+use Rattle.std.specs.Option.{option_map_or}
+use Rattle.std.specs.List.{flat_map}
+use Rattle.key_names.specs.declared.names.Step.{Step}
+use Rattle.key_names.specs.Calls.{Call, alone, vread_call, unbound, ending, BoundAct}
+use Rattle.key_names.specs.History.{is_mark}
+use Rattle.key_names.specs.SeenLine.{SeenLine}
+
+-- a step, with the number of its event and its own number among the steps of that event's line
+pub record Item : Type 0 where
+  pub event : ℕ
+  pub number : ℕ
+  pub step : Step
+
+-- the steps themselves
+abbrev pub steps_of : List Item → List Step
+steps_of items = map (λ item. item.step) items
+
+-- the steps of a line, i being the number of the first
+abbrev pub items_from : ℕ → ℕ → List Step → List Item
+items_from event i [] = []
+items_from event i (step ∷ steps) = record { event = event; number = i; step = step } ∷ items_from event (suc i) steps
+
+abbrev pub line_items : SeenLine → List Item
+line_items line = items_from line.event 0 line.steps
+
+-- the steps of the acts at a point, in the order of the script
+abbrev pub items_at_point : List BoundAct → ℕ → List Item
+items_at_point [] point = []
+items_at_point (bound ∷ acts) point =
+    if bound.point == point then line_items bound.line ++ items_at_point acts point else items_at_point acts point
+
+-- cut in two behind the visits that stand together at the front
+abbrev pub cut_items : List Item → List Item × List Item
+cut_items [] = ([], [])
+cut_items (item ∷ items) =
+    if is_mark item.step then (let cut = cut_items items in (item ∷ cut.0, cut.1)) else ([], item ∷ items)
+
+-- the steps of a vread from the third on, cut in two at its points 3 and 4
+abbrev pub cut_rekey : List Item → List Item × List Item
+cut_rekey items =
+    if option_map_or (λ item. is_mark item.step) (slice_get items 2) false
+    then (let cut = cut_items (drop 2 items) in (take 2 items ++ cut.0, cut.1)) else ([], items)
+
+-- the steps of a vread with those of its acts at their points
+abbrev pub vread_items : List Item → List BoundAct → List Item
+vread_items items acts =
+    let cut = cut_rekey (drop 2 items) in
+    take 2 items ++ items_at_point acts 1 ++ items_at_point acts 2 ++ cut.0 ++ items_at_point acts 3
+    ++ items_at_point acts 4 ++ cut.1
+
+abbrev pub call_items : Call → List Item
+call_items (alone event line) = line_items line
+call_items (vread_call len flags line acts) = vread_items (line_items line) acts
+call_items (unbound bound) = line_items bound.line
+call_items (ending line) = line_items line
+
+-- the steps of some calls, one call after another
+abbrev pub calls_items : List Call → List Item
+calls_items calls = flat_map call_items calls
