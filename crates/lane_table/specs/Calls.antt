@@ -143,8 +143,7 @@ pub record Taken (lane : ℕ) (h : Held) (m m' : Seated) : Type 0 where
   pub stamps : m'.0.stamps ≡ m.0.stamps
   pub drawn : m'.0.drawn ≡ m.0.drawn + 1
 
--- one of three numbers was found at 2^62 or above: the pass's stamp, the lane's ticket word, or, once the lane was got,
--- its last stamp
+-- the pass's stamp, or the ticket that was read, or the last stamp of the lane that was got, had come to 2^62
 abbrev pub IsSpent : ℕ → Seated → Seated → Type 0
 IsSpent lane m m' = (2 ^ 62 ≤ m.0.stamp) ⊎ (2 ^ 62 ≤ (at lane m'.0).found)
     ⊎ ((m'.0.drawn ≡ m.0.drawn + 1) × (2 ^ 62 ≤ last_stamp m'.0.first (known_of m'.0 lane)))

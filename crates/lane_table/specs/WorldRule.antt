@@ -1,5 +1,5 @@
--- The rule of the lanes. It speaks of the words, the values at home in their slots, and what all passes know, between
--- any two atomic steps. Word 0 is the generation; each lane has a ticket word and a serving word, and the slot of its
+-- The rule of the lanes: how words, slots and the knowledge of all passes fit together whenever no atomic step is under
+-- way. Word 0 is the generation; each lane has a ticket word and a serving word, and the slot of its
 -- number has its value.
 use Rattle.std.specs.Prelude.{◌≡◌, ◌⊎◌, ℕ, ◌+◌, ◌*◌, ◌-◌, ◌^◌, ◌<◌, ◌≤◌, List, [], ◌∷◌, ◌++◌, All, map, length, Option, Some, None, slice_index_or, ◌==◌, nat_lt, if◌then◌else◌}
 use Rattle.std.specs.List.{sum_by}

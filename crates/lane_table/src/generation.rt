@@ -8,8 +8,8 @@ use crate::lanes::{GENERATION, Held, Lanes, Pass};
 use crate::plays::{Look, Raise};
 
 impl Lanes {
-    /// One look at the generation: a load, which takes no lane and waits for nobody. It is below 2^63, and never below
-    /// a generation that the pass has seen, by a look, in the base or a CPU, or by a raise of its own.
+    /// One look at the generation: a load, which takes no lane and waits for nobody. It is below 2^63, and no less than
+    /// what earlier looks found, than the base's and each CPU's as far as they are known, and than what was raised to.
     pub fn generation(&self, pass: &mut Pass) -> u64
         requires { IsPassOf self.now pass.old }
         ensures pass { IsSamePass self.now pass.old pass.new }

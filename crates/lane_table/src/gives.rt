@@ -62,8 +62,8 @@ impl Lanes {
         pass.stamp = stamp;
     }
 
-    /// Makes a visit at the place that is held, and gives the lane home. The stamp is one more than the greater of the
-    /// pass's and the lane's last one, and both become it.
+    /// Makes a visit at the place that is held, and gives the lane home. Its stamp comes next after those of the pass
+    /// and of the lane, and is the last one of both from then on.
     pub fn put<E: Entry>(&self, pass: &mut Pass, held: Held, who: Who, entry: E) -> Mark
         requires pass { IsPassOf self.now pass.old }
         requires entry { CanPut self.now pass.old held (E.entry entry) }

@@ -98,8 +98,8 @@ impl Lanes {
         }
     }
 
-    /// A pass of this caller number that has seen what `pass` has, and has its stamp. Each of the two then has half of
-    /// the share.
+    /// A pass for another caller, which knows as much as `pass` and goes on from its stamp. The share is cut in half
+    /// between them.
     pub fn split(&self, pass: &mut Pass, caller: u32) -> Pass
         requires { IsPassOf self.now pass.old }
         ensures pass { IsSamePass self.now pass.old pass.new }
@@ -132,7 +132,7 @@ impl Lanes {
         pass.stamp = pass.stamp.max(stamp);
     }
 
-    /// Ends the table, and answers the number of visits of all lanes.
+    /// Takes the table apart. The answer is how many visits there were, in all lanes together.
     pub fn close(self, pass: Pass) -> u128
         requires pass { IsPassOf self pass }
         requires idle { IsIdle (view pass) }

@@ -113,8 +113,7 @@ impl Lanes {
         Ok(held(lane, serving, content))
     }
 
-    /// Takes a lane where that needs no wait. Both refusals leave the lane's value, next place and last stamp as they
-    /// were, and no ticket behind.
+    /// Takes a lane where that needs no wait. A refusal changes nothing about the lane, and no ticket is drawn for it.
     ///
     /// # Errors
     ///
