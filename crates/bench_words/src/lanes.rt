@@ -1,10 +1,10 @@
 //! A lane and a `Mutex`, with nobody else about.
-ghost use Rattle.std.specs.Prelude.{◌≡◌, ◌≢◌, ℕ, ◌+◌, ◌^◌, ◌<◌, ◌≤◌, IfOk};
+ghost use Rattle.std.specs.Prelude.{◌≡◌, ◌≢◌, ℕ, ◌+◌, ◌^◌, ◌<◌, ◌≤◌, [], IfOk};
 ghost use Rattle.key_names.specs.declared.entries.CpuEntry.TheVariants.{Irq};
 ghost use Rattle.lane_table.specs.declared.view.Handed.{Handed};
 ghost use Rattle.lane_table.specs.declared.view.LaneEntry.TheVariants.{Cpu};
 ghost use Rattle.lane_table.specs.Meaning.{Model, ValueStands, made_of};
-ghost use Rattle.lane_table.specs.Examples.{IsCaller};
+ghost use Rattle.lane_table.specs.Hands.{Has};
 
 use key_names::{CpuEntry, LaneId, Who};
 use lane_table::{Held, LaneState, Lanes, Pass};
@@ -14,7 +14,7 @@ use std::sync::{Mutex, Wait};
 const NEVER: u64 = 1 << 62;
 
 fn started(alloc: Global) -> Result<(Lanes, Pass), AllocError>
-    ensures { IfOk result (λ r. IsCaller r.0 r.1) }
+    ensures { IfOk result (λ r. Has r.0 0 [] r.1) }
 {
     Lanes::start(alloc, 1, 0)
 }
@@ -35,8 +35,8 @@ fn mix(held: &mut Held)
 
 // One visit of CPU 0: it is taken, an interrupt is mixed into it, and it is put.
 fn visit<R: Wait>(rt: &R, lanes: &Lanes, pass: &mut Pass, event: u32)
-    requires { IsCaller lanes.now pass.old }
-    ensures { IsCaller lanes.now pass.new }
+    requires { Has lanes.now 0 [] pass.old }
+    ensures { Has lanes.now 0 [] pass.new }
 {
     if pass.stamp() >= NEVER {
         return;

@@ -14,17 +14,16 @@ use Rattle.key_names.specs.SeenLine.{SeenLine, no_data}
 use Rattle.lane_table.specs.declared.view.Visit.{Visit}
 use Rattle.lane_table.specs.declared.view.View.{View}
 use Rattle.lane_table.specs.BookLists.{StateLists, book_lists}
-use Rattle.lane_table.specs.Went.{Deal, step_of, Went, floor}
+use Rattle.lane_table.specs.BookLaws.{Continues}
+use Rattle.lane_table.specs.Went.{Deal, step_of, Went}
 use Rattle.caller_run.specs.Doings.{doings_from, items_of}
-use Rattle.caller_run.specs.Ran.{Sees, Continues}
-use Rattle.caller_run.specs.SampleDeeds.{SamplesStand}
-use Rattle.caller_run.specs.Done.{CallDone, fast_in}
+use Rattle.rng_core.specs.SampleDeeds.{SamplesStand, fast_in}
+use Rattle.caller_run.specs.Done.{CallDone}
 use Rattle.caller_run.proofs.Chains.{items_from_doings, ran_nothing, ran_went}
 
 -- the call of a line went from v to w by these deals, which are the line's steps
 module _ (caller : ℕ) (v w : View) (s : CallerState) (line : SeenLine) (deals : List Deal)
-    (went : Went caller line.event 0 v w deals) (sees : Sees w (floor v) deals (floor w))
-    (steps : line.steps ≡ map step_of deals) where
+    (went : Went caller line.event 0 v w deals) (steps : line.steps ≡ map step_of deals) where
   order : items_of (doings_from line.event 0 deals) ≡ items_from line.event 0 line.steps
   order = items_from_doings line.event 0 deals ∙ ap (λ (l : List Step). items_from line.event 0 l) (sym steps)
 
@@ -42,7 +41,7 @@ module _ (caller : ℕ) (v w : View) (s : CallerState) (line : SeenLine) (deals 
       Sampled → CallDone caller v w s (state_after s event) (alone event line)
   alone_done event told sampled = record {
     doings = doings_from line.event 0 deals;
-    ran = ran_went caller line.event 0 v w deals went sees;
+    ran = ran_went caller line.event 0 v w deals went;
     order = order;
     points = tt;
     meant = λ lanes visits callers c. let t = told lanes visits callers c in record {
@@ -71,7 +70,7 @@ module _ (caller : ℕ) (v w : View) (s : CallerState) (line : SeenLine) (deals 
       line.shown ≡ no_data → Sampled → CallDone caller v w s s (ending line)
   ending_done told answer shown sampled = record {
     doings = doings_from line.event 0 deals;
-    ran = ran_went caller line.event 0 v w deals went sees;
+    ran = ran_went caller line.event 0 v w deals went;
     order = order;
     points = tt;
     meant = λ lanes visits callers c. record {

@@ -1,5 +1,5 @@
 -- What some calls did, one after another: what a loop over a caller's calls keeps, with one call more.
-use Rattle.std.proofs.Common.{◌≡◌, ℕ, List, [], ◌∷◌, ◌++◌, refl, sym, ap, ◌∙◌, arith, append-nil}
+use Rattle.std.proofs.Common.{◌≡◌, ℕ, List, [], ◌∷◌, ◌++◌, refl, sym, ap, ◌∙◌, append-nil}
 use Rattle.std.proofs.lemmas.List.{map-append}
 use Rattle.std.proofs.lemmas.Grind.{flat_map-append}
 use Rattle.key_names.specs.Calls.{Call}
@@ -9,25 +9,13 @@ use Rattle.key_names.specs.Meaning.{CallerState, CallMeaning, LineMeaning, Means
 use Rattle.key_names.specs.SeenLine.{SeenLine}
 use Rattle.key_names.specs.Book.{Lists}
 use Rattle.key_names.proofs.Each.{each_more}
-use Rattle.lane_table.specs.declared.view.Visit.{Visit}
 use Rattle.lane_table.specs.declared.view.View.{View}
-use Rattle.lane_table.specs.WorldRule.{known_of}
 use Rattle.lane_table.specs.BookLists.{book_lists}
-use Rattle.lane_table.proofs.VisitLists.{begins_trans}
-use Rattle.caller_run.specs.Doings.{Doing, item_of}
-use Rattle.caller_run.specs.Ran.{Ran, Continues}
-use Rattle.caller_run.specs.Done.{PointsFit, CallMeant, CallSamples, CallDone, state_reached, CallsMeant, CallsDone, fast_in}
+use Rattle.lane_table.proofs.BookEnds.{continues_before}
+use Rattle.caller_run.specs.Doings.{item_of}
+use Rattle.caller_run.specs.Done.{PointsFit, CallMeant, CallSamples, CallDone, state_reached, CallsMeant, CallsDone}
+use Rattle.rng_core.specs.SampleDeeds.{fast_in}
 use Rattle.caller_run.proofs.Chains.{ran_nothing, ran_then}
-
--- what goes on from the later view goes on from the earlier one
-pub continues_before : (caller lanes : ℕ) (v w : View) (doings : List Doing) (visits : ℕ → List Visit) →
-    Ran caller v w doings → Continues lanes w visits → Continues lanes v visits
-continues_before caller lanes v w doings visits ran c = record {
-  long = sym ran.same.sized ∙ c.long;
-  begins = λ lane low. begins_trans (known_of v lane) (known_of w lane) (visits lane)
-      (ran.grows lane (let s = ran.same.sized in let l = c.long in omega arith)) (c.begins lane low);
-  closed = c.closed;
-}
 
 each_line_more : (P : SeenLine → LineMeaning → Type 0) (calls : List Call) (ms : List CallMeaning) (call : Call)
     (m : CallMeaning) → EachLine P calls ms → EachOfCall P call m → EachLine P (calls ++ call ∷ []) (ms ++ m ∷ [])
@@ -89,10 +77,10 @@ calls_done_then caller u v w s t r calls call a b = record {
   points = each_more PointsFit calls call a.points b.points;
   meant = λ lanes visits callers c.
       meant_more (book_lists lanes visits callers) s t r calls call
-      (a.meant lanes visits callers (continues_before caller lanes v w b.doings visits b.ran c))
+      (a.meant lanes visits callers (continues_before lanes v w visits b.ran.same.sized b.ran.grows c))
       (b.meant lanes visits callers c);
   samples = λ lanes visits callers c.
       each_more (CallSamples (fast_in visits) (book_lists lanes visits callers)) calls call
-      (a.samples lanes visits callers (continues_before caller lanes v w b.doings visits b.ran c))
+      (a.samples lanes visits callers (continues_before lanes v w visits b.ran.same.sized b.ran.grows c))
       (b.samples lanes visits callers c);
 }

@@ -8,11 +8,13 @@ use Rattle.lane_table.specs.declared.view.Visit.{Visit}
 use Rattle.lane_table.specs.declared.view.View.{View}
 use Rattle.lane_table.specs.WorldRule.{at, known_of}
 use Rattle.lane_table.specs.Steps.{Grows}
-use Rattle.lane_table.specs.Went.{Deal, looked, visited, step_of, maker, AllStand, places_in, stamps_in, Climbs, Went, floor}
+use Rattle.lane_table.specs.Went.{Deal, looked, visited, step_of, maker, AllStand, places_in, stamps_in, Climbs, Sees, Went, floor}
+use Rattle.lane_table.specs.LaneNumbers.{index_of}
+use Rattle.lane_table.proofs.Lists.{at_below}
+use Rattle.lane_table.proofs.Sights.{AllKnown, sees_append, sees_grown}
 use Rattle.lane_table.proofs.WentLemmas.{mark_grown, stamps_append, places_append, climbs_append}
 use Rattle.caller_run.specs.Doings.{Doing, doings_from, deal_of, deals_of, items_of}
-use Rattle.caller_run.specs.Ran.{Sees, Stood, Ran}
-use Rattle.caller_run.proofs.Sights.{sees_append, sees_grown}
+use Rattle.caller_run.specs.Ran.{Stood, Ran}
 
 -- what was done in one event
 
@@ -35,8 +37,8 @@ stood_from w caller event n (visited mark e ∷ deals) stand =
     (stand.0, stood_from w caller event (suc n) deals stand.1)
 
 pub ran_went : (caller event n : ℕ) (v w : View) (deals : List Deal) → Went caller event n v w deals →
-    Sees w (floor v) deals (floor w) → Ran caller v w (doings_from event n deals)
-ran_went caller event n v w deals went sees = let same = deals_from event n deals in record {
+    Ran caller v w (doings_from event n deals)
+ran_went caller event n v w deals went = let same = deals_from event n deals in record {
   same = went.same;
   grows = went.grows;
   places = λ lane low. went.places lane low
@@ -45,7 +47,7 @@ ran_went caller event n v w deals went sees = let same = deals_from event n deal
       ∙ ap (λ (l : List Deal). (at lane v).made + length (places_in lane l)) (sym same);
   heard = went.heard;
   climbs = subst (λ (l : List Deal). Climbs v.stamp (stamps_in l) w.stamp) (sym same) went.climbs;
-  sees = subst (λ (l : List Deal). Sees w (floor v) l (floor w)) (sym same) sees;
+  sees = subst (λ (l : List Deal). Sees w (floor v) l (floor w)) (sym same) went.sees;
   stood = stood_from w caller event n deals went.stand;
 }
 
@@ -73,6 +75,17 @@ stood_grown v w caller doings sized grows stood =
         Stood w caller (record { event = d.event; number = d.number; deal = deal })
     go d (looked g) here = tt
     go d (visited mark e) here = mark_grown v w mark (maker caller d.event d.number) e sized grows here
+
+stood_known : (v : View) (caller : ℕ) (doings : List Doing) → AllByRecursion (Stood v caller) doings →
+    AllKnown v (deals_of doings)
+stood_known v caller [] stood = tt
+stood_known v caller (d ∷ doings) stood = go d.deal stood.0 (stood_known v caller doings stood.1)
+  where
+    go : (deal : Deal) → Stood v caller (record { event = d.event; number = d.number; deal = deal }) →
+        AllKnown v (deals_of doings) → AllKnown v (deal ∷ deals_of doings)
+    go (looked g) here rest = rest
+    go (visited mark e) here rest =
+        (here.near, at_below (known_of v (index_of mark.lane)) mark.place here.visit here.there, rest)
 
 module _ (caller : ℕ) (u v w : View) (xs ys : List Doing) (a : Ran caller u v xs) (b : Ran caller v w ys) where
   both : deals_of (xs ++ ys) ≡ deals_of xs ++ deals_of ys
@@ -118,7 +131,7 @@ module _ (caller : ℕ) (u v w : View) (xs ys : List Doing) (a : Ran caller u v 
   seen =
       subst (λ (l : List Deal). Sees w (floor u) l (floor w)) (sym both)
       (sees_append w (floor u) (floor v) (floor w) (deals_of xs) (deals_of ys)
-      (sees_grown v w caller (floor u) (floor v) xs b.grows a.stood a.sees) b.sees)
+      (sees_grown v w (floor u) (floor v) (deals_of xs) b.grows (stood_known v caller xs a.stood) a.sees) b.sees)
 
   pub ran_then : Ran caller u w (xs ++ ys)
   ran_then = record {

@@ -1,4 +1,3 @@
-pub mod Sights
 pub mod Sums
 pub mod Chains
 pub mod CallChains

@@ -24,20 +24,15 @@ use Rattle.lane_table.specs.Meaning.{replay}
 use Rattle.lane_table.specs.WorldRule.{known_of}
 use Rattle.lane_table.specs.BookLists.{StateLists, book_lists}
 use Rattle.lane_table.specs.BookLaws.{ClosedLanes}
-use Rattle.lane_table.specs.Went.{Deal, looked, visited}
+use Rattle.lane_table.specs.Went.{Deal, looked, visited, Sees, generation_of}
+use Rattle.lane_table.proofs.Sights.{sees_up}
 use Rattle.lane_table.proofs.Places.{stands_at, fold_next}
 use Rattle.lane_table.proofs.BookValues.{base_before}
 use Rattle.lane_table.proofs.BookWhole.{beside}
 use Rattle.lane_table.proofs.BookMeans.{cpu_met_before}
 use Rattle.caller_run.specs.Doings.{Doing, deals_of, items_of}
 use Rattle.caller_run.specs.Items.{steps_of}
-use Rattle.caller_run.specs.Ran.{generation_of, Sees, Stood}
-
-sees_up : (w : View) (low high : ℕ) (deals : List Deal) → Sees w low deals high → low ≤ high
-sees_up w low high [] s = s
-sees_up w low high (looked g ∷ deals) s = let a = s.0 in let b = sees_up w g high deals s.1 in omega arith
-sees_up w low high (visited mark e ∷ deals) s =
-    let a = s.1 in let b = sees_up w s.0 high deals s.3 in omega arith
+use Rattle.caller_run.specs.Ran.{Stood}
 
 module _ (lanes : ℕ) (visits : ℕ → List Visit) (callers : StateLists) (ok : ClosedLanes lanes visits) where
   abbrev lists : Lists

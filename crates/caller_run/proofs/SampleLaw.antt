@@ -22,8 +22,7 @@ use Rattle.lane_table.specs.WorldRule.{known_of}
 use Rattle.lane_table.specs.BookLists.{StateLists, book_of}
 use Rattle.lane_table.specs.BookLaws.{ClosedLanes}
 use Rattle.lane_table.proofs.BookSamples.{OfLane, cpu_visited, fast_met}
-use Rattle.caller_run.specs.Done.{fast_in}
-use Rattle.caller_run.specs.SampleDeeds.{EntryIsQuiet, IsQuiet, Dumps, IsMix, IsCrossing, SamplesStand}
+use Rattle.rng_core.specs.SampleDeeds.{EntryIsQuiet, IsQuiet, Dumps, IsMix, IsCrossing, SamplesStand, fast_in}
 use Rattle.caller_run.proofs.LineMarks.{fit_own}
 use Rattle.caller_run.proofs.Members.{IsIn, each_in, same_line}
 use Rattle.caller_run.proofs.LineVisits.{InLine, Behind, cpu_in_line, pool_in_line, cpu_behind, pool_behind}

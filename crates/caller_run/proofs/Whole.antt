@@ -29,16 +29,15 @@ use Rattle.lane_table.specs.Steps.{newcomer}
 use Rattle.lane_table.specs.Calls.{Ended, plan_of}
 use Rattle.lane_table.specs.Went.{places_in, floor}
 use Rattle.lane_table.specs.BookLists.{StateLists, book_of, book_lists}
-use Rattle.lane_table.specs.BookLaws.{ClosedLanes}
+use Rattle.lane_table.specs.BookLaws.{ClosedLanes, Continues}
 use Rattle.lane_table.proofs.VisitLists.{begins_refl}
 use Rattle.lane_table.proofs.BookMarks.{MarksVisit}
 use Rattle.lane_table.proofs.BookEnds.{ended_lanes, ended_lawful}
 use Rattle.lane_table.proofs.BookMeans.{lanes_replay}
 use Rattle.caller_run.specs.Doings.{Doing, deals_of, items_of}
 use Rattle.caller_run.specs.Items.{Item, steps_of}
-use Rattle.caller_run.specs.Ran.{Continues}
-use Rattle.caller_run.specs.SampleDeeds.{SamplesStand}
-use Rattle.caller_run.specs.Done.{CallsMeant, fast_in}
+use Rattle.rng_core.specs.SampleDeeds.{SamplesStand, fast_in}
+use Rattle.caller_run.specs.Done.{CallsMeant}
 use Rattle.caller_run.specs.Laws.{one_caller, RanAlone, LawfulRun}
 use Rattle.caller_run.proofs.CallSteps.{lines_items}
 use Rattle.caller_run.proofs.ItemSteps.{same_steps}

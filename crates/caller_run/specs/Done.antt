@@ -1,5 +1,5 @@
 -- What one call of a caller's script did, and what some calls did one after another.
-use Rattle.std.specs.Prelude.{◌≡◌, ℕ, ◌+◌, ◌≤◌, ⊤, List, [], ◌∷◌, ◌++◌, take, map}
+use Rattle.std.specs.Prelude.{◌≡◌, ℕ, ◌≤◌, ⊤, List, [], ◌∷◌, ◌++◌, map}
 use Rattle.std.specs.List.{AllByRecursion}
 use Rattle.key_names.specs.Book.{Lists}
 use Rattle.key_names.specs.Calls.{Call, alone, vread_call, unbound, ending}
@@ -11,11 +11,11 @@ use Rattle.key_names.specs.Meaning.{CallerState, CallMeaning, Means}
 use Rattle.key_names.specs.SeenLine.{SeenLine}
 use Rattle.lane_table.specs.declared.view.Visit.{Visit}
 use Rattle.lane_table.specs.declared.view.View.{View}
-use Rattle.lane_table.specs.Meaning.{replay}
 use Rattle.lane_table.specs.BookLists.{StateLists, book_lists}
+use Rattle.lane_table.specs.BookLaws.{Continues}
 use Rattle.caller_run.specs.Doings.{Doing, items_of}
-use Rattle.caller_run.specs.Ran.{Ran, Continues}
-use Rattle.caller_run.specs.SampleDeeds.{SamplesStand}
+use Rattle.caller_run.specs.Ran.{Ran}
+use Rattle.rng_core.specs.SampleDeeds.{SamplesStand, fast_in}
 
 -- the lines of a call: those of the acts inside it, and its own
 abbrev pub call_lines : Call → List SeenLine
@@ -30,10 +30,6 @@ PointsFit (alone event line) = ⊤
 PointsFit (vread_call len flags line acts) = AllByRecursion (λ bound. (1 ≤ bound.point) × (bound.point ≤ 4)) acts
 PointsFit (unbound bound) = ⊤
 PointsFit (ending line) = ⊤
-
--- a CPU's fast pool before a place of its list
-abbrev pub fast_in : (ℕ → List Visit) → ℕ → ℕ → FastPool
-fast_in visits cpu place = (replay (take place (visits (cpu + 2)))).cpu.fast
 
 -- a meaning of a call that goes from one state of the caller to another, and fits its lines
 pub record CallMeant (lists : Lists) (s : CallerState) (call : Call) (t : CallerState) : Type 0 where

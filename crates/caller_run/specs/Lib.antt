@@ -1,7 +1,6 @@
 pub mod Items
 pub mod Doings
 pub mod Ran
-pub mod SampleDeeds
 pub mod Done
 pub mod Laws
 pub mod Slots

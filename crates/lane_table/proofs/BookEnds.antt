@@ -1,16 +1,29 @@
 -- What a pass knows, and what the end of the table tells, in the words of the book.
-use Rattle.std.proofs.Common.{◌≡◌, ℕ, ◌≤◌, ◌<◌, List, length, map, ◌∙◌}
+use Rattle.std.proofs.Common.{◌≡◌, ℕ, ◌≤◌, ◌<◌, List, length, map, sym, ◌∙◌, arith}
 use Rattle.std.specs.List.{AllByRecursion, sum_by}
 use Rattle.key_names.specs.declared.names.Mark.{Mark}
 use Rattle.key_names.specs.Book.{HalfFinishedLanes, LawfulLanes}
 use Rattle.key_names.specs.IsTranscript.{MarkBy, PlacesStand, VisitsAre}
 use Rattle.lane_table.specs.declared.view.View.{View}
+use Rattle.lane_table.specs.declared.view.Visit.{Visit}
 use Rattle.lane_table.specs.WorldRule.{Consistent, times, at, known_of}
+use Rattle.lane_table.specs.Steps.{Grows}
 use Rattle.lane_table.specs.Calls.{Ended, made_in}
 use Rattle.lane_table.specs.BookLists.{StateLists, book_of, book_lists}
-use Rattle.lane_table.specs.BookLaws.{ClosedLanes}
+use Rattle.lane_table.specs.BookLaws.{ClosedLanes, Continues}
+use Rattle.lane_table.proofs.VisitLists.{begins_trans}
 use Rattle.lane_table.proofs.BookAnswers.{half_finished, lawful_lanes}
 use Rattle.lane_table.proofs.BookMarks.{MarksVisit, MarksPlace, visits_are, places_stand, all_made}
+
+-- what goes on from a later view goes on from the earlier one
+pub continues_before : (lanes : ℕ) (v w : View) (visits : ℕ → List Visit) → length w.lanes ≡ length v.lanes → Grows v w →
+    Continues lanes w visits → Continues lanes v visits
+continues_before lanes v w visits sized grows c = record {
+  long = sym sized ∙ c.long;
+  begins = λ lane low. begins_trans (known_of v lane) (known_of w lane) (visits lane)
+      (grows lane (let l = c.long in omega arith)) (c.begins lane low);
+  closed = c.closed;
+}
 
 -- at any moment the lists that a pass knows are half finished lanes
 module _ (v : View) (callers : StateLists) (low : 2 ≤ length v.lanes) (ok : Consistent v) where

@@ -1,20 +1,25 @@
 -- What a pass has in its hands after each call of the table.
-use Rattle.std.proofs.Common.{◌≡◌, ◌≢◌, ℕ, ◌+◌, ◌<◌, List, [], ◌∷◌, map, Option, Some, None, length, sym, refl, ap, ◌∙◌, subst, arith, get_or}
+use Rattle.std.proofs.Common.{◌≡◌, ◌≢◌, ℕ, zero, suc, ◌+◌, ◌<◌, ◌≤◌, List, [], ◌∷◌, Option, Some, None, length, sym, refl, ap, ◌∙◌, subst, arith, get_or}
+use Rattle.std.proofs.lemmas.List.{get_or-replicate}
+use Rattle.std.proofs.Math.ListN.{get_or-map, length-replicate}
 use mathlib.Core.Logic.{dite}
-use native.Mathlib.Decide.{ℕ_discrete}
+use native.Mathlib.Decide.{dec_le, ℕ_discrete}
 use Rattle.atomic_table.specs.Table.{rest}
 use Rattle.lane_table.specs.declared.view.Visit.{Visit}
 use Rattle.lane_table.specs.declared.view.LaneView.{LaneView}
 use Rattle.lane_table.specs.declared.view.View.{View}
 use Rattle.lane_table.specs.declared.view.Content.{Content}
-use Rattle.lane_table.specs.declared.view.Stage.TheVariants.{Away, Holding}
+use Rattle.lane_table.specs.declared.view.Plan.{Plan}
+use Rattle.lane_table.specs.declared.view.Stage.TheVariants.{Holding}
 use Rattle.lane_table.specs.declared.lanes.Lanes.{Lanes}
 use Rattle.lane_table.specs.declared.lanes.Pass.{Pass}
 use Rattle.lane_table.specs.declared.lanes.Held.{Held}
 use Rattle.lane_table.specs.WorldRule.{at, blank, last_stamp}
 use Rattle.lane_table.specs.Meaning.{ahead_of}
-use Rattle.lane_table.specs.Calls.{view, slots, count_of, IsSamePass, IsAway, SameView, Taken, Tried, Added, Left, Looked, Raised}
-use Rattle.lane_table.specs.Hands.{Hand, hand, IsInHand, NotIn, AllInHand, Has, slot_of}
+use Rattle.lane_table.specs.Steps.{Seated, both_of, child, halved, newcomer, told}
+use Rattle.lane_table.specs.Calls.{view, slots, count_of, IsPassOf, IsSamePass, IsAway, IsIdle, SameView, Taken, Tried, Added, Left, Looked, Raised}
+use Rattle.lane_table.specs.Hands.{Hand, hand, IsInHand, NotIn, AllInHand, Has}
+use Rattle.lane_table.proofs.Shares.{merged_at}
 
 -- what is held as before is in the hands as before
 held_same : (v w : View) (h : Hand) → at h.lane w ≡ at h.lane v → SameView v w → IsInHand v h → IsInHand w h
@@ -159,3 +164,56 @@ has_left t caller h hands p p' k is left = record {
   held = all_but h.lane h.lane (view p) (view p') hands (λ j ne _. left.others j ne) left.same k.held.1 k.held.1 k.held.2;
   away = λ j low no. dite (ℕ_discrete j h.lane) (λ e. subst (λ (l : ℕ). IsAway l (view p')) (sym e) left.stage) (λ ne. ap (λ (a : LaneView). a.stage) (left.others j ne) ∙ k.away j low (ne, no));
 }
+
+-- Passes that begin, are split and are joined
+
+-- a new table's pass
+pub has_new : (t : Lanes) (caller : ℕ) (plan : Plan) (p : Pass) → IsPassOf t p → p.caller ≡ caller → p.seat.me ≡ (newcomer plan, []) → Has t caller [] p
+has_new t caller plan p is own e = let long : length (view p).lanes ≡ plan.count = ap (λ (m : Seated). length m.0.lanes) e ∙ length-replicate plan.count blank in record {
+  pass = is;
+  own = own;
+  out = ap (λ (m : Seated). m.1) e;
+  held = tt;
+  away = λ j low _. ap (λ (m : Seated). (at j m.0).stage) e ∙ ap (λ (a : LaneView). a.stage) (get_or-replicate plan.count j blank blank (let s = is.sized in omega arith));
+}
+
+-- a pass with empty hands that another one was split off from
+pub has_halved : (t : Lanes) (caller : ℕ) (p p' : Pass) → Has t caller [] p → IsSamePass t p p' → p'.seat.me ≡ (halved (view p), slots p) → Has t caller [] p'
+has_halved t caller p p' k is e = record {
+  pass = is.pass;
+  own = is.caller ∙ k.own;
+  out = ap (λ (m : Seated). m.1) e ∙ k.out;
+  held = tt;
+  away = λ j low no. ap (λ (m : Seated). (at j m.0).stage) e ∙ k.away j low no;
+}
+
+-- and that other one
+pub has_child : (t : Lanes) (caller : ℕ) (v : View) (p : Pass) → IsPassOf t p → p.caller ≡ caller → p.seat.me ≡ (child v, []) → Has t caller [] p
+has_child t caller v p is own e = record {
+  pass = is;
+  own = own;
+  out = ap (λ (m : Seated). m.1) e;
+  held = tt;
+  away = λ j low _. ap (λ (m : Seated). (at j m.0).stage) e ∙ ap (λ (a : LaneView). a.stage) (get_or-map told v.lanes j blank);
+}
+
+-- a pass with empty hands that took in another one
+pub has_joined : (t : Lanes) (caller : ℕ) (w : View) (p p' : Pass) → length (view p).lanes ≡ length w.lanes → Has t caller [] p → IsSamePass t p p' → p'.seat.me ≡ (both_of (view p) w, slots p) → Has t caller [] p'
+has_joined t caller w p p' long k is e = record {
+  pass = is.pass;
+  own = is.caller ∙ k.own;
+  out = ap (λ (m : Seated). m.1) e ∙ k.out;
+  held = tt;
+  away = λ j low no. ap (λ (m : Seated). (at j m.0).stage) e ∙ ap (λ (a : LaneView). a.stage) (merged_at (view p).lanes w.lanes j long) ∙ k.away j low no;
+}
+
+-- a view has nothing of a lane beyond the last
+beyond : (l : List LaneView) (j : ℕ) → length l ≤ j → get_or l j blank ≡ blank
+beyond [] j h = refl
+beyond (x ∷ xs) zero h = absurd (omega arith)
+beyond (x ∷ xs) (suc j) h = beyond xs j (omega arith)
+
+-- with empty hands a pass is idle
+pub idle_of : (t : Lanes) (caller : ℕ) (p : Pass) → Has t caller [] p → IsIdle (view p)
+idle_of t caller p k j = dite (dec_le (j + 1) (count_of t)) (λ low. k.away j (omega arith) tt)
+    (λ high. ap (λ (a : LaneView). a.stage) (beyond (view p).lanes j (let s = k.pass.sized in omega arith)))

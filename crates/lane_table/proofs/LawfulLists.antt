@@ -1,5 +1,5 @@
 -- What one more visit does to the model and the law of a lane, and what lawful lists tell of the generation.
-use Rattle.std.proofs.Common.{◌≡◌, ℕ, zero, suc, ◌+◌, ◌<◌, ◌≤◌, true, false, List, [], ◌∷◌, ◌++◌, length, refl, sym, ap, ◌∙◌, subst, arith, Option, Some, None, le_refl}
+use Rattle.std.proofs.Common.{◌≡◌, ℕ, zero, suc, ◌+◌, ◌<◌, ◌≤◌, true, false, List, [], ◌∷◌, ◌++◌, length, refl, sym, ap, subst, arith, Option, Some, None, le_refl}
 use Rattle.std.specs.List.{fold}
 use Rattle.std.proofs.lemmas.List.Sums.{sum_by-cons, fold-append}
 use mathlib.Core.Option.{some, some-injective, some-ne-none}
@@ -12,16 +12,15 @@ use Rattle.key_names.specs.declared.entries.CpuEntry.{CpuEntry}
 use Rattle.key_names.specs.declared.entries.CpuEntry.TheVariants.{Read, Int, Irq, Dump, Prepare, Online}
 use Rattle.key_names.specs.LawfulList.{LawfulFrom}
 use Rattle.key_names.specs.PoolList.{PoolState}
-use Rattle.key_names.specs.BaseList.{BaseFits, empty, ready, reseeds_at, generation_after}
+use Rattle.key_names.specs.BaseList.{reseeds_at, generation_after}
 use Rattle.key_names.specs.CpuList.{base_refill_of}
 use Rattle.base_gen.specs.BaseValue.{BaseValue}
-use Rattle.base_gen.specs.BaseValue as base
 use Rattle.cpu_gen.specs.CpuValue.{CpuValue, refilled, after_entry}
 use Rattle.lane_table.specs.declared.view.Visit.{Visit}
 use Rattle.lane_table.specs.declared.view.Handed.{Handed}
 use Rattle.lane_table.specs.declared.view.LaneEntry.{LaneEntry}
 use Rattle.lane_table.specs.declared.view.LaneEntry.TheVariants.{Pool, Base, Cpu}
-use Rattle.lane_table.specs.Meaning.{Model, start_model, model_step, replay, Fits, MayCome, base_state, LawfulLane, behind_of, least_after, raise_of, once, generator_of, pool_gives, base_gives, cpu_gives, gave_of, made_of}
+use Rattle.lane_table.specs.Meaning.{Model, start_model, model_step, replay, MayCome, LawfulLane, behind_of, least_after, raise_of, once, generator_of, pool_gives, base_gives, cpu_gives, gave_of, made_of}
 use Rattle.lane_table.specs.References.{Pointed}
 use Rattle.lane_table.specs.WorldRule.{Begins, raises}
 use Rattle.lane_table.proofs.Lists.{at_below}
@@ -139,34 +138,3 @@ cpu_fold_below g (x ∷ xs) s low k = cpu_fold_below g xs (model_step s x) (cpu_
 -- the generation of a CPU is one that the base has had
 pub cpu_below : (n i : ℕ) (base cpu : List Visit) → LawfulLane n 1 base → Pointed i base cpu → (replay cpu).cpu.cpu.generation ≤ raises base
 cpu_below n i base cpu lawful h = cpu_fold_below (raises base) cpu start_model (omega arith) (λ b p x e q. let t = h b p x e q in let g = gave_fold n 1 base start_model p t.0 lawful t.1 in let d = ap (λ (z : Handed). z.generation) t.3 in omega arith)
-
--- A base that has a generation is ready
-
-ready_entry : (b : BaseValue) (e : BaseEntry) (root : List ℕ) → BaseFits (base_state b) e → (1 ≤ b.generation → b.phase ≡ ready) → 1 ≤ (base.after_entry e root b).generation → (base.after_entry e root b).phase ≡ ready
-ready_entry b (Early None) root fits h k = h k
-ready_entry b (Early (Some r)) root fits h k = let e : empty ≡ ready = sym fits ∙ h k in cc e
-ready_entry b (Reseed r now) root fits h k = refl
-ready_entry b (Tick now None) root fits h k = h k
-ready_entry b (Tick now (Some r)) root fits h k = refl
-ready_entry b (Draw None taken) root fits h k = h k
-ready_entry b (Draw (Some r) taken) root fits h k = h k
-ready_entry b (Refill cpu cpu_place) root fits h k = h k
-ready_entry b (Fork child) root fits h k = h k
-ready_entry b End root fits h k = h k
-ready_entry b Wait root fits h k = h k
-ready_entry b Resume root fits h k = h k
-ready_entry b Interrupt root fits h k = h k
-ready_entry b Stall root fits h k = h k
-ready_entry b Unstall root fits h k = h k
-
-ready_step : (s : Model) (e : LaneEntry) (got : Handed) → Fits s got e → (1 ≤ s.base.generation → s.base.phase ≡ ready) → 1 ≤ (made_of s e got).base.generation → (made_of s e got).base.phase ≡ ready
-ready_step s (Pool e) got fits h k = h k
-ready_step s (Base e) got fits h k = ready_entry s.base e got.key fits h k
-ready_step s (Cpu e) got fits h k = h k
-
-ready_fold : (n i : ℕ) (xs : List Visit) (s : Model) → LawfulFrom (MayCome n i) model_step s xs → (1 ≤ s.base.generation → s.base.phase ≡ ready) → 1 ≤ (fold model_step s xs).base.generation → (fold model_step s xs).base.phase ≡ ready
-ready_fold n i [] s lawful h k = h k
-ready_fold n i (x ∷ xs) s lawful h k = ready_fold n i xs (model_step s x) lawful.1 (ready_step s x.entry x.got lawful.0.fits h) k
-
-pub ready_of : (n i : ℕ) (xs : List Visit) → LawfulLane n i xs → 1 ≤ (replay xs).base.generation → (replay xs).base.phase ≡ ready
-ready_of n i xs lawful k = ready_fold n i xs start_model lawful (λ z. absurd (omega arith)) k

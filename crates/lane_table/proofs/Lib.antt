@@ -1,6 +1,7 @@
 pub mod HandLemmas
 pub mod WentLemmas
 pub mod Floors
+pub mod Sights
 pub mod Lent
 pub mod Lists
 pub mod VisitLists
@@ -37,9 +38,7 @@ pub mod BookGrows
 pub mod BookMarks
 pub mod BookSamples
 pub mod Trying
-pub mod Holding
-pub mod Doing
-pub mod Extracting
-pub mod Refilling
 pub mod BookEnds
+pub mod Tickets
+pub mod RuleParts
 pub mod WorkedLanes

@@ -13,12 +13,12 @@ use Rattle.lane_table.specs.declared.lanes.Held.{Held}
 use Rattle.lane_table.specs.LaneNumbers.{index_of}
 use Rattle.lane_table.specs.Meaning.{ahead_of}
 use lib.ListN.{get_elem?}
-use mathlib.Core.Option.{some}
-use Rattle.lane_table.specs.WorldRule.{Begins, at, blank, known_of}
+use Rattle.lane_table.specs.WorldRule.{at, blank, known_of}
 use Rattle.lane_table.specs.Steps.{Seated, Grows}
 use Rattle.lane_table.specs.Calls.{SameView, Still, Taken, Tried, Added, Left, Looked, Raised}
-use Rattle.lane_table.specs.Went.{Deal, looked, visited, IsMarkOf, maker, AllStand, looks_in, places_in, stamps_in, Climbs, Went}
+use Rattle.lane_table.specs.Went.{Deal, looked, visited, IsMarkOf, maker, AllStand, looks_in, places_in, stamps_in, Climbs, floor, Went}
 use Rattle.lane_table.proofs.Floors.{floor_grown}
+use Rattle.lane_table.proofs.Sights.{sees_looked, sees_put, sees_append, sees_grown, stand_known}
 use Rattle.lane_table.proofs.HandLemmas.{names_none, names_one}
 
 -- neither a look nor a visit
@@ -32,7 +32,7 @@ went_idly caller event n v w same grows looks stamps stamp two seen still = reco
   heard = λ lane low. (still lane low).heard;
   stamps = stamps ∙ sym (append-nil v.stamps);
   climbs = sym stamp;
-  floors = floor_grown v w two grows seen;
+  sees = floor_grown v w two grows seen;
   stand = tt;
 }
 
@@ -66,7 +66,7 @@ module _ (caller event n : ℕ) (m m' : Seated) (two : 1 < length m.0.lanes) whe
     heard = λ lane low. ap (λ (a : LaneView). a.heard) (same lane);
     stamps = k.stamps ∙ sym (append-nil m.0.stamps);
     climbs = sym k.stamp;
-    floors = floor_grown m.0 m'.0 two (λ j low. ([], ap (λ (a : LaneView). a.known) (same j) ∙ sym (append-nil (known_of m.0 j)))) (let a = k.not_less in let b = k.seen in omega arith);
+    sees = sees_looked m m' two g k;
     stand = tt;
   }
 
@@ -112,7 +112,7 @@ module _ (caller event n : ℕ) (m m' : Seated) (two : 1 < length m.0.lanes) whe
     heard = λ j low. dite (ℕ_discrete j lane) (λ q. subst (λ (z : ℕ). (at z m'.0).heard ≡ (at z m.0).heard) (sym q) (ap (λ (z : LaneView). z.heard) here)) (λ ne. (added_still lane x m m' k j low ne).heard);
     stamps = k.stamps ∙ ap (λ (z : ℕ). m.0.stamps ++ z ∷ []) stamp;
     climbs = (let a = k.later in omega arith, sym stamp ∙ sym k.stamp);
-    floors = floor_grown m.0 m'.0 two k.grows (let e = k.seen in omega arith);
+    sees = sees_put m m' two x mark e near there k;
     stand = (
       record {
         near = (let s = k.same.sized in omega arith);
@@ -180,6 +180,6 @@ went_then caller event n k u v w xs ys next a b = record {
   heard = λ j low. b.heard j (let s = a.same.sized in omega arith) ∙ a.heard j low;
   stamps = b.stamps ∙ ap (λ (l : List ℕ). l ++ stamps_in ys) a.stamps ∙ append_assoc u.stamps (stamps_in xs) (stamps_in ys) ∙ ap (λ (l : List ℕ). u.stamps ++ l) (sym (stamps_append xs ys));
   climbs = subst (λ (l : List ℕ). Climbs u.stamp l w.stamp) (sym (stamps_append xs ys)) (climbs_append u.stamp v.stamp w.stamp (stamps_in xs) (stamps_in ys) a.climbs b.climbs);
-  floors = (let f = a.floors in let g = b.floors in omega arith);
+  sees = sees_append w (floor u) (floor v) (floor w) xs ys (sees_grown v w (floor u) (floor v) xs b.grows (stand_known v caller event n xs a.stand) a.sees) b.sees;
   stand = stand_append w caller event n xs ys (stand_grown v w caller event n xs b.same.sized b.grows a.stand) (subst (λ (z : ℕ). AllStand w caller event z ys) next b.stand);
 }

@@ -1,5 +1,5 @@
 -- What the lanes' lists of visits are in the words of the book: lawful, with values that are those of the entries.
-use Rattle.std.specs.Prelude.{◌≡◌, ℕ, ◌+◌, ◌*◌, ◌<◌, ◌≤◌, IsTrue, Option, Some, None, List, take, replicate, slice_get}
+use Rattle.std.specs.Prelude.{◌≡◌, ℕ, ◌+◌, ◌*◌, ◌<◌, ◌≤◌, IsTrue, Option, Some, None, List, length, take, replicate, slice_get}
 use Rattle.std.specs.List.{fold}
 use Rattle.key_names.specs.declared.entries.BaseEntry.{BaseEntry}
 use Rattle.key_names.specs.declared.entries.Taken.{Taken}
@@ -17,9 +17,11 @@ use Rattle.base_gen.specs.BaseValue as base
 use Rattle.cpu_gen.specs.CpuValue as cpu
 use Rattle.int_batch.specs.BatchValue.{BatchValue, IsBatchOf}
 use Rattle.lane_table.specs.declared.view.LaneEntry.TheVariants.{Base as BaseVisited, Cpu as CpuVisited}
+use Rattle.lane_table.specs.declared.view.View.{View}
 use Rattle.lane_table.specs.declared.view.Visit.{Visit}
 use Rattle.lane_table.specs.Meaning.{CpuModel, batch_at, replay}
 use Rattle.lane_table.specs.References.{Closed, LawfulLists, AllAnswered, AllHalfAnswered}
+use Rattle.lane_table.specs.WorldRule.{Begins, known_of}
 use Rattle.lane_table.specs.BookLists.{StateLists, book_lists}
 
 -- the lists of some lanes, a pool and a base among them, are each lawful, and their references backwards agree
@@ -27,6 +29,12 @@ pub record ClosedLanes (lanes : ℕ) (visits : ℕ → List Visit) : Type 0 wher
   pub low : 2 ≤ lanes
   pub closed : Closed lanes visits
   pub lawful : LawfulLists lanes visits
+
+-- these visits of the lanes go on from what the view knows
+pub record Continues (lanes : ℕ) (v : View) (visits : ℕ → List Visit) : Type 0 where
+  pub long : length v.lanes ≡ lanes
+  pub begins : (lane : ℕ) → lane < lanes → Begins (known_of v lane) (visits lane)
+  pub closed : ClosedLanes lanes visits
 
 -- such lists are lawful so far as each lane looks backwards
 abbrev pub ClosedIsForwardLawful : Type 0

@@ -4,11 +4,11 @@ pub mod References
 pub mod WorldRule
 pub mod Steps
 pub mod Calls
-pub mod Deeds
-pub mod Examples
 pub mod Lending
+pub mod LendingBoxed
 pub mod Hands
 pub mod Went
 pub mod BookLists
 pub mod BookLaws
+pub mod RuleLaws
 pub mod VisitsMet

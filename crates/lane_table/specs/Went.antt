@@ -1,5 +1,5 @@
 -- What a pass did between two moments: its looks and its visits, with their entries, in order.
-use Rattle.std.specs.Prelude.{◌≡◌, ℕ, suc, ◌+◌, ◌<◌, ◌==◌, ◌≤◌, ◌↔◌, max, ⊤, List, [], ◌∷◌, ◌++◌, length, if◌then◌else◌}
+use Rattle.std.specs.Prelude.{◌≡◌, ℕ, suc, ◌+◌, ◌<◌, ◌==◌, ◌≤◌, ◌↔◌, max, ⊤, List, [], ◌∷◌, ◌++◌, take, length, if◌then◌else◌}
 use mathlib.Core.Option.{some}
 use lib.ListN.{get_elem?}
 use Rattle.key_names.specs.declared.names.Mark.{Mark}
@@ -11,7 +11,7 @@ use Rattle.lane_table.specs.declared.view.View.{View}
 use Rattle.lane_table.specs.declared.view.LaneEntry.{LaneEntry}
 use Rattle.key_names.specs.BaseList.{ready}
 use Rattle.base_gen.specs.BaseValue.{BaseValue}
-use Rattle.lane_table.specs.Meaning.{replay}
+use Rattle.lane_table.specs.Meaning.{Model, replay}
 use Rattle.lane_table.specs.WorldRule.{at, known_of}
 use Rattle.lane_table.specs.Steps.{Grows}
 use Rattle.lane_table.specs.LaneNumbers.{index_of}
@@ -70,6 +70,18 @@ Climbs low (stamp ∷ stamps) high = (low < stamp) × Climbs stamp stamps high
 abbrev pub floor : View → ℕ
 floor v = max v.seen (replay (known_of v 1)).base.generation
 
+-- the generation of a lane's model: of the base or of a CPU, since both are 0 in the other lanes
+abbrev pub generation_of : Model → ℕ
+generation_of s = max s.base.generation s.cpu.cpu.generation
+
+-- each look is at least what was seen before it, and what was seen after a visit is at least the generation that the
+-- lane then has
+abbrev pub Sees : View → ℕ → List Deal → ℕ → Type 0
+Sees w low [] high = low ≤ high
+Sees w low (looked g ∷ deals) high = (low ≤ g) × Sees w g deals high
+Sees w low (visited mark e ∷ deals) high = (mid : ℕ) × (low ≤ mid)
+    × (generation_of (replay (take (suc mark.place) (known_of w (index_of mark.lane)))) ≤ mid) × Sees w mid deals high
+
 -- the core is ready exactly where it was reseeded
 abbrev pub Agrees : BaseValue → Type 0
 Agrees b = (b.phase ≡ ready) ↔ (1 ≤ b.generation)
@@ -84,5 +96,5 @@ pub record Went (caller event n : ℕ) (v w : View) (deals : List Deal) : Type 0
   pub heard : (lane : ℕ) → lane < length v.lanes → (at lane w).heard ≡ (at lane v).heard
   pub stamps : w.stamps ≡ v.stamps ++ stamps_in deals
   pub climbs : Climbs v.stamp (stamps_in deals) w.stamp
-  pub floors : floor v ≤ floor w
+  pub sees : Sees w (floor v) deals (floor w)
   pub stand : AllStand w caller event n deals

@@ -3,7 +3,7 @@ ghost use Rattle.std.specs.Prelude.{◌≡◌, ◌+◌, ◌*◌, ◌^◌, ◌<�
 ghost use Rattle.lane_table.specs.LaneNumbers.{index_of};
 
 use crate::plays::World;
-use crate::values::LaneState;
+use crate::values::{Boxed, LaneState};
 use crate::view::{Content, Plan, View};
 use atomic_table::{Seat, Table};
 use key_names::LaneId;
@@ -51,7 +51,7 @@ pub struct Turn {
 /// A lane that a pass holds. It has to be given to `put` or `back`.
 pub struct Held {
     pub(crate) turn: Turn,
-    pub(crate) state: LaneState,
+    pub(crate) state: Boxed,
 }
 
 /// Why `try_take` did not get a lane. They are looked for in this order.
@@ -139,7 +139,7 @@ impl Held {
     pub fn state(&self) -> &LaneState
         ensures { result.now ≡ self.now.state }
     {
-        &self.state
+        self.state.get()
     }
 
     /// The value of the lane, to be changed. What it becomes is what `put` asks about.
@@ -147,6 +147,6 @@ impl Held {
         ensures* writes_back { sem 𝓛 (LendsState self.entry result) }
         ensures value { result.now ≡ self.old.state }
     {
-        &mut self.state
+        self.state.get_mut()
     }
 }

@@ -1,6 +1,51 @@
-//! What the lanes' lists of visits are in the words of the book, each law as the contract of a function without code.
+//! What the rule of the lanes says of each moment, and what the lanes' lists of visits are in the words of the book:
+//! each law is the contract of a function without code.
 ghost use Rattle.lane_table.specs.BookLaws.{ClosedIsForwardLawful, HalfAnsweredIsHalfFinished, AnsweredIsLawful};
 ghost use Rattle.lane_table.specs.BookLaws.{ClosedReplays, ClosedGives};
+ghost use Rattle.lane_table.specs.RuleLaws.{EachTicketHasOneHolder, KnownListsBegin, ValuesAreReplays};
+ghost use Rattle.lane_table.specs.RuleLaws.{CountsAndSharesAddUp, StampsRise, ListsAreLawfulSoFar, GenerationIsTheBases};
+
+/// In each lane the tickets from the serving number on to the ticket number are out, each with one pass, and no others.
+/// Who holds the lane has the one that is served.
+pub fn each_ticket_has_one_holder()
+    ensures { EachTicketHasOneHolder }
+{}
+
+/// Each lane has one list of visits. What a pass knows of it is a beginning, and all of it where the pass holds the
+/// lane; where it knows an entry, it knows the entries that this one names behind. The value of a lane carries such
+/// lists too.
+pub fn known_lists_begin()
+    ensures { KnownListsBegin }
+{}
+
+/// A value that lies in its slot is the replay of its lane's list, with the list's next place and last stamp. A value
+/// that does not is with the pass that is served.
+pub fn values_are_replays()
+    ensures { ValuesAreReplays }
+{}
+
+/// The visits that the passes count are those of the lists, each place once. The shares of all passes add up to the
+/// whole.
+pub fn counts_and_shares_add_up()
+    ensures { CountsAndSharesAddUp }
+{}
+
+/// Stamps rise along each list, and a pass's stamp is no less than those of the visits before it.
+pub fn stamps_rise()
+    ensures { StampsRise }
+{}
+
+/// The lists are lawful, but for visits that are half finished: an extraction or a refill may name a place of the lane
+/// ahead that is not yet in its list. Then it is the next one, and a pass that holds that lane owes the answer.
+pub fn lists_are_lawful_so_far()
+    ensures { ListsAreLawfulSoFar }
+{}
+
+/// The generation word is the number of reseeds in the base's list, and one more exactly from a raise until the base is
+/// put. It is below 2^63, and no less than what any pass has seen, and than each CPU's generation.
+pub fn generation_is_the_bases()
+    ensures { GenerationIsTheBases }
+{}
 
 /// Where each lane's list is lawful by itself, and each place that an entry names behind it names it back, the lanes
 /// of the book are lawful so far as each looks backwards.

@@ -3,8 +3,6 @@
 #![tactic(auto)]
 
 mod entry;
-#[cfg(test)]
-mod examples;
 mod generation;
 mod gives;
 mod lanes;
@@ -12,6 +10,8 @@ pub mod laws;
 mod passes;
 mod plays;
 mod takes;
+#[cfg(test)]
+mod tests;
 mod tries;
 mod values;
 mod view;

@@ -7,7 +7,7 @@ ghost use Rattle.lane_table.specs.Calls.{view, slots, count_of, first_of, plan_o
 
 use crate::lanes::{GENERATION, LINE, Lanes, Pass};
 use crate::plays::{Halves, Merges};
-use crate::values::{BaseLane, CpuLane, LaneState, PoolLane};
+use crate::values::{BaseLane, Boxed, CpuLane, LaneState, PoolLane};
 use crate::view::{Content, Plan};
 use atomic_table::Table;
 use base_gen::Base;
@@ -40,6 +40,17 @@ fn start_state(lane: usize) -> LaneState
     }
 }
 
+fn start_content(alloc: Global, lane: usize, first: u64) -> Result<Content, AllocError>
+    ensures { IfOk result (λ c. Replays lane first [] c) }
+{
+    let state = Boxed::new(alloc, start_state(lane))?;
+    Ok(Content {
+        state,
+        place: 0,
+        stamp: first,
+    })
+}
+
 fn start_contents(
     alloc: Global,
     count: usize,
@@ -49,11 +60,8 @@ fn start_contents(
 {
     let mut slots = Vec::with_capacity(alloc, count)?;
     for lane in 0..count {
-        slots.push(Some(Content {
-            state: start_state(lane),
-            place: 0,
-            stamp: first,
-        }))?;
+        let content = start_content(alloc, lane, first)?;
+        slots.push(Some(content))?;
     }
     Ok(slots)
 }

@@ -1,10 +1,13 @@
 //! What a lane's lock guards.
+ghost use Rattle.std.specs.Prelude.{◌≡◌, IfOk};
 
 use base_gen::Base;
 use cpu_gen::Cpu;
 use input_pool::Pool;
 use int_batch::Batch;
 use sample_credit::{FastPool, InputTimer};
+use std::alloc::{AllocError, Global};
+use std::marker::Model;
 
 /// The input pool, and the timer that credits input events.
 #[derive(Drop)]
@@ -36,4 +39,44 @@ pub enum LaneState {
     Pool(PoolLane),
     Base(BaseLane),
     Cpu(CpuLane),
+}
+
+/// A lane's value, in memory of its own: when a lane is taken or put, a pointer moves, and not the value. In contracts
+/// it is the value.
+#[derive(Drop)]
+pub struct Boxed {
+    inner: Box<LaneState>,
+}
+
+impl Model for Boxed {
+    ghost use Rattle.lane_table.specs.declared.values.LaneState.{LaneState};
+
+    ghost Value = { LaneState };
+
+    ghost view = { λ b. b.inner.value };
+}
+
+impl Boxed {
+    ghost use Rattle.lane_table.specs.LendingBoxed.{LendsBoxed};
+    ghost use Rattle.std.specs.Borrow.{sem};
+
+    pub(crate) fn new(alloc: Global, state: LaneState) -> Result<Boxed, AllocError>
+        ensures { IfOk result (λ b. b ≡ state) }
+    {
+        let inner = Box::new(alloc, state)?;
+        Ok(Boxed { inner })
+    }
+
+    pub(crate) fn get(&self) -> &LaneState
+        ensures { result.now ≡ self.now }
+    {
+        &self.inner
+    }
+
+    pub(crate) fn get_mut(&mut self) -> &mut LaneState
+        ensures* writes_back { sem 𝓛 (LendsBoxed self.entry result) }
+        ensures value { result.now ≡ self.old }
+    {
+        &mut self.inner
+    }
 }

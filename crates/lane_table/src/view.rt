@@ -4,7 +4,7 @@
 
 ghost use Rattle.std.specs.Prelude.{◌≡◌};
 
-use crate::values::LaneState;
+use crate::values::Boxed;
 use key_names::{BaseEntry, CpuEntry, PoolEntry, Who};
 use std::collections::LinkedList;
 
@@ -91,7 +91,7 @@ pub struct Plan {
 /// What lies in a lane's slot: the value, the place of the next visit, and the stamp of the last one.
 #[derive(Drop)]
 pub struct Content {
-    pub state: LaneState,
+    pub(crate) state: Boxed,
     pub place: u64,
     pub stamp: u64,
 }

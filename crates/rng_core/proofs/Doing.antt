@@ -16,6 +16,7 @@ use Rattle.key_names.specs.PoolList.{PoolState, Crossing, crossing, pool_step}
 use Rattle.key_names.specs.Forms.{Rooted, BaseOnly, PoolOnly, CpuOnly, PlainRead, RefilledRead, CreditForm, Cross}
 use Rattle.key_names.specs.Forms as forms
 use Rattle.lane_table.specs.declared.view.Handed.{Handed}
+use Rattle.lane_table.specs.declared.view.Visit.{Visit}
 use Rattle.lane_table.specs.declared.view.LaneEntry.{LaneEntry}
 use Rattle.lane_table.specs.declared.view.LaneEntry.TheVariants.{Pool, Base, Cpu}
 use Rattle.lane_table.specs.Meaning.{Model}
@@ -24,19 +25,23 @@ use Rattle.lane_table.specs.VisitsMet.{IsIntOfBatch}
 use Rattle.lane_table.specs.Went.{Deal, visited, step_of}
 use Rattle.lane_table.specs.Went as went
 use Rattle.lane_table.specs.WorldRule.{known_of}
+use Rattle.lane_table.proofs.BookEnds.{continues_before}
 use Rattle.lane_table.proofs.WentLemmas.{went_idly}
 use Rattle.rng_core.specs.declared.setting.Setting.{Setting}
 use Rattle.rng_core.specs.Told.{Moment, Told, Visited}
-use Rattle.rng_core.specs.Did.{Did, Serving, Served, Fulfils, setting_of, serving}
+use Rattle.rng_core.specs.Did.{DidIn, Did, Serving, Served, Fulfils, setting_of, serving}
 use Rattle.rng_core.proofs.TellLemmas.{told_then, told_idly}
-use Rattle.rng_core.proofs.Finding.{continues_before, found_pool, found_base, found_cpu}
+use Rattle.rng_core.proofs.Finding.{found_pool, found_base, found_cpu}
 
 map_append : {A B : Type 0} (f : A → B) (xs ys : List A) → map f (xs ++ ys) ≡ map f xs ++ map f ys
 map_append f [] ys = refl
 map_append f (x ∷ xs) ys = ap (λ l. f x ∷ l) (map_append f xs ys)
 
+pub did_in_map : {P Q : (ℕ → List Visit) → List Deed → Type 0} (set : Setting) (m n : Moment) → ((visits : ℕ → List Visit) (deeds : List Deed) → P visits deeds → Q visits deeds) → DidIn P set m n → DidIn Q set m n
+did_in_map set m n f k = record { deals = k.deals; told = k.told; stands = λ lanes visits callers c. f visits _ (k.stands lanes visits callers c) }
+
 pub did_map : {P Q : List Deed → Type 0} (set : Setting) (m n : Moment) → ((deeds : List Deed) → P deeds → Q deeds) → Did P set m n → Did Q set m n
-did_map set m n f k = record { deals = k.deals; told = k.told; stands = λ lanes visits callers c. f _ (k.stands lanes visits callers c) }
+did_map set m n f k = did_in_map set m n (λ visits. f) k
 
 -- the form alone
 pub formed : {F : List Deed → Type 0} {bytes : List ℕ} (set : Setting) (m n : Moment) → Did (Serving F bytes) set m n → Did F set m n
@@ -46,7 +51,7 @@ pub served_of : (set : Setting) (m n : Moment) (lane place : ℕ) (s : Model) (e
 served_of set m n lane place s e got x = record { model = s; got = got; visited = x; serves = refl }
 
 -- behind what no step tells
-pub did_after : {P : List Deed → Type 0} (set : Setting) (l m n : Moment) → Told set l m [] → Did P set m n → Did P set l n
+pub did_after : {P : (ℕ → List Visit) → List Deed → Type 0} (set : Setting) (l m n : Moment) → Told set l m [] → DidIn P set m n → DidIn P set l n
 did_after set l m n a k = record { deals = k.deals; told = told_then set l m n [] k.deals a k.told; stands = k.stands }
 
 -- and before it
@@ -54,7 +59,7 @@ pub did_before : {P : List Deed → Type 0} (set : Setting) (l m n : Moment) →
 did_before {P} set l m n k a = record {
   deals = k.deals ++ [];
   told = told_then set l m n k.deals [] k.told a;
-  stands = λ lanes visits callers c. subst (λ (ds : List Deal). P (deeds_of (book_lists lanes visits callers) (map step_of ds))) (sym (append-nil k.deals)) (k.stands lanes visits callers (continues_before lanes _ _ _ _ _ visits [] a.went c));
+  stands = λ lanes visits callers c. subst (λ (ds : List Deal). P (deeds_of (book_lists lanes visits callers) (map step_of ds))) (sym (append-nil k.deals)) (k.stands lanes visits callers (continues_before lanes _ _ visits a.went.same.sized a.went.grows c));
 }
 
 -- behind a look
@@ -111,7 +116,7 @@ did_rooted set l m n root base s got entry bytes x y = record {
   deals = visited x.mark (Pool (Extract set.hw base)) ∷ visited y.visited.mark (Base (entry root)) ∷ [];
   told = told_then set l m n (visited x.mark (Pool (Extract set.hw base)) ∷ []) (visited y.visited.mark (Base (entry root)) ∷ []) x.told y.visited.told;
   stands = λ lanes visits callers c.
-      let f = found_pool lanes visits callers set l m root s got (continues_before lanes _ _ _ _ _ visits _ y.visited.told.went c) (Extract set.hw base) x in
+      let f = found_pool lanes visits callers set l m root s got (continues_before lanes _ _ visits y.visited.told.went.same.sized y.visited.told.went.grows c) (Extract set.hw base) x in
       let g = found_base lanes visits callers set m n base y.model y.got c (entry root) y.visited in record {
         form = record {
           pool = f.visit;
@@ -143,7 +148,7 @@ did_refilled_read set k l m n g base place s got taken bytes a x y = record {
   told = told_then set k l n (went.looked g ∷ []) (visited x.mark (Base (Refill set.cpu place)) ∷ visited y.visited.mark (Cpu (Read g (Some base) taken)) ∷ []) a
       (told_then set l m n (visited x.mark (Base (Refill set.cpu place)) ∷ []) (visited y.visited.mark (Cpu (Read g (Some base) taken)) ∷ []) x.told y.visited.told);
   stands = λ lanes visits callers c.
-      let f = found_base lanes visits callers set l m base s got (continues_before lanes _ _ _ _ _ visits _ y.visited.told.went c) (Refill set.cpu place) x in
+      let f = found_base lanes visits callers set l m base s got (continues_before lanes _ _ visits y.visited.told.went.same.sized y.visited.told.went.grows c) (Refill set.cpu place) x in
       let h = found_cpu lanes visits callers set m n place y.model y.got c set.cpu (Read g (Some base) taken) y.visited tt in record {
         form = record {
           look = g;
@@ -178,7 +183,7 @@ did_credit set l m n place s e got crossed x is k = record {
   deals = visited x.mark (Pool e) ∷ k.deals;
   told = told_then set l m n (visited x.mark (Pool e) ∷ []) k.deals x.told k.told;
   stands = λ lanes visits callers c.
-      let f = found_pool lanes visits callers set l m place s got (continues_before lanes _ _ _ _ _ visits _ k.told.went c) e x in
+      let f = found_pool lanes visits callers set l m place s got (continues_before lanes _ _ visits k.told.went.same.sized k.told.went.grows c) e x in
       let rest = deeds_of (book_lists lanes visits callers) (map step_of k.deals) in record {
         pool = f.visit;
         rest = rest;
@@ -208,18 +213,21 @@ pub record After (P Q : List Deed → Type 0) (deeds : List Deed) : Type 0 where
   pub before : P first
   pub behind : Q rest
 
-pub did_then : {P Q : List Deed → Type 0} (set : Setting) (l m n : Moment) → Did P set l m → Did Q set m n → Did (After P Q) set l n
-did_then set l m n a b = record {
+pub did_in_then : {P Q : (ℕ → List Visit) → List Deed → Type 0} (set : Setting) (l m n : Moment) → DidIn P set l m → DidIn Q set m n → DidIn (λ visits. After (P visits) (Q visits)) set l n
+did_in_then set l m n a b = record {
   deals = a.deals ++ b.deals;
   told = told_then set l m n a.deals b.deals a.told b.told;
   stands = λ lanes visits callers c. let book = book_lists lanes visits callers in record {
     first = deeds_of book (map step_of a.deals);
     rest = deeds_of book (map step_of b.deals);
     deeds_are = ap (deeds_of book) (map_append step_of a.deals b.deals) ∙ map_append (deed_of book) (map step_of a.deals) (map step_of b.deals);
-    before = a.stands lanes visits callers (continues_before lanes _ _ _ _ _ visits b.deals b.told.went c);
+    before = a.stands lanes visits callers (continues_before lanes _ _ visits b.told.went.same.sized b.told.went.grows c);
     behind = b.stands lanes visits callers c;
   };
 }
+
+pub did_then : {P Q : List Deed → Type 0} (set : Setting) (l m n : Moment) → Did P set l m → Did Q set m n → Did (After P Q) set l n
+did_then set l m n a b = did_in_then set l m n a b
 
 -- behind a look that found g
 pub record Behind (g : ℕ) (P : List Deed → Type 0) (deeds : List Deed) : Type 0 where

@@ -1,5 +1,5 @@
 -- The deeds that stand behind the marks of a pass, in lists that go on from what it knows.
-use Rattle.std.proofs.Common.{◌≡◌, ℕ, ◌+◌, List, ◌++◌, take, Some, sym, refl, ap, ◌∙◌, subst, arith, append_assoc}
+use Rattle.std.proofs.Common.{◌≡◌, ℕ, ◌+◌, List, ◌++◌, take, Some, refl, ap, ◌∙◌, subst, arith}
 use Rattle.std.specs.Prelude.{slice_get}
 use Rattle.std.proofs.lemmas.List.{take-append-le}
 use Rattle.atomic_table.proofs.Lists.{at_longer}
@@ -23,22 +23,14 @@ use Rattle.lane_table.specs.Meaning.{Model, replay}
 use Rattle.lane_table.specs.LaneNumbers.{index_of}
 use Rattle.lane_table.specs.WorldRule.{known_of}
 use Rattle.lane_table.specs.BookLists.{book_lists}
+use Rattle.lane_table.specs.BookLaws.{Continues}
 use Rattle.lane_table.specs.VisitsMet.{IsIntOfBatch, base_serving, cpu_serving}
-use Rattle.lane_table.specs.Went.{Deal, Went}
 use Rattle.lane_table.proofs.Lists.{at_below}
 use Rattle.lane_table.proofs.Places.{stands_at}
 use Rattle.lane_table.proofs.BookDeeds.{pool_deed, base_deed, cpu_deed}
 use Rattle.rng_core.specs.declared.setting.Setting.{Setting}
 use Rattle.rng_core.specs.Told.{Moment, Met, Visited}
-use Rattle.rng_core.specs.Did.{Continues}
-
--- what goes on from a later view goes on from the earlier one
-pub continues_before : (lanes caller event n : ℕ) (v w : View) (visits : ℕ → List Visit) (deals : List Deal) → Went caller event n v w deals → Continues lanes w visits → Continues lanes v visits
-continues_before lanes caller event n v w visits deals went k = record {
-  long = sym went.same.sized ∙ k.long;
-  begins = λ lane low. let a = went.grows lane (let e = went.same.sized in let f = k.long in omega arith) in let b = k.begins lane low in (a.0 ++ b.0, b.1 ∙ ap (λ (l : List Visit). l ++ b.0) a.1 ∙ append_assoc (known_of v lane) a.0 b.0);
-  closed = k.closed;
-}
+use Rattle.rng_core.specs.SampleDeeds.{fast_in}
 
 lane_pool : (l : LaneId) → index_of l ≡ 0 → l ≡ PoolLane
 lane_pool PoolLane e = refl
@@ -88,10 +80,11 @@ pub record FoundBase (deed : Deed) (place : ℕ) (s : Model) (e : BaseEntry) (go
   pub is : visit.entry ≡ e
   pub serves : visit.serves ≡ base_serving s.base got e
 
-pub record FoundCpu (deed : Deed) (c place : ℕ) (s : Model) (e : CpuEntry) (got : Handed) : Type 0 where
+pub record FoundCpu (visits : ℕ → List Visit) (deed : Deed) (c place : ℕ) (s : Model) (e : CpuEntry) (got : Handed) : Type 0 where
   pub visit : CpuVisit
   pub deed_is : deed ≡ at_cpu visit
   pub on : visit.cpu ≡ c
+  pub fast : fast_in visits visit.cpu visit.place ≡ s.cpu.fast
   pub at : visit.place ≡ place
   pub is : visit.entry ≡ e
   pub serves : visit.serves ≡ cpu_serving s.cpu got e
@@ -119,12 +112,13 @@ module _ (lanes : ℕ) (visits : ℕ → List Visit) (callers : List (List (List
     serves = d.serves ∙ (λ i. base_serving (h.before i).base (h.was_handed i) e);
   }
 
-  pub found_cpu : (c : ℕ) (e : CpuEntry) (x : Visited set m n (c + 2) place s (Cpu e) got) → IsIntOfBatch e → FoundCpu (deed_of book (Marked x.mark)) c place s e got
+  pub found_cpu : (c : ℕ) (e : CpuEntry) (x : Visited set m n (c + 2) place s (Cpu e) got) → IsIntOfBatch e → FoundCpu visits (deed_of book (Marked x.mark)) c place s e got
   found_cpu c e x fits = let h = in_list lanes n.view visits x.mark (c + 2) s (Cpu e) got x.lane_is x.met k in
       let d = cpu_deed lanes visits callers k.closed c x.mark.place h.visit e (let a = x.met.near in let b = x.lane_is in let f = k.long in omega arith) h.there h.is fits in record {
         visit = cpu_visit book c x.mark.place e;
         deed_is = ap (λ (l : LaneId). deed_at book l x.mark.place) (lane_cpu x.mark.lane c x.lane_is) ∙ d.deed;
         on = refl;
+        fast = ap (λ (z : Model). z.cpu.fast) h.before;
         at = x.place_is;
         is = refl;
         serves = d.serves ∙ (λ i. cpu_serving (h.before i).cpu (h.was_handed i) e);

@@ -1,6 +1,10 @@
 pub mod Doing
 pub mod Finding
 pub mod Fulfilling
+pub mod Inputs
+pub mod IntFulfilling
 pub mod Parents
+pub mod Starting
 pub mod TellLemmas
 pub mod SysFulfilling
+pub mod Sampling

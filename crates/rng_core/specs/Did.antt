@@ -1,5 +1,5 @@
 -- What a call did, in the words of the book: for all lists of visits in the end, of which the pass knows beginnings.
-use Rattle.std.specs.Prelude.{◌≡◌, ℕ, ◌<◌, List, [], length, map, Bool, true, false, Result, Ok, Err}
+use Rattle.std.specs.Prelude.{◌≡◌, ℕ, List, [], map, Bool, true, false, Result, Ok, Err}
 use Rattle.key_names.specs.declared.entries.VEntry.{VEntry}
 use Rattle.key_names.specs.Calls.{Setting as Told}
 use Rattle.key_names.specs.Deeds.{Deed, deeds_of}
@@ -12,14 +12,12 @@ use Rattle.key_names.specs.SeenLine.{Shown}
 use Rattle.key_names.specs.Forms.{Form}
 use Rattle.key_names.specs.Answers.{served_bytes, answer_of, shown_of}
 use Rattle.lane_table.specs.declared.view.Visit.{Visit}
-use Rattle.lane_table.specs.declared.view.View.{View}
 use Rattle.lane_table.specs.declared.view.Handed.{Handed}
 use Rattle.lane_table.specs.declared.view.LaneEntry.{LaneEntry}
 use Rattle.lane_table.specs.declared.view.LaneEntry.TheVariants.{Pool, Base, Cpu}
 use Rattle.lane_table.specs.Meaning.{Model}
-use Rattle.lane_table.specs.WorldRule.{Begins, known_of}
 use Rattle.lane_table.specs.BookLists.{book_lists}
-use Rattle.lane_table.specs.BookLaws.{ClosedLanes}
+use Rattle.lane_table.specs.BookLaws.{Continues}
 use Rattle.lane_table.specs.VisitsMet.{base_serving, cpu_serving}
 use Rattle.lane_table.specs.Went.{Deal, step_of}
 use Rattle.rng_core.specs.Told.{Moment, Visited}
@@ -30,18 +28,16 @@ use Rattle.rng_core.specs.declared.setting.Setting.{Setting}
 abbrev pub setting_of : Setting → Told
 setting_of set = record { cpu = set.cpu; now = set.now; hw = set.hw }
 
--- these visits of the lanes go on from what the view knows
-pub record Continues (lanes : ℕ) (v : View) (visits : ℕ → List Visit) : Type 0 where
-  pub long : length v.lanes ≡ lanes
-  pub begins : (lane : ℕ) → lane < lanes → Begins (known_of v lane) (visits lane)
-  pub closed : ClosedLanes lanes visits
-
--- from m to n the pass did what the trace tells, and the deeds behind its steps are these
-pub record Did (P : List Deed → Type 0) (set : Setting) (m n : Moment) : Type 0 where
+-- from m to n the pass did what the trace tells, and of the lists and the deeds behind its steps this holds
+pub record DidIn (P : (ℕ → List Visit) → List Deed → Type 0) (set : Setting) (m n : Moment) : Type 0 where
   pub deals : List Deal
   pub told : told.Told set m n deals
   pub stands : (lanes : ℕ) (visits : ℕ → List Visit) (callers : List (List (List VEntry))) →
-      Continues lanes n.view visits → P (deeds_of (book_lists lanes visits callers) (map step_of deals))
+      Continues lanes n.view visits → P visits (deeds_of (book_lists lanes visits callers) (map step_of deals))
+
+-- the same, of the deeds alone
+abbrev pub Did : (List Deed → Type 0) → Setting → Moment → Moment → Type 0
+Did P set m n = DidIn (λ visits. P) set m n
 
 -- deeds of a form, of which the last serves these bytes
 pub record Serving (F : List Deed → Type 0) (bytes : List ℕ) (deeds : List Deed) : Type 0 where

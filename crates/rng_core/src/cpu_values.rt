@@ -1,13 +1,17 @@
 //! What a call makes of a CPU's value, as the entry that it puts.
-ghost use Rattle.std.specs.Prelude.{◌≡◌, ◌≢◌, ℕ, ◌<◌, ◌≤◌, ◌+◌, ◌^◌, None, Some, length};
-ghost use Rattle.key_names.specs.declared.entries.CpuEntry.TheVariants.{Read, Irq, Dump as DumpEntry, Prepare, Online};
+ghost use Rattle.std.specs.Prelude.{◌≡◌, ◌≢◌, ℕ, ◌<◌, ◌≤◌, ◌+◌, ◌^◌, Bool, true, None, Some, length};
+ghost use Rattle.key_names.specs.declared.entries.CpuEntry.TheVariants.{Read, Int, Irq, Dump as DumpEntry, Prepare, Online};
+ghost use Rattle.key_names.specs.Batches.{must_fill};
 ghost use Rattle.key_names.specs.KeyInUse.{taken_bytes};
 ghost use Rattle.key_names.specs.FastPool.{makes_due, dump_bits, dump_bytes};
 ghost use Rattle.lane_table.specs.declared.view.LaneEntry.TheVariants.{Cpu as OfCpu};
 ghost use Rattle.lane_table.specs.declared.view.Handed.{Handed};
 ghost use Rattle.lane_table.specs.Meaning.{Model, ValueStands, made_of};
+ghost use Rattle.lane_table.specs.VisitsMet.{cpu_serving};
 ghost use Rattle.rng_core.specs.Reading.{taken_count, IsCpuValue};
+ghost use Rattle.rng_core.specs.Integers.{IsWidth};
 
+use crate::batches;
 use key_names::Taken;
 use lane_table::LaneState;
 use sample_credit::Dump;
@@ -61,6 +65,53 @@ pub(crate) fn read_refilled(
                 Taken::User(_) => lane.cpu.user_read(buf),
                 Taken::Kernel(_) => lane.cpu.kernel_read(buf),
             }
+        }
+        _ => unreachable!(),
+    }
+}
+
+/// Whether the batch of this width has to be filled before it serves an integer at generation `look`.
+pub(crate) fn wants(state: &LaneState, width: usize, look: u64) -> bool
+    requires stands { IsCpuValue state.now }
+    requires width { IsWidth width }
+    ensures { (lane : ℕ) (s : Model) → 2 ≤ lane → ValueStands lane state.now s → result ≡ must_fill look width (s.cpu.fills width) }
+{
+    match state {
+        LaneState::Cpu(lane) => batches::wants(lane, width, look),
+        _ => unreachable!(),
+    }
+}
+
+/// An integer out of the batch of its width, which the CPU's key fills first where that has to be.
+pub(crate) fn serve(state: &mut LaneState, look: u64, out: &mut [u8])
+    requires stands { IsCpuValue state.old }
+    requires width { IsWidth (length out.old) }
+    ensures made { (lane : ℕ) (s : Model) (got : Handed) (filled : Bool) → 2 ≤ lane → filled ≡ must_fill look (length out.old) (s.cpu.fills (length out.old)) → ValueStands lane state.old s → ValueStands lane state.new (made_of s (OfCpu (Int look None (length out.old) filled)) got) }
+    ensures bytes { (lane : ℕ) (s : Model) (got : Handed) (filled : Bool) → 2 ≤ lane → filled ≡ must_fill look (length out.old) (s.cpu.fills (length out.old)) → ValueStands lane state.old s → out.new ≡ cpu_serving s.cpu got (Int look None (length out.old) filled) }
+{
+    match state {
+        LaneState::Cpu(lane) => batches::serve(lane, look, out),
+        _ => unreachable!(),
+    }
+}
+
+/// An integer out of the batch of its width, which the key that the base hands over fills first.
+pub(crate) fn serve_refilled(
+    state: &mut LaneState,
+    key: [u8; 32],
+    generation: u64,
+    look: u64,
+    out: &mut [u8],
+)
+    requires stands { IsCpuValue state.old }
+    requires width { IsWidth (length out.old) }
+    ensures made { (lane : ℕ) (s : Model) (got : Handed) (place : ℕ) → 2 ≤ lane → got.key ≡ key → got.generation ≡ generation → must_fill look (length out.old) (s.cpu.fills (length out.old)) ≡ true → ValueStands lane state.old s → ValueStands lane state.new (made_of s (OfCpu (Int look (Some place) (length out.old) true)) got) }
+    ensures bytes { (lane : ℕ) (s : Model) (got : Handed) (place : ℕ) → 2 ≤ lane → got.key ≡ key → got.generation ≡ generation → must_fill look (length out.old) (s.cpu.fills (length out.old)) ≡ true → ValueStands lane state.old s → out.new ≡ cpu_serving s.cpu got (Int look (Some place) (length out.old) true) }
+{
+    match state {
+        LaneState::Cpu(lane) => {
+            lane.cpu.refill(key, generation);
+            batches::serve(lane, look, out);
         }
         _ => unreachable!(),
     }

@@ -1,10 +1,11 @@
 //! CPUs that come online.
 ghost use Rattle.std.specs.Prelude.{◌≡◌, ◌<◌, [], length};
-ghost use Rattle.key_names.specs.declared.entries.CpuEntry.TheVariants.{Prepare, Online};
-ghost use Rattle.key_names.specs.Forms.{CpuOnly};
+ghost use Rattle.key_names.specs.declared.events.Event.TheVariants.{Prepare as PrepareEvent, Online as OnlineEvent};
+ghost use Rattle.key_names.specs.declared.events.Answer.TheVariants.{Ok as Done};
+ghost use Rattle.key_names.specs.SeenLine.{no_data};
 ghost use Rattle.lane_table.specs.Hands.{Has};
 ghost use Rattle.rng_core.specs.Told.{moment};
-ghost use Rattle.rng_core.specs.Did.{Did};
+ghost use Rattle.rng_core.specs.Did.{Did, Fulfils, setting_of};
 
 use crate::cpu_values;
 use crate::desk::{enter, leave};
@@ -26,7 +27,7 @@ pub fn prepare<R: Wait>(
     requires cpu { cpu < lanes.now.cpus }
     requires room { length trace.old < 20 }
     ensures has { Has lanes.now set.entry.now.caller [] pass.new }
-    ensures did { Did (CpuOnly cpu Prepare) set.entry.now (moment pass.old trace.old) (moment pass.new trace.new) }
+    ensures did { Did (Fulfils (setting_of set.entry.now) (PrepareEvent cpu) Done no_data) set.entry.now (moment pass.old trace.old) (moment pass.new trace.new) }
 {
     let mut held = enter(rt, lanes, pass, trace, set, LaneId::Cpu(cpu));
     cpu_values::prepare(held.state_mut());
@@ -54,7 +55,7 @@ pub fn online<R: Wait>(
     requires cpu { cpu < lanes.now.cpus }
     requires room { length trace.old < 20 }
     ensures has { Has lanes.now set.entry.now.caller [] pass.new }
-    ensures did { Did (CpuOnly cpu Online) set.entry.now (moment pass.old trace.old) (moment pass.new trace.new) }
+    ensures did { Did (Fulfils (setting_of set.entry.now) (OnlineEvent cpu) Done no_data) set.entry.now (moment pass.old trace.old) (moment pass.new trace.new) }
 {
     let mut held = enter(rt, lanes, pass, trace, set, LaneId::Cpu(cpu));
     cpu_values::online(held.state_mut());

@@ -189,6 +189,7 @@ pub(crate) fn leave<E: Entry>(
     requires early { pass.old.stamp ≤ 2 ^ 62 }
     ensures has { Has lanes.now set.entry.now.caller [] pass.new }
     ensures place { result ≡ held.turn.place }
+    ensures seen { (view pass.new).seen ≡ (view pass.old).seen }
     ensures room { length trace.new ≡ length trace.old + 1 }
     ensures visited { Visited set.entry.now (moment pass.old trace.old) (moment pass.new trace.new) (index_of lane) held.turn.place (model pass.old (index_of lane)) (E.entry entry) (handed (index_of lane) (E.entry entry) (view pass.old)) }
 {

@@ -1,9 +1,14 @@
 //! Interrupts: samples of a CPU's fast pool, and its dumps into the input pool.
-ghost use Rattle.std.specs.Prelude.{◌≡◌, ◌<◌, ◌^◌, [], length};
-ghost use Rattle.key_names.specs.Forms.{DumpForm, IrqForm};
+ghost use Rattle.std.specs.Prelude.{◌≡◌, ◌<◌, ◌+◌, ◌^◌, [], length};
+ghost use Rattle.key_names.specs.declared.events.Event.TheVariants.{Irq as IrqEvent};
+ghost use Rattle.key_names.specs.declared.events.Answer.TheVariants.{Ok as Done};
+ghost use Rattle.key_names.specs.SeenLine.{no_data};
+ghost use Rattle.lane_table.specs.WorldRule.{known_of};
+ghost use Rattle.lane_table.specs.Calls.{view};
 ghost use Rattle.lane_table.specs.Hands.{Has};
 ghost use Rattle.rng_core.specs.Told.{moment};
-ghost use Rattle.rng_core.specs.Did.{Did, setting_of};
+ghost use Rattle.rng_core.specs.Did.{DidIn, Fulfils, setting_of};
+ghost use Rattle.rng_core.specs.SampleDeeds.{DumpStands, Sampled};
 
 use crate::cpu_values;
 use crate::desk::{enter, leave};
@@ -20,7 +25,7 @@ fn dump<R: Wait>(rt: &R, lanes: &Lanes, pass: &mut Pass, trace: &mut Trace, set:
     requires moment { set.now.now < 2 ^ 40 }
     requires room { length trace.old < 17 }
     ensures has { Has lanes.now set.entry.now.caller [] pass.new }
-    ensures did { Did (DumpForm (setting_of set.entry.now)) set.entry.now (moment pass.old trace.old) (moment pass.new trace.new) }
+    ensures did { DidIn (DumpStands (setting_of set.entry.now) (length (known_of (view pass.old) (set.entry.now.cpu + 2)))) set.entry.now (moment pass.old trace.old) (moment pass.new trace.new) }
 {
     let mut cpu = enter(rt, lanes, pass, trace, set, LaneId::Cpu(set.cpu));
     let dump = cpu_values::dump(cpu.state_mut(), set.now);
@@ -36,7 +41,7 @@ fn dump<R: Wait>(rt: &R, lanes: &Lanes, pass: &mut Pass, trace: &mut Trace, set:
     add(rt, lanes, pass, trace, set, &dump.bytes, dump.bits);
 }
 
-/// An interrupt (`add_interrupt_randomness`).
+/// An interrupt (`add_interrupt_randomness`): its sample and, exactly where this makes a dump due, the dump.
 pub fn irq<R: Wait>(
     rt: &R,
     lanes: &Lanes,
@@ -51,7 +56,7 @@ pub fn irq<R: Wait>(
     requires moment { set.now.now < 2 ^ 40 }
     requires room { length trace.old < 16 }
     ensures has { Has lanes.now set.entry.now.caller [] pass.new }
-    ensures did { Did (IrqForm (setting_of set.entry.now) v1 v2) set.entry.now (moment pass.old trace.old) (moment pass.new trace.new) }
+    ensures did { DidIn (Sampled (Fulfils (setting_of set.entry.now) (IrqEvent v1 v2) Done no_data)) set.entry.now (moment pass.old trace.old) (moment pass.new trace.new) }
 {
     let mut cpu = enter(rt, lanes, pass, trace, set, LaneId::Cpu(set.cpu));
     let due = cpu_values::sample(cpu.state_mut(), v1, v2, set.now);

@@ -10,15 +10,19 @@ ghost use Rattle.key_names.specs.BaseList.{IsDue, empty, one_more, one_less};
 ghost use Rattle.base_gen.specs.BaseValue.{phase_of};
 ghost use Rattle.lane_table.specs.declared.view.Handed.{Handed};
 ghost use Rattle.rng_core.specs.Reading.{taken_count};
-ghost use Rattle.key_names.specs.PoolList.{crossing, pool_step, root_of_extraction};
+ghost use Rattle.key_names.specs.PoolList.{PoolState, crossing, pool_step, root_of_extraction};
 ghost use Rattle.input_pool.specs.PoolStands.{crossing_of};
 ghost use Rattle.lane_table.specs.declared.view.LaneEntry.TheVariants.{Pool as OfPool, Base as OfBase, Cpu as OfCpu};
-ghost use Rattle.lane_table.specs.Meaning.{Model, ValueStands, made_of, nothing};
+ghost use Rattle.lane_table.specs.Meaning.{Model, PoolLaneStands, ValueStands, made_of, nothing};
 
 use base_gen::Phase;
 use input_pool::Crossing;
 use key_names::Taken;
-use lane_table::LaneState;
+use lane_table::{LaneState, PoolLane};
+use sample_credit::input_sample;
+
+// The bits with which the pool is full (`POOL_READY_BITS`).
+const READY_BITS: u32 = 256;
 
 /// Mixes bytes into the pool.
 pub(crate) fn mix(state: &mut LaneState, text: &[u8])
@@ -227,6 +231,43 @@ pub(crate) fn mix_device(state: &mut LaneState, word: u64, text: &[u8])
             lane.pool.mix(&word.to_le_bytes());
             lane.pool.mix(text);
         }
+        _ => unreachable!(),
+    }
+}
+
+// An input event in the pool and its timer.
+fn mix_sample(lane: &mut PoolLane, word: u64, kind: u16, code: u16, value: u8, now: u64) -> Crossing
+    requires { now < 2 ^ 40 }
+    ensures made { (s : PoolState) → PoolLaneStands lane.old s → PoolLaneStands lane.new (pool_step s (InputEntry word kind code value now)) }
+    ensures crossed { (s : PoolState) → PoolLaneStands lane.old s → crossing_of result ≡ crossing s.bits (pool_step s (InputEntry word kind code value now)).bits }
+{
+    if !lane.timer.fresh(value) {
+        return Crossing::None;
+    }
+    lane.pool.mix(&input_sample(word, kind, code, value));
+    if lane.pool.bits() >= READY_BITS {
+        return Crossing::None;
+    }
+    let bits = lane.timer.bits(now);
+    lane.pool.credit(bits)
+}
+
+/// Mixes an input event, and credits what its moment is worth.
+pub(crate) fn mix_input(
+    state: &mut LaneState,
+    word: u64,
+    kind: u16,
+    code: u16,
+    value: u8,
+    now: u64,
+) -> Crossing
+    requires stands { (s : Model) × ValueStands 0 state.old s }
+    requires moment { now < 2 ^ 40 }
+    ensures made { (s : Model) → ValueStands 0 state.old s → ValueStands 0 state.new (made_of s (OfPool (InputEntry word kind code value now)) nothing) }
+    ensures crossed { (s : Model) → ValueStands 0 state.old s → crossing_of result ≡ crossing s.pool.bits (pool_step s.pool (InputEntry word kind code value now)).bits }
+{
+    match state {
+        LaneState::Pool(lane) => mix_sample(lane, word, kind, code, value, now),
         _ => unreachable!(),
     }
 }

@@ -1,9 +1,12 @@
 //! The calls of the core: reads, samples, reseeds and what else a caller asks of the lanes.
 #![tactic(auto)]
 
+mod batches;
 mod cpu_values;
 mod cpus;
 mod desk;
+mod forks;
+mod integers;
 mod interrupts;
 mod lane_values;
 mod pairs;
@@ -15,10 +18,15 @@ mod setting;
 mod system_call;
 
 pub use cpus::{online, prepare};
+pub use forks::fork;
+pub use integers::int;
 pub use interrupts::irq;
 pub use reads::{kernel_read, urandom_file};
 pub use reseeds::{reseed, tick};
 pub use running::{end, stall, unstall};
-pub use samples::{add, bits, device, mix, vmfork};
+pub use samples::{add, bits, device, input, mix, vmfork};
 pub use setting::Setting;
-pub use system_call::getrandom;
+pub use system_call::{getrandom, random_file};
+
+#[cfg(test)]
+mod tests;

@@ -1,8 +1,10 @@
 //! How many callers run: entries of the base that raise and lower the count.
-ghost use Rattle.std.specs.Prelude.{◌≡◌, ◌<◌, [], length};
+ghost use Rattle.std.specs.Prelude.{◌≡◌, ◌<◌, ◌≤◌, [], length};
 ghost use Rattle.key_names.specs.declared.entries.BaseEntry.TheVariants.{Stall, Unstall, End};
 ghost use Rattle.key_names.specs.Forms.{BaseOnly};
-ghost use Rattle.lane_table.specs.Hands.{Has};
+ghost use Rattle.lane_table.specs.Calls.{view};
+ghost use Rattle.lane_table.specs.Hands.{Has, model};
+ghost use Rattle.lane_table.specs.Went.{floor};
 ghost use Rattle.rng_core.specs.Told.{moment};
 ghost use Rattle.rng_core.specs.Did.{Did};
 
@@ -53,11 +55,12 @@ pub fn unstall<R: Wait>(rt: &R, lanes: &Lanes, pass: &mut Pass, trace: &mut Trac
     );
 }
 
-/// The caller ends.
+/// The caller ends. All that its pass has seen of the generation is then in the base's list.
 pub fn end<R: Wait>(rt: &R, lanes: &Lanes, pass: &mut Pass, trace: &mut Trace, set: &Setting)
     requires has { Has lanes.now set.now.caller [] pass.old }
     requires room { length trace.old < 20 }
     ensures has { Has lanes.now set.entry.now.caller [] pass.new }
+    ensures reached { floor (view pass.new) ≤ (model pass.new 1).base.generation }
     ensures did { Did (BaseOnly End) set.entry.now (moment pass.old trace.old) (moment pass.new trace.new) }
 {
     let mut base = enter(rt, lanes, pass, trace, set, LaneId::Base);

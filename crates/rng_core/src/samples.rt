@@ -1,11 +1,9 @@
 //! Samples that are mixed into the pool, and what they are credited.
 ghost use Rattle.std.specs.Prelude.{◌≡◌, ◌<◌, ◌≤◌, ◌+◌, ◌^◌, ◌∷◌, ◌++◌, [], ℕ, None, Some, length};
 ghost use Rattle.std.specs.Int.{w64, to_le_bytes};
-ghost use Rattle.key_names.specs.declared.entries.PoolEntry.TheVariants.{Mix};
-ghost use Rattle.key_names.specs.declared.events.Event.TheVariants.{Bits as BitsEvent};
+ghost use Rattle.key_names.specs.declared.events.Event.TheVariants.{Write as WriteEvent, Device as DeviceEvent, Add as AddEvent, Bits as BitsEvent, Input as InputEvent, Vmfork as VmforkEvent};
 ghost use Rattle.key_names.specs.declared.events.Answer.TheVariants.{Ok as Done};
-ghost use Rattle.key_names.specs.Forms.{PoolOnly, CreditForm, VmforkForm, device_entry};
-ghost use Rattle.key_names.specs.SeenLine.{count};
+ghost use Rattle.key_names.specs.SeenLine.{count, no_data};
 ghost use Rattle.lane_table.specs.Hands.{Has};
 ghost use Rattle.rng_core.specs.Told.{moment};
 ghost use Rattle.rng_core.specs.Did.{Did, Fulfils, setting_of};
@@ -30,7 +28,7 @@ pub fn mix<R: Wait>(
     requires has { Has lanes.now set.now.caller [] pass.old }
     requires room { length trace.old < 20 }
     ensures has { Has lanes.now set.entry.now.caller [] pass.new }
-    ensures did { Did (PoolOnly (Mix text.now 0)) set.entry.now (moment pass.old trace.old) (moment pass.new trace.new) }
+    ensures did { Did (Fulfils (setting_of set.entry.now) (WriteEvent text.now) Done no_data) set.entry.now (moment pass.old trace.old) (moment pass.new trace.new) }
 {
     let mut pool = enter(rt, lanes, pass, trace, set, LaneId::Pool);
     lane_values::mix(pool.state_mut(), text);
@@ -52,7 +50,7 @@ pub fn device<R: Wait>(
     requires room { length trace.old < 20 }
     ensures has { Has lanes.now set.entry.now.caller [] pass.new }
     ensures room { length trace.new ≡ length trace.old + 1 }
-    ensures did { Did (PoolOnly (device_entry word text.now)) set.entry.now (moment pass.old trace.old) (moment pass.new trace.new) }
+    ensures did { Did (Fulfils (setting_of set.entry.now) (DeviceEvent word text.now) Done no_data) set.entry.now (moment pass.old trace.old) (moment pass.new trace.new) }
 {
     let mut pool = enter(rt, lanes, pass, trace, set, LaneId::Pool);
     lane_values::mix_device(pool.state_mut(), word, text);
@@ -74,11 +72,43 @@ pub fn add<R: Wait>(
     requires moment { set.now.now < 2 ^ 40 }
     requires room { length trace.old < 18 }
     ensures has { Has lanes.now set.entry.now.caller [] pass.new }
-    ensures did { Did (CreditForm (setting_of set.entry.now) (Mix text.now bits)) set.entry.now (moment pass.old trace.old) (moment pass.new trace.new) }
+    ensures did { Did (Fulfils (setting_of set.entry.now) (AddEvent text.now bits) Done no_data) set.entry.now (moment pass.old trace.old) (moment pass.new trace.new) }
 {
     let mut pool = enter(rt, lanes, pass, trace, set, LaneId::Pool);
     let crossing = lane_values::mix_and_credit(pool.state_mut(), text, bits);
     let note = PoolNote::Mix { text, bits };
+    leave(lanes, pass, trace, set, pool, LaneId::Pool, note);
+    cross(rt, lanes, pass, trace, set, crossing);
+}
+
+/// An event of an input device (`add_input_randomness`). A value that is the same as that of the last event changes
+/// nothing; any other is mixed in with the event's number, and credited by the timer while the pool is not full.
+pub fn input<R: Wait>(
+    rt: &R,
+    lanes: &Lanes,
+    pass: &mut Pass,
+    trace: &mut Trace,
+    set: &Setting,
+    word: u64,
+    kind: u16,
+    code: u16,
+    value: u8,
+)
+    requires has { Has lanes.now set.now.caller [] pass.old }
+    requires moment { set.now.now < 2 ^ 40 }
+    requires room { length trace.old < 18 }
+    ensures has { Has lanes.now set.entry.now.caller [] pass.new }
+    ensures did { Did (Fulfils (setting_of set.entry.now) (InputEvent word kind code value) Done no_data) set.entry.now (moment pass.old trace.old) (moment pass.new trace.new) }
+{
+    let mut pool = enter(rt, lanes, pass, trace, set, LaneId::Pool);
+    let crossing = lane_values::mix_input(pool.state_mut(), word, kind, code, value, set.now);
+    let note = PoolNote::Input {
+        word,
+        kind,
+        code,
+        value,
+        now: set.now,
+    };
     leave(lanes, pass, trace, set, pool, LaneId::Pool, note);
     cross(rt, lanes, pass, trace, set, crossing);
 }
@@ -116,7 +146,7 @@ pub fn vmfork<R: Wait>(
     requires moment { set.now.now < 2 ^ 40 }
     requires room { length trace.old < 16 }
     ensures has { Has lanes.now set.entry.now.caller [] pass.new }
-    ensures did { Did (VmforkForm (setting_of set.entry.now) word text.now) set.entry.now (moment pass.old trace.old) (moment pass.new trace.new) }
+    ensures did { Did (Fulfils (setting_of set.entry.now) (VmforkEvent word text.now) Done no_data) set.entry.now (moment pass.old trace.old) (moment pass.new trace.new) }
 {
     device(rt, lanes, pass, trace, set, word, text);
     let _ = reseed(rt, lanes, pass, trace, set);

@@ -1,5 +1,5 @@
 //! The system call getrandom(2).
-ghost use Rattle.std.specs.Prelude.{◌≡◌, ◌≢◌, ◌<◌, ◌≤◌, ◌+◌, ◌^◌, ◌∷◌, [], ℕ, ◌==◌, ◌&&◌, not, None, length};
+ghost use Rattle.std.specs.Prelude.{◌≡◌, ◌≢◌, ◌<◌, ◌≤◌, ◌+◌, ◌^◌, ◌∷◌, [], ℕ, ◌==◌, ◌&&◌, not, if◌then◌else◌, None, length};
 ghost use Rattle.key_names.specs.declared.entries.BaseEntry.TheVariants.{Wait as WaitEntry, Resume, Interrupt};
 ghost use Rattle.key_names.specs.Forms.{BaseOnly};
 ghost use Rattle.lane_table.specs.Meaning.{ValueStands};
@@ -7,7 +7,7 @@ ghost use Rattle.lane_table.specs.Calls.{view};
 ghost use Rattle.lane_table.specs.Hands.{Has, hand, model};
 ghost use Rattle.lane_table.specs.Went.{floor};
 ghost use Rattle.rng_core.specs.Told.{moment};
-ghost use Rattle.key_names.specs.declared.events.Event.TheVariants.{Read};
+ghost use Rattle.key_names.specs.declared.events.Event.TheVariants.{Read, Dread};
 ghost use Rattle.key_names.specs.Flags.{is_nonblock, is_insecure};
 ghost use Rattle.key_names.specs.SeenLine.{bytes_or_none};
 ghost use Rattle.rng_core.specs.Did.{Did, Serving, Fulfils, setting_of, result_answer, given};
@@ -176,4 +176,36 @@ pub fn getrandom<R: Wait>(
     let taken = Taken::User(buf.len() as u32);
     read_behind(rt, lanes, pass, trace, set, found, buf, taken);
     Ok(())
+}
+
+fn file_flags(nonblock: bool) -> u32
+    ensures { result ≡ (if nonblock then 1 else 0) }
+{
+    if nonblock { GRND_NONBLOCK } else { 0 }
+}
+
+/// A read of /dev/random (`random_read_iter`), which waits for the core to be ready unless `nonblock` is set.
+///
+/// # Errors
+///
+/// Where the core is not ready: `Again` with `nonblock`, and `Interrupted` where nobody runs who could make it ready. The
+/// buffer is unspecified then.
+pub fn random_file<R: Wait>(
+    rt: &R,
+    lanes: &Lanes,
+    pass: &mut Pass,
+    trace: &mut Trace,
+    set: &Setting,
+    buf: &mut [u8],
+    nonblock: bool,
+) -> Result<(), Errno>
+    requires has { Has lanes.now set.now.caller [] pass.old }
+    requires cpu { set.now.cpu < lanes.now.cpus }
+    requires short { length buf.old ≤ 2 ^ 20 }
+    requires room { length trace.old < 15 }
+    ensures has { Has lanes.now set.entry.now.caller [] pass.new }
+    ensures did { Did (Fulfils (setting_of set.entry.now) (Dread (length buf.old) (if nonblock then 1 else 0)) (result_answer result) (bytes_or_none (given result buf.new))) set.entry.now (moment pass.old trace.old) (moment pass.new trace.new) }
+{
+    let flags = file_flags(nonblock);
+    getrandom(rt, lanes, pass, trace, set, buf, flags)
 }

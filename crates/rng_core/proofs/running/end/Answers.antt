@@ -1,3 +1,5 @@
+use Rattle.std.proofs.Common.{refl, arith}
+use Rattle.lane_table.proofs.Floors.{generation_begun}
 use Rattle.lane_table.proofs.Lent.{lent}
 use Rattle.rng_core.proofs.Doing.{formed, did_after, did_base, served_of}
 use Rattle.rng_core.proofs.running.end.Goals as goal
@@ -7,3 +9,7 @@ leave-requires-clause-makes g c = c.down.ensures _ (lent _ _ _ _ c.state_mut.ens
 
 pub returns-clause-did : goal.returns-clause-did
 returns-clause-did g c = did_after _ _ _ _ c.enter-base.ensures.told (formed _ _ _ (did_base _ _ _ _ _ _ (served_of _ _ _ _ _ _ _ _ c.leave.ensures.visited)))
+
+pub returns-clause-reached : goal.returns-clause-reached
+returns-clause-reached g c = let seen = c.leave.ensures.seen in let fresh = c.enter-base.ensures.fresh refl in
+    let rises = generation_begun _ _ (c.leave.ensures.visited.told.went.grows 1 (let a = c.enter-base.ensures.has.pass.sized in omega arith)) in omega arith

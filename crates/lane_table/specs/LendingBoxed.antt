@@ -1,0 +1,8 @@
+-- A lane's value, once it was lent out of its box.
+use Rattle.std.specs.Borrow.{Lends, MutBor, Fml}
+use Rattle.lane_table.specs.declared.values.LaneState.{LaneState}
+use Rattle.lane_table.specs.contracts.values.Boxed.{the_row}
+use Rattle.lane_table.specs.contracts.values.LaneState as value
+
+abbrev pub LendsBoxed : MutBor LaneState → MutBor LaneState → Fml
+LendsBoxed b r = Lends the_row value.the_row b r (λ state. state)

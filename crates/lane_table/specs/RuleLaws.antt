@@ -1,0 +1,139 @@
+-- What the rule of the lanes says, part by part, of any moment between two atomic steps: of the words, of the values
+-- that lie in their slots, and of what all passes know.
+use Rattle.std.specs.Prelude.{◌≡◌, ◌⊎◌, ℕ, ◌+◌, ◌^◌, ◌<◌, ◌≤◌, List, [], All, length, Some, slice_index_or}
+use Rattle.std.specs.List.{sum_by}
+use mathlib.Core.Option.{some}
+use lib.ListN.{get_elem?}
+use Rattle.key_names.specs.Book.{HalfFinishedLanes}
+use Rattle.lane_table.specs.declared.view.Visit.{Visit}
+use Rattle.lane_table.specs.declared.view.View.{View}
+use Rattle.lane_table.specs.declared.view.Content.{Content}
+use Rattle.lane_table.specs.declared.view.Stage.{Stage}
+use Rattle.lane_table.specs.declared.view.Stage.TheVariants.{Away, Queued, Holding}
+use Rattle.lane_table.specs.Meaning.{ahead_of, behind_of, parent, replay}
+use Rattle.lane_table.specs.References.{Closed, LawfulLists}
+use Rattle.lane_table.specs.BookLists.{StateLists, book_lists}
+use Rattle.lane_table.specs.WorldRule.{AllBegin, Begins, Carries, IsHolding, Replays, Rising, St, WorldRule, at, column, has_ticket, known_of, once_below, raises, serving_word, ticket_word, times, weight}
+
+abbrev pub ticket_of : St → ℕ → ℕ
+ticket_of s lane = slice_index_or s.words (ticket_word lane) 0
+
+abbrev pub serving_of : St → ℕ → ℕ
+serving_of s lane = slice_index_or s.words (serving_word lane) 0
+
+abbrev pub generation_word : St → ℕ
+generation_word s = slice_index_or s.words 0 0
+
+-- what the pass of number j knows
+abbrev pub IsView : St → ℕ → View → Type 0
+IsView s j v = get_elem? s.views j ≡ some v
+
+-- who stands so at a lane has this ticket
+abbrev pub HasTicket : Stage → ℕ → Type 0
+HasTicket Away t = ⊥
+HasTicket (Queued u) t = u ≡ t
+HasTicket (Holding u) t = u ≡ t
+
+-- the tickets from the serving number on to the ticket number are out, each with one pass; who holds the lane has the
+-- one that is served
+pub record Tickets (s : St) (lane : ℕ) : Type 0 where
+  pub ordered : serving_of s lane ≤ ticket_of s lane
+  pub counted : serving_of s lane + sum_by (λ a. has_ticket a.stage) (column lane s.views) ≡ ticket_of s lane
+  pub within : (j t : ℕ) (v : View) → IsView s j v → HasTicket (at lane v).stage t →
+      (serving_of s lane ≤ t) × (t < ticket_of s lane)
+  pub one : (j k t : ℕ) (v w : View) → IsView s j v → IsView s k w → HasTicket (at lane v).stage t →
+      HasTicket (at lane w).stage t → j ≡ k
+  pub each : (t : ℕ) → serving_of s lane ≤ t → t < ticket_of s lane →
+      (j : ℕ) × (v : View) × IsView s j v × HasTicket (at lane v).stage t
+  pub turn : (j t : ℕ) (v : View) → IsView s j v → (at lane v).stage ≡ Holding t → t ≡ serving_of s lane
+  pub loaded : (j : ℕ) (v : View) → IsView s j v → (at lane v).loaded ≤ serving_of s lane
+
+-- what a pass knows of a lane begins the lane's list, and is all of it where the pass holds the lane; with an entry it
+-- knows those that the entry names behind. The same holds of the lists that the lane's value carries
+pub record KnownLists (s : St) (logs : ℕ → List Visit) : Type 0 where
+  pub known : (j lane : ℕ) (v : View) → IsView s j v → lane < length s.homes → Begins (known_of v lane) (logs lane)
+  pub heard : (j lane : ℕ) (v : View) → IsView s j v → lane < length s.homes → AllBegin (at lane v).heard (logs lane)
+  pub whole : (j lane t : ℕ) (v : View) → IsView s j v → lane < length s.homes → (at lane v).stage ≡ Holding t →
+      known_of v lane ≡ logs lane
+  pub named : (j : ℕ) (v : View) → IsView s j v → Closed (length s.homes) (known_of v)
+  pub carried : (lane : ℕ) → lane < length s.homes →
+      (lists : ℕ → List Visit) × Carries (length s.homes) logs lane lists
+
+-- a value that lies in its slot is the replay of the lane's list, with the list's next place and last stamp; each other
+-- one is with the pass that is served
+pub record Values (first : ℕ) (s : St) (logs : ℕ → List Visit) : Type 0 where
+  pub replays : (lane : ℕ) (c : Content) → lane < length s.homes → get_elem? s.homes lane ≡ some (some (Some c)) →
+      Replays lane first (logs lane) c
+  pub home : (lane : ℕ) → lane < length s.homes →
+      ((c : Content) × (get_elem? s.homes lane ≡ some (some (Some c))))
+      ⊎ ((j : ℕ) × (v : View) × IsView s j v × ((at lane v).stage ≡ Holding (serving_of s lane)))
+
+-- the visits that the passes count are those of the lists, each place once; their shares add up to the whole, and who
+-- has none is spent
+pub record Counts (s : St) (logs : ℕ → List Visit) : Type 0 where
+  pub made : (lane : ℕ) → lane < length s.homes → sum_by (λ a. a.made) (column lane s.views) ≡ length (logs lane)
+  pub placed : (lane p : ℕ) → lane < length s.homes →
+      sum_by (λ a. times p a.places) (column lane s.views) ≡ once_below p (length (logs lane))
+  pub top : ℕ
+  pub below : (j : ℕ) (v : View) → IsView s j v → v.halvings ≤ top
+  pub whole : sum_by (weight top) s.views ≡ 2 ^ top
+  pub spent : (j : ℕ) (v : View) → IsView s j v → v.share ≡ 0 → v.lanes ≡ []
+
+-- stamps rise along each list, and a pass's is at least that of each visit that it made, or that was made before it was
+-- split off
+pub record Stamps (first : ℕ) (s : St) (logs : ℕ → List Visit) : Type 0 where
+  pub rising : (lane : ℕ) → lane < length s.homes → Rising first (logs lane)
+  pub passed : (j : ℕ) (v : View) → IsView s j v → All (λ n. n ≤ v.stamp) v.stamps
+
+-- an entry of the lane behind that names a place ahead is answered there; or it is half finished: the place is the next
+-- one, and a pass that holds the lane owes the answer
+abbrev pub IsAnswered : St → (ℕ → List Visit) → ℕ → ℕ → ℕ → Type 0
+IsAnswered s logs lane p b =
+    ((y : Visit) × (get_elem? (logs lane) b ≡ some y) × (behind_of y.entry ≡ Some p))
+    ⊎ ((b ≡ length (logs lane))
+    × ((j : ℕ) × (v : View) × IsView s j v × ((at lane v).owes ≡ Some p) × IsHolding (at lane v)))
+
+-- the lists are lawful, but for visits that are half finished
+pub record LawfulSoFar (s : St) (logs : ℕ → List Visit) : Type 0 where
+  pub lawful : LawfulLists (length s.homes) logs
+  pub closed : Closed (length s.homes) logs
+  pub answered : (lane p b : ℕ) (x : Visit) → 1 ≤ lane → lane < length s.homes →
+      get_elem? (logs (parent lane)) p ≡ some x → ahead_of x.entry ≡ Some (lane, b) → IsAnswered s logs lane p b
+  pub book : (callers : StateLists) → HalfFinishedLanes (book_lists (length s.homes) logs callers)
+
+-- the generation word is how often the base's list raised it, and one more from a raise until the base is put. It is no
+-- less than what a pass has seen, and than each CPU's generation
+pub record Generation (s : St) (logs : ℕ → List Visit) : Type 0 where
+  pub base : (replay (logs 1)).base.generation ≡ raises (logs 1)
+  pub is : ((j : ℕ) (v : View) → IsView s j v → (at 1 v).raised ≡ 0) → generation_word s ≡ raises (logs 1)
+  pub raised : (j : ℕ) (v : View) → IsView s j v →
+      ((at 1 v).raised ≡ 0)
+      ⊎ (((at 1 v).raised ≡ 1) × ((at 1 v).stage ≡ Holding (serving_of s 1))
+      × (generation_word s ≡ raises (logs 1) + 1))
+  pub seen : (j : ℕ) (v : View) → IsView s j v → v.seen ≤ generation_word s
+  pub cpus : (lane : ℕ) → 2 ≤ lane → lane < length s.homes →
+      (replay (logs lane)).cpu.cpu.generation ≤ generation_word s
+  pub small : generation_word s < 2 ^ 63
+
+-- Each follows from the rule, of the lists that the rule has
+
+abbrev pub EachTicketHasOneHolder : Type 0
+EachTicketHasOneHolder = (first : ℕ) (s : St) (lane : ℕ) → WorldRule first s → lane < length s.homes → Tickets s lane
+
+abbrev pub KnownListsBegin : Type 0
+KnownListsBegin = (first : ℕ) (s : St) (r : WorldRule first s) → KnownLists s r.logs
+
+abbrev pub ValuesAreReplays : Type 0
+ValuesAreReplays = (first : ℕ) (s : St) (r : WorldRule first s) → Values first s r.logs
+
+abbrev pub CountsAndSharesAddUp : Type 0
+CountsAndSharesAddUp = (first : ℕ) (s : St) (r : WorldRule first s) → Counts s r.logs
+
+abbrev pub StampsRise : Type 0
+StampsRise = (first : ℕ) (s : St) (r : WorldRule first s) → Stamps first s r.logs
+
+abbrev pub ListsAreLawfulSoFar : Type 0
+ListsAreLawfulSoFar = (first : ℕ) (s : St) (r : WorldRule first s) → LawfulSoFar s r.logs
+
+abbrev pub GenerationIsTheBases : Type 0
+GenerationIsTheBases = (first : ℕ) (s : St) (r : WorldRule first s) → Generation s r.logs
