@@ -6,6 +6,7 @@ set -eu
 cd "$(dirname "$0")/.."
 bytes=16777216
 reads=4000
+events=65536
 samples=$((bytes / 64))
 interrupts=1000000
 visits=20000000
@@ -38,6 +39,31 @@ awk 'BEGIN {
     for (i = 0; i < 32768; i++) print "write 616263"
     print "end"
 }' | "$program" run >"$room/long_transcript"
+
+# As many bytes as the kernel may read in a script.
+awk 'BEGIN {
+    print "rngscript 1\ncpus 1\ncaller 0\ncredit 256"
+    for (i = 0; i < 16; i++) print "kread 1048576"
+    print "end"
+}' >"$room/large_reads"
+
+# As many events as a script may have, each small: the mix of a load.
+awk -v n="$events" 'BEGIN {
+    print "rngscript 1\ncpus 1\ncaller 0\ncredit 256"
+    for (j = 0; j < n - 1; j++) {
+        k = j % 8
+        bytes = 1 + (17 * j) % 100
+        if (k == 0) print "read " bytes " 0"
+        else if (k == 1) print "vread " bytes " 0"
+        else if (k == 2) print "kread " bytes
+        else if (k == 3) print "int64"
+        else if (k == 4) print "irq " j " 0"
+        else if (k == 5) print "write 0011223344556677"
+        else if (k == 6) print "uread " bytes
+        else print "reseed"
+    }
+    print "end"
+}' >"$room/small_events"
 
 # instructions COMMAND..: how many a command takes, from start to end, on standard input.
 instructions() {
@@ -100,6 +126,8 @@ direct=$(instructions "$loops" reads "$reads")
 shown=$(instructions "$loops" shown "$reads")
 run=$(instructions "$program" run <"$room/script")
 cp "$room/out" "$room/transcript"
+large=$(instructions "$program" run <"$room/large_reads")
+small=$(instructions "$program" run <"$room/small_events")
 script=$(of_text script "$room/long_script")
 script_lines=$(of_text script_lines "$room/long_script")
 transcript=$(of_text transcript "$room/long_transcript")
@@ -128,6 +156,8 @@ ratio 'samples: input pool to BLAKE2s and the zeros made' "$mixed" "$hash" 'no l
 ratio 'samples: instructions of a mix into the input pool' "$mixed" "$samples" 'no limit'
 ratio 'interrupts: instructions of one' "$interrupted" "$interrupts" 'no limit'
 ratio 'reads: rng run to direct' "$run" "$direct" 'at most 1.50'
+ratio 'rng run: instructions a byte of reads of 1 MiB' "$large" "$bytes" 'at most 20'
+ratio 'rng run: instructions a small event' "$small" "$events" 'at most 6,500'
 ratio 'scripts: event_script to plain loop' "$script" "$script_lines" 'at most 1.50'
 ratio 'transcripts: transcript_text to plain loop' "$transcript" "$transcript_lines" 'at most 1.50'
 ratio 'reads: rng run to direct with hexadecimal' "$run" "$shown" 'no limit'
@@ -144,6 +174,19 @@ printf '%-52s %12s\n' "keystream of $bytes bytes, chacha_blocks" "$(seconds "$lo
     "BLAKE2s of $bytes bytes" "$(seconds "$loops" hash "$bytes")" \
     "$reads writes and reads of 4,096 bytes, direct" "$(seconds "$loops" reads "$reads")" \
     "$reads writes and reads of 4,096 bytes, rng run" "$(seconds "$program" run)"
+
+# of_run FORMAT FILE: what `time` says of a run of a script.
+of_run() {
+    { command time -f "$1" "$program" run <"$2" >"$room/out"; } 2>&1
+}
+
+echo "rng run: start-up and memory"
+printf '%-52s %12s\n' "the least seconds of five runs of two events" \
+    "$(for _ in 1 2 3 4 5; do of_run %e examples/first.script; done | sort -n | head -n 1)" \
+    "KiB of 16 reads of 1 MiB" "$(of_run %M "$room/large_reads")" \
+    "KiB of $events small events" "$(of_run %M "$room/small_events")" \
+    "seconds of 16 reads of 1 MiB" "$(of_run %e "$room/large_reads")" \
+    "seconds of $events small events" "$(of_run %e "$room/small_events")"
 
 echo "nanoseconds of each, by the least of five"
 printf '%-52s %12s\n' "BLAKE2s of a sample, many at once" "$(nanoseconds bulk $((16 * samples)))" \

@@ -28,7 +28,7 @@ cut_whole (item ∷ items) = go (is_mark item.step) (cut_whole items)
     go true rest = ap (λ (l : List Item). item ∷ l) rest
     go false rest = refl
 
-rekey_whole : (items : List Item) → items ≡ (cut_rekey items).0 ++ (cut_rekey items).1
+pub rekey_whole : (items : List Item) → items ≡ (cut_rekey items).0 ++ (cut_rekey items).1
 rekey_whole [] = refl
 rekey_whole (a ∷ []) = refl
 rekey_whole (a ∷ b ∷ []) = refl

@@ -16,3 +16,11 @@ pub mod SampleLaw
 pub mod AloneDone
 pub mod QuietForms
 pub mod LoopCalls
+pub mod CoreDone
+pub mod Standing
+pub mod Callings
+pub mod Starts
+pub mod Going
+pub mod Serving
+pub mod VreadDone
+pub mod Seeing

@@ -29,7 +29,7 @@ filled_room (waits ∷ slots) [] line room = absurd (omega arith)
 filled_room (waits ∷ slots) (l ∷ acts) line room =
     ap (λ (ls : List SeenLine). l ∷ ls) (filled_room slots acts line (omega arith))
 
-filled_all : (lines : List SeenLine) (acts : List SeenLine) → filled (map written lines) acts ≡ lines
+pub filled_all : (lines : List SeenLine) (acts : List SeenLine) → filled (map written lines) acts ≡ lines
 filled_all [] acts = refl
 filled_all (line ∷ lines) acts = ap (λ (ls : List SeenLine). line ∷ ls) (filled_all lines acts)
 

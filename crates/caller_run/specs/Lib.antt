@@ -4,3 +4,7 @@ pub mod Ran
 pub mod Done
 pub mod Laws
 pub mod Slots
+pub mod Says
+pub mod Calling
+pub mod Kinds
+pub mod Standing

@@ -3,9 +3,6 @@ pub mod Digits
 pub mod Tallies
 pub mod FirstOfLines
 pub mod Fronts
-pub mod FirstForm
-pub mod FirstLines
-pub mod FirstScripts
 pub mod LoadSteps
 pub mod LoadTexts
 pub mod Loads

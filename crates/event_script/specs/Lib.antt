@@ -1,5 +1,4 @@
 pub mod Views
-pub mod FirstForm
 pub mod Says
 pub mod Tally
 pub mod Drafts

@@ -1,6 +1,6 @@
 //! The fields of a line, which single spaces part.
 
-ghost use Rattle.std.specs.Prelude.{◌≡◌, ◌≢◌, ◌++◌, List, ℕ, MatchOption, IfSome, Some, ◌+◌, ◌∷◌, [], length};
+ghost use Rattle.std.specs.Prelude.{◌≡◌, MatchOption, IfSome, Some, ◌+◌, ◌∷◌, [], length};
 ghost use Rattle.std.specs.Str.{bytes_eq};
 ghost use Rattle.event_script.specs.Views.{Tells, fields_of};
 ghost use Rattle.key_names.specs.ScriptFaults.{parts, no_field, one_field, two_fields, four_fields};
@@ -13,14 +13,6 @@ pub(crate) fn spells(field: &[u8], text: &[u8]) -> bool
     ensures { result ≡ bytes_eq field.now text.now }
 {
     field == text
-}
-
-/// What stands behind this front of a text.
-pub(crate) fn behind<'a>(text: &'a [u8], front: &[u8]) -> Option<&'a [u8]>
-    ensures { MatchOption result ((rest : List ℕ) → text.now ≢ front.now ++ rest)
-        (λ rest. text.now ≡ front.now ++ rest.now) }
-{
-    text.strip_prefix(front)
 }
 
 /// What stands before the first of these bytes, and what stands behind it.

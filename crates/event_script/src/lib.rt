@@ -1,7 +1,6 @@
 //! Scripts: what callers are to do, as a text. A text is read exactly by the grammar, or its first fault is told.
 //!
-//! `read` reads a whole text, `read_front` a script that stands in front of something else, and `read_first_form`
-//! the short scripts of one caller that only writes and reads.
+//! `read` reads a whole text, and `read_front` a script that stands in front of something else.
 #![tactic(auto)]
 
 mod acts;
@@ -10,7 +9,6 @@ mod draft;
 mod error;
 mod events;
 mod fields;
-pub mod first_form;
 mod front;
 mod hexes;
 mod line;
@@ -24,6 +22,5 @@ pub mod script_error;
 mod tests;
 mod words;
 
-pub use first_form::read_first_form;
 pub use script::{Script, read, read_front};
 pub use script_error::ScriptError;

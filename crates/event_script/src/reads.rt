@@ -1,6 +1,6 @@
 //! How many bytes events read.
 
-ghost use Rattle.std.specs.Prelude.{◌≡◌, ◌≤◌, length, sum_by};
+ghost use Rattle.std.specs.Prelude.{◌≡◌};
 ghost use Rattle.key_names.specs.ScriptGrammar.{bytes_read};
 
 use key_names::{Event, InsideAct};
@@ -18,16 +18,4 @@ pub fn bytes_of(event: &Event) -> u32
         } => *len,
         _ => 0,
     }
-}
-
-/// How many bytes events read together.
-pub fn bytes_of_all(events: &[Event]) -> u64
-    requires { length events.now ≤ 65536 }
-    ensures { result ≡ sum_by bytes_read events.now }
-{
-    let mut sum = 0;
-    for event in events {
-        sum += u64::from(bytes_of(event));
-    }
-    sum
 }

@@ -1,5 +1,5 @@
 //! What no clause says: that ordinary texts are read, and the faults as a reader of the format expects them.
-use crate::{Script, ScriptError, read, read_first_form, read_front};
+use crate::{Script, ScriptError, read, read_front};
 use key_names::{Event, Text};
 use std::alloc::{AllocError, Global};
 use std::test::Fail;
@@ -120,16 +120,6 @@ fn a_script_is_read(rt: HostRuntime) -> Result<(), Fail> {
     assert_eq!(rt; script.version(), 3);
     assert_eq!(rt; script.cpus(), 256);
     assert_eq!(rt; script.callers(), 2);
-    Ok(())
-}
-
-#[test]
-fn the_first_form(rt: HostRuntime) -> Result<(), Fail> {
-    let text = repeated(rt.alloc(), b"write 616263\nread 16 4\n", 2, b"end\n")?;
-    let events = read_first_form(rt.alloc(), &text)?.ok_or("no script")?;
-    assert_eq!(rt; events.len(), 4);
-    let other = repeated(rt.alloc(), b"read 16 0\n", 1, b"end\n")?;
-    assert!(rt; read_first_form(rt.alloc(), &other)?.is_none());
     Ok(())
 }
 

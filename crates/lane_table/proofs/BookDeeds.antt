@@ -15,7 +15,7 @@ use Rattle.key_names.specs.Deeds.{at_pool, at_base, at_cpu, deed_or, pool_visit,
 use Rattle.key_names.specs.Book.{Lists, cpu_list}
 use Rattle.base_gen.specs.BaseValue.{BaseValue, base_at, after_entry}
 use Rattle.base_gen.proofs.Rows.{after_entry-base_at}
-use Rattle.cpu_gen.specs.CpuValue.{CpuValue, cpu_at}
+use Rattle.cpu_gen.specs.CpuValue.{CpuValue}
 use Rattle.cpu_gen.specs.CpuValue as cpu
 use Rattle.cpu_gen.proofs.Entries.{after_entry-cpu_at}
 use Rattle.int_batch.specs.BatchValue.{next_bytes}

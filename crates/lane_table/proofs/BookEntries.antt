@@ -7,7 +7,6 @@ use Rattle.std.proofs.lemmas.Option.{slice_get-map, slice_get_within}
 use Rattle.key_names.specs.declared.entries.PoolEntry.{PoolEntry}
 use Rattle.key_names.specs.declared.entries.BaseEntry.{BaseEntry}
 use Rattle.key_names.specs.declared.entries.CpuEntry.{CpuEntry}
-use Rattle.key_names.specs.Book.{entries_of}
 use Rattle.key_names.specs.Book as of_book
 use Rattle.key_names.proofs.Growing.{may_at}
 use Rattle.lane_table.specs.declared.view.LaneEntry.{LaneEntry}

@@ -5,7 +5,7 @@ use Rattle.std.specs.Prelude.{slice_get}
 use Rattle.key_names.specs.declared.entries.PoolEntry.{PoolEntry}
 use Rattle.key_names.specs.declared.entries.CpuEntry.{CpuEntry}
 use Rattle.key_names.specs.Samples.{fast_before, visits_of}
-use Rattle.key_names.specs.Book.{Book, entries_of, list_at}
+use Rattle.key_names.specs.Book.{Book}
 use Rattle.key_names.specs.Book as of_book
 use Rattle.key_names.proofs.TranscriptBooks.{lt_or_le}
 use Rattle.lane_table.specs.declared.view.Visit.{Visit}
@@ -13,7 +13,6 @@ use Rattle.lane_table.specs.Meaning.{replay}
 use Rattle.lane_table.specs.BookLists.{StateLists, book_of, book_lists}
 use Rattle.lane_table.specs.BookLaws.{ClosedLanes}
 use Rattle.lane_table.proofs.BookEntries.{VisitedAt, visited_at, pool_kind, cpu_kind}
-use Rattle.lane_table.proofs.BookCpus.{CpuLane}
 use Rattle.lane_table.proofs.BookCpus as cpus
 use Rattle.lane_table.proofs.BookWhole.{cpu_visits, no_cpu_visits, cpu_lane_of}
 

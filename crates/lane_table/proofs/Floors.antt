@@ -1,17 +1,17 @@
 -- The generation that a view has seen never falls, and the core is ready where it is 1 or more.
-use Rattle.std.proofs.Common.{◌≡◌, ◌≢◌, ◌↔◌, ℕ, ◌+◌, ◌<◌, ◌≤◌, List, [], ◌∷◌, ◌++◌, Option, Some, None, length, sym, refl, ap, ◌∙◌, subst, arith, max}
+use Rattle.std.proofs.Common.{◌≡◌, ◌↔◌, ℕ, ◌<◌, ◌≤◌, List, [], ◌∷◌, Option, Some, None, length, sym, refl, ap, ◌∙◌, arith}
 use Rattle.std.specs.List.{fold}
 use Rattle.std.proofs.lemmas.List.Sums.{fold-append}
 use Rattle.key_names.specs.declared.entries.BaseEntry.{BaseEntry}
 use Rattle.key_names.specs.declared.entries.BaseEntry.TheVariants.{Early, Reseed, Tick, Draw, Refill, Fork, End, Wait, Resume, Interrupt, Stall, Unstall}
-use Rattle.key_names.specs.BaseList.{Phase, BaseState, BaseFits, empty, early, ready, reseeds_at, phase_after, generation_after}
+use Rattle.key_names.specs.BaseList.{BaseState, BaseFits, empty, early, ready, reseeds_at, generation_after}
 use Rattle.base_gen.specs.BaseValue.{BaseValue, after_entry}
 use Rattle.lane_table.specs.declared.view.LaneEntry.{LaneEntry}
 use Rattle.lane_table.specs.declared.view.LaneEntry.TheVariants.{Pool as OfPool, Base as OfBase, Cpu as OfCpu}
 use Rattle.lane_table.specs.declared.view.Visit.{Visit}
 use Rattle.lane_table.specs.declared.view.View.{View}
 use Rattle.lane_table.specs.declared.view.Handed.{Handed}
-use Rattle.lane_table.specs.Meaning.{Model, replay, model_step, made_of, start_model, base_after, base_state, LawfulLane, MayCome, Fits}
+use Rattle.lane_table.specs.Meaning.{Model, replay, model_step, start_model, base_after, base_state, LawfulLane, MayCome, Fits}
 use Rattle.key_names.specs.LawfulList.{LawfulFrom}
 use Rattle.lane_table.specs.WorldRule.{Begins, known_of}
 use Rattle.lane_table.specs.Steps.{Grows}

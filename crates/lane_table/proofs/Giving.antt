@@ -20,7 +20,7 @@ use Rattle.lane_table.proofs.VisitLists.{begins_push, begins_refl}
 use Rattle.lane_table.proofs.LawfulLists.{lawful_more}
 use Rattle.lane_table.proofs.Naming.{parent_below, pointed_behind, pointed_here, owed_none, owed_more, pending_views, pending_behind, pending_here}
 use Rattle.lane_table.proofs.OneLane as lane
-use Rattle.lane_table.proofs.World.{Here, Recasts, same_at, pick, pick_here, pick_else}
+use Rattle.lane_table.proofs.World.{Here, pick, pick_here, pick_else}
 use Rattle.lane_table.proofs.World as world
 use Rattle.lane_table.proofs.Plain as plain
 

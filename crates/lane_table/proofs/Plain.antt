@@ -21,7 +21,7 @@ use Rattle.lane_table.proofs.Lists.{all_zero, at_unmap}
 use Rattle.lane_table.proofs.VisitLists.{begins_refl}
 use Rattle.lane_table.proofs.Naming.{owed_none, owed_more}
 use Rattle.lane_table.proofs.OneLane as lane
-use Rattle.lane_table.proofs.World.{Here, Recasts, same_at, WordStep, pick, pick_same}
+use Rattle.lane_table.proofs.World.{Here, same_at, WordStep, pick_same}
 use Rattle.lane_table.proofs.World as world
 
 none_if : (o : Option ℕ) → ((p : ℕ) → o ≡ Some p → ⊥) → o ≡ None

@@ -1,5 +1,5 @@
 -- What a pass has in its hands: the lanes that it holds, the one that it took last in front.
-use Rattle.std.specs.Prelude.{◌≡◌, ◌≢◌, ℕ, ◌<◌, ⊤, List, [], ◌∷◌, map, Option, Some, None, length}
+use Rattle.std.specs.Prelude.{◌≡◌, ◌≢◌, ℕ, ◌<◌, ⊤, List, [], ◌∷◌, map, Option, None, length}
 use Rattle.lane_table.specs.declared.view.View.{View}
 use Rattle.lane_table.specs.declared.view.Content.{Content}
 use Rattle.lane_table.specs.declared.view.Stage.TheVariants.{Holding}

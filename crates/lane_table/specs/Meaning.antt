@@ -1,7 +1,7 @@
 -- What a lane's list of visits means: its value after them, what each visit hands on, and which may come when. All of it
 -- is read from the lane's own list, since a visit keeps what was handed to it. A lane's model has a part for each kind
 -- of lane, and an entry changes the part of its own kind.
-use Rattle.std.specs.Prelude.{◌≡◌, ℕ, suc, ◌+◌, ◌/◌, ◌<◌, ◌≤◌, ◌==◌, ⊤, List, [], Option, Some, None, nat_lt, replicate, slice_index_or, if◌then◌else◌}
+use Rattle.std.specs.Prelude.{◌≡◌, ℕ, suc, ◌+◌, ◌/◌, ◌<◌, ◌≤◌, ◌==◌, ⊤, List, [], Option, Some, None, replicate, slice_index_or, if◌then◌else◌}
 use Rattle.std.specs.List.{fold}
 use Rattle.key_names.specs.declared.names.Who.{Who}
 use Rattle.key_names.specs.declared.entries.PoolEntry.{PoolEntry}
@@ -182,10 +182,6 @@ model_step s x = made_of s x.entry x.got
 -- the model of a lane after these visits
 abbrev pub replay : List Visit → Model
 replay xs = fold model_step start_model xs
-
--- the generation that a lane has: a CPU's is that of its generator
-abbrev pub generation_of : ℕ → Model → ℕ
-generation_of lane s = if nat_lt lane 2 then s.base.generation else s.cpu.cpu.generation
 
 -- the state of a list that the words of a base's and a CPU's list are read on; what they do not read is left out
 abbrev pub base_state : BaseValue → BaseState

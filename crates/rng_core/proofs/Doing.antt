@@ -1,5 +1,5 @@
 -- Calls out of visits: what is done one after another, and the forms of the most used pieces.
-use Rattle.std.proofs.Common.{◌≡◌, ℕ, ◌+◌, ◌<◌, length, arith, List, [], ◌∷◌, ◌++◌, map, Some, None, sym, refl, ap, ◌∙◌, subst, append-nil}
+use Rattle.std.proofs.Common.{◌≡◌, ℕ, ◌+◌, ◌<◌, ◌≤◌, length, arith, List, [], ◌∷◌, ◌++◌, map, Some, None, sym, refl, ap, ◌∙◌, subst, append-nil}
 use Rattle.key_names.specs.declared.entries.Taken.{Taken}
 use Rattle.key_names.specs.declared.entries.PoolEntry.{PoolEntry}
 use Rattle.key_names.specs.declared.entries.PoolEntry.TheVariants.{Extract, Bits}
@@ -22,10 +22,11 @@ use Rattle.lane_table.specs.declared.view.LaneEntry.TheVariants.{Pool, Base, Cpu
 use Rattle.lane_table.specs.Meaning.{Model}
 use Rattle.lane_table.specs.BookLists.{book_lists}
 use Rattle.lane_table.specs.VisitsMet.{IsIntOfBatch}
-use Rattle.lane_table.specs.Went.{Deal, visited, step_of}
+use Rattle.lane_table.specs.Went.{Deal, visited, step_of, floor}
 use Rattle.lane_table.specs.Went as went
 use Rattle.lane_table.specs.WorldRule.{known_of}
 use Rattle.lane_table.proofs.BookEnds.{continues_before}
+use Rattle.lane_table.proofs.Sights.{sees_up}
 use Rattle.lane_table.proofs.WentLemmas.{went_idly}
 use Rattle.rng_core.specs.declared.setting.Setting.{Setting}
 use Rattle.rng_core.specs.Told.{Moment, Told, Visited}
@@ -36,6 +37,10 @@ use Rattle.rng_core.proofs.Finding.{found_pool, found_base, found_cpu}
 map_append : {A B : Type 0} (f : A → B) (xs ys : List A) → map f (xs ++ ys) ≡ map f xs ++ map f ys
 map_append f [] ys = refl
 map_append f (x ∷ xs) ys = ap (λ l. f x ∷ l) (map_append f xs ys)
+
+-- what was seen of the generation does not fall
+pub did_floor : {P : (ℕ → List Visit) → List Deed → Type 0} (set : Setting) (m n : Moment) → DidIn P set m n → floor m.view ≤ floor n.view
+did_floor set m n k = sees_up n.view (floor m.view) (floor n.view) k.deals k.told.went.sees
 
 pub did_in_map : {P Q : (ℕ → List Visit) → List Deed → Type 0} (set : Setting) (m n : Moment) → ((visits : ℕ → List Visit) (deeds : List Deed) → P visits deeds → Q visits deeds) → DidIn P set m n → DidIn Q set m n
 did_in_map set m n f k = record { deals = k.deals; told = k.told; stands = λ lanes visits callers c. f visits _ (k.stands lanes visits callers c) }

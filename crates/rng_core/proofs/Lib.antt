@@ -1,10 +1,12 @@
+pub mod CallEnds
 pub mod Doing
 pub mod Finding
 pub mod Fulfilling
+pub mod Hosting
 pub mod Inputs
 pub mod IntFulfilling
 pub mod Parents
-pub mod Starting
-pub mod TellLemmas
-pub mod SysFulfilling
+pub mod Readings
 pub mod Sampling
+pub mod SysFulfilling
+pub mod TellLemmas

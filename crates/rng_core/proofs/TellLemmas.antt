@@ -1,12 +1,17 @@
 -- What is told, call after call.
-use Rattle.std.proofs.Common.{◌≡◌, ℕ, List, [], ◌∷◌, ◌++◌, map, take, length, ◌<◌, sym, refl, ap, ◌∙◌, subst, arith, append_assoc, append-nil, length-append}
+use Rattle.std.proofs.Common.{◌≡◌, ℕ, List, [], ◌∷◌, ◌++◌, map, take, length, ◌+◌, ◌<◌, ◌≤◌, ◌^◌, max, sym, refl, ap, ◌∙◌, subst, arith, append_assoc, append-nil, length-append}
 use Rattle.std.proofs.Math.Seq.{take-append_seam}
+use Rattle.std.specs.List.{AllByRecursion}
 use lib.ListN.{get_elem?}
 use Rattle.atomic_table.proofs.Lists.{at_last}
 use Rattle.key_names.specs.declared.names.Step.{Step}
 use Rattle.key_names.specs.declared.names.Step.TheVariants.{Visit as Marked}
 use Rattle.key_names.specs.declared.names.Mark.{Mark}
 use Rattle.key_names.specs.declared.names.Who.{Who}
+use Rattle.key_names.specs.declared.names.LaneId.{LaneId}
+use Rattle.key_names.specs.declared.names.LaneId.TheVariants.{Pool as PoolLane, Base as BaseLane, Cpu as CpuLane}
+use Rattle.key_names.specs.TranscriptGrammar.{StepFits, LaneFits, MarkFits}
+use Rattle.key_names.proofs.Each.{each_append}
 use Rattle.lane_table.specs.declared.view.LaneEntry.{LaneEntry}
 use Rattle.lane_table.specs.declared.view.LaneView.{LaneView}
 use Rattle.lane_table.specs.LaneNumbers.{index_of}
@@ -33,19 +38,33 @@ pub told_then : (set : Setting) (l m n : Moment) (xs ys : List Deal) → Told se
 told_then set l m n xs ys a b = record {
   trace = b.trace ∙ ap (λ (s : List Step). s ++ map step_of ys) a.trace ∙ append_assoc l.steps (map step_of xs) (map step_of ys) ∙ ap (λ (s : List Step). l.steps ++ s) (sym (map_append xs ys));
   went = went_then set.caller set.event (length l.steps) (length m.steps) l.view m.view n.view xs ys (ap length a.trace ∙ (let e = length_map xs in omega (arith, length-append l.steps (map step_of xs)))) a.went b.went;
+  fits = subst (AllByRecursion StepFits) (sym (map_append xs ys)) (each_append StepFits (map step_of xs) (map step_of ys) a.fits b.fits);
 }
 
 -- no step
 pub told_idly : (set : Setting) (m n : Moment) → n.steps ≡ m.steps → Went set.caller set.event (length m.steps) m.view n.view [] → Told set m n []
-told_idly set m n same went = record { trace = same ∙ sym (append-nil m.steps); went = went }
+told_idly set m n same went = record { trace = same ∙ sym (append-nil m.steps); went = went; fits = tt }
 
 pub told_is : (set : Setting) (m n : Moment) (xs ys : List Deal) → xs ≡ ys → Told set m n xs → Told set m n ys
 told_is set m n xs ys e k = subst (Told set m n) e k
 
+lane_fits : (lane : LaneId) → index_of lane < 2 ^ 32 → LaneFits lane
+lane_fits PoolLane low = tt
+lane_fits BaseLane low = tt
+lane_fits (CpuLane c) low = omega arith
+
+-- the mark of a visit, whose lane was held with these numbers
+pub mark_fits : (mark : Mark) (lane place stamp own : ℕ) → index_of mark.lane ≡ lane → lane < 258 → mark.place ≡ place → place ≤ stamp → stamp < 2 ^ 62 → own ≤ 2 ^ 62 → mark.stamp ≡ max own stamp + 1 → MarkFits mark
+mark_fits mark lane place stamp own on near there low early late is = record {
+  lane = lane_fits mark.lane (omega arith);
+  place = omega arith;
+  stamp = omega arith;
+}
+
 -- a visit that was put
 pub visited_by_put : (set : Setting) (m m' : Seated) (told told' : List Step) (mark : Mark) (who : Who) (e : LaneEntry) (lane : ℕ) → index_of mark.lane ≡ lane → mark.place ≡ length (known_of m.0 lane) → lane < length m.0.lanes → 1 < length m.0.lanes → who ≡ maker set.caller set.event (length told)
-    → told' ≡ told ++ Marked mark ∷ [] → Added lane (filled lane (visit_by who mark.stamp e) m.0) m m' → Visited set (record { view = m.0; steps = told }) (record { view = m'.0; steps = told' }) lane mark.place (replay (known_of m.0 lane)) e (handed lane e m.0)
-visited_by_put set m m' told told' mark who e lane on there near two by trace k = record {
+    → told' ≡ told ++ Marked mark ∷ [] → MarkFits mark → Added lane (filled lane (visit_by who mark.stamp e) m.0) m m' → Visited set (record { view = m.0; steps = told }) (record { view = m'.0; steps = told' }) lane mark.place (replay (known_of m.0 lane)) e (handed lane e m.0)
+visited_by_put set m m' told told' mark who e lane on there near two by trace fits k = record {
   mark = mark;
   lane_is = on;
   place_is = refl;
@@ -53,6 +72,7 @@ visited_by_put set m m' told told' mark who e lane on there near two by trace k 
     trace = trace;
     went = subst (λ (l : ℕ). mark.place ≡ length (known_of m.0 l) → l < length m.0.lanes → Added l (filled l (visit_by who mark.stamp e) m.0) m m' → Went set.caller set.event (length told) m.0 m'.0 (visited mark e ∷ [])) on
         (λ t n a. went_put set.caller set.event (length told) m m' two (filled (index_of mark.lane) (visit_by who mark.stamp e) m.0) mark e n t refl by refl a) there near k;
+    fits = (fits, tt);
   };
   met = record {
     near = (let s = k.same.sized in omega arith);
@@ -74,10 +94,10 @@ visited_is set m n lane place s e e' got is k = subst (λ (z : LaneEntry). Visit
 
 -- a visit of the lane that was held
 pub visited_at : (set : Setting) (m m' : Seated) (told told' : List Step) (mark : Mark) (who : Who) (e : LaneEntry) (held lane : ℕ) → held ≡ lane → index_of mark.lane ≡ held → mark.place ≡ length (known_of m.0 held) → held < length m.0.lanes → 1 < length m.0.lanes
-    → who ≡ maker set.caller set.event (length told) → told' ≡ told ++ Marked mark ∷ [] → Added held (filled held (visit_by who mark.stamp e) m.0) m m'
+    → who ≡ maker set.caller set.event (length told) → told' ≡ told ++ Marked mark ∷ [] → MarkFits mark → Added held (filled held (visit_by who mark.stamp e) m.0) m m'
     → Visited set (record { view = m.0; steps = told }) (record { view = m'.0; steps = told' }) lane mark.place (replay (known_of m.0 lane)) e (handed lane e m.0)
-visited_at set m m' told told' mark who e held lane same on there near two by trace k =
-    subst (λ (l : ℕ). Visited set (record { view = m.0; steps = told }) (record { view = m'.0; steps = told' }) l mark.place (replay (known_of m.0 l)) e (handed l e m.0)) same (visited_by_put set m m' told told' mark who e held on there near two by trace k)
+visited_at set m m' told told' mark who e held lane same on there near two by trace fits k =
+    subst (λ (l : ℕ). Visited set (record { view = m.0; steps = told }) (record { view = m'.0; steps = told' }) l mark.place (replay (known_of m.0 l)) e (handed l e m.0)) same (visited_by_put set m m' told told' mark who e held on there near two by trace fits k)
 
 -- by the place as it was taken
 pub visited_place : (set : Setting) (m n : Moment) (lane p q : ℕ) (s : Model) (e : LaneEntry) (got : Handed) → p ≡ q → Visited set m n lane p s e got → Visited set m n lane q s e got

@@ -1,7 +1,9 @@
 pub mod Did
 pub mod Forks
 pub mod Integers
+pub mod Hosted
 pub mod Reading
 pub mod SampleDeeds
 pub mod Told
+pub mod VreadDid
 pub mod Waits

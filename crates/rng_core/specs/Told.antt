@@ -1,9 +1,11 @@
 -- What a call did, as its trace tells it, and the deeds that stand behind its steps in the end.
 use Rattle.std.specs.Prelude.{◌≡◌, ℕ, ◌<◌, List, [], ◌∷◌, ◌++◌, length, map, take}
+use Rattle.std.specs.List.{AllByRecursion}
 use mathlib.Core.Option.{some}
 use lib.ListN.{get_elem?}
 use Rattle.key_names.specs.declared.names.Mark.{Mark}
 use Rattle.key_names.specs.declared.names.Step.{Step}
+use Rattle.key_names.specs.TranscriptGrammar.{StepFits}
 use Rattle.lane_table.specs.declared.view.Visit.{Visit}
 use Rattle.lane_table.specs.declared.view.View.{View}
 use Rattle.lane_table.specs.declared.view.Handed.{Handed}
@@ -24,10 +26,11 @@ pub record Moment : Type 0 where
 abbrev pub moment : Pass → List Step → Moment
 moment pass steps = record { view = view pass; steps = steps }
 
--- from m to n the pass did exactly this, and the trace tells it
+-- from m to n the pass did exactly this, and the trace tells it, in numbers that a transcript can have
 pub record Told (set : Setting) (m n : Moment) (deals : List Deal) : Type 0 where
   pub trace : n.steps ≡ m.steps ++ map step_of deals
   pub went : Went set.caller set.event (length m.steps) m.view n.view deals
+  pub fits : AllByRecursion StepFits (map step_of deals)
 
 -- what stands at a mark: the entry, with what was handed to it, and the lane's model before it
 pub record Met (v : View) (mark : Mark) (s : Model) (e : LaneEntry) (got : Handed) : Type 0 where

@@ -1,9 +1,11 @@
--- How a wait ends.
-use Rattle.std.specs.Prelude.{◌≡◌, ℕ, [], ◌≤◌, Result, Ok, Err}
+-- How long a wait is, and how it ends.
+use Rattle.std.specs.Prelude.{◌≡◌, ℕ, ◌-◌, ◌*◌, [], ◌≤◌, Result, Ok, Err}
 use Rattle.key_names.specs.declared.errno.Errno.{Errno}
 use Rattle.key_names.specs.declared.errno.Errno.TheVariants.{Interrupted}
 use Rattle.key_names.specs.declared.entries.BaseEntry.TheVariants.{Resume, Interrupt}
 use Rattle.key_names.specs.Forms.{BaseOnly}
+use Rattle.lane_table.specs.declared.view.View.{View}
+use Rattle.lane_table.specs.Went.{floor}
 use Rattle.rng_core.specs.declared.setting.Setting.{Setting}
 use Rattle.rng_core.specs.Told.{Moment}
 use Rattle.rng_core.specs.Did.{Did, Serving}
@@ -12,3 +14,7 @@ use Rattle.rng_core.specs.Did.{Did, Serving}
 abbrev pub Waits : {T : Type 0} → Result T Errno → Setting → Moment → Moment → ℕ → Type 0
 Waits (Ok x) set m n seen = (1 ≤ seen) × Did (Serving (BaseOnly Resume) []) set m n
 Waits (Err e) set m n seen = (e ≡ Interrupted) × Did (Serving (BaseOnly Interrupt) []) set m n
+
+-- how many steps a caller may still need to wait until the core is ready: none where it has seen that it is
+abbrev pub waiting : View → ℕ
+waiting v = 2 - 2 * floor v

@@ -8,6 +8,7 @@ mod desk;
 mod forks;
 mod integers;
 mod interrupts;
+mod lane_host;
 mod lane_values;
 mod pairs;
 mod reads;
@@ -16,6 +17,7 @@ mod running;
 mod samples;
 mod setting;
 mod system_call;
+mod vreads;
 
 pub use cpus::{online, prepare};
 pub use forks::fork;
@@ -27,6 +29,7 @@ pub use running::{end, stall, unstall};
 pub use samples::{add, bits, device, input, mix, vmfork};
 pub use setting::Setting;
 pub use system_call::{getrandom, random_file};
+pub use vreads::{vread, vread_local};
 
 #[cfg(test)]
 mod tests;

@@ -44,6 +44,7 @@ fn draw_rooted<R: Wait>(
     requires count { taken_count taken ≡ length buf.old }
     requires room { length trace.old < 19 }
     ensures has { Has lanes.now set.entry.now.caller [] pass.new }
+    ensures room { length trace.new ≡ length trace.old + 2 }
     ensures did { Did (Serving (DrawForm (setting_of set.entry.now) taken) buf.new) set.entry.now (moment pass.old trace.old) (moment pass.new trace.new) }
 {
     let root = extract(rt, lanes, pass, trace, set, &base);
@@ -73,6 +74,7 @@ fn draw_early(
     requires room { length trace.old < 20 }
     requires early { pass.old.stamp < 2 ^ 62 }
     ensures has { Has lanes.now set.entry.now.caller [] pass.new }
+    ensures room { length trace.new ≡ length trace.old + 1 }
     ensures did { Did (Serving (DrawForm (setting_of set.entry.now) taken) buf.new) set.entry.now (moment pass.old trace.old) (moment pass.new trace.new) }
 {
     lane_values::draw(base.state_mut(), buf, taken);
@@ -108,6 +110,7 @@ fn read_fresh(
     requires room { length trace.old < 20 }
     requires early { pass.old.stamp < 2 ^ 62 }
     ensures has { Has lanes.now set.entry.now.caller [] pass.new }
+    ensures room { length trace.new ≡ length trace.old + 1 }
     ensures served { Served set.entry.now (moment pass.old trace.old) (moment pass.new trace.new) (set.entry.now.cpu + 2) cpu.turn.place (OfCpu (Read look None taken)) buf.new }
 {
     cpu_values::read(cpu.state_mut(), buf, taken);
@@ -144,6 +147,7 @@ fn read_refilled(
     requires room { length trace.old < 20 }
     requires early { pass.old.stamp ≤ 2 ^ 62 }
     ensures has { Has lanes.now set.entry.now.caller [] pass.new }
+    ensures room { length trace.new ≡ length trace.old + 1 }
     ensures served { Served set.entry.now (moment pass.old trace.old) (moment pass.new trace.new) (set.entry.now.cpu + 2) cpu.turn.place (OfCpu (Read look (Some base.now.place) taken)) buf.new }
 {
     cpu_values::read_refilled(cpu.state_mut(), base.key, base.generation, buf, taken);
@@ -172,6 +176,7 @@ pub(crate) fn read_cpu<R: Wait>(
     requires some { 0 < length buf.old }
     requires room { length trace.old < 18 }
     ensures has { Has lanes.now set.entry.now.caller [] pass.new }
+    ensures room { length trace.new ≤ length trace.old + 3 }
     ensures did { Did (Serving (CpuReadForm (setting_of set.entry.now) taken) buf.new) set.entry.now (moment pass.old trace.old) (moment pass.new trace.new) }
 {
     let cpu = enter(rt, lanes, pass, trace, set, LaneId::Cpu(set.cpu));
@@ -203,6 +208,7 @@ fn draw<R: Wait>(
     requires room { length trace.old < 19 }
     requires early { pass.old.stamp < 2 ^ 62 }
     ensures has { Has lanes.now set.entry.now.caller [] pass.new }
+    ensures room { length trace.new ≤ length trace.old + 2 }
     ensures did { Did (Serving (DrawForm (setting_of set.entry.now) taken) buf.new) set.entry.now (moment pass.old trace.old) (moment pass.new trace.new) }
 {
     match lane_values::phase(base.state()) {
@@ -230,6 +236,7 @@ pub(crate) fn read_behind<R: Wait>(
     requires some { 0 < length buf.old }
     requires room { length trace.old < 18 }
     ensures has { Has lanes.now set.entry.now.caller [] pass.new }
+    ensures room { length trace.new ≤ length trace.old + 3 }
     ensures did { Did (Serving (ReadForm (setting_of set.entry.now) taken look) buf.new) set.entry.now (moment pass.old trace.old) (moment pass.new trace.new) }
 {
     if look != 0 {

@@ -11,7 +11,7 @@ ghost use Rattle.key_names.specs.declared.events.Event.TheVariants.{Read, Dread}
 ghost use Rattle.key_names.specs.Flags.{is_nonblock, is_insecure};
 ghost use Rattle.key_names.specs.SeenLine.{bytes_or_none};
 ghost use Rattle.rng_core.specs.Did.{Did, Serving, Fulfils, setting_of, result_answer, given};
-ghost use Rattle.rng_core.specs.Waits.{Waits};
+ghost use Rattle.rng_core.specs.Waits.{Waits, waiting};
 
 use crate::desk::{enter, give_back, leave, look};
 use crate::lane_values;
@@ -145,8 +145,9 @@ pub fn getrandom<R: Wait>(
     requires has { Has lanes.now set.now.caller [] pass.old }
     requires cpu { set.now.cpu < lanes.now.cpus }
     requires short { length buf.old ≤ 2 ^ 20 }
-    requires room { length trace.old < 15 }
+    requires room { length trace.old + 4 + waiting (view pass.old) ≤ 20 }
     ensures has { Has lanes.now set.entry.now.caller [] pass.new }
+    ensures room { length trace.new + waiting (view pass.new) ≤ length trace.old + 4 + waiting (view pass.old) }
     ensures did { Did (Fulfils (setting_of set.entry.now) (Read (length buf.old) flags) (result_answer result) (bytes_or_none (given result buf.new))) set.entry.now (moment pass.old trace.old) (moment pass.new trace.new) }
 {
     if are_bad(flags) {

@@ -2,15 +2,14 @@
 use Rattle.std.specs.Prelude.{ℕ, ◌≡◌, ◌⊎◌, List, [], ◌∷◌, Option, String, string_bytes, codes, map, IfSome}
 use Rattle.std.specs.Io.KnownBytes.{Appends, Consumes, IsAtEnd}
 use Rattle.io_edges.specs.Pieces.{AppendsPrefix}
-use Rattle.key_names.specs.declared.events.Event.{Event}
 use Rattle.key_names.specs.Book.{Book, lists_of}
 use Rattle.key_names.specs.IsTranscript.{IsTranscriptBy}
 use Rattle.key_names.specs.Uses.{IsDisjoint}
 use Rattle.key_names.specs.Meaning.{CallMeaning}
 use Rattle.key_names.specs.SeenLine.{SeenLine}
-use Rattle.key_names.specs.ScriptGrammar.{Script}
+use Rattle.key_names.specs.ScriptGrammar.{Script, IsScript}
 use Rattle.key_names.specs.TranscriptGrammar.{transcript_text}
-use Rattle.event_script.specs.FirstForm.{IsFirstScript, first_script}
+use Rattle.caller_run.specs.Kinds.{RunsAlone}
 use Rattle.rng_tool.specs.Refusal.{refusal_of}
 use Rattle.rng_tool.specs.declared.status.Status.{Status}
 use Rattle.rng_tool.specs.declared.status.Status.TheVariants.{Done, No, Usage, ReadFault, WriteFault, Refused, NoMemory}
@@ -24,9 +23,10 @@ code_of WriteFault = 4
 code_of Refused = 5
 code_of NoMemory = 6
 
--- the input is no script of one caller that only writes and reads, the one form of scripts that has a run so far
+-- the input is none of the scripts that have a run so far: those of one caller whose events
+-- have a call of the core, or are acts that no vread follows
 abbrev pub HasNoRun : List ℕ → Type 0
-HasNoRun input = (events : List Event) → IsFirstScript events input → ⊥
+HasNoRun input = (script : Script) → IsScript script input → RunsAlone script → ⊥
 
 -- what a lawful transcript for a script tells: its text, and that its book puts no byte of a key to use twice
 pub record RunOf (script : Script) (output : List ℕ) : Type 0 where
@@ -42,20 +42,24 @@ pub record IsRefusal (input output : List ℕ) : Type 0 where
   pub no_run : HasNoRun input
   pub line : output ≡ refusal_of input
 
+-- the input is a script that has a run, and the output is the text of its transcript
+pub record CallsForRun (input output : List ℕ) : Type 0 where
+  pub script : Script
+  pub is_script : IsScript script input
+  pub alone : RunsAlone script
+  pub run : RunOf script output
+
 -- the output that an input calls for
 abbrev pub CallsFor : List ℕ → List ℕ → Type 0
-CallsFor input output =
-    ((events : List Event) × IsFirstScript events input × RunOf (first_script events) output) ⊎ IsRefusal input output
+CallsFor input output = CallsForRun input output ⊎ IsRefusal input output
 
 -- the whole input was read, and the transcript was written
 pub record WasRun (left left_after held held_after : Option (List ℕ)) : Type 0 where
   pub input : List ℕ
-  pub events : List Event
   pub output : List ℕ
   pub read : Consumes left left_after input
   pub whole : IsAtEnd left_after
-  pub script : IsFirstScript events input
-  pub run : RunOf (first_script events) output
+  pub run : CallsForRun input output
   pub written : Appends held held_after output
 
 -- the refusal of what was read was written; it is also that of all that was left

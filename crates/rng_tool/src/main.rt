@@ -1,8 +1,6 @@
 //! `rng`: the Linux random number core, replayed from a script of recorded events.
 #![tactic(auto)]
 
-mod lanes;
-mod one_caller;
 mod refusal;
 mod run;
 mod status;
@@ -36,7 +34,7 @@ fn main(rt: HostRuntime) -> ExitCode {
         Ok(words) => {
             let mut source = StdSource::of(rt.stdin());
             let mut sink = StdSink::of(rt.stdout());
-            run(rt.alloc(), &words, &mut source, &mut sink)
+            run(&rt, rt.alloc(), &words, &mut source, &mut sink)
         }
         Err(status) => status,
     };

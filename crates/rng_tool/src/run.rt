@@ -1,23 +1,22 @@
 //! The top call: words in, a script in, a transcript out.
-ghost use Rattle.std.specs.Prelude.{◌≡◌, ◌≢◌, ◌↔◌, ◌≤◌, ◌⊎◌, [], ◌∷◌, List, length, IsTrue, IfOk, IsOk, IsErr, OnOk, OnErr, sum_by};
+ghost use Rattle.std.specs.Prelude.{◌≡◌, ◌≢◌, ◌↔◌, ◌⊎◌, ℕ, [], ◌∷◌, List, IsTrue, IfOk};
 ghost use Rattle.std.specs.Io.KnownBytes.{Appends, Keeps};
-ghost use Rattle.std.specs.List.{AllByRecursion};
-ghost use Rattle.event_script.specs.FirstForm.{IsFirst, first_script};
+ghost use Rattle.caller_run.specs.Kinds.{RunsAlone};
 ghost use Rattle.io_edges.specs.Faults.{Rose};
 ghost use Rattle.io_edges.specs.Pieces.{AppendsPrefix};
-ghost use Rattle.key_names.specs.ScriptGrammar.{bytes_read};
+ghost use Rattle.key_names.specs.ScriptGrammar.{WellFormed};
 ghost use Rattle.key_names.specs.TranscriptGrammar.{transcript_text};
-ghost use Rattle.rng_tool.specs.FirstForm.{first_lines};
-ghost use Rattle.rng_tool.specs.Outcome.{IsRun, RunOf, WasCutShort, WasRefused, WasRun};
-ghost use Rattle.rng_tool.specs.Refusal.{refusal_of};
+ghost use Rattle.rng_tool.specs.Outcome.{CallsFor, CallsForRun, IsRefusal, IsRun, RunOf, WasCutShort, WasRefused, WasRun};
+ghost use Rattle.rng_tool.specs.Refusal.{refusal_by};
 
-use crate::one_caller::run_events;
-use crate::refusal::refusal_of;
+use crate::refusal::refusal_by;
 use crate::status::Status;
-use event_script::read_first_form;
+use caller_run::{run_alone, runs_alone};
+use event_script::{Script, ScriptError, read};
 use io_edges::{Failed, NoMemory, ReadError, Sink, Source, put_all, read_to_limit};
-use key_names::Event;
+use key_names::ScriptFault;
 use std::alloc::Global;
+use std::sync::Wait;
 use transcript_text::{Transcript, write_all};
 
 /// The most bytes of a script: 16 MiB.
@@ -33,27 +32,26 @@ fn is_run(words: &[String]) -> bool
     }
 }
 
-fn transcript_of(alloc: Global, events: &[Event]) -> Result<Transcript, NoMemory>
-    requires first { AllByRecursion IsFirst events.now }
-    requires few { length events.now ≤ 65536 }
-    requires short { sum_by bytes_read events.now ≤ 16777216 }
-    ensures { IfOk result (λ t. t ≡ first_lines events.now ∷ []) }
+fn transcript_of<R: Wait>(rt: &R, alloc: Global, script: &Script) -> Result<Transcript, NoMemory>
+    requires well_formed { WellFormed script.now }
+    requires alone { RunsAlone script.now }
+    ensures { IfOk result (λ t. RunOf script.now (transcript_text t)) }
 {
     let mut callers = Vec::with_capacity(alloc, 1)?;
-    callers.push_reserved(run_events(alloc, events)?);
+    callers.push_reserved(run_alone(rt, alloc, script.cpus(), script.events(0))?);
     Ok(Transcript::of(callers))
 }
 
-// The refusal of an input that has no run.
-fn refuse<K: Sink>(alloc: Global, input: &[u8], sink: &mut K) -> Status
+// The refusal of an input that has this fault, or has no run.
+fn refuse<K: Sink>(alloc: Global, fault: Option<ScriptFault>, sink: &mut K) -> Status
     ensures either { (result ≡ Status.Refused) ⊎ (result ≡ Status.WriteFault) ⊎ (result ≡ Status.NoMemory) }
-    ensures whole { result ≡ Status.Refused → Appends (K.held sink.old) (K.held sink.new) (refusal_of input.now) }
+    ensures whole { result ≡ Status.Refused → Appends (K.held sink.old) (K.held sink.new) (refusal_by fault) }
     ensures cut { result ≡ Status.WriteFault → Rose (K.faults sink.old) (K.faults sink.new) }
     ensures prefix { result ≡ Status.WriteFault
-        → AppendsPrefix (K.held sink.old) (K.held sink.new) (refusal_of input.now) }
+        → AppendsPrefix (K.held sink.old) (K.held sink.new) (refusal_by fault) }
     ensures silent { result ≡ Status.NoMemory → Keeps (K.held sink.old) (K.held sink.new) }
 {
-    let Ok(line) = refusal_of(alloc, input) else {
+    let Ok(line) = refusal_by(alloc, fault) else {
         return Status::NoMemory;
     };
     match put_all(sink, line.as_bytes()) {
@@ -63,19 +61,18 @@ fn refuse<K: Sink>(alloc: Global, input: &[u8], sink: &mut K) -> Status
 }
 
 // The run of an accepted script.
-fn run_script<K: Sink>(alloc: Global, events: &[Event], sink: &mut K) -> Status
-    requires first { AllByRecursion IsFirst events.now }
-    requires few { length events.now ≤ 65536 }
-    requires short { sum_by bytes_read events.now ≤ 16777216 }
+fn run_script<R: Wait, K: Sink>(rt: &R, alloc: Global, script: &Script, sink: &mut K) -> Status
+    requires well_formed { WellFormed script.now }
+    requires alone { RunsAlone script.now }
     ensures either { (result ≡ Status.Done) ⊎ (result ≡ Status.WriteFault) ⊎ (result ≡ Status.NoMemory) }
     ensures whole { result ≡ Status.Done
-        → Appends (K.held sink.old) (K.held sink.new) (transcript_text (first_lines events.now ∷ [])) }
+        → (output : List ℕ) × RunOf script.now output × Appends (K.held sink.old) (K.held sink.new) output }
     ensures cut { result ≡ Status.WriteFault → Rose (K.faults sink.old) (K.faults sink.new) }
     ensures prefix { result ≡ Status.WriteFault
-        → AppendsPrefix (K.held sink.old) (K.held sink.new) (transcript_text (first_lines events.now ∷ [])) }
+        → (output : List ℕ) × RunOf script.now output × AppendsPrefix (K.held sink.old) (K.held sink.new) output }
     ensures silent { result ≡ Status.NoMemory → Keeps (K.held sink.old) (K.held sink.new) }
 {
-    let Ok(transcript) = transcript_of(alloc, events) else {
+    let Ok(transcript) = transcript_of(rt, alloc, script) else {
         return Status::NoMemory;
     };
     match write_all(sink, &transcript) {
@@ -84,11 +81,36 @@ fn run_script<K: Sink>(alloc: Global, events: &[Event], sink: &mut K) -> Status
     }
 }
 
+// What an input calls for.
+fn answer<R: Wait, K: Sink>(rt: &R, alloc: Global, input: &[u8], sink: &mut K) -> Status
+    ensures either { (result ≡ Status.Done) ⊎ (result ≡ Status.Refused) ⊎ (result ≡ Status.WriteFault) ⊎ (result ≡ Status.NoMemory) }
+    ensures done { result ≡ Status.Done → (output : List ℕ) × CallsForRun input.now output
+        × Appends (K.held sink.old) (K.held sink.new) output }
+    ensures refused { result ≡ Status.Refused → (output : List ℕ) × IsRefusal input.now output
+        × Appends (K.held sink.old) (K.held sink.new) output }
+    ensures cut { result ≡ Status.WriteFault → Rose (K.faults sink.old) (K.faults sink.new) }
+    ensures prefix { result ≡ Status.WriteFault → (output : List ℕ) × CallsFor input.now output
+        × AppendsPrefix (K.held sink.old) (K.held sink.new) output }
+    ensures silent { result ≡ Status.NoMemory → Keeps (K.held sink.old) (K.held sink.new) }
+{
+    match read(alloc, input) {
+        Ok(script) => {
+            if runs_alone(&script) {
+                run_script(rt, alloc, &script, sink)
+            } else {
+                refuse(alloc, None, sink)
+            }
+        }
+        Err(ScriptError::Fault(fault)) => refuse(alloc, Some(fault), sink),
+        Err(ScriptError::NoMemory) => Status::NoMemory,
+    }
+}
+
 /// Runs a command.
 ///
-/// The one form of the words is `run`. The input, read to its end, is a script of version 1 with one CPU and one
-/// caller, whose events are `write` and `read N 4`; the output is its transcript. An input that is no script is
-/// answered by the line `refused LINE KIND`, its first fault, and any other script by `refused 0 0`.
+/// The one form of the words is `run`. The input, read to its end, is a script of one caller in which no act waits for a
+/// `vread`; the output is its transcript. An input that is no script is answered by the line `refused LINE KIND`, its
+/// first fault, and any other script by `refused 0 0`.
 ///
 /// - `Usage`: exactly where the words are not the one word `run`. Nothing is read or written.
 /// - `ReadFault`: the source failed. Nothing is written.
@@ -96,7 +118,8 @@ fn run_script<K: Sink>(alloc: Global, events: &[Event], sink: &mut K) -> Status
 /// - `WriteFault`: the sink failed. What it got in this call is a prefix of the output.
 /// - `NoMemory`: there was no memory, before anything was written.
 /// - `Done`: the input was read to its end, and the transcript was written.
-pub fn run<S: Source, K: Sink>(
+pub fn run<R: Wait, S: Source, K: Sink>(
+    rt: &R,
     alloc: Global,
     words: &[String],
     source: &mut S,
@@ -124,9 +147,5 @@ pub fn run<S: Source, K: Sink>(
         Err(ReadError::Fault) => return Status::ReadFault,
         Err(ReadError::NoMemory) => return Status::NoMemory,
     };
-    match read_first_form(alloc, &input) {
-        Ok(Some(events)) => run_script(alloc, &events, sink),
-        Ok(None) => refuse(alloc, &input, sink),
-        Err(_) => Status::NoMemory,
-    }
+    answer(rt, alloc, &input, sink)
 }

@@ -6,6 +6,7 @@ use crate::status::Status;
 use io_edges::{MemSink, MemSource};
 use std::alloc::{AllocError, Global};
 use std::process::Abort;
+use std::sync::Wait;
 use std::test::Fail;
 
 const FIRST_SCRIPT: &[u8] = b"rngscript 1\ncpus 1\ncaller 0\nwrite 616263\nread 16 4\nend\n";
@@ -26,6 +27,29 @@ const LONG_TRANSCRIPT: &[u8] = b"rngtranscript 1\n\
     0.1 read ok ~0 -\n\
     0.2 read ok ~0,p:1@2,b:0@3 7ab6c07d92303142164272a17a686f2153159cc899057930e0cc0663fd417ebcda\n\
     0.3 end ok b:1@4 -\n\
+    end\n";
+
+const TWO_CPUS_SCRIPT: &[u8] = b"rngscript 1\n\
+    cpus 2\n\
+    caller 0\n\
+    credit 256\n\
+    read 8 0\n\
+    on 1\n\
+    read 8 0\n\
+    read 8 0\n\
+    reseed\n\
+    read 8 0\n\
+    end\n";
+
+const TWO_CPUS_TRANSCRIPT: &[u8] = b"rngtranscript 1\n\
+    0.0 credit ok p:0@1,p:1@2,b:0@3 -\n\
+    0.1 read ok ~1,~1,b:1@4,c0:0@5 93271463054bc0f8\n\
+    0.2 on ok - -\n\
+    0.3 read ok ~1,~1,b:2@6,c1:0@7 5dfce721438a4431\n\
+    0.4 read ok ~1,~1,c1:1@8 2e310699e61eaa5a\n\
+    0.5 reseed ok ~1,p:2@9,b:3@10 -\n\
+    0.6 read ok ~2,~2,b:4@11,c1:2@12 f198160e1100359a\n\
+    0.7 end ok b:5@13 -\n\
     end\n";
 
 // More than any output here.
@@ -57,8 +81,8 @@ const WHOLE: Edges = Edges {
 };
 
 // What a run with these words answers, and what its source has left and its sink holds.
-fn run_over(
-    rt: &impl Abort,
+fn run_over<R: Abort + Wait>(
+    rt: &R,
     alloc: Global,
     texts: &[&str],
     script: &[u8],
@@ -72,7 +96,7 @@ fn run_over(
         [edges.failing_take].to_vec(alloc)?,
     );
     let mut sink = MemSink::of(alloc, edges.step, [edges.failing_put].to_vec(alloc)?, ROOM)?;
-    let status = run(alloc, &words, &mut source, &mut sink);
+    let status = run(rt, alloc, &words, &mut source, &mut sink);
     Ok((status, source, sink))
 }
 
@@ -82,6 +106,7 @@ fn transcripts_of_the_worked_cases(rt: HostRuntime) -> Result<(), Fail> {
     for (script, transcript) in [
         (FIRST_SCRIPT, FIRST_TRANSCRIPT),
         (LONG_SCRIPT, LONG_TRANSCRIPT),
+        (TWO_CPUS_SCRIPT, TWO_CPUS_TRANSCRIPT),
     ] {
         for step in [1, 7, 4096] {
             let edges = Edges { step, ..WHOLE };
@@ -129,11 +154,9 @@ fn faults_are_told(rt: HostRuntime) -> Result<(), Fail> {
 #[test]
 fn scripts_of_other_forms_have_no_fault(rt: HostRuntime) -> Result<(), Fail> {
     let alloc = rt.alloc();
-    let scripts: [&[u8]; 4] = [
-        b"rngscript 1\ncpus 1\ncaller 0\nread 16 0\nend\n",
+    let scripts: [&[u8]; 2] = [
         b"rngscript 1\ncpus 1\ncaller 0\nfork 1\ncaller 1\nend\n",
-        b"rngscript 1\ncpus 2\ncaller 0\nend\n",
-        b"rngscript 2\ncpus 1\ncaller 0\nend\n",
+        b"rngscript 1\ncpus 1\ncaller 0\ninside 1 wipe\nvread 16 0\nend\n",
     ];
     for (row, script) in scripts.iter().enumerate() {
         let (status, _, sink) = run_over(&rt, alloc, &["run"], script, WHOLE)?;
@@ -155,7 +178,7 @@ fn other_words_read_and_write_nothing(rt: HostRuntime) -> Result<(), Fail> {
         let mut rest = MemSink::of(alloc, 4096, Vec::new(alloc), ROOM)?;
         let words = words_of(alloc, &["run"])?;
         assert_eq!(rt;
-            run(alloc, &words, &mut source, &mut rest),
+            run(&rt, alloc, &words, &mut source, &mut rest),
             Status::Done,
             "row {row}"
         );

@@ -1,4 +1,6 @@
-use Rattle.std.proofs.Common.{◌≡◌, ◌<◌, ◌++◌, ◌∷◌, [], ℕ, List, length, sym, ap, ◌∙◌, subst, arith, rules}
+use Rattle.std.proofs.Common.{◌≡◌, ◌<◌, ◌≤◌, ◌+◌, ◌-◌, ◌*◌, ◌++◌, ◌∷◌, [], ℕ, zero, suc, Bool, true, false, List, length, refl, sym, ap, ◌∙◌, subst, arith, rules}
+use Rattle.std.specs.Prelude.{◌==◌, ◌&&◌}
+use Rattle.std.proofs.lemmas.Bool.{ne_eqb}
 use Rattle.key_names.specs.declared.errno.Errno.{Errno}
 use Rattle.key_names.specs.declared.events.Event.TheVariants.{Read}
 use Rattle.key_names.specs.declared.events.Answer.TheVariants.{Ok as Done}
@@ -6,9 +8,28 @@ use Rattle.key_names.specs.SeenLine.{bytes_or_none}
 use Rattle.key_names.specs.Deeds.{Deed, looked}
 use Rattle.rng_core.specs.Did.{Did, Fulfils, setting_of, errno_answer}
 use Rattle.rng_core.specs.Told.{moment}
-use Rattle.rng_core.proofs.Doing.{did_nothing, did_map, did_look, did_behind, did_then}
+use Rattle.rng_core.proofs.Doing.{did_floor, did_nothing, did_map, did_look, did_behind, did_then}
 use Rattle.rng_core.proofs.SysFulfilling.{sys_invalid, sys_again, sys_interrupted, sys_waited_none, sys_waited, sys_none, sys_read, nil_of}
 use Rattle.rng_core.proofs.system_call.getrandom.Goals as goal
+
+found_none : (found : ℕ) (b : Bool) → (found == 0 && b) ≡ true → found ≡ 0
+found_none zero b e = refl
+found_none (suc g) b e = let f : false ≡ true = ap (λ (x : Bool). x && b) (sym (ne_eqb (suc g) 0 (λ z. omega arith))) ∙ e in absurd (cc f)
+
+-- a look, a wait and its end, and a read; low is what was seen before it
+room_waited : (start one waited ready end low found mid high : ℕ) → one ≡ start + 1 → waited ≡ one + 1 → ready ≡ waited + 1 → end ≤ ready + 3 → low ≤ found → found ≡ 0 → 1 ≤ mid → mid ≤ high → end + (2 - 2 * high) ≤ start + 4 + (2 - 2 * low)
+room_waited start one waited ready end low found mid high a b c d e f g h = omega arith
+
+-- a look and a read
+room_read : (start one end low found mid high : ℕ) → one ≡ start + 1 → end ≤ one + 3 → low ≤ found → found ≤ mid → mid ≤ high → end + (2 - 2 * high) ≤ start + 4 + (2 - 2 * low)
+room_read start one end low found mid high a b c d e = omega arith
+
+pub returns-in-Ok-clause-room : goal.returns-in-Ok-clause-room
+returns-in-Ok-clause-room g c = room_waited _ _ _ _ _ _ c.look-found.result _ _ c.look-found.ensures.room c.wait.ensures.room c.in-Ok.ensures.room c.read_cpu.ensures.room c.look-found.ensures.above
+    (found_none c.look-found.result _ (sym c.must_wait.ensures ∙ c.if-must_wait.true)) c.in-Ok.ensures.waited.0 (did_floor _ _ _ c.read_cpu.ensures.did)
+
+pub returns-clause-room : goal.returns-clause-room
+returns-clause-room g c = room_read _ _ _ _ c.look-found.result _ _ c.look-found.ensures.room c.read_behind.ensures.room c.look-found.ensures.above c.look-found.ensures.known (did_floor _ _ _ c.read_behind.ensures.did)
 
 pub returns-then-are_bad-clause-did : goal.returns-then-are_bad-clause-did
 returns-then-are_bad-clause-did g c = did_nothing _ _ (let a = c.requires.has.pass.sized in let b = c.args.lanes.now.few in omega arith) (sys_invalid _ _ _ (sym c.are_bad.ensures ∙ c.if-are_bad.true))

@@ -1,4 +1,4 @@
-use Rattle.rng_core.proofs.Starting.{has_new}
+use Rattle.lane_table.proofs.HandLemmas.{has_new}
 use Rattle.rng_core.proofs.tests.started.Goals as goal
 
 pub returns-clause-has : goal.returns-clause-has

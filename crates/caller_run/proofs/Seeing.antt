@@ -1,0 +1,142 @@
+-- What a caller has seen of the generations of its vgetrandom states, event by event.
+use Rattle.std.proofs.Common.{◌≡◌, ℕ, zero, suc, ◌<◌, ◌≤◌, List, [], ◌∷◌, length, replicate, refl, sym, ap, ◌∙◌, subst, arith, get_or}
+use Rattle.std.specs.Prelude.{slice_set}
+use Rattle.std.specs.List.{AllByRecursion}
+use Rattle.std.proofs.lemmas.List.{length-set}
+use Rattle.key_names.specs.declared.events.Event.{Event}
+use Rattle.key_names.specs.declared.events.Event.TheVariants.{Vread, Inside, Drop, State, Fork}
+use Rattle.key_names.specs.declared.names.Step.{Step}
+use Rattle.key_names.specs.declared.events.Word.{Word}
+use Rattle.key_names.specs.declared.events.Word.TheVariants.{Bits}
+use Rattle.key_names.specs.Calls as calls
+use Rattle.key_names.specs.Meaning.{CallerState, caller_start, state_after, with_state}
+use Rattle.key_names.specs.ScriptGrammar.{InRange, event_word}
+use Rattle.key_names.specs.VgetrandomState.{VgetrandomState, wiped_state}
+use Rattle.key_names.specs.VreadSteps.{published_by}
+use Rattle.key_names.proofs.Each.{each_weaker}
+use Rattle.lane_table.specs.declared.lanes.Lanes.{Lanes}
+use Rattle.lane_table.specs.Calls.{view}
+use Rattle.lane_table.specs.Hands.{Has}
+use Rattle.lane_table.specs.Went.{floor}
+use Rattle.rng_core.specs.Told.{moment}
+use Rattle.rng_core.specs.Did.{setting_of}
+use Rattle.rng_core.proofs.Doing.{did_floor}
+use Rattle.caller_run.specs.Calling.{caller_at, stand, Seen, StatesStand, Called, StateRead, Made}
+use Rattle.caller_run.specs.Kinds.{IsCall, MakesCall}
+use Rattle.caller_run.specs.Says.{ShowsFit, IsNoCount}
+use Rattle.caller_run.specs.declared.caller.Caller.{Caller}
+use Rattle.caller_run.specs.declared.said.Said.{Said}
+use Rattle.caller_run.specs.declared.said.Shows.{Shows}
+use Rattle.caller_run.specs.declared.said.Shows.TheVariants.{Nothing, Served, Count}
+
+published_up : (a b : ℕ) → a ≤ b → published_by a ≤ published_by b
+published_up zero b le = omega arith
+published_up (suc a) zero le = absurd (omega arith)
+published_up (suc a) (suc b) le = omega arith
+
+module _ {X : Type 0} (P : X → Type 0) where
+  pub each_at : (xs : List X) (i : ℕ) (d : X) → AllByRecursion P xs → i < length xs → P (get_or xs i d)
+  each_at [] i d all low = absurd (omega arith)
+  each_at (x ∷ xs) zero d all low = all.0
+  each_at (x ∷ xs) (suc i) d all low = each_at xs i d all.1 (omega arith)
+
+  each_set : (xs : List X) (i : ℕ) (x : X) → AllByRecursion P xs → P x → AllByRecursion P (slice_set xs i x)
+  each_set [] i x all is = tt
+  each_set (y ∷ xs) zero x all is = (is, all.1)
+  each_set (y ∷ xs) (suc i) x all is = (all.0, each_set xs i x all.1 is)
+
+  each_same : (n : ℕ) (x : X) → P x → AllByRecursion P (replicate n x)
+  each_same zero x is = tt
+  each_same (suc n) x is = (is, each_same n x is)
+
+-- at the start
+pub seen_start : (found : ℕ) (set : calls.Setting) → Seen found (caller_start set)
+seen_start found set = record {
+  many = refl;
+  current = omega arith;
+  published = each_same (λ (st : VgetrandomState). st.generation ≤ published_by found) 16 wiped_state (omega arith);
+}
+
+-- more was seen
+pub seen_up : (a b : ℕ) (s : CallerState) → a ≤ b → Seen a s → Seen b s
+seen_up a b s le k = record {
+  many = k.many;
+  current = k.current;
+  published = each_weaker (λ (st : VgetrandomState). st.generation ≤ published_by a) (λ st. st.generation ≤ published_by b) s.states
+      (λ st low. let up = published_up a b le in omega arith) k.published;
+}
+
+-- the current state is this one now
+pub seen_with : (found : ℕ) (s : CallerState) (st : VgetrandomState) → st.generation ≤ published_by found → Seen found s → Seen found (with_state s st)
+seen_with found s st low k = record {
+  many = length-set s.states s.current st ∙ k.many;
+  current = k.current;
+  published = each_set (λ (t : VgetrandomState). t.generation ≤ published_by found) s.states s.current st k.published low;
+}
+
+-- behind an event by itself
+pub seen_after : (version cpus found : ℕ) (s : CallerState) (event : Event) → InRange version cpus event → Seen found s → Seen found (state_after s event)
+seen_after version cpus found s Drop range k = seen_with found s wiped_state (omega arith) k
+seen_after version cpus found s (State number) range k = record { many = k.many; current = range.1; published = k.published }
+seen_after version cpus found s event range k = record { many = k.many; current = k.current; published = k.published }
+
+-- what an event by itself sets is not of the states
+pub behind_setting : (set new : calls.Setting) (states : CallerState) (event : Event) → new ≡ calls.setting_after set event →
+    state_after (record states { setting = set }) event ≡ record (state_after states event) { setting = new }
+behind_setting set new states Drop is = ap (λ (x : calls.Setting). record (state_after states Drop) { setting = x }) (sym is)
+behind_setting set new states (State number) is = ap (λ (x : calls.Setting). record (state_after states (State number)) { setting = x }) (sym is)
+behind_setting set new states event is = ap (λ (x : calls.Setting). record states { setting = x }) (sym is)
+
+-- a call of any event
+
+no_count : (word : Word) (shows : Shows) → (word ≡ Bits → ⊥) → IsNoCount shows → ShowsFit word shows
+no_count word Nothing other is = tt
+no_count word Served other is = other
+no_count word (Count n) other is = absurd is
+
+-- what holds behind each, c being the caller before it, and d behind it
+pub record Kept (t : Lanes) (event : Event) (c d : Caller) (said : Said) : Type 0 where
+  pub has : Has t d.set.caller [] d.pass
+  pub set : d.set ≡ c.set
+  pub states : StatesStand c → StatesStand d
+  pub shows : ShowsFit (event_word event) said.shows
+
+module _ (t : Lanes) (event : Event) (c d : Caller) (said : Said) (served : List ℕ) (steps : List Step) where
+  pub same_stand : Called t event c d said served steps → stand d ≡ stand c
+  same_stand k = (λ i. caller_at (setting_of (k.set i)) (k.states i))
+
+  called_kept : Called t event c d said served steps → Kept t event c d said
+  called_kept k = record {
+    has = k.has;
+    set = k.set;
+    states = λ s. subst (Seen (floor (view d.pass))) (sym (same_stand k))
+        (seen_up (floor (view c.pass)) (floor (view d.pass)) (stand c) (did_floor c.set (moment c.pass []) (moment d.pass steps) k.does) s);
+    shows = k.shows;
+  }
+
+read_kept : (t : Lanes) (n flags : ℕ) (c d : Caller) (said : Said) (served : List ℕ) (steps : List Step) →
+    StateRead t n flags c d said served steps → Kept t (Vread n flags) c d said
+read_kept t n flags c d said served steps k = record {
+  has = k.has;
+  set = k.set;
+  states = λ s. subst (Seen (floor (view d.pass))) (sym k.stands)
+      (seen_with (floor (view d.pass)) (stand c) k.left k.published
+      (seen_up (floor (view c.pass)) (floor (view d.pass)) (stand c)
+      (let a = k.did.glanced.floors in let b = did_floor c.set _ _ k.did.did in omega arith) s));
+  shows = no_count _ said.shows (λ same. cc) k.shows;
+}
+
+pub made_kept : (t : Lanes) (event : Event) (c d : Caller) (said : Said) (served : List ℕ) (steps : List Step) → MakesCall event →
+    Made t event c d said served steps → Kept t event c d said
+made_kept t (Vread n flags) c d said served steps is k = read_kept t n flags c d said served steps k
+made_kept t (Inside point act) c d said served steps is k = absurd is
+made_kept t (Fork child) c d said served steps is k = absurd is
+made_kept t event c d said served steps is k = called_kept t event c d said served steps k
+
+-- a call of the core is one
+pub by_core : (t : Lanes) (event : Event) (c d : Caller) (said : Said) (served : List ℕ) (steps : List Step) → IsCall event →
+    Called t event c d said served steps → Made t event c d said served steps
+by_core t (Vread n flags) c d said served steps is k = absurd is
+by_core t (Inside point act) c d said served steps is k = absurd is
+by_core t (Fork child) c d said served steps is k = absurd is
+by_core t event c d said served steps is k = k

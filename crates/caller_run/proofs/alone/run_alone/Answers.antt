@@ -1,0 +1,72 @@
+use Rattle.std.proofs.Common.{◌≡◌, ℕ, ◌+◌, ◌≤◌, ◌∷◌, [], drop, sym, subst, ◌∙◌}
+use Rattle.std.specs.Prelude.{All, vec_len}
+use Rattle.std.specs.List.{AllByRecursion}
+use Rattle.key_names.specs.ScriptGrammar.{InRange}
+use Rattle.lane_table.specs.Calls.{Ended, plan_of, view}
+use Rattle.caller_run.specs.Says.{most_shown}
+use Rattle.caller_run.specs.Standing.{CanGo}
+use Rattle.caller_run.proofs.Going.{still_next, can_here, all_gone}
+use Rattle.caller_run.proofs.Standing.{first_can}
+use Rattle.caller_run.proofs.Starts.{still_start, new_view, idle, whole_share, ran_alone}
+use Rattle.caller_run.proofs.alone.run_alone.Goals as goal
+
+pub loop-event-init : goal.loop-event-init
+loop-event-init g c =
+    let t = c.in_ok-lanes.lanes in let events = c.args.events.now in
+    let cpus : t.cpus ≡ c.args.cpus = c.in_ok-lanes.ensures.table.0 in
+    still_start t c.in_ok-lanes.pass (plan_of (c.args.cpus + 2) 0) c.start-caller.result c.in_ok-lines.lines (vec_len c.in_ok-served.served) events
+    c.in_ok-lanes.ensures.pass c.in_ok-lanes.ensures.seat c.start-caller.ensures.pass c.start-caller.ensures.set t.few.0 c.start-caller.ensures.stand
+    (c.requires.range.0, subst (λ (n : ℕ). AllByRecursion (InRange c.requires.range.0 n) events) (sym cpus) c.requires.range.1) c.requires.kinds c.requires.few
+    c.in_ok-lines.ensures.lines c.in_ok-lines.ensures.line_room (c.in_ok-lines.ensures.byte_room ∙ c.all_shown.ensures)
+    (subst (λ (n : ℕ). All (λ event. most_shown event ≤ n) events) (sym c.in_ok-served.ensures.len) c.longest_shown.ensures)
+
+pub step-requires : goal.step-requires
+step-requires g c = record {
+  can = subst (λ (n : ℕ). CanGo c.in_ok-lanes.lanes c.loop-event.caller c.loop-event.lines n (c.event-item.result ∷ [])) (sym c.deref_mut.ensures.len)
+      (first_can c.in_ok-lanes.lanes c.loop-event.caller c.loop-event.lines (vec_len c.loop-event.served) c.event-item.result
+      (drop (c.loop-event.event-index + 1) c.args.events.now)
+      (can_here c.in_ok-lanes.lanes (view c.start-caller.result.pass) 0 c.args.events.now c.loop-event.event-index c.event-item.result c.loop-event.caller
+      c.loop-event.lines (vec_len c.loop-event.served) c.loop-event-test.true c.event-item.is c.loop-event.invariant));
+}
+
+pub loop-event-preserved : goal.loop-event-preserved
+loop-event-preserved g c =
+    let t = c.in_ok-lanes.lanes in
+    still_next t (view c.start-caller.result.pass) 0 c.args.events.now c.loop-event.event-index c.event-item.result c.loop-event.caller
+    c.loop-event.lines (vec_len c.loop-event.served) c.loop-event-test.true c.event-item.is c.loop-event.invariant c.step.new.self c.step.new.lines
+    (λ rest can. subst (λ (n : ℕ). CanGo t c.step.new.self c.step.new.lines n rest) c.deref_mut.ensures.len
+    (c.step.ensures.can rest (subst (λ (n : ℕ). CanGo t c.loop-event.caller c.loop-event.lines n (c.event-item.result ∷ rest)) (sym c.deref_mut.ensures.len) can)))
+    c.step.ensures.gone
+
+pub finish-requires : goal.finish-requires
+finish-requires g c = record {
+  can = (
+    vec_len c.loop-event.served,
+    (all_gone c.in_ok-lanes.lanes (view c.start-caller.result.pass) 0 c.args.events.now c.loop-event.event-index c.loop-event.caller c.loop-event.lines
+        (vec_len c.loop-event.served) c.loop-event-test.false c.loop-event.invariant).0,
+  );
+}
+
+pub close-visits-requires-clause-whole : goal.close-visits-requires-clause-whole
+close-visits-requires-clause-whole g c =
+    let v = view c.start-caller.result.pass in let plan = plan_of (c.args.cpus + 2) 0 in
+    whole_share plan 0 c.args.events.now c.finish.new.self c.finish.new.lines.lines v
+    (new_view c.in_ok-lanes.pass plan c.start-caller.result c.in_ok-lanes.ensures.seat c.start-caller.ensures.pass)
+    (c.finish.ensures.ended v 0 c.args.events.now
+    (all_gone c.in_ok-lanes.lanes v 0 c.args.events.now c.loop-event.event-index c.loop-event.caller c.loop-event.lines
+    (vec_len c.loop-event.served) c.loop-event-test.false c.loop-event.invariant).1)
+
+pub close-visits-requires-clause-idle : goal.close-visits-requires-clause-idle
+close-visits-requires-clause-idle g c = idle c.in_ok-lanes.lanes _ _ c.finish.ensures.has
+
+pub returns : goal.returns
+returns g c =
+    let v = view c.start-caller.result.pass in let plan = plan_of (c.args.cpus + 2) 0 in (
+      view c.finish.new.self.pass,
+      ran_alone c.args.cpus 0 c.args.events.now c.finish.new.self c.finish.new.lines.lines v
+          (new_view c.in_ok-lanes.pass plan c.start-caller.result c.in_ok-lanes.ensures.seat c.start-caller.ensures.pass)
+          (c.finish.ensures.ended v 0 c.args.events.now
+          (all_gone c.in_ok-lanes.lanes v 0 c.args.events.now c.loop-event.event-index c.loop-event.caller c.loop-event.lines
+          (vec_len c.loop-event.served) c.loop-event-test.false c.loop-event.invariant).1)
+          (subst (λ (n : ℕ). Ended (n + 2) (view c.finish.new.self.pass)) c.in_ok-lanes.ensures.table.0 c.close-visits.ensures.ended) c.finish.ensures.reached,
+    )

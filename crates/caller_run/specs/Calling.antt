@@ -1,0 +1,78 @@
+-- What a caller's call is, of the core or out of a vgetrandom state, in the words of a caller's run.
+use Rattle.std.specs.Prelude.{◌≡◌, ℕ, ◌<◌, ◌≤◌, ◌^◌, List, [], length}
+use Rattle.std.specs.List.{AllByRecursion}
+use Rattle.key_names.specs.declared.events.Event.{Event}
+use Rattle.key_names.specs.declared.events.Event.TheVariants.{Vread}
+use Rattle.key_names.specs.declared.events.Answer.{Answer}
+use Rattle.key_names.specs.declared.names.Step.{Step}
+use Rattle.key_names.specs.Calls.{Setting as Told}
+use Rattle.key_names.specs.Meaning.{CallerState, current_state, with_state}
+use Rattle.key_names.specs.ScriptGrammar.{event_word}
+use Rattle.key_names.specs.SeenLine.{Shown}
+use Rattle.key_names.specs.VgetrandomState.{VgetrandomState}
+use Rattle.key_names.specs.VreadSteps.{published_by}
+use Rattle.lane_table.specs.declared.lanes.Lanes.{Lanes}
+use Rattle.lane_table.specs.Calls.{view}
+use Rattle.lane_table.specs.Hands.{Has}
+use Rattle.lane_table.specs.Went.{floor}
+use Rattle.rng_core.specs.declared.setting.Setting.{Setting}
+use Rattle.rng_core.specs.Told.{Moment, moment}
+use Rattle.rng_core.specs.Did.{DidIn, Fulfils, setting_of}
+use Rattle.rng_core.specs.SampleDeeds.{Sampled}
+use Rattle.rng_core.specs.VreadDid.{VreadDid}
+use Rattle.caller_run.specs.Says.{shown_by, ShowsFit, IsNoCount}
+use Rattle.caller_run.specs.declared.caller.Caller.{Caller}
+use Rattle.caller_run.specs.declared.said.Said.{Said}
+use Rattle.caller_run.specs.declared.states.States.{States}
+
+-- a caller with this setting and these states, as the meaning of its calls has it
+abbrev pub caller_at : Told → States → CallerState
+caller_at set states = record { setting = set; states = states.all; current = states.current }
+
+abbrev pub stand : Caller → CallerState
+stand c = caller_at (setting_of c.set) c.states
+
+-- sixteen states, one of them current, and each of a generation that a look which found so much publishes, or of one
+-- before
+pub record Seen (found : ℕ) (s : CallerState) : Type 0 where
+  pub many : length s.states ≡ 16
+  pub current : s.current < 16
+  pub published : AllByRecursion (λ st. st.generation ≤ published_by found) s.states
+
+-- the states of a caller, by what its pass has seen
+abbrev pub StatesStand : Caller → Type 0
+StatesStand c = Seen (floor (view c.pass)) (stand c)
+
+-- from m to n an event was done, with this answer and these data, and the samples behind it stand
+abbrev pub Does : Setting → Event → Answer → Shown → Moment → Moment → Type 0
+Does set event answer shown m n = DidIn (Sampled (Fulfils (setting_of set) event answer shown)) set m n
+
+-- the caller has no lane in its hands, and its setting is one of the table's
+pub record IsReady (t : Lanes) (c : Caller) : Type 0 where
+  pub has : Has t c.set.caller [] c.pass
+  pub cpu : c.set.cpu < t.cpus
+  pub moment : c.set.now < 2 ^ 40
+
+-- the caller, then c and now d, made the call of an event, with these steps and these bytes
+pub record Called (t : Lanes) (event : Event) (c d : Caller) (said : Said) (served : List ℕ) (steps : List Step) : Type 0 where
+  pub has : Has t d.set.caller [] d.pass
+  pub set : d.set ≡ c.set
+  pub states : d.states ≡ c.states
+  pub does : Does c.set event said.answer (shown_by served said.shows) (moment c.pass []) (moment d.pass steps)
+  pub shows : ShowsFit (event_word event) said.shows
+
+-- the caller, then c and now d, read n bytes out of its current state with these flags, with no act inside
+pub record StateRead (t : Lanes) (n flags : ℕ) (c d : Caller) (said : Said) (served : List ℕ) (steps : List Step) : Type 0 where
+  pub has : Has t d.set.caller [] d.pass
+  pub set : d.set ≡ c.set
+  pub left : VgetrandomState
+  pub stands : stand d ≡ with_state (stand c) left
+  pub published : left.generation ≤ published_by (floor (view d.pass))
+  pub did : VreadDid n flags (current_state (stand c)) left said.answer (shown_by served said.shows) c.set (moment c.pass [])
+      (moment d.pass steps)
+  pub shows : IsNoCount said.shows
+
+-- the call of an event, whichever it is
+abbrev pub Made : Lanes → Event → Caller → Caller → Said → List ℕ → List Step → Type 0
+Made t (Vread n flags) c d said served steps = StateRead t n flags c d said served steps
+Made t event c d said served steps = Called t event c d said served steps

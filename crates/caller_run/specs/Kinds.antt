@@ -1,0 +1,90 @@
+-- The kinds of events, by the calls that they ask for.
+use Rattle.std.specs.Prelude.{◌≡◌, false, ⊤, List, [], ◌∷◌}
+use Rattle.key_names.specs.declared.events.Event.{Event}
+use Rattle.key_names.specs.declared.events.Event.TheVariants.{At, On, Hw, Device, Write, Add, Credit, Bits, Irq, Input, Read, Vread, Kread, Dread, Uread, Int8, Int16, Int32, Int64, Reseed, Tick, Drop, Fork, Inside, Prepare, Online, Vmfork, State}
+use Rattle.key_names.specs.Calls.{has_vread}
+use Rattle.key_names.specs.ScriptGrammar.{Script}
+
+-- they set something, and ask nothing of the core
+abbrev pub IsSetting : Event → Type 0
+IsSetting (At moment) = ⊤
+IsSetting (On cpu) = ⊤
+IsSetting (Hw bytes) = ⊤
+IsSetting Drop = ⊤
+IsSetting (State number) = ⊤
+IsSetting _ = ⊥
+
+-- samples, and what is read of their credit
+abbrev pub IsSample : Event → Type 0
+IsSample (Write text) = ⊤
+IsSample (Device word text) = ⊤
+IsSample (Add text bits) = ⊤
+IsSample (Credit bits) = ⊤
+IsSample Bits = ⊤
+IsSample (Irq v1 v2) = ⊤
+IsSample (Input word kind code value) = ⊤
+IsSample _ = ⊥
+
+abbrev pub IsReseed : Event → Type 0
+IsReseed Reseed = ⊤
+IsReseed Tick = ⊤
+IsReseed (Vmfork word text) = ⊤
+IsReseed _ = ⊥
+
+-- a CPU comes online
+abbrev pub IsOfCpu : Event → Type 0
+IsOfCpu (Prepare cpu) = ⊤
+IsOfCpu (Online cpu) = ⊤
+IsOfCpu _ = ⊥
+
+-- reads of bytes
+abbrev pub IsRead : Event → Type 0
+IsRead (Read len flags) = ⊤
+IsRead (Kread len) = ⊤
+IsRead (Dread len flag) = ⊤
+IsRead (Uread len) = ⊤
+IsRead _ = ⊥
+
+-- integers out of a CPU's batches
+abbrev pub IsInteger : Event → Type 0
+IsInteger Int8 = ⊤
+IsInteger Int16 = ⊤
+IsInteger Int32 = ⊤
+IsInteger Int64 = ⊤
+IsInteger _ = ⊥
+
+-- an act that waits for a vread
+abbrev pub IsAct : Event → Type 0
+IsAct (Inside point act) = ⊤
+IsAct _ = ⊥
+
+-- each is a call of the core by itself
+abbrev pub IsCall : Event → Type 0
+IsCall (Vread len flags) = ⊥
+IsCall (Fork child) = ⊥
+IsCall (Inside point act) = ⊥
+IsCall _ = ⊤
+
+-- a call of the core, or a read out of a vgetrandom state
+abbrev pub MakesCall : Event → Type 0
+MakesCall (Fork child) = ⊥
+MakesCall (Inside point act) = ⊥
+MakesCall _ = ⊤
+
+-- an event that the only caller of a script makes, with those behind it: a call, or an act that no vread follows
+abbrev pub IsServed : Event → List Event → Type 0
+IsServed (Inside point act) rest = has_vread rest ≡ false
+IsServed event rest = MakesCall event
+
+abbrev pub AllServed : List Event → Type 0
+AllServed [] = ⊤
+AllServed (event ∷ rest) = IsServed event rest × AllServed rest
+
+-- a script of one caller that makes such events
+abbrev pub RunsAlone : Script → Type 0
+RunsAlone script = AllOfOne script.callers
+  where
+    AllOfOne : List (List Event) → Type 0
+    AllOfOne [] = ⊥
+    AllOfOne (events ∷ []) = AllServed events
+    AllOfOne (events ∷ next ∷ callers) = ⊥

@@ -1,0 +1,49 @@
+-- What a line tells of a call, beside its steps.
+use Rattle.std.specs.Prelude.{◌≡◌, ◌≢◌, ℕ, ⊤, List}
+use Rattle.key_names.specs.declared.events.Event.{Event}
+use Rattle.key_names.specs.declared.events.Event.TheVariants.{Int8, Int16, Int32, Int64}
+use Rattle.key_names.specs.declared.events.Word.{Word}
+use Rattle.key_names.specs.declared.events.Word.TheVariants.{Bits}
+use Rattle.key_names.specs.declared.names.Step.{Step}
+use Rattle.key_names.specs.ScriptGrammar.{bytes_read}
+use Rattle.key_names.specs.SeenLine.{Shown, no_data, count, bytes_or_none, SeenLine}
+use Rattle.rng_core.specs.declared.setting.Setting.{Setting}
+use Rattle.caller_run.specs.declared.said.Shows.{Shows}
+use Rattle.caller_run.specs.declared.said.Shows.TheVariants.{Nothing, Served, Count}
+use Rattle.caller_run.specs.declared.said.Said.{Said}
+
+-- the data of a line, out of the bytes that were served
+abbrev pub shown_by : List ℕ → Shows → Shown
+shown_by served Nothing = no_data
+shown_by served Served = bytes_or_none served
+shown_by served (Count n) = count n
+
+abbrev pub IsNoCount : Shows → Type 0
+IsNoCount Nothing = ⊤
+IsNoCount Served = ⊤
+IsNoCount (Count n) = ⊥
+
+-- how many bytes the line of an event shows at most: those that it reads, or those of its integer
+abbrev pub most_shown : Event → ℕ
+most_shown Int8 = 1
+most_shown Int16 = 2
+most_shown Int32 = 4
+most_shown Int64 = 8
+most_shown event = bytes_read event
+
+-- a count stands only on the line of bits, and bytes only on others
+abbrev pub ShowsFit : Word → Shows → Type 0
+ShowsFit word Nothing = ⊤
+ShowsFit word Served = word ≢ Bits
+ShowsFit word (Count n) = word ≡ Bits
+
+-- the line of a call
+abbrev pub line_of : Setting → Word → List ℕ → Said → List Step → SeenLine
+line_of set word served said steps = record {
+  caller = set.caller;
+  event = set.event;
+  word = word;
+  answer = said.answer;
+  steps = steps;
+  shown = shown_by served said.shows;
+}

@@ -1,0 +1,96 @@
+//! The lines that tell of a caller's events.
+ghost use Rattle.std.specs.Prelude.{◌≡◌, ◌+◌, ◌<◌, ◌≤◌, ◌^◌, ◌∷◌, ◌++◌, [], length};
+ghost use Rattle.std.specs.List.{AllByRecursion};
+ghost use Rattle.key_names.specs.ScriptGrammar.{event_word};
+ghost use Rattle.key_names.specs.TranscriptGrammar.{StepFits};
+ghost use Rattle.caller_run.specs.Says.{line_of, ShowsFit};
+
+use crate::caller::Caller;
+use crate::said::{Said, Shows};
+use key_names::{Answer, Data, Event, Line, Trace, Word};
+use transcript_text::CallerLines;
+
+/// The word of an event's line.
+pub(crate) fn word_of(event: &Event) -> Word
+    ensures { result ≡ event_word event.now }
+{
+    match event {
+        Event::At { .. } => Word::At,
+        Event::On { .. } => Word::On,
+        Event::Hw { .. } => Word::Hw,
+        Event::Device { .. } => Word::Device,
+        Event::Write { .. } => Word::Write,
+        Event::Add { .. } => Word::Add,
+        Event::Credit { .. } => Word::Credit,
+        Event::Bits => Word::Bits,
+        Event::Irq { .. } => Word::Irq,
+        Event::Input { .. } => Word::Input,
+        Event::Read { .. } => Word::Read,
+        Event::Vread { .. } => Word::Vread,
+        Event::Kread { .. } => Word::Kread,
+        Event::Dread { .. } => Word::Dread,
+        Event::Uread { .. } => Word::Uread,
+        Event::Int8 => Word::Int8,
+        Event::Int16 => Word::Int16,
+        Event::Int32 => Word::Int32,
+        Event::Int64 => Word::Int64,
+        Event::Reseed => Word::Reseed,
+        Event::Tick => Word::Tick,
+        Event::Drop => Word::Drop,
+        Event::Fork { .. } => Word::Fork,
+        Event::Inside { .. } => Word::Inside,
+        Event::Prepare { .. } => Word::Prepare,
+        Event::Online { .. } => Word::Online,
+        Event::Vmfork { .. } => Word::Vmfork,
+        Event::State { .. } => Word::State,
+    }
+}
+
+impl Caller {
+    fn line(&self, word: Word, answer: Answer, trace: Trace, shown: Data) -> Line
+        ensures { result ≡ record {
+          caller = self.now.set.caller;
+          event = self.now.set.event;
+          word = word;
+          answer = answer;
+          trace = trace;
+          shown = shown;
+        } }
+    {
+        Line {
+            caller: self.set.caller,
+            event: self.set.event,
+            word,
+            answer,
+            trace,
+            shown,
+        }
+    }
+
+    /// One more line, of the event that the caller is at.
+    pub(crate) fn tell(
+        &self,
+        lines: &mut CallerLines,
+        word: Word,
+        said: Said,
+        trace: Trace,
+        served: &[u8],
+    )
+        requires line_room { 0 < lines.old.line_room }
+        requires byte_room { length served.now ≤ lines.old.byte_room }
+        requires short { length served.now < 2 ^ 32 }
+        requires shows { ShowsFit word said.shows }
+        requires steps { AllByRecursion StepFits trace }
+        ensures lines { lines.new.lines ≡ lines.old.lines ++ line_of self.now.set word served.now said trace ∷ [] }
+        ensures line_room { lines.new.line_room + 1 ≡ lines.old.line_room }
+        ensures byte_room { lines.old.byte_room ≤ lines.new.byte_room + length served.now }
+    {
+        match said.shows {
+            Shows::Nothing => lines.push(self.line(word, said.answer, trace, Data::None)),
+            Shows::Count(n) => lines.push(self.line(word, said.answer, trace, Data::Count(n))),
+            Shows::Served => {
+                lines.push_showing(self.line(word, said.answer, trace, Data::None), served);
+            }
+        }
+    }
+}

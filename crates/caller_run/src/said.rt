@@ -1,0 +1,89 @@
+//! What a call told, beside its steps.
+ghost use Rattle.std.specs.Prelude.{◌≡◌, ℕ, List};
+ghost use Rattle.key_names.specs.SeenLine.{bytes_or_none};
+ghost use Rattle.rng_core.specs.Did.{errno_answer, result_answer, tick_result, given};
+ghost use Rattle.caller_run.specs.Says.{shown_by, IsNoCount};
+
+use key_names::{Answer, Errno};
+
+/// What a line shows of a call.
+#[derive(Clone, Copy)]
+pub(crate) enum Shows {
+    Nothing,
+    /// The bytes that were served.
+    Served,
+    Count(u32),
+}
+
+/// What a call answered, and what its line shows.
+#[derive(Clone, Copy)]
+pub(crate) struct Said {
+    pub(crate) answer: Answer,
+    pub(crate) shows: Shows,
+}
+
+fn answer_of(errno: Errno) -> Answer
+    ensures { result ≡ errno_answer errno }
+{
+    match errno {
+        Errno::NoData => Answer::NoData,
+        Errno::Again => Answer::Again,
+        Errno::Invalid => Answer::Invalid,
+        Errno::Interrupted => Answer::Interrupted,
+    }
+}
+
+impl Said {
+    /// An answer and nothing else.
+    pub(crate) fn only(answer: Answer) -> Said
+        ensures { result ≡ record { answer = answer; shows = Shows.Nothing } }
+    {
+        Said {
+            answer,
+            shows: Shows::Nothing,
+        }
+    }
+
+    /// The call was done, and its line shows this.
+    pub(crate) fn done(shows: Shows) -> Said
+        ensures { result ≡ record { answer = Answer.Ok; shows = shows } }
+    {
+        Said {
+            answer: Answer::Ok,
+            shows,
+        }
+    }
+
+    /// A call that may fail, and has no data.
+    pub(crate) fn tried(ended: Result<(), Errno>) -> Said
+        ensures { result ≡ record { answer = result_answer ended; shows = Shows.Nothing } }
+    {
+        match ended {
+            Ok(()) => Said::only(Answer::Ok),
+            Err(errno) => Said::only(answer_of(errno)),
+        }
+    }
+
+    /// A read that may fail.
+    pub(crate) fn read(ended: Result<(), Errno>) -> Said
+        ensures answer { result.answer ≡ result_answer ended }
+        ensures shows { (served : List ℕ) → shown_by served result.shows ≡ bytes_or_none (given ended served) }
+        ensures bytes { IsNoCount result.shows }
+    {
+        match ended {
+            Ok(()) => Said::done(Shows::Served),
+            Err(errno) => Said::only(answer_of(errno)),
+        }
+    }
+
+    /// A tick of the reseed timer, which fired or did not.
+    pub(crate) fn ticked(fired: bool) -> Said
+        ensures { result ≡ record { answer = tick_result fired; shows = Shows.Nothing } }
+    {
+        if fired {
+            Said::only(Answer::Fired)
+        } else {
+            Said::only(Answer::Idle)
+        }
+    }
+}

@@ -1,0 +1,43 @@
+//! What a caller sets.
+ghost use Rattle.std.specs.Prelude.{◌≡◌, ◌<◌, ◌^◌, ◌+◌, ◌-◌};
+ghost use Rattle.key_names.specs.Calls.{setting_after};
+ghost use Rattle.key_names.specs.Meaning.{state_after};
+ghost use Rattle.rng_core.specs.Did.{setting_of};
+ghost use Rattle.caller_run.specs.Calling.{stand};
+
+use crate::caller::Caller;
+use key_names::Event;
+use rng_core::Setting;
+
+// The setting behind an event.
+fn set_by(set: &Setting, event: &Event) -> Setting
+    ensures setting { setting_of result ≡ setting_after (setting_of set.entry.now) event.now }
+    ensures caller { result.caller ≡ set.entry.now.caller }
+    ensures event { result.event ≡ set.entry.now.event }
+{
+    match event {
+        Event::At { moment } => Setting {
+            now: *moment,
+            ..*set
+        },
+        Event::On { cpu } => Setting { cpu: *cpu, ..*set },
+        Event::Hw { bytes } => Setting { hw: *bytes, ..*set },
+        _ => *set,
+    }
+}
+
+impl Caller {
+    /// The caller goes on behind an event.
+    pub(crate) fn go_on(&mut self, event: &Event)
+        requires number { self.old.set.event < 2 ^ 32 - 1 }
+        requires current { self.old.states.current < 16 }
+        ensures stand { stand self.new ≡ state_after (stand self.old) event.now }
+        ensures caller { self.new.set.caller ≡ self.old.set.caller }
+        ensures event { self.new.set.event ≡ self.old.set.event + 1 }
+        ensures pass { self.new.pass ≡ self.old.pass }
+    {
+        self.set = set_by(&self.set, event);
+        self.set.event += 1;
+        self.states.go_on(event);
+    }
+}

@@ -1,0 +1,49 @@
+//! The vgetrandom states of a caller.
+ghost use Rattle.std.specs.Prelude.{◌≡◌, ◌<◌, replicate, slice_set};
+ghost use Rattle.key_names.specs.Calls.{Setting, setting_after};
+ghost use Rattle.key_names.specs.Meaning.{state_after};
+ghost use Rattle.key_names.specs.VgetrandomState.{wiped_state};
+ghost use Rattle.caller_run.specs.Calling.{caller_at};
+
+use key_names::Event;
+use std::array;
+use vdso_state::VState;
+
+/// The sixteen vgetrandom states of a caller, and which of them it reads from.
+#[derive(Drop)]
+pub(crate) struct States {
+    pub(crate) all: [VState; 16],
+    pub(crate) current: u32,
+}
+
+impl States {
+    /// Sixteen wiped states, of which the first is current.
+    pub(crate) fn wiped() -> States
+        ensures { result ≡ record { all = replicate 16 wiped_state; current = 0 } }
+    {
+        States {
+            all: array::from_fn(|_| VState::wiped()),
+            current: 0,
+        }
+    }
+
+    fn wipe_current(&mut self)
+        requires { self.old.current < 16 }
+        ensures { self.new ≡ record self.old { all = slice_set self.old.all self.old.current wiped_state } }
+    {
+        self.all[self.current as usize].wipe();
+    }
+
+    /// The states behind an event by itself: `drop` wipes the current one, and `state` makes another one current.
+    pub(crate) fn go_on(&mut self, event: &Event)
+        requires { self.old.current < 16 }
+        ensures { (set : Setting)
+            → caller_at (setting_after set event.now) self.new ≡ state_after (caller_at set self.old) event.now }
+    {
+        match event {
+            Event::Drop => self.wipe_current(),
+            Event::State { number } => self.current = *number,
+            _ => {}
+        }
+    }
+}

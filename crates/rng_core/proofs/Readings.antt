@@ -1,0 +1,250 @@
+-- What a read out of a caller's vgetrandom state did, out of a copy or a call.
+use Rattle.std.proofs.Common.{◌≡◌, ℕ, ◌<◌, ◌≤◌, Bool, true, false, not, Ok, List, [], ◌∷◌, length, map, refl, sym, ap, ◌∙◌, subst, arith}
+use Rattle.std.specs.Prelude.{Result, MatchBool, Option, Some, None, ⊤, ◌==◌, ◌&&◌}
+use Rattle.std.proofs.lemmas.Bool.{ne_eqb}
+use mathlib.Core.Logic.{dite}
+use native.Mathlib.Decide.{ℕ_discrete}
+use Rattle.key_names.specs.declared.names.LaneId.{LaneId}
+use Rattle.key_names.specs.declared.names.Step.{Step}
+use Rattle.key_names.specs.declared.names.LaneId.TheVariants.{Pool as PoolLane, Base as BaseLane, Cpu as CpuLane}
+use Rattle.key_names.specs.declared.errno.Errno.{Errno}
+use Rattle.key_names.specs.declared.errno.Errno.TheVariants.{NoData, Again, Invalid, Interrupted}
+use Rattle.key_names.specs.declared.events.Answer.{Answer}
+use Rattle.key_names.specs.Flags.{is_bad}
+use Rattle.key_names.specs.Book.{Lists}
+use Rattle.key_names.specs.BatchCopy.{has_left, serves_locally, copy_bytes, copy_entries, state_after_copy}
+use Rattle.key_names.specs.Deeds.{Deed, deed_or, deed_at, deed_of, deeds_of, pool_visit, base_visit, cpu_visit, at_pool, at_base, at_cpu}
+use Rattle.key_names.specs.Deeds as deed
+use Rattle.key_names.specs.Forms.{Looked}
+use Rattle.key_names.specs.Meaning.{CallerState, CallMeaning, VreadMeans, ByLocalCopy, ByVgetrandom, LocalOrCall, current_state, with_state, tries_local}
+use Rattle.key_names.specs.SeenLine.{Shown, bytes_or_none}
+use Rattle.key_names.specs.Vgetrandom.{read, failed, HostStep, Ending, no_bytes, by_batch, by_system, FromLook, BySystem, IsCall}
+use Rattle.key_names.specs.VgetrandomState.{VgetrandomState}
+use Rattle.key_names.specs.VreadSteps.{Shows, answer_of_errno, ending_answer, ending_shown, published_by, looks_of, NeverFall}
+use Rattle.key_names.proofs.Attempts.{match_true, match_false}
+use Rattle.lane_table.specs.declared.view.View.{View}
+use Rattle.lane_table.specs.BookLists.{book_lists}
+use Rattle.lane_table.specs.Went.{Deal, looked, visited, step_of, looks_in, Sees, floor}
+use Rattle.vdso_state.specs.declared.outcome.VEnd.{VEnd}
+use Rattle.vdso_state.specs.Host.{Doings}
+use Rattle.vdso_state.specs.Call.{Runs, Finish, EndsAs}
+use Rattle.rng_core.specs.declared.setting.Setting.{Setting}
+use Rattle.rng_core.specs.Told.{Moment, Told}
+use Rattle.rng_core.specs.Did.{Did, setting_of, errno_answer, result_answer, given}
+use Rattle.rng_core.specs.Hosted.{Stand}
+use Rattle.rng_core.specs.VreadDid.{done_of, Glanced, LocallyServed, Refused, LeftToSystem, Called, VreadLine, VreadDid, vread_meaning}
+use Rattle.rng_core.proofs.CallEnds.{EndsWell, call_ends}
+use Rattle.rng_core.proofs.Hosting.{none_left, published_more, IsCaller, hosted, hosted_set, hosted_floor, hosted_up_to, hosted_wipes}
+
+-- Looks
+
+looks_below : (deeds : List Deed) → {E : Type 0} (d : E → Deed) → ((e : E) → looks_of (d e ∷ deeds) ≡ looks_of deeds) → (o : Option E) → looks_of (deed_or d o ∷ deeds) ≡ looks_of deeds
+looks_below deeds d same None = refl
+looks_below deeds d same (Some e) = same e
+
+-- a visit is no look
+visit_looks : (lists : Lists) (l : LaneId) (place : ℕ) (deeds : List Deed) → looks_of (deed_at lists l place ∷ deeds) ≡ looks_of deeds
+visit_looks lists PoolLane place deeds = looks_below deeds (λ e. at_pool (pool_visit lists place e)) (λ e. refl) _
+visit_looks lists BaseLane place deeds = looks_below deeds (λ e. at_base (base_visit lists place e)) (λ e. refl) _
+visit_looks lists (CpuLane c) place deeds = looks_below deeds (λ e. at_cpu (cpu_visit lists c place e)) (λ e. refl) _
+
+same_looks : (lists : Lists) (deals : List Deal) → looks_of (deeds_of lists (map step_of deals)) ≡ looks_in deals
+same_looks lists [] = refl
+same_looks lists (looked g ∷ deals) = ap (λ (l : List ℕ). g ∷ l) (same_looks lists deals)
+same_looks lists (visited mark e ∷ deals) = visit_looks lists mark.lane mark.place (deeds_of lists (map step_of deals)) ∙ same_looks lists deals
+
+-- numbers that never fall, from the first one on
+abbrev Rise : ℕ → List ℕ → Type 0
+Rise low [] = ⊤
+Rise low (g ∷ looks) = (low ≤ g) × Rise g looks
+
+rise_lower : (low high : ℕ) (looks : List ℕ) → low ≤ high → Rise high looks → Rise low looks
+rise_lower low high [] less h = tt
+rise_lower low high (g ∷ looks) less h = (let a = h.0 in omega arith, h.1)
+
+sees_rise : (w : View) (low high : ℕ) (deals : List Deal) → Sees w low deals high → Rise low (looks_in deals)
+sees_rise w low high [] h = tt
+sees_rise w low high (looked g ∷ deals) h = (h.0, sees_rise w g high deals h.1)
+sees_rise w low high (visited mark e ∷ deals) h = rise_lower low h.0 (looks_in deals) h.1 (sees_rise w h.0 high deals h.3)
+
+never_fall : (low : ℕ) (looks : List ℕ) → Rise low looks → NeverFall looks
+never_fall low [] h = tt
+never_fall low (a ∷ []) h = tt
+never_fall low (a ∷ b ∷ rest) h = (h.1.0, never_fall a (b ∷ rest) h.1)
+
+told_rise : (lists : Lists) (set : Setting) (l m : Moment) (deals : List Deal) → Told set l m deals → Rise (floor l.view) (looks_of (deeds_of lists (map step_of deals)))
+told_rise lists set l m deals told =
+    subst (Rise (floor l.view)) (sym (same_looks lists deals)) (sees_rise m.view (floor l.view) (floor m.view) deals told.went.sees)
+
+-- A batch that did not serve does not serve later either
+
+nothing_and : (x : Bool) → (x && false) ≡ false
+nothing_and true = refl
+nothing_and false = refl
+
+other_generation : (g n : ℕ) (s : VgetrandomState) → (g == s.generation) ≡ false → serves_locally g s n ≡ false
+other_generation g n s e = ap (λ (b : Bool). not (g == 0) && (b && (not s.in_use && has_left s n))) e ∙ nothing_and (not (g == 0))
+
+refused_later : (a b n : ℕ) (s : VgetrandomState) → s.generation ≤ a → a ≤ b → serves_locally a s n ≡ false → serves_locally b s n ≡ false
+refused_later a b n s low less refuses = dite (ℕ_discrete b s.generation)
+    (λ e. subst (λ (z : ℕ). serves_locally z s n ≡ false) (let f : a ≡ b = omega arith in f) refuses)
+    (λ ne. other_generation b n s (ne_eqb b s.generation ne))
+
+-- Calls
+
+same_errno : (errno : Errno) → errno_answer errno ≡ answer_of_errno errno
+same_errno NoData = refl
+same_errno Again = refl
+same_errno Invalid = refl
+same_errno Interrupted = refl
+
+abbrev answered : Result VEnd Errno → Answer
+answered result = result_answer (done_of result)
+
+abbrev showing : Result VEnd Errno → List ℕ → Shown
+showing result buf = bytes_or_none (given (done_of result) buf)
+
+ending_is : (n : ℕ) (ending : Ending) (result : Result VEnd Errno) (buf : List ℕ) → length buf ≡ n → (ending ≡ no_bytes → n ≡ 0) → EndsAs ending result buf → (answered result ≡ ending_answer ending) × (showing result buf ≡ ending_shown ending)
+ending_is n no_bytes result buf long none e = let empty = none_left buf (long ∙ none refl) in (ap answered e, (λ i. showing (e i) (empty i)))
+ending_is n (by_batch bytes) result buf long none e = (ap answered e.0, (λ i. showing (e.0 i) (e.1 i)))
+ending_is n (by_system (read bytes visit)) result buf long none e = (ap answered e.0, (λ i. showing (e.0 i) (e.1 i)))
+ending_is n (by_system (failed errno)) result buf long none e = (ap answered e ∙ same_errno errno, ap (λ (r : Result VEnd Errno). showing r buf) e)
+
+-- a call on a host that is the caller itself, h being where the call began
+module _ {H : Type 0} {host : Doings H} {h last : H} {finish : Finish} (n flags : ℕ) (s : VgetrandomState) (runs : Runs host (IsCall n flags s) h last finish)
+    (at : H → Stand) (is : IsCaller host at) where
+  pub same_set : (at last).set ≡ (at h).set
+  same_set = hosted_set host at is runs.steps h last runs.does
+
+  module _ (low : s.generation ≤ published_by (floor (at h).moment.view)) where
+    ended : EndsWell (published_by (floor (at last).moment.view)) n runs.outcome
+    ended =
+        let more = published_more (floor (at h).moment.view) (floor (at last).moment.view) (hosted_floor host at is runs.steps h last runs.does) in
+        call_ends (published_by (floor (at last).moment.view)) n flags s runs.steps runs.outcome (omega arith)
+        (hosted_up_to host at is runs.steps h last runs.does) runs.relates
+
+    pub still_current : finish.state.generation ≤ published_by (floor (at last).moment.view)
+    still_current = let a = ended.low in let e = ap (λ (z : VgetrandomState). z.generation) runs.state in omega arith
+
+    pub called : 1 < length (at h).moment.view.lanes → length finish.buf ≡ n →
+        Called n flags s finish.state (result_answer (done_of finish.result)) (bytes_or_none (given (done_of finish.result) finish.buf))
+        (at h).set (at h).moment (at last).moment
+    called two long = let e = ending_is n runs.outcome.ending finish.result finish.buf long ended.none runs.ends in record {
+      steps = runs.steps;
+      outcome = runs.outcome;
+      is_call = runs.relates;
+      state = runs.state;
+      answers = e.0;
+      shows = e.1;
+      wipes = hosted_wipes host at is runs.steps h last runs.does;
+      did = hosted host at is runs.steps h last two runs.does;
+    }
+
+-- Reads
+
+pub glanced_nothing : (v : View) → Glanced v v
+glanced_nothing v = record { same = record { first = refl; share = refl; halvings = refl; sized = refl }; lanes = refl; stamp = refl; floors = omega arith }
+
+-- out of the batch
+module _ (n flags : ℕ) (s t : VgetrandomState) (out : List ℕ) (set : Setting) (l m : Moment) (k : LocallyServed n flags s t out set l m) where
+  local_line : (before : CallerState) → current_state before ≡ s → ByLocalCopy n [] (vread_meaning (deed.looked k.found ∷ []) (result_answer {T = Unit {0}} (Ok tt)) (bytes_or_none out) (copy_entries s 0 n) before t)
+  local_line before is = record {
+    no_more = refl;
+    answer = refl;
+    shown = ap bytes_or_none (k.bytes ∙ ap (λ (z : VgetrandomState). copy_bytes z 0 n) (sym is));
+    no_acts = refl;
+    entries = ap (λ (z : VgetrandomState). copy_entries z 0 n) (sym is);
+    after = ap (with_state before) (k.state ∙ ap (λ (z : VgetrandomState). state_after_copy z 0 n) (sym is));
+  }
+
+  pub served_read : VreadDid n flags s t (result_answer {T = Unit {0}} (Ok tt)) (bytes_or_none out) set l m
+  served_read = record {
+    looked = l.view;
+    glanced = glanced_nothing l.view;
+    entries = copy_entries s 0 n;
+    did = record {
+      deals = looked k.found ∷ [];
+      told = k.told;
+      stands = λ lanes visits callers c. λ before set_is state_is. record {
+        looks = tt;
+        ways = match_true _ _ (tries_local n flags []) k.tries (
+          k.found,
+          [],
+          refl,
+          match_true _ _ (serves_locally (published_by k.found) (current_state before) n)
+              (ap (λ (z : VgetrandomState). serves_locally (published_by k.found) z n) state_is ∙ k.serves) (local_line before state_is),
+        );
+      };
+    };
+  }
+
+good_flags : (x y : Bool) → (x && not y) ≡ true → y ≡ false
+good_flags true true e = absurd (cc e)
+good_flags false true e = absurd (cc e)
+good_flags x false e = refl
+
+-- by a call
+module _ (n flags : ℕ) (s t : VgetrandomState) (answer : Answer) (shown : Shown) (set : Setting) (l m o : Moment) (low : s.generation ≤ published_by (floor l.view))
+    (left : tries_local n flags [] ≡ true → Refused n s l.view m.view) (k : Called n flags s t answer shown set m o) where
+  module _ (deeds : List Deed) (shows : Shows (setting_of set) k.steps deeds) (rise : Rise (floor m.view) (looks_of deeds)) (before : CallerState) (set_is : before.setting ≡ setting_of set) (state_is : current_state before ≡ s) where
+    abbrev meant : CallMeaning
+    meant = vread_meaning deeds answer shown k.outcome.entries before t
+
+    by_call : ByVgetrandom n flags [] meant
+    by_call = record {
+      steps = k.steps;
+      outcome = k.outcome;
+      is_call = subst (λ (z : VgetrandomState). IsCall n flags z k.steps k.outcome) (sym state_is) k.is_call;
+      shows = subst (λ z. Shows z k.steps deeds) (sym set_is) shows;
+      wipes = k.wipes;
+      inside = tt;
+      answer = k.answers;
+      shown = k.shows;
+      entries = refl;
+      after = ap (with_state before) k.state;
+    }
+
+    -- the call begins with a look, which is no earlier than the one that found that the batch cannot serve
+    behind_look : (refused : Refused n s l.view m.view) → FromLook n flags s k.steps k.outcome → Looked (LocalOrCall n flags [] meant) deeds
+    behind_look refused from =
+        let shown = subst (λ (z : List HostStep). Shows (setting_of set) z deeds) from.steps_are shows in
+        let rises = subst (λ (z : List Deed). Rise (floor m.view) (looks_of z)) shown.2 rise in
+        let a = published_more (floor l.view) refused.found refused.above in
+        let b = published_more refused.found shown.0 (let x = refused.known in let y = rises.0 in omega arith) in (
+          shown.0,
+          shown.1,
+          shown.2,
+          match_false _ _ (serves_locally (published_by shown.0) (current_state before) n)
+              (ap (λ (z : VgetrandomState). serves_locally (published_by shown.0) z n) state_is ∙ refused_later (published_by refused.found) (published_by shown.0) n s (omega arith) b refused.refuses) by_call,
+        )
+
+    ways : (b : Bool) → tries_local n flags [] ≡ b → MatchBool b (Looked (LocalOrCall n flags [] meant) deeds) (ByVgetrandom n flags [] meant)
+    ways false e = by_call
+    ways true e = behind_look (left e) (subst (λ (b : Bool). MatchBool b (BySystem n flags s k.steps k.outcome) (FromLook n flags s k.steps k.outcome)) (good_flags (not (n == 0)) (is_bad flags) e) k.is_call)
+
+    line : VreadMeans n flags [] meant
+    line = record { looks = never_fall (floor m.view) (looks_of deeds) rise; ways = ways (tries_local n flags []) refl }
+
+  called_did : Did (VreadLine (setting_of set) n flags s t answer shown k.outcome.entries) set m o
+  called_did = record {
+    deals = k.did.deals;
+    told = k.did.told;
+    stands = λ lanes visits callers c. λ before set_is state_is. line (deeds_of (book_lists lanes visits callers) (map step_of k.did.deals)) (k.did.stands lanes visits callers c)
+        (told_rise (book_lists lanes visits callers) set m o k.did.deals k.did.told) before set_is state_is;
+  }
+
+  pub called_read : Glanced l.view m.view → m.steps ≡ l.steps → VreadDid n flags s t answer shown set l o
+  called_read glanced same = record {
+    looked = m.view;
+    glanced = glanced;
+    entries = k.outcome.entries;
+    did = subst (λ (z : List Step). Did (VreadLine (setting_of set) n flags s t answer shown k.outcome.entries) set (record { view = m.view; steps = z }) o) same called_did;
+  }
+
+-- where the batch did not serve and nothing was done
+pub left_read : (n n' flags : ℕ) (s s' t : VgetrandomState) (answer : Answer) (shown : Shown) (set : Setting) (l m o : Moment) → s.generation ≤ published_by (floor l.view) → n' ≡ n →
+    LeftToSystem n flags s s' l m → Called n' flags s' t answer shown set m o → VreadDid n flags s t answer shown set l o
+left_read n n' flags s s' t answer shown set l m o low same left k =
+    called_read n flags s t answer shown set l m o low left.refused
+    (subst (λ (z : VgetrandomState). Called n flags z t answer shown set m o) left.state (subst (λ (z : ℕ). Called z flags s' t answer shown set m o) same k))
+    left.glanced left.steps

@@ -1,0 +1,11 @@
+use Rattle.std.proofs.Common.{length, arith}
+use Rattle.rng_core.proofs.Readings.{served_read, left_read}
+use Rattle.rng_core.proofs.vreads.vread.Goals as goal
+
+pub returns-in-Served-clause-did : goal.returns-in-Served-clause-did
+returns-in-Served-clause-did g c = served_read (length c.args.buf.now) c.args.flags c.args.st.now c.vread_local.new.st c.vread_local.new.buf c.args.set.now _ _
+    (rw c.in-Served.is at c.vread_local.ensures.read)
+
+pub returns-in-NeedsSystem-clause-did : goal.returns-in-NeedsSystem-clause-did
+returns-in-NeedsSystem-clause-did g c = left_read (length c.args.buf.now) (length c.vread_local.new.buf) c.args.flags c.args.st.now c.vread_local.new.st c.call.new.st _ _ c.args.set.now _ _ _
+    c.requires.current (omega (arith, c.vread_local.auto.buf)) (rw c.in-NeedsSystem.is at c.vread_local.ensures.read) c.call.ensures.called

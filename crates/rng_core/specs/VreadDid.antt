@@ -1,0 +1,100 @@
+-- What a read out of a caller's vgetrandom state did.
+use Rattle.std.specs.Prelude.{◌≡◌, ℕ, ◌≤◌, true, false, Result, Ok, Err, List, [], ◌∷◌}
+use Rattle.key_names.specs.declared.entries.VEntry.{VEntry}
+use Rattle.key_names.specs.declared.errno.Errno.{Errno}
+use Rattle.key_names.specs.declared.events.Answer.{Answer}
+use Rattle.key_names.specs.BatchCopy.{serves_locally, copy_bytes, state_after_copy}
+use Rattle.key_names.specs.Calls.{Setting as Told}
+use Rattle.key_names.specs.Deeds.{Deed}
+use Rattle.key_names.specs.Meaning.{CallerState, CallMeaning, VreadMeans, current_state, with_state, tries_local}
+use Rattle.key_names.specs.SeenLine.{Shown}
+use Rattle.key_names.specs.Vgetrandom.{HostStep, Outcome, IsCall}
+use Rattle.key_names.specs.VgetrandomState.{VgetrandomState}
+use Rattle.key_names.specs.VreadSteps.{Shows, WipesStand, points_of, ending_answer, ending_shown, published_by}
+use Rattle.lane_table.specs.declared.view.View.{View}
+use Rattle.lane_table.specs.Calls.{SameView}
+use Rattle.lane_table.specs.Went.{looked, floor}
+use Rattle.vdso_state.specs.declared.outcome.VEnd.{VEnd}
+use Rattle.vdso_state.specs.declared.outcome.Local.{Local}
+use Rattle.vdso_state.specs.declared.outcome.Local.TheVariants.{NeedsSystem, Served}
+use Rattle.rng_core.specs.declared.setting.Setting.{Setting}
+use Rattle.rng_core.specs.Told.{Moment}
+use Rattle.rng_core.specs.Told as told
+use Rattle.rng_core.specs.Did.{Did, setting_of}
+
+-- what is returned does not tell how a call ended
+abbrev pub done_of : Result VEnd Errno → Result (Unit {0}) Errno
+done_of (Ok end) = Ok tt
+done_of (Err errno) = Err errno
+
+-- from v to w the pass at most looked at the generation, and made no step of it
+pub record Glanced (v w : View) : Type 0 where
+  pub same : SameView v w
+  pub lanes : w.lanes ≡ v.lanes
+  pub stamp : w.stamp ≡ v.stamp
+  pub floors : floor v ≤ floor w
+
+-- the batch served, behind one look
+pub record LocallyServed (n flags : ℕ) (s t : VgetrandomState) (out : List ℕ) (set : Setting)
+    (l m : Moment) : Type 0 where
+  pub found : ℕ
+  pub tries : tries_local n flags [] ≡ true
+  pub serves : serves_locally (published_by found) s n ≡ true
+  pub told : told.Told set l m (looked found ∷ [])
+  pub bytes : out ≡ copy_bytes s 0 n
+  pub state : t ≡ state_after_copy s 0 n
+
+-- why the batch did not serve a read that tries it: of what a look between these two views found
+pub record Refused (n : ℕ) (s : VgetrandomState) (v w : View) : Type 0 where
+  pub found : ℕ
+  pub above : floor v ≤ found
+  pub known : found ≤ floor w
+  pub refuses : serves_locally (published_by found) s n ≡ false
+
+-- the system is needed: nothing was done
+pub record LeftToSystem (n flags : ℕ) (s t : VgetrandomState) (l m : Moment) : Type 0 where
+  pub state : t ≡ s
+  pub steps : m.steps ≡ l.steps
+  pub glanced : Glanced l.view m.view
+  pub refused : tries_local n flags [] ≡ true → Refused n s l.view m.view
+
+abbrev pub LocalRead : Local → ℕ → ℕ → VgetrandomState → VgetrandomState → List ℕ → Setting → Moment → Moment → Type 0
+LocalRead Served n flags s t out set l m = LocallyServed n flags s t out set l m
+LocalRead NeedsSystem n flags s t out set l m = LeftToSystem n flags s t l m
+
+-- a call of vgetrandom without acts inside, whose host was the caller itself
+pub record Called (n flags : ℕ) (s t : VgetrandomState) (answer : Answer) (shown : Shown) (set : Setting)
+    (l m : Moment) : Type 0 where
+  pub steps : List HostStep
+  pub outcome : Outcome
+  pub is_call : IsCall n flags s steps outcome
+  pub state : t ≡ outcome.state
+  pub answers : answer ≡ ending_answer outcome.ending
+  pub shows : shown ≡ ending_shown outcome.ending
+  pub wipes : WipesStand [] (points_of steps)
+  pub did : Did (Shows (setting_of set) steps) set l m
+
+-- what a read without acts inside means
+abbrev pub vread_meaning : List Deed → Answer → Shown → List VEntry → CallerState → VgetrandomState → CallMeaning
+vread_meaning deeds answer shown entries before t = record {
+  own = record { deeds = deeds; answer = answer; shown = shown };
+  acts = [];
+  entries = entries;
+  before = before;
+  after = with_state before t;
+}
+
+-- these deeds are those of a read on the state s that left the state t, wherever its caller stood
+abbrev pub VreadLine : Told → ℕ → ℕ → VgetrandomState → VgetrandomState → Answer → Shown → List VEntry → List Deed →
+    Type 0
+VreadLine set n flags s t answer shown entries deeds = (before : CallerState) → before.setting ≡ set →
+    current_state before ≡ s → VreadMeans n flags [] (vread_meaning deeds answer shown entries before t)
+
+-- from l to m the caller read n bytes with these flags: an unused look, and then what the trace tells
+pub record VreadDid (n flags : ℕ) (s t : VgetrandomState) (answer : Answer) (shown : Shown) (set : Setting)
+    (l m : Moment) : Type 0 where
+  pub looked : View
+  pub glanced : Glanced l.view looked
+  pub entries : List VEntry
+  pub did : Did (VreadLine (setting_of set) n flags s t answer shown entries) set
+      (record { view = looked; steps = l.steps }) m

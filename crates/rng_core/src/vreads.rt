@@ -1,0 +1,155 @@
+//! Reads out of a caller's vgetrandom state.
+ghost use Rattle.std.specs.Prelude.{◌≡◌, ◌<◌, ◌≤◌, ◌^◌, [], length};
+ghost use Rattle.key_names.specs.VreadSteps.{published_by};
+ghost use Rattle.key_names.specs.SeenLine.{bytes_or_none};
+ghost use Rattle.lane_table.specs.Calls.{view};
+ghost use Rattle.lane_table.specs.Hands.{Has};
+ghost use Rattle.lane_table.specs.Went.{floor};
+ghost use Rattle.rng_core.specs.Told.{moment};
+ghost use Rattle.rng_core.specs.Did.{result_answer, given};
+ghost use Rattle.rng_core.specs.VreadDid.{done_of, LocalRead, Called, VreadDid};
+
+use crate::lane_host::{LaneHost, publish};
+use crate::setting::Setting;
+use key_names::flags::are_bad;
+use key_names::{Errno, Step, Trace};
+use lane_table::{Lanes, Pass};
+use std::sync::Wait;
+use vdso_state::{Local, VEnd, VState, local, vgetrandom};
+
+/// Copies bytes of the batch over all of `buf` where the state's key is of the published generation and the batch has
+/// as many left. It waits for nobody. A look whose value is not used is no step: the trace then stays as it was.
+///
+/// The state's generation has to be one that the pass has seen published, as it is where only these calls and wipes
+/// changed the state.
+pub fn vread_local(
+    lanes: &Lanes,
+    pass: &mut Pass,
+    trace: &mut Trace,
+    set: &Setting,
+    st: &mut VState,
+    buf: &mut [u8],
+    flags: u32,
+) -> Local
+    requires has { Has lanes.now set.now.caller [] pass.old }
+    requires current { st.old.generation ≤ published_by (floor (view pass.old)) }
+    requires room { length trace.old < 20 }
+    ensures has { Has lanes.now set.entry.now.caller [] pass.new }
+    ensures current { st.new.generation ≤ published_by (floor (view pass.new)) }
+    ensures read { LocalRead result (length buf.old) flags st.old st.new buf.new set.entry.now
+        (moment pass.old trace.old) (moment pass.new trace.new) }
+{
+    let _caller = set.caller;
+    if buf.is_empty() || are_bad(flags) {
+        return Local::NeedsSystem;
+    }
+    let found = lanes.generation(pass);
+    match local(publish(found), st, buf) {
+        Local::Served => {
+            trace.push(Step::Look(found));
+            Local::Served
+        }
+        Local::NeedsSystem => Local::NeedsSystem,
+    }
+}
+
+// The result of a call, whichever way it ended.
+fn done(ended: Result<VEnd, Errno>) -> Result<(), Errno>
+    ensures { result ≡ done_of ended }
+{
+    match ended {
+        Ok(_) => Ok(()),
+        Err(errno) => Err(errno),
+    }
+}
+
+// A call of vgetrandom on the host.
+fn call_host<R: Wait>(
+    host: &mut LaneHost<'_, R>,
+    st: &mut VState,
+    buf: &mut [u8],
+    flags: u32,
+) -> Result<(), Errno>
+    requires looks { 5 ≤ host.old.looks }
+    requires calls { 3 ≤ host.old.calls }
+    requires current { st.old.generation ≤ published_by (floor (view host.old.pass.now)) }
+    requires short { length buf.old ≤ 2 ^ 20 }
+    ensures pass { host.new.pass.ghost_name ≡ host.old.pass.ghost_name }
+    ensures trace { host.new.trace.ghost_name ≡ host.old.trace.ghost_name }
+    ensures has { Has host.old.lanes.now host.old.set.now.caller [] host.new.pass.now }
+    ensures current { st.new.generation ≤ published_by (floor (view host.new.pass.now)) }
+    ensures called { Called (length buf.old) flags st.old st.new
+        (result_answer result) (bytes_or_none (given result buf.new)) host.old.set.now
+        (moment host.old.pass.now host.old.trace.now) (moment host.new.pass.now host.new.trace.now) }
+{
+    let ended = vgetrandom(host, st, buf, flags);
+    done(ended)
+}
+
+// A call of vgetrandom over the lanes.
+fn call<R: Wait>(
+    rt: &R,
+    lanes: &Lanes,
+    pass: &mut Pass,
+    trace: &mut Trace,
+    set: &Setting,
+    st: &mut VState,
+    buf: &mut [u8],
+    flags: u32,
+) -> Result<(), Errno>
+    requires has { Has lanes.now set.now.caller [] pass.old }
+    requires cpu { set.now.cpu < lanes.now.cpus }
+    requires current { st.old.generation ≤ published_by (floor (view pass.old)) }
+    requires short { length buf.old ≤ 2 ^ 20 }
+    requires room { length trace.old ≡ 0 }
+    ensures has { Has lanes.now set.entry.now.caller [] pass.new }
+    ensures current { st.new.generation ≤ published_by (floor (view pass.new)) }
+    ensures called { Called (length buf.old) flags st.old st.new
+        (result_answer result) (bytes_or_none (given result buf.new)) set.entry.now
+        (moment pass.old trace.old) (moment pass.new trace.new) }
+{
+    let mut host = LaneHost {
+        rt,
+        lanes,
+        pass,
+        trace,
+        set,
+        looks: 5,
+        calls: 3,
+    };
+    call_host(&mut host, st, buf, flags)
+}
+
+/// Random bytes for a user, out of the caller's vgetrandom state where that can serve them and by the system call
+/// otherwise (`vgetrandom`). No act is inside. The state's generation has to be one that the pass has seen published,
+/// and the trace empty.
+///
+/// # Errors
+///
+/// The error of the last system call. The buffer is unspecified then.
+pub fn vread<R: Wait>(
+    rt: &R,
+    lanes: &Lanes,
+    pass: &mut Pass,
+    trace: &mut Trace,
+    set: &Setting,
+    st: &mut VState,
+    buf: &mut [u8],
+    flags: u32,
+) -> Result<(), Errno>
+    requires has { Has lanes.now set.now.caller [] pass.old }
+    requires cpu { set.now.cpu < lanes.now.cpus }
+    requires current { st.old.generation ≤ published_by (floor (view pass.old)) }
+    requires short { length buf.old ≤ 2 ^ 20 }
+    requires room { length trace.old ≡ 0 }
+    ensures has { Has lanes.now set.entry.now.caller [] pass.new }
+    ensures current { st.new.generation ≤ published_by (floor (view pass.new)) }
+    ensures did { VreadDid (length buf.old) flags st.old st.new
+        (result_answer result) (bytes_or_none (given result buf.new)) set.entry.now
+        (moment pass.old trace.old) (moment pass.new trace.new) }
+{
+    match vread_local(lanes, pass, trace, set, st, buf, flags) {
+        Local::Served => Ok(()),
+        Local::NeedsSystem => call(rt, lanes, pass, trace, set, st, buf, flags),
+    }
+}
