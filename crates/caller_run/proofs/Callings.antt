@@ -4,6 +4,8 @@ use Rattle.key_names.specs.declared.events.Answer.{Answer}
 use Rattle.key_names.specs.declared.events.Answer.TheVariants.{Ok as Done}
 use Rattle.key_names.specs.declared.events.Event.{Event}
 use Rattle.key_names.specs.declared.events.Event.TheVariants.{At, On, Hw, Irq, Drop, State, Add, Credit}
+use Rattle.key_names.specs.declared.events.Word.{Word}
+use Rattle.key_names.specs.declared.events.Word.TheVariants.{Bits}
 use Rattle.key_names.specs.declared.names.Step.{Step}
 use Rattle.key_names.specs.Calls as calls
 use Rattle.key_names.specs.Deeds.{deeds_of}
@@ -20,9 +22,10 @@ use Rattle.rng_core.specs.SampleDeeds.{fast_in}
 use Rattle.rng_core.proofs.Doing.{did_nothing}
 use Rattle.caller_run.specs.Calling.{Does, IsReady, Called}
 use Rattle.caller_run.specs.Kinds.{IsSetting}
-use Rattle.caller_run.specs.Says.{shown_by, ShowsFit}
+use Rattle.caller_run.specs.Says.{shown_by, ShowsFit, IsNoCount}
 use Rattle.caller_run.specs.declared.caller.Caller.{Caller}
-use Rattle.caller_run.specs.declared.said.Shows.TheVariants.{Nothing}
+use Rattle.caller_run.specs.declared.said.Shows.{Shows}
+use Rattle.caller_run.specs.declared.said.Shows.TheVariants.{Nothing, Served, Count}
 use Rattle.caller_run.specs.declared.said.Said.{Said}
 use Rattle.caller_run.proofs.QuietForms.{IsNoInterrupt, form_samples}
 
@@ -94,3 +97,9 @@ asks_nothing t event c said served steps new ready some says is =
     subst (λ (l : List Step). Called t event c c said served l) (sym new)
     (by_answer t event event c c said served [] [] refl refl refl ready.has Done says (no_interrupt event is)
     (did_nothing c.set (moment c.pass []) (let s = ready.has.pass.sized in omega arith) (settings_fulfil (setting_of c.set) event is)))
+
+-- bytes stand on the line of a word that is not bits
+pub no_count : (word : Word) (shows : Shows) → (word ≡ Bits → ⊥) → IsNoCount shows → ShowsFit word shows
+no_count word Nothing other is = tt
+no_count word Served other is = other
+no_count word (Count n) other is = absurd is

@@ -1,13 +1,11 @@
 -- What a caller has seen of the generations of its vgetrandom states, event by event.
-use Rattle.std.proofs.Common.{◌≡◌, ℕ, zero, suc, ◌<◌, ◌≤◌, List, [], ◌∷◌, length, replicate, refl, sym, ap, ◌∙◌, subst, arith, get_or}
+use Rattle.std.proofs.Common.{◌≡◌, ℕ, zero, suc, ◌≤◌, List, [], ◌∷◌, replicate, refl, sym, ◌∙◌, subst, arith}
 use Rattle.std.specs.Prelude.{slice_set}
 use Rattle.std.specs.List.{AllByRecursion}
 use Rattle.std.proofs.lemmas.List.{length-set}
 use Rattle.key_names.specs.declared.events.Event.{Event}
 use Rattle.key_names.specs.declared.events.Event.TheVariants.{Vread, Inside, Drop, State, Fork}
 use Rattle.key_names.specs.declared.names.Step.{Step}
-use Rattle.key_names.specs.declared.events.Word.{Word}
-use Rattle.key_names.specs.declared.events.Word.TheVariants.{Bits}
 use Rattle.key_names.specs.Calls as calls
 use Rattle.key_names.specs.Meaning.{CallerState, caller_start, state_after, with_state}
 use Rattle.key_names.specs.ScriptGrammar.{InRange, event_word}
@@ -21,13 +19,12 @@ use Rattle.lane_table.specs.Went.{floor}
 use Rattle.rng_core.specs.Told.{moment}
 use Rattle.rng_core.specs.Did.{setting_of}
 use Rattle.rng_core.proofs.Doing.{did_floor}
+use Rattle.caller_run.proofs.Callings.{no_count}
 use Rattle.caller_run.specs.Calling.{caller_at, stand, Seen, StatesStand, Called, StateRead, Made}
 use Rattle.caller_run.specs.Kinds.{IsCall, MakesCall}
-use Rattle.caller_run.specs.Says.{ShowsFit, IsNoCount}
+use Rattle.caller_run.specs.Says.{ShowsFit}
 use Rattle.caller_run.specs.declared.caller.Caller.{Caller}
 use Rattle.caller_run.specs.declared.said.Said.{Said}
-use Rattle.caller_run.specs.declared.said.Shows.{Shows}
-use Rattle.caller_run.specs.declared.said.Shows.TheVariants.{Nothing, Served, Count}
 
 published_up : (a b : ℕ) → a ≤ b → published_by a ≤ published_by b
 published_up zero b le = omega arith
@@ -35,11 +32,6 @@ published_up (suc a) zero le = absurd (omega arith)
 published_up (suc a) (suc b) le = omega arith
 
 module _ {X : Type 0} (P : X → Type 0) where
-  pub each_at : (xs : List X) (i : ℕ) (d : X) → AllByRecursion P xs → i < length xs → P (get_or xs i d)
-  each_at [] i d all low = absurd (omega arith)
-  each_at (x ∷ xs) zero d all low = all.0
-  each_at (x ∷ xs) (suc i) d all low = each_at xs i d all.1 (omega arith)
-
   each_set : (xs : List X) (i : ℕ) (x : X) → AllByRecursion P xs → P x → AllByRecursion P (slice_set xs i x)
   each_set [] i x all is = tt
   each_set (y ∷ xs) zero x all is = (is, all.1)
@@ -80,19 +72,7 @@ seen_after version cpus found s Drop range k = seen_with found s wiped_state (om
 seen_after version cpus found s (State number) range k = record { many = k.many; current = range.1; published = k.published }
 seen_after version cpus found s event range k = record { many = k.many; current = k.current; published = k.published }
 
--- what an event by itself sets is not of the states
-pub behind_setting : (set new : calls.Setting) (states : CallerState) (event : Event) → new ≡ calls.setting_after set event →
-    state_after (record states { setting = set }) event ≡ record (state_after states event) { setting = new }
-behind_setting set new states Drop is = ap (λ (x : calls.Setting). record (state_after states Drop) { setting = x }) (sym is)
-behind_setting set new states (State number) is = ap (λ (x : calls.Setting). record (state_after states (State number)) { setting = x }) (sym is)
-behind_setting set new states event is = ap (λ (x : calls.Setting). record states { setting = x }) (sym is)
-
 -- a call of any event
-
-no_count : (word : Word) (shows : Shows) → (word ≡ Bits → ⊥) → IsNoCount shows → ShowsFit word shows
-no_count word Nothing other is = tt
-no_count word Served other is = other
-no_count word (Count n) other is = absurd is
 
 -- what holds behind each, c being the caller before it, and d behind it
 pub record Kept (t : Lanes) (event : Event) (c d : Caller) (said : Said) : Type 0 where

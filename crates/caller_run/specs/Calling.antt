@@ -62,14 +62,15 @@ pub record Called (t : Lanes) (event : Event) (c d : Caller) (said : Said) (serv
   pub shows : ShowsFit (event_word event) said.shows
 
 -- the caller, then c and now d, read n bytes out of its current state with these flags, with no act inside
-pub record StateRead (t : Lanes) (n flags : ℕ) (c d : Caller) (said : Said) (served : List ℕ) (steps : List Step) : Type 0 where
+pub record StateRead (t : Lanes) (n flags : ℕ) (c d : Caller) (said : Said) (served : List ℕ) (steps : List Step) :
+    Type 0 where
   pub has : Has t d.set.caller [] d.pass
   pub set : d.set ≡ c.set
   pub left : VgetrandomState
   pub stands : stand d ≡ with_state (stand c) left
   pub published : left.generation ≤ published_by (floor (view d.pass))
-  pub did : VreadDid n flags (current_state (stand c)) left said.answer (shown_by served said.shows) c.set (moment c.pass [])
-      (moment d.pass steps)
+  pub did : VreadDid n flags (current_state (stand c)) left said.answer (shown_by served said.shows) c.set
+      (moment c.pass []) (moment d.pass steps)
   pub shows : IsNoCount said.shows
 
 -- the call of an event, whichever it is

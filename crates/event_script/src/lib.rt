@@ -13,7 +13,7 @@ mod front;
 mod hexes;
 mod line;
 mod load;
-mod numbers;
+pub mod numbers;
 mod reading;
 pub mod reads;
 pub mod script;

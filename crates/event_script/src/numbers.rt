@@ -28,7 +28,7 @@ fn value_of(digits: &[u8]) -> Option<u64>
 }
 
 /// The number that a field spells in decimal, without leading zeros, if it is at most `most`.
-pub(crate) fn number_up_to(most: u64, field: &[u8]) -> Option<u64>
+pub fn number_up_to(most: u64, field: &[u8]) -> Option<u64>
     ensures value { result ≡ number_below (most + 1) field.now }
     ensures range { IfSome result (λ n. n ≤ most) }
 {

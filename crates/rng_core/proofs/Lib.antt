@@ -1,8 +1,12 @@
+pub mod ActLines
+pub mod ActRuns
+pub mod Acting
 pub mod CallEnds
 pub mod Doing
 pub mod Finding
 pub mod Fulfilling
 pub mod Hosting
+pub mod InsideCalls
 pub mod Inputs
 pub mod IntFulfilling
 pub mod Parents

@@ -48,7 +48,7 @@ visit_looks lists PoolLane place deeds = looks_below deeds (λ e. at_pool (pool_
 visit_looks lists BaseLane place deeds = looks_below deeds (λ e. at_base (base_visit lists place e)) (λ e. refl) _
 visit_looks lists (CpuLane c) place deeds = looks_below deeds (λ e. at_cpu (cpu_visit lists c place e)) (λ e. refl) _
 
-same_looks : (lists : Lists) (deals : List Deal) → looks_of (deeds_of lists (map step_of deals)) ≡ looks_in deals
+pub same_looks : (lists : Lists) (deals : List Deal) → looks_of (deeds_of lists (map step_of deals)) ≡ looks_in deals
 same_looks lists [] = refl
 same_looks lists (looked g ∷ deals) = ap (λ (l : List ℕ). g ∷ l) (same_looks lists deals)
 same_looks lists (visited mark e ∷ deals) = visit_looks lists mark.lane mark.place (deeds_of lists (map step_of deals)) ∙ same_looks lists deals
@@ -98,13 +98,13 @@ same_errno Again = refl
 same_errno Invalid = refl
 same_errno Interrupted = refl
 
-abbrev answered : Result VEnd Errno → Answer
+abbrev pub answered : Result VEnd Errno → Answer
 answered result = result_answer (done_of result)
 
-abbrev showing : Result VEnd Errno → List ℕ → Shown
+abbrev pub showing : Result VEnd Errno → List ℕ → Shown
 showing result buf = bytes_or_none (given (done_of result) buf)
 
-ending_is : (n : ℕ) (ending : Ending) (result : Result VEnd Errno) (buf : List ℕ) → length buf ≡ n → (ending ≡ no_bytes → n ≡ 0) → EndsAs ending result buf → (answered result ≡ ending_answer ending) × (showing result buf ≡ ending_shown ending)
+pub ending_is : (n : ℕ) (ending : Ending) (result : Result VEnd Errno) (buf : List ℕ) → length buf ≡ n → (ending ≡ no_bytes → n ≡ 0) → EndsAs ending result buf → (answered result ≡ ending_answer ending) × (showing result buf ≡ ending_shown ending)
 ending_is n no_bytes result buf long none e = let empty = none_left buf (long ∙ none refl) in (ap answered e, (λ i. showing (e i) (empty i)))
 ending_is n (by_batch bytes) result buf long none e = (ap answered e.0, (λ i. showing (e.0 i) (e.1 i)))
 ending_is n (by_system (read bytes visit)) result buf long none e = (ap answered e.0, (λ i. showing (e.0 i) (e.1 i)))

@@ -1,5 +1,8 @@
+pub mod Acting
+pub mod Acts
 pub mod Did
 pub mod Forks
+pub mod InsideDid
 pub mod Integers
 pub mod Hosted
 pub mod Reading

@@ -5,6 +5,7 @@ use mathlib.Core.Option.{some}
 use lib.ListN.{get_elem?}
 use Rattle.key_names.specs.declared.names.Mark.{Mark}
 use Rattle.key_names.specs.declared.names.Step.{Step}
+use Rattle.key_names.specs.declared.names.Step.TheVariants.{Look}
 use Rattle.key_names.specs.TranscriptGrammar.{StepFits}
 use Rattle.lane_table.specs.declared.view.Visit.{Visit}
 use Rattle.lane_table.specs.declared.view.View.{View}
@@ -48,3 +49,9 @@ pub record Visited (set : Setting) (m n : Moment) (lane place : ℕ) (s : Model)
   pub place_is : mark.place ≡ place
   pub told : Told set m n (visited mark e ∷ [])
   pub met : Met n.view mark s e got
+
+-- the steps that were added begin with a look
+pub record BeginsWithLook (before after : List Step) : Type 0 where
+  pub look : ℕ
+  pub rest : List Step
+  pub is : after ≡ before ++ Look look ∷ rest

@@ -1,7 +1,7 @@
 //! A pass at its lanes: at most two are in its hands, the last one taken in front.
 ghost use Rattle.std.specs.Prelude.{◌≡◌, ◌≢◌, ◌<◌, ◌≤◌, ◌+◌, ◌^◌, ◌∷◌, [], None, Some, length};
 ghost use Rattle.lane_table.specs.Meaning.{behind_of, ahead_of, raise_of, made_of, gave_of, got_of, IsOf, Fits, ValueStands, parent};
-ghost use Rattle.lane_table.specs.WorldRule.{known_of};
+ghost use Rattle.lane_table.specs.WorldRule.{known_of, Consistent};
 ghost use Rattle.lane_table.specs.Steps.{handed};
 ghost use Rattle.lane_table.specs.LaneNumbers.{index_of};
 ghost use Rattle.lane_table.specs.Calls.{view, count_of};
@@ -80,6 +80,7 @@ pub(crate) fn look(lanes: &Lanes, pass: &mut Pass, trace: &mut Trace, set: &Sett
     ensures above { floor (view pass.old) ≤ result }
     ensures known { result ≤ floor (view pass.new) }
     ensures room { length trace.new ≡ length trace.old + 1 }
+    ensures consistent { Consistent (view pass.new) }
     ensures told { Told set.entry.now (moment pass.old trace.old) (moment pass.new trace.new) (looked result ∷ []) }
 {
     let _caller = set.caller;

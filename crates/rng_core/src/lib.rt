@@ -1,11 +1,14 @@
 //! The calls of the core: reads, samples, reseeds and what else a caller asks of the lanes.
 #![tactic(auto)]
 
+mod act_host;
+mod acts;
 mod batches;
 mod cpu_values;
 mod cpus;
 mod desk;
 mod forks;
+mod inside;
 mod integers;
 mod interrupts;
 mod lane_host;
@@ -19,8 +22,10 @@ mod setting;
 mod system_call;
 mod vreads;
 
+pub use acts::Bound;
 pub use cpus::{online, prepare};
 pub use forks::fork;
+pub use inside::vread_inside;
 pub use integers::int;
 pub use interrupts::irq;
 pub use reads::{kernel_read, urandom_file};

@@ -1,14 +1,14 @@
 //! The system call getrandom(2).
-ghost use Rattle.std.specs.Prelude.{◌≡◌, ◌≢◌, ◌<◌, ◌≤◌, ◌+◌, ◌^◌, ◌∷◌, [], ℕ, ◌==◌, ◌&&◌, not, if◌then◌else◌, None, length};
+ghost use Rattle.std.specs.Prelude.{◌≡◌, ◌≢◌, ◌<◌, ◌≤◌, ◌+◌, ◌^◌, ◌∷◌, [], ℕ, ◌==◌, ◌&&◌, not, false, if◌then◌else◌, None, length};
 ghost use Rattle.key_names.specs.declared.entries.BaseEntry.TheVariants.{Wait as WaitEntry, Resume, Interrupt};
 ghost use Rattle.key_names.specs.Forms.{BaseOnly};
 ghost use Rattle.lane_table.specs.Meaning.{ValueStands};
 ghost use Rattle.lane_table.specs.Calls.{view};
 ghost use Rattle.lane_table.specs.Hands.{Has, hand, model};
 ghost use Rattle.lane_table.specs.Went.{floor};
-ghost use Rattle.rng_core.specs.Told.{moment};
+ghost use Rattle.rng_core.specs.Told.{moment, BeginsWithLook};
 ghost use Rattle.key_names.specs.declared.events.Event.TheVariants.{Read, Dread};
-ghost use Rattle.key_names.specs.Flags.{is_nonblock, is_insecure};
+ghost use Rattle.key_names.specs.Flags.{is_bad, is_nonblock, is_insecure};
 ghost use Rattle.key_names.specs.SeenLine.{bytes_or_none};
 ghost use Rattle.rng_core.specs.Did.{Did, Serving, Fulfils, setting_of, result_answer, given};
 ghost use Rattle.rng_core.specs.Waits.{Waits, waiting};
@@ -148,6 +148,7 @@ pub fn getrandom<R: Wait>(
     requires room { length trace.old + 4 + waiting (view pass.old) ≤ 20 }
     ensures has { Has lanes.now set.entry.now.caller [] pass.new }
     ensures room { length trace.new + waiting (view pass.new) ≤ length trace.old + 4 + waiting (view pass.old) }
+    ensures begins { is_bad flags ≡ false → BeginsWithLook trace.old trace.new }
     ensures did { Did (Fulfils (setting_of set.entry.now) (Read (length buf.old) flags) (result_answer result) (bytes_or_none (given result buf.new))) set.entry.now (moment pass.old trace.old) (moment pass.new trace.new) }
 {
     if are_bad(flags) {

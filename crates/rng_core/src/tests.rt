@@ -1,14 +1,18 @@
 //! Little runs of one caller over a fresh table, with steps and bytes that another implementation gave.
-ghost use Rattle.std.specs.Prelude.{◌≡◌, ◌≤◌, ◌<◌, ◌^◌, [], IfOk};
+ghost use Rattle.std.specs.Prelude.{◌≡◌, ◌≤◌, ◌<◌, ◌^◌, [], IfOk, length};
+ghost use Rattle.std.specs.List.{AllByRecursion};
 ghost use Rattle.lane_table.specs.Hands.{Has};
 ghost use Rattle.rng_core.specs.Integers.{IsWidth};
+ghost use Rattle.rng_core.specs.Acts.{asks_of, all_wanted};
+ghost use Rattle.rng_core.specs.InsideDid.{IsFresh};
 
 use super::*;
-use key_names::{Errno, LaneId, Mark, Step, Trace};
+use key_names::{Errno, InsideAct, LaneId, Mark, Point, Step, Trace};
 use lane_table::{Lanes, Pass};
 use std::alloc::{AllocError, Global};
 use std::sync::Wait;
 use std::test::Fail;
+use vdso_state::VState;
 
 // The bytes 0 to 31.
 const COUNTING: [u8; 32] = [
@@ -331,5 +335,80 @@ fn device_file_before_readiness(rt: HostRuntime) -> Result<(), Fail> {
     let steps = [look(0), base(0, 1), base(1, 2)];
     let read = file_read_of::<_, 5>(&rt, &lanes, &mut pass, &set, false, &steps);
     assert_eq!(rt; read, Some(Err(Errno::Interrupted)));
+    Ok(())
+}
+
+// A read of 64 bytes with acts inside: the answer and the bytes, where its steps are those that are wanted.
+fn inside_of<R: Wait>(
+    rt: &R,
+    lanes: &Lanes,
+    pass: &mut Pass,
+    set: &Setting,
+    acts: &mut [Bound],
+    out: &mut [u8],
+    want: &[Step],
+) -> Option<Result<[u8; 64], Errno>>
+    requires has { Has lanes.now set.now.caller [] pass.old }
+    requires cpu { set.now.cpu < lanes.now.cpus }
+    requires moment { set.now.now < 2 ^ 40 }
+    requires some { 0 < length acts.old }
+    requires fresh { AllByRecursion IsFresh acts.old }
+    requires fits { length out.old ≡ all_wanted (asks_of acts.old) }
+    ensures has { Has lanes.now set.entry.now.caller [] pass.new }
+{
+    let mut trace = Trace::empty();
+    let mut bytes = [0; 64];
+    let mut st = VState::wiped();
+    let answer = vread_inside(
+        rt, lanes, pass, &mut trace, set, &mut st, &mut bytes, 0, acts, out,
+    );
+    if !has_steps(&trace, want) {
+        return None;
+    }
+    match answer {
+        Ok(()) => Some(Ok(bytes)),
+        Err(errno) => Some(Err(errno)),
+    }
+}
+
+#[test]
+fn a_wipe_and_a_read_inside(rt: HostRuntime) -> Result<(), Fail> {
+    let (lanes, mut pass) = started(rt.alloc(), 1)?;
+    let set = setting(3, 0, 0);
+    let steps = [pool(0, 1), pool(1, 2), base(0, 3)];
+    assert!(rt; added(&rt, &lanes, &mut pass, &set, &[], 256, &steps));
+    let mut acts = [
+        Bound::of(Point::Serve, InsideAct::Wipe, 1),
+        Bound::of(Point::Serve, InsideAct::Vread(8), 2),
+    ];
+    let mut out = [0; 8];
+    let steps = [
+        look(1),
+        look(1),
+        look(1),
+        look(1),
+        base(1, 4),
+        cpu(0, 0, 5),
+        look(1),
+        look(1),
+        look(1),
+        look(1),
+        cpu(0, 2, 7),
+        look(1),
+    ];
+    let read = inside_of(&rt, &lanes, &mut pass, &set, &mut acts, &mut out, &steps);
+    assert_eq!(rt;
+        read,
+        Some(Ok(
+            *b"\x6b\x3f\x20\x17\x6e\x87\xf1\x4e\x28\x80\xb5\xc6\x7c\x73\xfa\x82\
+        \x86\x84\xd2\x60\x6b\xce\xeb\x4c\xf3\x67\x07\xc4\x08\x33\x4d\xa3\
+        \x9f\x8d\xb9\x20\x6e\x97\x2b\x3e\xed\xd3\xdc\xee\xfb\x46\x9c\xd7\
+        \x1a\xef\x71\xcf\x25\x21\x73\x72\x55\x28\x6e\x55\x8c\x1a\xd8\xae"
+        ))
+    );
+    assert!(rt; has_steps(&acts[0].trace, &[]));
+    assert!(rt; acts[0].done && acts[1].done);
+    assert!(rt; has_steps(&acts[1].trace, &[look(1), look(1), cpu(0, 1, 6)]));
+    assert_eq!(rt; out, *b"\x8c\x67\x32\xd0\x75\x7d\x01\x37");
     Ok(())
 }

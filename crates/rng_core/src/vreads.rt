@@ -54,7 +54,7 @@ pub fn vread_local(
 }
 
 // The result of a call, whichever way it ended.
-fn done(ended: Result<VEnd, Errno>) -> Result<(), Errno>
+pub(crate) fn done(ended: Result<VEnd, Errno>) -> Result<(), Errno>
     ensures { result ≡ done_of ended }
 {
     match ended {

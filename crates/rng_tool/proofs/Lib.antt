@@ -1,2 +1,4 @@
 pub mod Inputs
 pub mod Runs
+pub mod LoadRuns
+pub mod LoadWords

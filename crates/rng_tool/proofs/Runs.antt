@@ -1,21 +1,19 @@
 -- What the run of a script's only caller is in the words of the program's contract.
-use Rattle.std.proofs.Common.{◌≡◌, ℕ, ◌<◌, ◌≤◌, Bool, true, false, List, [], ◌∷◌, Some, length, refl, sym, ap, ◌∙◌, subst, arith}
+use Rattle.std.proofs.Common.{◌≡◌, ℕ, ◌<◌, ◌≤◌, Bool, true, false, List, [], ◌∷◌, Some, length, sym, ap, subst, arith}
 use Rattle.std.specs.Prelude.{slice_get, nat_lt, if◌then◌else◌}
 use Rattle.std.specs.List.{AllByRecursion}
 use Rattle.std.proofs.lemmas.List.Sums.{sum_by-cons}
 use Rattle.key_names.specs.declared.events.Event.{Event}
-use Rattle.key_names.specs.Book.{lists_of}
 use Rattle.key_names.specs.IsTranscript.{LinesFit}
 use Rattle.key_names.specs.ScriptGrammar.{Script, InRange, WellFormed, most_cpus}
 use Rattle.key_names.specs.SeenLine.{SeenLine}
-use Rattle.key_names.specs.TranscriptGrammar.{transcript_text}
 use Rattle.key_names.proofs.BookUses.{lawful_is_disjoint}
 use Rattle.key_names.proofs.TranscriptLaws.{transcript_is_lawful}
 use Rattle.lane_table.specs.declared.view.View.{View}
 use Rattle.caller_run.specs.Kinds.{AllServed, RunsAlone}
 use Rattle.caller_run.specs.Laws.{one_caller, RanAlone, LawfulRun}
 use Rattle.caller_run.proofs.Whole.{lawful_run}
-use Rattle.rng_tool.specs.Outcome.{RunOf}
+use Rattle.rng_tool.specs.Outcome.{IsRunOf}
 
 -- a caller has at least its last line
 pub has_lines : (n : ℕ) (events : List Event) (lines : List SeenLine) → LinesFit 0 n events lines → 0 < length lines
@@ -34,19 +32,17 @@ only_one version cpus (es ∷ next ∷ callers) events alone is = absurd alone
 
 pub run_of : (script : Script) (events : List Event) (lines : List SeenLine) → WellFormed script → RunsAlone script →
     slice_get script.callers 0 ≡ Some events → (w : View) × RanAlone script.cpus events lines w →
-    RunOf script (transcript_text (lines ∷ []))
+    IsRunOf script (lines ∷ [])
 run_of script events lines ok alone is ran =
     let same : script ≡ one_caller script.version script.cpus events =
     only_one script.version script.cpus script.callers events alone is in
     let l : LawfulRun script.version script.cpus events lines ran.0 =
     lawful_run script.version script.cpus events lines ran.0 (subst WellFormed same ok) ran.1 in
-    subst (λ (s : Script). RunOf s (transcript_text (lines ∷ []))) (sym same) (record {
-      lines = lines ∷ [];
+    subst (λ (s : Script). IsRunOf s (lines ∷ [])) (sym same) (record {
       book = _;
       meanings = _;
       lawful = l.transcript;
       disjoint = lawful_is_disjoint _ (transcript_is_lawful _ _ _ _ l.transcript);
-      written = refl;
     })
 
 -- what a run asks of the script

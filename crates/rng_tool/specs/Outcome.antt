@@ -23,18 +23,21 @@ code_of WriteFault = 4
 code_of Refused = 5
 code_of NoMemory = 6
 
--- the input is none of the scripts that have a run so far: those of one caller whose events
--- have a call of the core, or are acts that no vread follows
+-- the input is none of the scripts that have a run so far: those of one caller in which no act waits for a vread
 abbrev pub HasNoRun : List ℕ → Type 0
 HasNoRun input = (script : Script) → IsScript script input → RunsAlone script → ⊥
 
--- what a lawful transcript for a script tells: its text, and that its book puts no byte of a key to use twice
-pub record RunOf (script : Script) (output : List ℕ) : Type 0 where
-  pub lines : List (List SeenLine)
+-- the lines are a lawful transcript for a script, and its book puts no byte of a key to use twice
+pub record IsRunOf (script : Script) (lines : List (List SeenLine)) : Type 0 where
   pub book : Book
   pub meanings : List (List CallMeaning)
   pub lawful : IsTranscriptBy script lines book meanings
   pub disjoint : IsDisjoint (lists_of book)
+
+-- the output is the text of such a transcript
+pub record RunOf (script : Script) (output : List ℕ) : Type 0 where
+  pub lines : List (List SeenLine)
+  pub run : IsRunOf script lines
   pub written : output ≡ transcript_text lines
 
 -- the input is not run, and the output tells why
@@ -80,6 +83,6 @@ pub record WasCutShort (left left_after held held_after : Option (List ℕ)) : T
   pub of_all : IfSome left (λ all. CallsFor all output)
   pub written : AppendsPrefix held held_after output
 
--- the one word of the command line
+-- the words of a run
 abbrev pub IsRun : {A : Type 0} → List (String A) → Type 0
 IsRun words = map string_bytes words ≡ codes "run" ∷ []

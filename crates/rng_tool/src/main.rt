@@ -1,6 +1,8 @@
 //! `rng`: the Linux random number core, replayed from a script of recorded events.
 #![tactic(auto)]
 
+mod alone;
+mod load;
 mod refusal;
 mod run;
 mod status;
@@ -39,7 +41,7 @@ fn main(rt: HostRuntime) -> ExitCode {
         Err(status) => status,
     };
     if status == Status::Usage {
-        let _told = eprintln!(rt; "usage: rng run");
+        let _told = eprintln!(rt; "usage: rng run | rng load START 1 EVENTS");
     }
     ExitCode::from(status.code())
 }

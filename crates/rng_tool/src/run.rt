@@ -6,12 +6,15 @@ ghost use Rattle.io_edges.specs.Faults.{Rose};
 ghost use Rattle.io_edges.specs.Pieces.{AppendsPrefix};
 ghost use Rattle.key_names.specs.ScriptGrammar.{WellFormed};
 ghost use Rattle.key_names.specs.TranscriptGrammar.{transcript_text};
+ghost use Rattle.rng_tool.specs.LoadOutcome.{IsLoad, IsNoForm, LoadEnds};
 ghost use Rattle.rng_tool.specs.Outcome.{CallsFor, CallsForRun, IsRefusal, IsRun, RunOf, WasCutShort, WasRefused, WasRun};
 ghost use Rattle.rng_tool.specs.Refusal.{refusal_by};
 
+use crate::alone::lines_of;
+use crate::load::{load_of, run_load};
 use crate::refusal::refusal_by;
 use crate::status::Status;
-use caller_run::{run_alone, runs_alone};
+use caller_run::runs_alone;
 use event_script::{Script, ScriptError, read};
 use io_edges::{Failed, NoMemory, ReadError, Sink, Source, put_all, read_to_limit};
 use key_names::ScriptFault;
@@ -22,7 +25,7 @@ use transcript_text::{Transcript, write_all};
 /// The most bytes of a script: 16 MiB.
 const MOST_INPUT: usize = 16_777_216;
 
-/// Whether the words are the one form of the command line.
+/// Whether the words are those of a run.
 fn is_run(words: &[String]) -> bool
     ensures { IsTrue result ↔ IsRun words.now }
 {
@@ -38,7 +41,7 @@ fn transcript_of<R: Wait>(rt: &R, alloc: Global, script: &Script) -> Result<Tran
     ensures { IfOk result (λ t. RunOf script.now (transcript_text t)) }
 {
     let mut callers = Vec::with_capacity(alloc, 1)?;
-    callers.push_reserved(run_alone(rt, alloc, script.cpus(), script.events(0))?);
+    callers.push_reserved(lines_of(rt, alloc, script)?);
     Ok(Transcript::of(callers))
 }
 
@@ -108,16 +111,20 @@ fn answer<R: Wait, K: Sink>(rt: &R, alloc: Global, input: &[u8], sink: &mut K) -
 
 /// Runs a command.
 ///
-/// The one form of the words is `run`. The input, read to its end, is a script of one caller in which no act waits for a
-/// `vread`; the output is its transcript. An input that is no script is answered by the line `refused LINE KIND`, its
-/// first fault, and any other script by `refused 0 0`.
+/// The word `run` takes the input, read to its end, as a script of one caller in which no act waits for a `vread`; the
+/// output is its transcript. An input that is no script is answered by the line `refused LINE KIND`, its first fault, and
+/// any other script by `refused 0 0`.
 ///
-/// - `Usage`: exactly where the words are not the one word `run`. Nothing is read or written.
+/// The words `load START 1 EVENTS` run the script of a load with one caller and so many calls, START below 2^32 and EVENTS
+/// from 1 to 1,000, in decimal without leading zeros. They read nothing. The output is the line
+/// `callers 1 events V bytes B`, with the number of the script's events and that of the bytes which its lines show.
+///
+/// - `Usage`: exactly where the words are neither. Nothing is read or written.
 /// - `ReadFault`: the source failed. Nothing is written.
 /// - `Refused`: the input is no such script, and the line that says why was written.
 /// - `WriteFault`: the sink failed. What it got in this call is a prefix of the output.
 /// - `NoMemory`: there was no memory, before anything was written.
-/// - `Done`: the input was read to its end, and the transcript was written.
+/// - `Done`: the input of `run` was read to its end, and the whole output was written.
 pub fn run<R: Wait, S: Source, K: Sink>(
     rt: &R,
     alloc: Global,
@@ -125,20 +132,25 @@ pub fn run<R: Wait, S: Source, K: Sink>(
     source: &mut S,
     sink: &mut K,
 ) -> Status
-    ensures usage { result ≡ Status.Usage ↔ (IsRun words.now → ⊥) }
-    ensures unread { result ≡ Status.Usage → Keeps (S.left source.old) (S.left source.new) }
+    ensures usage { result ≡ Status.Usage ↔ IsNoForm words.now }
+    ensures unread { (IsRun words.now → ⊥) → Keeps (S.left source.old) (S.left source.new) }
     ensures silent { (result ≡ Status.Usage) ⊎ (result ≡ Status.ReadFault) ⊎ (result ≡ Status.NoMemory)
         → Keeps (K.held sink.old) (K.held sink.new) }
     ensures read_fault { result ≡ Status.ReadFault → Rose (S.faults source.old) (S.faults source.new) }
     ensures write_fault { result ≡ Status.WriteFault → Rose (K.faults sink.old) (K.faults sink.new) }
-    ensures done { result ≡ Status.Done
+    ensures done { IsRun words.now → result ≡ Status.Done
         → WasRun (S.left source.old) (S.left source.new) (K.held sink.old) (K.held sink.new) }
     ensures refused { result ≡ Status.Refused
         → WasRefused (S.left source.old) (S.left source.new) (K.held sink.old) (K.held sink.new) }
-    ensures cut_short { result ≡ Status.WriteFault
+    ensures cut_short { IsRun words.now → result ≡ Status.WriteFault
         → WasCutShort (S.left source.old) (S.left source.new) (K.held sink.old) (K.held sink.new) }
+    ensures loaded { (start events : ℕ) → IsLoad words.now start events
+        → LoadEnds start events result (K.held sink.old) (K.held sink.new) }
     ensures no_check { result ≢ Status.No }
 {
+    if let Some(load) = load_of(words) {
+        return run_load(rt, alloc, load, sink);
+    }
     if !is_run(words) {
         return Status::Usage;
     }

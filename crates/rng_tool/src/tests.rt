@@ -52,6 +52,9 @@ const TWO_CPUS_TRANSCRIPT: &[u8] = b"rngtranscript 1\n\
     0.7 end ok b:5@13 -\n\
     end\n";
 
+// Of `load 1 1 8`.
+const LOAD_LINE: &[u8] = b"callers 1 events 10 bytes 137\n";
+
 // More than any output here.
 const ROOM: usize = 1000;
 
@@ -154,9 +157,10 @@ fn faults_are_told(rt: HostRuntime) -> Result<(), Fail> {
 #[test]
 fn scripts_of_other_forms_have_no_fault(rt: HostRuntime) -> Result<(), Fail> {
     let alloc = rt.alloc();
-    let scripts: [&[u8]; 2] = [
-        b"rngscript 1\ncpus 1\ncaller 0\nfork 1\ncaller 1\nend\n",
+    let scripts: [&[u8]; 3] = [
         b"rngscript 1\ncpus 1\ncaller 0\ninside 1 wipe\nvread 16 0\nend\n",
+        b"rngscript 1\ncpus 1\ncaller 0\nfork 1\ncaller 1\nend\n",
+        b"rngscript 1\ncpus 1\ncaller 0\nvread 8 0\ninside 3 reseed\ndrop\nvread 8 0\nend\n",
     ];
     for (row, script) in scripts.iter().enumerate() {
         let (status, _, sink) = run_over(&rt, alloc, &["run"], script, WHOLE)?;
@@ -169,7 +173,24 @@ fn scripts_of_other_forms_have_no_fault(rt: HostRuntime) -> Result<(), Fail> {
 #[test]
 fn other_words_read_and_write_nothing(rt: HostRuntime) -> Result<(), Fail> {
     let alloc = rt.alloc();
-    let rows: [&[&str]; 6] = [&[], &["check"], &["run", "run"], &["Run"], &["run "], &[""]];
+    let rows: [&[&str]; 16] = [
+        &[],
+        &["check"],
+        &["run", "run"],
+        &["Run"],
+        &["run "],
+        &[""],
+        &["load"],
+        &["load", "1", "1"],
+        &["load", "1", "1", "8", "8"],
+        &["load", "1", "0", "8"],
+        &["load", "1", "2", "8"],
+        &["load", "01", "1", "8"],
+        &["load", "1", "1", "0"],
+        &["load", "1", "1", "1001"],
+        &["load", "4294967296", "1", "8"],
+        &["load", "1", "1", ""],
+    ];
     for (row, texts) in rows.iter().enumerate() {
         let (status, mut source, sink) = run_over(&rt, alloc, texts, FIRST_SCRIPT, WHOLE)?;
         assert_eq!(rt; status, Status::Usage, "row {row}");
@@ -183,6 +204,56 @@ fn other_words_read_and_write_nothing(rt: HostRuntime) -> Result<(), Fail> {
             "row {row}"
         );
         assert_eq!(rt; rest.held(), FIRST_TRANSCRIPT, "row {row}");
+    }
+    Ok(())
+}
+
+#[test]
+fn loads_are_summed_up(rt: HostRuntime) -> Result<(), Fail> {
+    let alloc = rt.alloc();
+    let rows: [(&[&str], &[u8]); 4] = [
+        (&["load", "1", "1", "8"], LOAD_LINE),
+        (&["load", "0", "1", "1"], b"callers 1 events 3 bytes 1\n"),
+        (
+            &["load", "4294967295", "1", "9"],
+            b"callers 1 events 11 bytes 113\n",
+        ),
+        (
+            &["load", "1", "1", "1000"],
+            b"callers 1 events 1002 bytes 26125\n",
+        ),
+    ];
+    // The source fails as soon as it is read.
+    let edges = Edges {
+        failing_take: 1,
+        ..WHOLE
+    };
+    for (row, (texts, line)) in rows.iter().enumerate() {
+        let (status, _, sink) = run_over(&rt, alloc, texts, FIRST_SCRIPT, edges)?;
+        assert_eq!(rt; status, Status::Done, "row {row}");
+        assert_eq!(rt; sink.held(), *line, "row {row}");
+    }
+    Ok(())
+}
+
+#[test]
+fn a_load_whose_line_cannot_be_written(rt: HostRuntime) -> Result<(), Fail> {
+    let alloc = rt.alloc();
+    for failing_put in 1..=3 {
+        let edges = Edges {
+            step: 10,
+            failing_put,
+            ..WHOLE
+        };
+        let words = ["load", "1", "1", "8"];
+        let (status, _, sink) = run_over(&rt, alloc, &words, b"", edges)?;
+        let held = (failing_put as usize - 1) * 10;
+        assert_eq!(rt; status, Status::WriteFault, "put {failing_put}");
+        assert_eq!(rt;
+            Some(sink.held()),
+            LOAD_LINE.get(..held),
+            "put {failing_put}"
+        );
     }
     Ok(())
 }

@@ -1,4 +1,4 @@
-use Rattle.std.proofs.Common.{◌≡◌, ◌<◌, ◌≤◌, ◌+◌, ◌-◌, ◌*◌, ◌++◌, ◌∷◌, [], ℕ, zero, suc, Bool, true, false, List, length, refl, sym, ap, ◌∙◌, subst, arith, rules}
+use Rattle.std.proofs.Common.{◌≡◌, ◌<◌, ◌≤◌, ◌+◌, ◌-◌, ◌*◌, ◌++◌, ◌∷◌, [], ℕ, zero, suc, Bool, true, false, List, length, refl, sym, ap, ◌∙◌, subst, arith, rules, append_assoc}
 use Rattle.std.specs.Prelude.{◌==◌, ◌&&◌}
 use Rattle.std.proofs.lemmas.Bool.{ne_eqb}
 use Rattle.key_names.specs.declared.errno.Errno.{Errno}
@@ -7,7 +7,9 @@ use Rattle.key_names.specs.declared.events.Answer.TheVariants.{Ok as Done}
 use Rattle.key_names.specs.SeenLine.{bytes_or_none}
 use Rattle.key_names.specs.Deeds.{Deed, looked}
 use Rattle.rng_core.specs.Did.{Did, Fulfils, setting_of, errno_answer}
-use Rattle.rng_core.specs.Told.{moment}
+use Rattle.key_names.specs.declared.names.Step.{Step}
+use Rattle.key_names.specs.declared.names.Step.TheVariants.{Look}
+use Rattle.rng_core.specs.Told.{moment, BeginsWithLook}
 use Rattle.rng_core.proofs.Doing.{did_floor, did_nothing, did_map, did_look, did_behind, did_then}
 use Rattle.rng_core.proofs.SysFulfilling.{sys_invalid, sys_again, sys_interrupted, sys_waited_none, sys_waited, sys_none, sys_read, nil_of}
 use Rattle.rng_core.proofs.system_call.getrandom.Goals as goal
@@ -67,3 +69,34 @@ pub returns-clause-did : goal.returns-clause-did
 returns-clause-did g c = let good = sym c.are_bad.ensures ∙ c.if-are_bad.false in let takes = sym c.must_wait.ensures ∙ c.if-must_wait.false in let some : 0 < length c.args.buf.now = search rules in
     did_map _ _ _ (λ deeds h. sys_read (setting_of c.args.set.now) (length c.args.buf.now) c.args.flags c.look-found.result good takes some h.rest deeds _ h.holds h.deeds_are)
     (did_behind _ _ _ _ c.look-found.result c.look-found.ensures.told c.read_behind.ensures.did)
+
+-- The first step
+
+begun : (before : List Step) (look : ℕ) (one : List Step) → one ≡ before ++ Look look ∷ [] → BeginsWithLook before one
+begun before look one is = record { look = look; rest = []; is = is }
+
+begun_more : (before one after more : List Step) → after ≡ one ++ more → BeginsWithLook before one → BeginsWithLook before after
+begun_more before one after more e k =
+    record { look = k.look; rest = k.rest ++ more; is = e ∙ ap (λ (l : List Step). l ++ more) k.is ∙ append_assoc before (Look k.look ∷ k.rest) more }
+
+pub returns-then-are_bad-clause-begins : goal.returns-then-are_bad-clause-begins
+returns-then-are_bad-clause-begins g c = λ good. let e : true ≡ false = sym c.if-are_bad.true ∙ c.are_bad.ensures ∙ good in absurd (cc e)
+
+pub returns-then-is_nonblock-clause-begins : goal.returns-then-is_nonblock-clause-begins
+returns-then-is_nonblock-clause-begins g c = λ good. begun _ c.look-found.result _ c.look-found.ensures.told.trace
+
+pub returns-in-Err-clause-begins : goal.returns-in-Err-clause-begins
+returns-in-Err-clause-begins g c = λ good. begun_more _ _ _ _ c.in-Err.ensures.waited.1.told.trace (begun_more _ _ _ _ c.wait.ensures.did.told.trace (begun _ c.look-found.result _ c.look-found.ensures.told.trace))
+
+pub returns-then-is_empty-clause-begins : goal.returns-then-is_empty-clause-begins
+returns-then-is_empty-clause-begins g c = λ good. begun_more _ _ _ _ c.in-Ok.ensures.waited.1.told.trace (begun_more _ _ _ _ c.wait.ensures.did.told.trace (begun _ c.look-found.result _ c.look-found.ensures.told.trace))
+
+pub returns-in-Ok-clause-begins : goal.returns-in-Ok-clause-begins
+returns-in-Ok-clause-begins g c = λ good. begun_more _ _ _ _ c.read_cpu.ensures.did.told.trace
+    (begun_more _ _ _ _ c.in-Ok.ensures.waited.1.told.trace (begun_more _ _ _ _ c.wait.ensures.did.told.trace (begun _ c.look-found.result _ c.look-found.ensures.told.trace)))
+
+pub returns-then-is_empty-2-clause-begins : goal.returns-then-is_empty-2-clause-begins
+returns-then-is_empty-2-clause-begins g c = λ good. begun _ c.look-found.result _ c.look-found.ensures.told.trace
+
+pub returns-clause-begins : goal.returns-clause-begins
+returns-clause-begins g c = λ good. begun_more _ _ _ _ c.read_behind.ensures.did.told.trace (begun _ c.look-found.result _ c.look-found.ensures.told.trace)

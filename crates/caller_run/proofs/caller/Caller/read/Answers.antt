@@ -1,22 +1,12 @@
 use Rattle.std.proofs.Common.{◌≡◌, ℕ, zero, suc, ◌<◌, length, refl, sym, ap, ◌∙◌, subst, arith}
 use Rattle.std.specs.Prelude.{◌==◌, if◌then◌else◌}
 use Rattle.key_names.specs.declared.events.Event.TheVariants.{Kread, Uread, Read, Dread}
-use Rattle.key_names.specs.declared.events.Word.{Word}
-use Rattle.key_names.specs.declared.events.Word.TheVariants.{Bits}
 use Rattle.key_names.specs.ScriptGrammar.{InRange}
 use Rattle.key_names.specs.SeenLine.{bytes_or_none}
-use Rattle.caller_run.specs.Says.{shown_by, most_shown, ShowsFit, IsNoCount}
+use Rattle.caller_run.specs.Says.{shown_by, most_shown}
 use Rattle.caller_run.specs.declared.said.Said.{Said}
-use Rattle.caller_run.specs.declared.said.Shows.{Shows}
-use Rattle.caller_run.specs.declared.said.Shows.TheVariants.{Nothing, Served, Count}
-use Rattle.caller_run.proofs.Callings.{by_does, quietly}
+use Rattle.caller_run.proofs.Callings.{by_does, no_count, quietly}
 use Rattle.caller_run.proofs.caller.Caller.read.Goals as goal
-
--- bytes stand on the line of a word that is not bits
-no_count : (word : Word) (shows : Shows) → (word ≡ Bits → ⊥) → IsNoCount shows → ShowsFit word shows
-no_count word Nothing other is = tt
-no_count word Served other is = other
-no_count word (Count n) other is = absurd is
 
 pub returns-in-Kread : goal.returns-in-Kread
 returns-in-Kread g c =

@@ -1,0 +1,270 @@
+-- What acts at a point do to what a pass knows.
+use Rattle.std.proofs.Common.{◌≡◌, ℕ, ◌≤◌, Bool, true, false, not, List, [], ◌∷◌, ◌++◌, length, map, refl, sym, ap, ◌∙◌, subst, arith, append-nil, append_assoc}
+use Rattle.std.proofs.lemmas.List.{map-append}
+use Rattle.std.specs.Prelude.{MatchBool, ◌==◌, ◌&&◌, ◌||◌, ⊤}
+use Rattle.std.specs.List.{AllByRecursion, list_any}
+use Rattle.key_names.specs.declared.names.Step.{Step}
+use Rattle.key_names.specs.declared.point.Point.{Point}
+use Rattle.key_names.specs.Deeds.{Deed, deed_of, deeds_of}
+use Rattle.key_names.specs.Meaning.{ActMeans}
+use Rattle.key_names.specs.TranscriptGrammar.{StepFits}
+use Rattle.key_names.specs.VreadSteps.{PointReached, number_of}
+use Rattle.key_names.proofs.Each.{each_append}
+use Rattle.lane_table.specs.declared.view.View.{View}
+use Rattle.lane_table.specs.declared.view.Visit.{Visit}
+use Rattle.lane_table.specs.BookLists.{StateLists, book_lists}
+use Rattle.lane_table.specs.BookLaws.{Continues}
+use Rattle.lane_table.specs.Steps.{Grows}
+use Rattle.lane_table.specs.WorldRule.{known_of}
+use Rattle.lane_table.specs.Went.{Deal, looked, visited, step_of, looks_in, Sees, floor}
+use Rattle.lane_table.proofs.BookEnds.{continues_before}
+use Rattle.rng_core.specs.declared.setting.Setting.{Setting}
+use Rattle.rng_core.specs.Told.{Moment}
+use Rattle.rng_core.specs.Did.{DidIn, Did, setting_of}
+use Rattle.rng_core.specs.Acts.{Ask, ActOutcome, ActRan, ActAt, ActsAt, done_line}
+use Rattle.rng_core.proofs.Doing.{After, did_floor}
+
+-- a pass knows no less
+pub record Onward (v w : View) : Type 0 where
+  pub sized : length w.lanes ≡ length v.lanes
+  pub grows : Grows v w
+  pub floors : floor v ≤ floor w
+
+pub onward_same : (v : View) → Onward v v
+onward_same v = record { sized = refl; grows = λ lane low. ([], sym (append-nil (known_of v lane))); floors = omega arith }
+
+pub onward_is : (v w : View) → w ≡ v → Onward v w
+onward_is v w same = subst (Onward v) (sym same) (onward_same v)
+
+pub onward_then : (u v w : View) → Onward u v → Onward v w → Onward u w
+onward_then u v w a b = record {
+  sized = b.sized ∙ a.sized;
+  grows = λ lane low.
+      let f = a.grows lane low in
+      let g = b.grows lane (let s = a.sized in omega arith) in (
+        f.0 ++ g.0,
+        g.1 ∙ ap (λ (l : List Visit). l ++ g.0) f.1 ∙ append_assoc (known_of u lane) f.0 g.0,
+      );
+  floors = let x = a.floors in let y = b.floors in omega arith;
+}
+
+pub did_onward : {P : (ℕ → List Visit) → List Deed → Type 0} (set : Setting) (l m : Moment) → DidIn P set l m → Onward l.view m.view
+did_onward set l m k = record { sized = k.told.went.same.sized; grows = k.told.went.grows; floors = did_floor set l m k }
+
+module _ (set : Setting) (point : Point) where
+  pub at_onward : (a : Ask) (v w : View) (x y : ActOutcome) → ActAt set point a v w x y → Onward v w
+  at_onward a v w x y k = go (number_of point == number_of a.point && not x.done) k
+    where
+      go : (b : Bool) → MatchBool b (ActRan set a v w y) ((y ≡ x) × (w ≡ v)) → Onward v w
+      go true h = did_onward _ _ _ h.did
+      go false h = onward_is v w h.1
+
+  pub acts_onward : (asks : List Ask) (v w : View) (xs ys : List ActOutcome) → ActsAt set point asks v w xs ys → Onward v w
+  acts_onward [] v w [] [] k = onward_is v w k
+  acts_onward [] v w [] (y ∷ ys) k = absurd k
+  acts_onward [] v w (x ∷ xs) ys k = absurd k
+  acts_onward (a ∷ asks) v w [] ys k = absurd k
+  acts_onward (a ∷ asks) v w (x ∷ xs) [] k = absurd k
+  acts_onward (a ∷ asks) v w (x ∷ xs) (y ∷ ys) k = onward_then v k.0 w (at_onward a v k.0 x y k.1) (acts_onward asks k.0 w xs ys k.2)
+
+-- Looks that rise, from the first number to the last
+
+abbrev pub Risen : ℕ → List ℕ → ℕ → Type 0
+Risen low [] high = low ≤ high
+Risen low (g ∷ looks) high = (low ≤ g) × Risen g looks high
+
+risen_lower : (low mid high : ℕ) (looks : List ℕ) → low ≤ mid → Risen mid looks high → Risen low looks high
+risen_lower low mid high [] less h = omega arith
+risen_lower low mid high (g ∷ looks) less h = (let a = h.0 in omega arith, h.1)
+
+risen_then : (low mid high : ℕ) (xs ys : List ℕ) → Risen low xs mid → Risen mid ys high → Risen low (xs ++ ys) high
+risen_then low mid high [] ys a b = risen_lower low mid high ys a b
+risen_then low mid high (g ∷ xs) ys a b = (a.0, risen_then g mid high xs ys a.1 b)
+
+sees_risen : (w : View) (low high : ℕ) (deals : List Deal) → Sees w low deals high → Risen low (looks_in deals) high
+sees_risen w low high [] h = h
+sees_risen w low high (looked g ∷ deals) h = (h.0, sees_risen w g high deals h.1)
+sees_risen w low high (visited mark e ∷ deals) h = risen_lower low h.0 high (looks_in deals) h.1 (sees_risen w h.0 high deals h.3)
+
+looks_append : (xs ys : List Deal) → looks_in (xs ++ ys) ≡ looks_in xs ++ looks_in ys
+looks_append [] ys = refl
+looks_append (looked g ∷ xs) ys = ap (λ (l : List ℕ). g ∷ l) (looks_append xs ys)
+looks_append (visited mark e ∷ xs) ys = looks_append xs ys
+
+-- The caller's own steps, with those of acts between them
+
+-- from l to m these are the caller's own steps, and of the deeds behind them this holds
+pub record Own (P : List Deed → Type 0) (l m : Moment) : Type 0 where
+  pub deals : List Deal
+  pub trace : m.steps ≡ l.steps ++ map step_of deals
+  pub fits : AllByRecursion StepFits (map step_of deals)
+  pub rises : Risen (floor l.view) (looks_in deals) (floor m.view)
+  pub onward : Onward l.view m.view
+  pub stands : (lanes : ℕ) (visits : ℕ → List Visit) (callers : StateLists) → Continues lanes m.view visits →
+      P (deeds_of (book_lists lanes visits callers) (map step_of deals))
+
+pub own_nothing : {P : List Deed → Type 0} (m : Moment) → P [] → Own P m m
+own_nothing m p = record {
+  deals = [];
+  trace = sym (append-nil m.steps);
+  fits = tt;
+  rises = omega arith;
+  onward = onward_same m.view;
+  stands = λ lanes visits callers c. p;
+}
+
+pub own_did : {P : List Deed → Type 0} (set : Setting) (l m : Moment) → Did P set l m → Own P l m
+own_did set l m k = record {
+  deals = k.deals;
+  trace = k.told.trace;
+  fits = k.told.fits;
+  rises = sees_risen m.view (floor l.view) (floor m.view) k.deals k.told.went.sees;
+  onward = did_onward set l m k;
+  stands = k.stands;
+}
+
+pub own_map : {P Q : List Deed → Type 0} (l m : Moment) → ((deeds : List Deed) → P deeds → Q deeds) → Own P l m → Own Q l m
+own_map l m f k = record { deals = k.deals; trace = k.trace; fits = k.fits; rises = k.rises; onward = k.onward; stands = λ lanes visits callers c. f _ (k.stands lanes visits callers c) }
+
+pub own_then : {P Q : List Deed → Type 0} (l m n : Moment) → Own P l m → Own Q m n → Own (After P Q) l n
+own_then l m n a b = record {
+  deals = a.deals ++ b.deals;
+  trace = b.trace ∙ ap (λ (s : List Step). s ++ map step_of b.deals) a.trace ∙ append_assoc l.steps (map step_of a.deals) (map step_of b.deals)
+      ∙ ap (λ (s : List Step). l.steps ++ s) (sym (map-append step_of a.deals b.deals));
+  fits = subst (AllByRecursion StepFits) (sym (map-append step_of a.deals b.deals)) (each_append StepFits (map step_of a.deals) (map step_of b.deals) a.fits b.fits);
+  rises = subst (λ (looks : List ℕ). Risen (floor l.view) looks (floor n.view)) (sym (looks_append a.deals b.deals)) (risen_then (floor l.view) (floor m.view) (floor n.view) (looks_in a.deals) (looks_in b.deals) a.rises b.rises);
+  onward = onward_then l.view m.view n.view a.onward b.onward;
+  stands = λ lanes visits callers c. let book = book_lists lanes visits callers in record {
+    first = deeds_of book (map step_of a.deals);
+    rest = deeds_of book (map step_of b.deals);
+    deeds_are = ap (deeds_of book) (map-append step_of a.deals b.deals) ∙ map-append (deed_of book) (map step_of a.deals) (map step_of b.deals);
+    before = a.stands lanes visits callers (continues_before lanes m.view n.view visits b.onward.sized b.onward.grows c);
+    behind = b.stands lanes visits callers c;
+  };
+}
+
+-- behind acts
+pub own_behind : {P : List Deed → Type 0} (l m n : Moment) → m.steps ≡ l.steps → Onward l.view m.view → Own P m n → Own P l n
+own_behind l m n same onward k = record {
+  deals = k.deals;
+  trace = k.trace ∙ ap (λ (s : List Step). s ++ map step_of k.deals) same;
+  fits = k.fits;
+  rises = risen_lower (floor l.view) (floor m.view) (floor n.view) (looks_in k.deals) onward.floors k.rises;
+  onward = onward_then l.view m.view n.view onward k.onward;
+  stands = k.stands;
+}
+
+-- What came of the acts
+
+-- an act that was done means what it is to mean, in all lists that go on, and one that was not has no steps
+pub record Meant (set : Setting) (w : View) (a : Ask) (z : ActOutcome) : Type 0 where
+  pub done : z.done ≡ true → (lanes : ℕ) (visits : ℕ → List Visit) (callers : StateLists) → Continues lanes w visits →
+      ActMeans (setting_of set) a.act (done_line (deeds_of (book_lists lanes visits callers) z.steps) z.answer z.bytes)
+  pub idle : z.done ≡ false → z.steps ≡ []
+  pub fits : AllByRecursion StepFits z.steps
+
+abbrev pub AllMeant : Setting → View → List Ask → List ActOutcome → Type 0
+AllMeant set w [] [] = ⊤
+AllMeant set w [] (z ∷ zs) = ⊥
+AllMeant set w (a ∷ asks) [] = ⊥
+AllMeant set w (a ∷ asks) (z ∷ zs) = Meant set w a z × AllMeant set w asks zs
+
+meant_onward : (set : Setting) (v w : View) (a : Ask) (z : ActOutcome) → Onward v w → Meant set v a z → Meant set w a z
+meant_onward set v w a z onward k = record {
+  done = λ e lanes visits callers c. k.done e lanes visits callers (continues_before lanes v w visits onward.sized onward.grows c);
+  idle = k.idle;
+  fits = k.fits;
+}
+
+pub all_onward : (set : Setting) (v w : View) (asks : List Ask) (zs : List ActOutcome) → Onward v w → AllMeant set v asks zs → AllMeant set w asks zs
+all_onward set v w [] [] onward k = tt
+all_onward set v w [] (z ∷ zs) onward k = absurd k
+all_onward set v w (a ∷ asks) [] onward k = absurd k
+all_onward set v w (a ∷ asks) (z ∷ zs) onward k = (meant_onward set v w a z onward k.0, all_onward set v w asks zs onward k.1)
+
+ran_means : (set : Setting) (a : Ask) (v w : View) (y : ActOutcome) → ActRan set a v w y → Meant set w a y
+ran_means set a v w y k = record {
+  done = λ e lanes visits callers c. subst (λ (l : List Step). ActMeans (setting_of set) a.act (done_line (deeds_of (book_lists lanes visits callers) l) y.answer y.bytes)) (sym k.did.told.trace) (k.did.stands lanes visits callers c);
+  idle = λ e. let f : true ≡ false = sym k.done ∙ e in absurd (cc f);
+  fits = subst (AllByRecursion StepFits) (sym k.did.told.trace) k.did.told.fits;
+}
+
+module _ (set : Setting) (point : Point) where
+  one_meant : (a : Ask) (v w : View) (x y : ActOutcome) → ActAt set point a v w x y → Meant set v a x → Meant set w a y
+  one_meant a v w x y k m = go (number_of point == number_of a.point && not x.done) k
+    where
+      go : (b : Bool) → MatchBool b (ActRan set a v w y) ((y ≡ x) × (w ≡ v)) → Meant set w a y
+      go true h = ran_means set a v w y h
+      go false h = subst (Meant set w a) (sym h.0) (meant_onward set v w a x (onward_is v w h.1) m)
+
+  pub meant_at : (asks : List Ask) (v w : View) (xs ys : List ActOutcome) → ActsAt set point asks v w xs ys → AllMeant set v asks xs → AllMeant set w asks ys
+  meant_at [] v w [] [] k all = tt
+  meant_at [] v w [] (y ∷ ys) k all = absurd k
+  meant_at [] v w (x ∷ xs) ys k all = absurd k
+  meant_at (a ∷ asks) v w [] ys k all = absurd k
+  meant_at (a ∷ asks) v w (x ∷ xs) [] k all = absurd k
+  meant_at (a ∷ asks) v w (x ∷ xs) (y ∷ ys) k all = (
+    meant_onward set k.0 w a y (acts_onward set point asks k.0 w xs ys k.2) (one_meant a v k.0 x y k.1 all.0),
+    meant_at asks k.0 w xs ys k.2 (all_onward set v k.0 asks xs (at_onward set point a v k.0 x y k.1) all.1),
+  )
+
+-- whether a call came to the point of an act
+abbrev pub came : List PointReached → Ask → Bool
+came points a = list_any (λ reached. number_of reached.point == number_of a.point) points
+
+-- the acts that were not done are done exactly where the call came to their points
+abbrev pub AllDone : List PointReached → List Ask → List ActOutcome → List ActOutcome → Type 0
+AllDone points [] [] [] = ⊤
+AllDone points [] [] (z ∷ zs) = ⊥
+AllDone points [] (x ∷ xs) zs = ⊥
+AllDone points (a ∷ asks) [] zs = ⊥
+AllDone points (a ∷ asks) (x ∷ xs) [] = ⊥
+AllDone points (a ∷ asks) (x ∷ xs) (z ∷ zs) = (z.done ≡ (x.done || came points a)) × AllDone points asks xs zs
+
+or_nothing : (b : Bool) → b ≡ (b || false)
+or_nothing true = refl
+or_nothing false = refl
+
+pub done_same : (asks : List Ask) (xs : List ActOutcome) → length xs ≡ length asks → AllDone [] asks xs xs
+done_same [] [] long = tt
+done_same [] (x ∷ xs) long = absurd (omega arith)
+done_same (a ∷ asks) [] long = absurd (omega arith)
+done_same (a ∷ asks) (x ∷ xs) long = (or_nothing x.done, done_same asks xs (omega arith))
+
+module _ (set : Setting) (point : Point) (wiped : Bool) (points : List PointReached) where
+  abbrev here : PointReached
+  here = record { point = point; wiped = wiped }
+
+  or_more : (x y z e rest : Bool) → z ≡ (y || rest) → y ≡ (x || e) → z ≡ (x || (e || rest))
+  or_more true y z e rest f g = f ∙ ap (λ (b : Bool). b || rest) g
+  or_more false y z e rest f g = f ∙ ap (λ (b : Bool). b || rest) g
+
+  one_done : (a : Ask) (v w : View) (x y : ActOutcome) → ActAt set point a v w x y → y.done ≡ (x.done || (number_of point == number_of a.point))
+  one_done a v w x y k = go (number_of point == number_of a.point) x.done refl k
+    where
+      go : (e d : Bool) → x.done ≡ d → MatchBool (e && not d) (ActRan set a v w y) ((y ≡ x) × (w ≡ v)) → y.done ≡ (d || e)
+      go true true is h = ap (λ (z : ActOutcome). z.done) h.0 ∙ is
+      go true false is h = h.done
+      go false true is h = ap (λ (z : ActOutcome). z.done) h.0 ∙ is
+      go false false is h = ap (λ (z : ActOutcome). z.done) h.0 ∙ is
+
+  pub done_at : (asks : List Ask) (v w : View) (xs ys zs : List ActOutcome) → ActsAt set point asks v w xs ys → AllDone points asks ys zs → AllDone (here ∷ points) asks xs zs
+  done_at [] v w [] [] [] k rest = tt
+  done_at [] v w [] [] (z ∷ zs) k rest = absurd rest
+  done_at [] v w [] (y ∷ ys) zs k rest = absurd k
+  done_at [] v w (x ∷ xs) ys zs k rest = absurd k
+  done_at (a ∷ asks) v w [] ys zs k rest = absurd k
+  done_at (a ∷ asks) v w (x ∷ xs) [] zs k rest = absurd k
+  done_at (a ∷ asks) v w (x ∷ xs) (y ∷ ys) [] k rest = absurd rest
+  done_at (a ∷ asks) v w (x ∷ xs) (y ∷ ys) (z ∷ zs) k rest = (
+    or_more x.done y.done z.done (number_of point == number_of a.point) (came points a) rest.0 (one_done a v k.0 x y k.1),
+    done_at asks k.0 w xs ys zs k.2 rest.1,
+  )
+
+  pub long_at : (asks : List Ask) (v w : View) (xs ys : List ActOutcome) → ActsAt set point asks v w xs ys → length ys ≡ length asks
+  long_at [] v w [] [] k = refl
+  long_at [] v w [] (y ∷ ys) k = absurd k
+  long_at [] v w (x ∷ xs) ys k = absurd k
+  long_at (a ∷ asks) v w [] ys k = absurd k
+  long_at (a ∷ asks) v w (x ∷ xs) [] k = absurd k
+  long_at (a ∷ asks) v w (x ∷ xs) (y ∷ ys) k = let e = long_at asks k.0 w xs ys k.2 in omega arith

@@ -1,0 +1,234 @@
+-- What a read out of a caller's vgetrandom state did with acts inside, out of a call on its host.
+use Rattle.std.proofs.Common.{◌≡◌, ℕ, ◌<◌, ◌≤◌, Bool, true, false, not, List, [], ◌∷◌, length, map, drop, refl, sym, ap, ◌∙◌, subst, arith}
+use Rattle.std.specs.Prelude.{MatchBool, ◌==◌, ◌&&◌, ◌||◌, ◌^◌, if◌then◌else◌}
+use Rattle.std.specs.List.{AllByRecursion}
+use Rattle.std.proofs.lemmas.Bool.{le-leb, ne_eqb}
+use Rattle.key_names.specs.declared.events.Answer.{Answer}
+use Rattle.key_names.specs.declared.point.Point.{Point}
+use Rattle.key_names.specs.Book.{Lists}
+use Rattle.key_names.specs.Deeds.{Deed, deeds_of}
+use Rattle.key_names.specs.Meaning.{CallerState, CallMeaning, ActMeans, ActsMean, VreadMeans, ByVgetrandom, current_state, with_state, tries_local, unused_line}
+use Rattle.key_names.specs.Flags.{is_bad}
+use Rattle.key_names.specs.SeenLine.{Shown, bytes_or_none}
+use Rattle.key_names.specs.TranscriptGrammar.{StepFits}
+use Rattle.key_names.specs.Vgetrandom.{IsCall}
+use Rattle.key_names.specs.VgetrandomState.{VgetrandomState}
+use Rattle.key_names.specs.VreadSteps.{published_by, Shows, WipesStand, PointReached, points_of, first_points, is_wiped, is_reached, is_wipe, number_of, NeverFall}
+use Rattle.key_names.proofs.Attempts.{match_false}
+use Rattle.key_names.proofs.Each.{each_weaker}
+use Rattle.lane_table.specs.declared.view.View.{View}
+use Rattle.lane_table.specs.declared.view.Visit.{Visit}
+use Rattle.lane_table.specs.BookLists.{StateLists, book_lists}
+use Rattle.lane_table.specs.BookLaws.{Continues}
+use Rattle.lane_table.specs.Went.{step_of, looks_in, floor}
+use Rattle.vdso_state.specs.Host.{Doings, DoesAll}
+use Rattle.vdso_state.specs.Call.{Runs, Finish}
+use Rattle.rng_core.specs.declared.acts.Bound.{Bound}
+use Rattle.rng_core.specs.declared.act_host.Attempt.{Attempt}
+use Rattle.rng_core.specs.declared.act_host.Attempt.TheVariants.{Before}
+use Rattle.rng_core.specs.declared.setting.Setting.{Setting}
+use Rattle.rng_core.specs.Told.{Moment}
+use Rattle.rng_core.specs.Did.{setting_of, result_answer, given}
+use Rattle.rng_core.specs.VreadDid.{done_of}
+use Rattle.rng_core.specs.Acts.{Ask, ActOutcome, wants, asks_of, outcomes_of, is_ready, all_ready, wipes_at, done_line}
+use Rattle.rng_core.specs.Acting.{ActStand, act_stand, acting, InsideRan}
+use Rattle.rng_core.specs.InsideDid.{IsFresh, bound_acts, outcome_line, inside_meaning, InsideDid}
+use Rattle.rng_core.proofs.ActRuns.{Risen, AllDone, AllMeant, came, Own}
+use Rattle.rng_core.proofs.Acting.{IsActor, acted_set, acted_asks, acted_onward, acted_up_to, acted_own, acted_wipes, acted_done, acted_meant, acted_all}
+use Rattle.rng_core.proofs.CallEnds.{EndsWell, call_ends}
+use Rattle.rng_core.proofs.Hosting.{published_more}
+use Rattle.rng_core.proofs.Readings.{ending_is, same_looks}
+
+-- Acts as they are handed over
+
+fresh_one : (b : Bound) → IsFresh b → is_ready b ≡ true
+fresh_one b k = ap (λ (x : Bool). x && (b.done || length b.trace == 0)) (le-leb (wants b.act) (2 ^ 20) k.short)
+    ∙ (λ i. k.idle i || length (k.empty i) == 0)
+
+pub fresh_ready : (bounds : List Bound) → AllByRecursion IsFresh bounds → all_ready bounds ≡ true
+fresh_ready [] all = refl
+fresh_ready (b ∷ bounds) all = ap (λ (x : Bool). x && all_ready bounds) (fresh_one b all.0) ∙ fresh_ready bounds all.1
+
+fresh_meant : (set : Setting) (w : View) (bounds : List Bound) (out : List ℕ) → AllByRecursion IsFresh bounds → AllMeant set w (asks_of bounds) (outcomes_of bounds out)
+fresh_meant set w [] out all = tt
+fresh_meant set w (b ∷ bounds) out all = (
+  record {
+    done = λ e lanes visits callers c. let f : true ≡ false = sym e ∙ all.0.idle in absurd (cc f);
+    idle = λ e. all.0.empty;
+    fits = subst (AllByRecursion StepFits) (sym all.0.empty) tt;
+  },
+  fresh_meant set w bounds (drop (wants b.act) out) all.1,
+)
+
+abbrev IsIdle : ActOutcome → Type 0
+IsIdle x = x.done ≡ false
+
+fresh_idle : (bounds : List Bound) (out : List ℕ) → AllByRecursion IsFresh bounds → AllByRecursion IsIdle (outcomes_of bounds out)
+fresh_idle [] out all = tt
+fresh_idle (b ∷ bounds) out all = (all.0.idle, fresh_idle bounds (drop (wants b.act) out) all.1)
+
+fresh_long : (bounds : List Bound) (out : List ℕ) → length (outcomes_of bounds out) ≡ length (asks_of bounds)
+fresh_long [] out = refl
+fresh_long (b ∷ bounds) out = let e = fresh_long bounds (drop (wants b.act) out) in omega arith
+
+-- Looks
+
+never_falls : (low : ℕ) (looks : List ℕ) (high : ℕ) → Risen low looks high → NeverFall looks
+never_falls low [] high h = tt
+never_falls low (a ∷ []) high h = tt
+never_falls low (a ∷ b ∷ rest) high h = (h.1.0, never_falls a (b ∷ rest) high h.1)
+
+-- What the acts mean
+
+all_fit : (set : Setting) (w : View) (asks : List Ask) (zs : List ActOutcome) → AllMeant set w asks zs → AllByRecursion (λ z. AllByRecursion StepFits z.steps) zs
+all_fit set w [] [] all = tt
+all_fit set w [] (z ∷ zs) all = absurd all
+all_fit set w (a ∷ asks) [] all = absurd all
+all_fit set w (a ∷ asks) (z ∷ zs) all = (all.0.fits, all_fit set w asks zs all.1)
+
+wiped_is : (set : Setting) (w : View) (point : Point) (asks : List Ask) (zs : List ActOutcome) → AllMeant set w asks zs → is_wiped (bound_acts set asks zs) point ≡ wipes_at asks point
+wiped_is set w point [] [] all = refl
+wiped_is set w point [] (z ∷ zs) all = absurd all
+wiped_is set w point (a ∷ asks) [] all = absurd all
+wiped_is set w point (a ∷ asks) (z ∷ zs) all = ap (λ (b : Bool). (number_of a.point == number_of point && is_wipe a.act) || b) (wiped_is set w point asks zs all.1)
+
+module _ (set : Setting) (w : View) (lanes : ℕ) (visits : ℕ → List Visit) (callers : StateLists) (c : Continues lanes w visits) (points : List PointReached) where
+  abbrev lists : Lists
+  lists = book_lists lanes visits callers
+
+  one_means : (a : Ask) (z : ActOutcome) (done : z.done ≡ true → ActMeans (setting_of set) a.act (done_line (deeds_of lists z.steps) z.answer z.bytes)) (b : Bool) → z.done ≡ b →
+      MatchBool b (ActMeans (setting_of set) a.act (outcome_line lists z)) (outcome_line lists z ≡ unused_line)
+  one_means a z done true e = subst (ActMeans (setting_of set) a.act) (sym (ap (λ (d : Bool). if d then done_line (deeds_of lists z.steps) z.answer z.bytes else unused_line) e)) (done e)
+  one_means a z done false e = ap (λ (d : Bool). if d then done_line (deeds_of lists z.steps) z.answer z.bytes else unused_line) e
+
+  acts_mean : (asks : List Ask) (xs zs : List ActOutcome) → AllByRecursion IsIdle xs → AllDone (first_points points) asks xs zs → AllMeant set w asks zs →
+      ActsMean (setting_of set) (is_reached points) (bound_acts set asks zs) (map (outcome_line lists) zs)
+  acts_mean [] [] [] idle done all = tt
+  acts_mean [] [] (z ∷ zs) idle done all = absurd all
+  acts_mean [] (x ∷ xs) zs idle done all = absurd done
+  acts_mean (a ∷ asks) [] zs idle done all = absurd done
+  acts_mean (a ∷ asks) (x ∷ xs) [] idle done all = absurd all
+  acts_mean (a ∷ asks) (x ∷ xs) (z ∷ zs) idle done all = (
+    one_means a z (λ e. all.0.done e lanes visits callers c) (came (first_points points) a) (done.0 ∙ ap (λ (b : Bool). b || came (first_points points) a) idle.0),
+    acts_mean asks xs zs idle.1 done.1 all.1,
+  )
+
+no_local : (n flags : ℕ) (set : Setting) (w : View) (asks : List Ask) (zs : List ActOutcome) → 0 < length asks → AllMeant set w asks zs → tries_local n flags (bound_acts set asks zs) ≡ false
+no_local n flags set w [] zs some all = absurd (omega arith)
+no_local n flags set w (a ∷ asks) [] some all = absurd all
+no_local n flags set w (a ∷ asks) (z ∷ zs) some all =
+    ap (λ (b : Bool). b && (not (n == 0) && not (is_bad flags))) (ne_eqb (length (bound_acts set (a ∷ asks) (z ∷ zs))) 0 (λ e. absurd (omega arith)))
+
+asks_long : (bounds : List Bound) → length (asks_of bounds) ≡ length bounds
+asks_long [] = refl
+asks_long (b ∷ bounds) = let e = asks_long bounds in omega arith
+
+-- a call on a host that is the caller itself, h being where the call began
+module _ {H : Type 0} {host : Doings H} {h last : H} {finish : Finish} (n flags : ℕ) (s : VgetrandomState) (runs : Runs host (IsCall n flags s) h last finish)
+    (at : H → ActStand) (is : IsActor host at) where
+  pub same_set : (at last).core.set ≡ (at h).core.set
+  same_set = acted_set host at is runs.steps h last runs.does
+
+  pub same_asks : (at last).asks ≡ (at h).asks
+  same_asks = acted_asks host at is runs.steps h last runs.does
+
+  -- each step is one of the caller itself
+  pub inside_ran : (set : Setting) (asks : List Ask) (q : Moment) (outcomes : List ActOutcome) (attempt : Attempt) → at last ≡ act_stand (record { set = set; moment = q }) attempt asks outcomes →
+      (set' : Setting) → set ≡ set' → (at h).attempt ≡ Before → InsideRan n flags s finish.state (record (at h) { attempt = Before }) (λ a. act_stand (record { set = set'; moment = q }) a asks outcomes)
+  inside_ran set asks q outcomes attempt there set' same before_all = record {
+    steps = runs.steps;
+    outcome = runs.outcome;
+    is_call = runs.relates;
+    state = runs.state;
+    last = attempt;
+    does = subst (λ (z : ActStand). DoesAll acting z runs.steps (act_stand (record { set = set'; moment = q }) attempt asks outcomes)) (λ i. record (at h) { attempt = before_all i })
+        (subst (λ (z : ActStand). DoesAll acting (at h) runs.steps z) (there ∙ ap (λ (z : Setting). act_stand (record { set = z; moment = q }) attempt asks outcomes) same)
+        (acted_all host at is runs.steps h last runs.does));
+  }
+
+  module _ (low : s.generation ≤ published_by (floor (at h).core.moment.view)) where
+    ended : EndsWell (published_by (floor (at last).core.moment.view)) n runs.outcome
+    ended =
+        let more = published_more (floor (at h).core.moment.view) (floor (at last).core.moment.view) (acted_onward host at is runs.steps h last runs.does).floors in
+        call_ends (published_by (floor (at last).core.moment.view)) n flags s runs.steps runs.outcome (omega arith)
+        (acted_up_to host at is runs.steps h last runs.does) runs.relates
+
+    pub still_current : finish.state.generation ≤ published_by (floor (at last).core.moment.view)
+    still_current = let a = ended.low in let e = ap (λ (z : VgetrandomState). z.generation) runs.state in omega arith
+
+    module _ (bounds : List Bound) (out : List ℕ) (some : 0 < length bounds) (fresh : AllByRecursion IsFresh bounds) (is_asks : (at h).asks ≡ asks_of bounds) (is_outcomes : (at h).outcomes ≡ outcomes_of bounds out)
+        (before_all : (at h).attempt ≡ Before) (long : length finish.buf ≡ n) where
+      abbrev set : Setting
+      set = (at h).core.set
+
+      abbrev asks : List Ask
+      asks = asks_of bounds
+
+      abbrev zs : List ActOutcome
+      zs = (at last).outcomes
+
+      meant : AllMeant set (at last).core.moment.view asks zs
+      meant = acted_meant host at is runs.steps set asks h last refl is_asks runs.does
+          (subst (AllMeant set (at h).core.moment.view asks) (sym is_outcomes) (fresh_meant set (at h).core.moment.view bounds out fresh))
+
+      done : AllDone (first_points (points_of runs.steps)) asks (outcomes_of bounds out) zs
+      done = subst (λ (l : List ActOutcome). AllDone (first_points (points_of runs.steps)) asks l zs) is_outcomes
+          (acted_done host at is runs.steps asks Before h last is_asks before_all (ap length is_outcomes ∙ fresh_long bounds out) runs.does)
+
+      own : Own (Shows (setting_of set) runs.steps) (at h).core.moment (at last).core.moment
+      own = acted_own host at is runs.steps set h last refl runs.does
+
+      wipes : WipesStand (bound_acts set asks zs) (points_of runs.steps)
+      wipes = let k = acted_wipes host at is runs.steps asks Before h last is_asks before_all runs.does in record {
+        first = each_weaker (λ (reached : PointReached). reached.wiped ≡ wipes_at asks reached.point) (λ (reached : PointReached). reached.wiped ≡ is_wiped (bound_acts set asks zs) reached.point)
+            (first_points (points_of runs.steps)) (λ reached e. e ∙ sym (wiped_is set (at last).core.moment.view reached.point asks zs meant)) k.0;
+        second = k.1;
+      }
+
+      abbrev answer : Answer
+      answer = result_answer (done_of finish.result)
+
+      abbrev shown : Shown
+      shown = bytes_or_none (given (done_of finish.result) finish.buf)
+
+      module _ (lanes : ℕ) (visits : ℕ → List Visit) (callers : StateLists) (c : Continues lanes (at last).core.moment.view visits) (before : CallerState) (set_is : before.setting ≡ setting_of set) (state_is : current_state before ≡ s) where
+        abbrev book : Lists
+        book = book_lists lanes visits callers
+
+        abbrev deeds : List Deed
+        deeds = deeds_of book (map step_of own.deals)
+
+        abbrev meaning : CallMeaning
+        meaning = inside_meaning book deeds answer shown runs.outcome.entries zs before finish.state
+
+        by_call : ByVgetrandom n flags (bound_acts set asks zs) meaning
+        by_call = let e = ending_is n runs.outcome.ending finish.result finish.buf long ended.none runs.ends in record {
+          steps = runs.steps;
+          outcome = runs.outcome;
+          is_call = subst (λ (z : VgetrandomState). IsCall n flags z runs.steps runs.outcome) (sym state_is) runs.relates;
+          shows = subst (λ z. Shows z runs.steps deeds) (sym set_is) (own.stands lanes visits callers c);
+          wipes = wipes;
+          inside = subst (λ z. ActsMean z (is_reached (points_of runs.steps)) (bound_acts set asks zs) (map (outcome_line book) zs)) (sym set_is)
+              (acts_mean set (at last).core.moment.view lanes visits callers c (points_of runs.steps) asks (outcomes_of bounds out) zs (fresh_idle bounds out fresh) done meant);
+          answer = e.0;
+          shown = e.1;
+          entries = refl;
+          after = ap (with_state before) runs.state;
+        }
+
+        line : VreadMeans n flags (bound_acts set asks zs) meaning
+        line = record {
+          looks = subst NeverFall (sym (same_looks book own.deals)) (never_falls (floor (at h).core.moment.view) (looks_in own.deals) (floor (at last).core.moment.view) own.rises);
+          ways = match_false _ _ (tries_local n flags (bound_acts set asks zs))
+              (no_local n flags set (at last).core.moment.view asks zs (let e = asks_long bounds in omega arith) meant) by_call;
+        }
+
+      pub inside_did : InsideDid n flags s finish.state answer shown set (at h).core.moment (at last).core.moment asks zs
+      inside_did = record {
+        entries = runs.outcome.entries;
+        deals = own.deals;
+        trace = own.trace;
+        fits = own.fits;
+        acts_fit = all_fit set (at last).core.moment.view asks zs meant;
+        stands = line;
+      }

@@ -1,0 +1,79 @@
+-- A caller as the host of a vgetrandom call with acts inside: what it does over the lanes at each step of the host.
+use Rattle.std.specs.Prelude.{◌≡◌, ℕ, ◌==◌, ◌&&◌, Bool, true, false, MatchBool, List, if◌then◌else◌}
+use Rattle.key_names.specs.declared.point.Point.{Point}
+use Rattle.key_names.specs.Flags.{is_bad}
+use Rattle.key_names.specs.Vgetrandom.{SystemAnswer, HostStep, Outcome, IsCall}
+use Rattle.key_names.specs.VgetrandomState.{VgetrandomState}
+use Rattle.key_names.specs.VreadSteps.{number_of}
+use Rattle.lane_table.specs.WorldRule.{Consistent}
+use Rattle.vdso_state.specs.Host.{Doings, DoesAll, doings}
+use Rattle.rng_core.specs.declared.act_host.Attempt.{Attempt}
+use Rattle.rng_core.specs.declared.act_host.Attempt.TheVariants.{Before, First, Later}
+use Rattle.rng_core.specs.Told.{BeginsWithLook}
+use Rattle.rng_core.specs.Hosted.{Stand, Published, Answered}
+use Rattle.rng_core.specs.Acts.{Ask, ActOutcome, ActsAt, wipes_at}
+
+-- the attempt that a call is in at a point: an attempt begins at the point Start
+abbrev pub attempt_at : Attempt → Point → Attempt
+attempt_at Before point = First
+attempt_at First point = if number_of point == 1 then Later else First
+attempt_at Later point = Later
+
+abbrev pub is_first : Attempt → Bool
+is_first Before = false
+is_first First = true
+is_first Later = false
+
+-- where a caller stands in a call with acts inside
+pub record ActStand : Type 0 where
+  pub core : Stand
+  pub attempt : Attempt
+  pub asks : List Ask
+  pub outcomes : List ActOutcome
+
+abbrev pub act_stand : Stand → Attempt → List Ask → List ActOutcome → ActStand
+act_stand core attempt asks outcomes =
+    record { core = core; attempt = attempt; asks = asks; outcomes = outcomes }
+
+-- nothing came of the acts
+pub record SameActs (s t : ActStand) : Type 0 where
+  pub attempt : t.attempt ≡ s.attempt
+  pub asks : t.asks ≡ s.asks
+  pub outcomes : t.outcomes ≡ s.outcomes
+
+-- it looked at the generation, and this is what it published
+pub record ActPublished (s : ActStand) (g : ℕ) (t : ActStand) : Type 0 where
+  pub core : Published s.core g t.core
+  pub consistent : Consistent t.core.moment.view
+  pub acts : SameActs s t
+
+-- it made this system call
+pub record ActAnswered (s : ActStand) (n flags : ℕ) (answer : SystemAnswer) (t : ActStand) : Type 0 where
+  pub core : Answered s.core n flags answer t.core
+  pub begins : is_bad flags ≡ false → BeginsWithLook s.core.moment.steps t.core.moment.steps
+  pub acts : SameActs s t
+
+-- at a point of the first attempt it did the acts that are bound to it, and otherwise nothing
+pub record ActPassed (s : ActStand) (point : Point) (wiped : Bool) (t : ActStand) : Type 0 where
+  pub set : t.core.set ≡ s.core.set
+  pub steps : t.core.moment.steps ≡ s.core.moment.steps
+  pub attempt : t.attempt ≡ attempt_at s.attempt point
+  pub asks : t.asks ≡ s.asks
+  pub wipes : wiped ≡ (is_first t.attempt && wipes_at s.asks point)
+  pub ran : MatchBool (is_first t.attempt)
+      (ActsAt s.core.set point s.asks s.core.moment.view t.core.moment.view s.outcomes t.outcomes)
+      ((t.outcomes ≡ s.outcomes) × (t.core.moment.view ≡ s.core.moment.view))
+
+-- the steps of a host that is the caller itself
+abbrev pub acting : Doings ActStand
+acting = doings ActPublished ActAnswered ActPassed
+
+-- from a stand to another, in whichever attempt, the caller ran a call for n bytes on the state s, which left t: these
+-- are its steps, each with what it did over the lanes
+pub record InsideRan (n flags : ℕ) (s t : VgetrandomState) (from : ActStand) (to : Attempt → ActStand) : Type 0 where
+  pub steps : List HostStep
+  pub outcome : Outcome
+  pub is_call : IsCall n flags s steps outcome
+  pub state : t ≡ outcome.state
+  pub last : Attempt
+  pub does : DoesAll acting from steps (to last)

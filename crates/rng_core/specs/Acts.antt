@@ -1,0 +1,96 @@
+-- Acts inside a vgetrandom call: what each asks, and what came of it.
+use Rattle.std.specs.Prelude.{◌≡◌, ℕ, ◌+◌, ◌==◌, ◌&&◌, ◌||◌, not, nat_le, ◌^◌, Bool, true, false, MatchBool, Result}
+use Rattle.std.specs.Prelude.{List, [], ◌∷◌, take, drop, map, length}
+use Rattle.key_names.specs.declared.errno.Errno.{Errno}
+use Rattle.key_names.specs.declared.events.InsideAct.{InsideAct}
+use Rattle.key_names.specs.declared.events.InsideAct.TheVariants.{Wipe, Vread, Reseed}
+use Rattle.key_names.specs.declared.names.Step.{Step}
+use Rattle.key_names.specs.declared.point.Point.{Point}
+use Rattle.key_names.specs.Deeds.{Deed}
+use Rattle.key_names.specs.Meaning.{LineMeaning, ActMeans}
+use Rattle.key_names.specs.SeenLine.{bytes_or_none}
+use Rattle.key_names.specs.VreadSteps.{number_of, is_wipe}
+use Rattle.lane_table.specs.declared.view.View.{View}
+use Rattle.rng_core.specs.declared.acts.Bound.{Bound}
+use Rattle.rng_core.specs.declared.setting.Setting.{Setting}
+use Rattle.rng_core.specs.Did.{Did, setting_of, result_answer, given}
+
+-- what an act asks, where, and in which event
+pub record Ask : Type 0 where
+  pub point : Point
+  pub act : InsideAct
+  pub event : ℕ
+
+-- what came of it: the bytes are those of its place
+pub record ActOutcome : Type 0 where
+  pub done : Bool
+  pub answer : Result (Unit {0}) Errno
+  pub steps : List Step
+  pub bytes : List ℕ
+
+-- how many bytes an act asks for
+abbrev pub wants : InsideAct → ℕ
+wants Wipe = 0
+wants (Vread n) = n
+wants Reseed = 0
+
+abbrev pub all_wanted : List Ask → ℕ
+all_wanted [] = 0
+all_wanted (a ∷ asks) = wants a.act + all_wanted asks
+
+abbrev pub ask_of : Bound → Ask
+ask_of b = record { point = b.point; act = b.act; event = b.event }
+
+abbrev pub asks_of : List Bound → List Ask
+asks_of bounds = map ask_of bounds
+
+abbrev pub outcome_of : Bound → List ℕ → ActOutcome
+outcome_of b bytes = record { done = b.done; answer = b.answer; steps = b.trace; bytes = bytes }
+
+-- the places of the acts' bytes follow each other
+abbrev pub outcomes_of : List Bound → List ℕ → List ActOutcome
+outcomes_of [] out = []
+outcomes_of (b ∷ bounds) out =
+    outcome_of b (take (wants b.act) out) ∷ outcomes_of bounds (drop (wants b.act) out)
+
+-- whether an act at this point wipes
+abbrev pub wipes_at : List Ask → Point → Bool
+wipes_at [] point = false
+wipes_at (a ∷ asks) point = (number_of a.point == number_of point && is_wipe a.act) || wipes_at asks point
+
+-- an act that can still run, or has run, and asks for no more than a read gives
+abbrev pub is_ready : Bound → Bool
+is_ready b = nat_le (wants b.act) (2 ^ 20) && (b.done || length b.trace == 0)
+
+abbrev pub all_ready : List Bound → Bool
+all_ready [] = true
+all_ready (b ∷ bounds) = is_ready b && all_ready bounds
+
+-- the line of an act that was done
+abbrev pub done_line : List Deed → Result (Unit {0}) Errno → List ℕ → LineMeaning
+done_line deeds answer bytes =
+    record { deeds = deeds; answer = result_answer answer; shown = bytes_or_none (given answer bytes) }
+
+abbrev pub at_event : ℕ → Setting → Setting
+at_event event set = record set { event = event }
+
+-- from v to w the act was done, with this outcome
+pub record ActRan (set : Setting) (ask : Ask) (v w : View) (y : ActOutcome) : Type 0 where
+  pub done : y.done ≡ true
+  pub did : Did (λ deeds. ActMeans (setting_of set) ask.act (done_line deeds y.answer y.bytes)) (at_event ask.event set)
+      (record { view = v; steps = [] }) (record { view = w; steps = y.steps })
+
+-- at a point an act is done that is bound to it and was not done yet
+abbrev pub ActAt : Setting → Point → Ask → View → View → ActOutcome → ActOutcome → Type 0
+ActAt set point ask v w x y = MatchBool (number_of point == number_of ask.point && not x.done) (ActRan set ask v w y)
+    ((y ≡ x) × (w ≡ v))
+
+-- and so are all of a list, one after another
+abbrev pub ActsAt : Setting → Point → List Ask → View → View → List ActOutcome → List ActOutcome → Type 0
+ActsAt set point [] v w [] [] = w ≡ v
+ActsAt set point [] v w [] (y ∷ ys) = ⊥
+ActsAt set point [] v w (x ∷ xs) ys = ⊥
+ActsAt set point (a ∷ asks) v w [] ys = ⊥
+ActsAt set point (a ∷ asks) v w (x ∷ xs) [] = ⊥
+ActsAt set point (a ∷ asks) v w (x ∷ xs) (y ∷ ys) =
+    (mid : View) × ActAt set point a v mid x y × ActsAt set point asks mid w xs ys

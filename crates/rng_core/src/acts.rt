@@ -1,0 +1,201 @@
+//! Acts inside a vgetrandom call.
+ghost use Rattle.std.specs.Prelude.{◌≡◌, ◌==◌, ◌&&◌, ◌<◌, ◌≤◌, ◌^◌, [], true, false, Ok, length};
+ghost use Rattle.key_names.specs.VreadSteps.{number_of, is_wipe};
+ghost use Rattle.lane_table.specs.Calls.{view};
+ghost use Rattle.lane_table.specs.Hands.{Has};
+ghost use Rattle.key_names.specs.Meaning.{ActMeans};
+ghost use Rattle.rng_core.specs.Told.{moment};
+ghost use Rattle.rng_core.specs.Did.{Did, setting_of};
+ghost use Rattle.rng_core.specs.Acts.{wants, all_wanted, ask_of, asks_of, outcome_of, outcomes_of, wipes_at, is_ready};
+ghost use Rattle.rng_core.specs.Acts.{all_ready, done_line, ActRan, ActAt, ActsAt};
+
+use crate::reseeds::reseed;
+use crate::setting::Setting;
+use crate::system_call::getrandom;
+use key_names::{Errno, InsideAct, Point, Trace};
+use lane_table::{Lanes, Pass};
+use std::sync::Wait;
+
+/// An act that waits for a point of a vgetrandom call, and what came of it.
+#[derive(Drop)]
+pub struct Bound {
+    /// Where it is done: at this point of the call's first attempt.
+    pub point: Point,
+    pub act: InsideAct,
+    /// The number of its event among the caller's.
+    pub event: u32,
+    /// Whether the call came to the point.
+    pub done: bool,
+    /// What it answered, where it is done.
+    pub answer: Result<(), Errno>,
+    /// Its own steps.
+    pub trace: Trace,
+}
+
+impl Bound {
+    /// An act that is not done yet.
+    pub fn of(point: Point, act: InsideAct, event: u32) -> Bound
+        ensures { result
+            ≡ record { point = point; act = act; event = event; done = false; answer = Ok tt; trace = [] } }
+    {
+        Bound {
+            point,
+            act,
+            event,
+            done: false,
+            answer: Ok(()),
+            trace: Trace::empty(),
+        }
+    }
+}
+
+/// How many bytes an act asks for.
+pub(crate) fn wanted(act: InsideAct) -> usize
+    ensures { result ≡ wants act }
+{
+    match act {
+        InsideAct::Vread(len) => len as usize,
+        InsideAct::Wipe | InsideAct::Reseed => 0,
+    }
+}
+
+pub(crate) fn number(point: Point) -> u8
+    ensures { result ≡ number_of point }
+{
+    match point {
+        Point::Start => 1,
+        Point::Written => 2,
+        Point::Serve => 3,
+        Point::End => 4,
+    }
+}
+
+fn is_wipe(act: InsideAct) -> bool
+    ensures { result ≡ is_wipe act }
+{
+    match act {
+        InsideAct::Wipe => true,
+        InsideAct::Vread(_) | InsideAct::Reseed => false,
+    }
+}
+
+// What an act does to the core; a wipe does nothing to it.
+fn do_act<R: Wait>(
+    rt: &R,
+    lanes: &Lanes,
+    pass: &mut Pass,
+    trace: &mut Trace,
+    set: &Setting,
+    act: InsideAct,
+    out: &mut [u8],
+) -> Result<(), Errno>
+    requires has { Has lanes.now set.now.caller [] pass.old }
+    requires cpu { set.now.cpu < lanes.now.cpus }
+    requires moment { set.now.now < 2 ^ 40 }
+    requires short { length out.old ≤ 2 ^ 20 }
+    requires fits { length out.old ≡ wants act }
+    requires room { length trace.old ≡ 0 }
+    ensures has { Has lanes.now set.entry.now.caller [] pass.new }
+    ensures did { Did (λ deeds. ActMeans (setting_of set.entry.now) act (done_line deeds result out.new)) set.entry.now
+        (moment pass.old trace.old) (moment pass.new trace.new) }
+{
+    match act {
+        InsideAct::Wipe => Ok(()),
+        InsideAct::Vread(_) => getrandom(rt, lanes, pass, trace, set, out, 0),
+        InsideAct::Reseed => reseed(rt, lanes, pass, trace, set),
+    }
+}
+
+// Does an act in its own event.
+fn run<R: Wait>(
+    rt: &R,
+    lanes: &Lanes,
+    pass: &mut Pass,
+    set: &Setting,
+    bound: &mut Bound,
+    out: &mut [u8],
+)
+    requires has { Has lanes.now set.now.caller [] pass.old }
+    requires cpu { set.now.cpu < lanes.now.cpus }
+    requires moment { set.now.now < 2 ^ 40 }
+    requires short { length out.old ≤ 2 ^ 20 }
+    requires fits { length out.old ≡ wants bound.old.act }
+    requires room { length bound.old.trace ≡ 0 }
+    ensures has { Has lanes.now set.entry.now.caller [] pass.new }
+    ensures ask { ask_of bound.new ≡ ask_of bound.old }
+    ensures ran { ActRan set.entry.now (ask_of bound.old) (view pass.old) (view pass.new)
+        (outcome_of bound.new out.new) }
+{
+    let at = Setting {
+        event: bound.event,
+        ..*set
+    };
+    bound.answer = do_act(rt, lanes, pass, &mut bound.trace, &at, bound.act, out);
+    bound.done = true;
+}
+
+// Does an act at a point, where it is bound to it and was not done yet.
+fn run_at<R: Wait>(
+    rt: &R,
+    lanes: &Lanes,
+    pass: &mut Pass,
+    set: &Setting,
+    point: Point,
+    bound: &mut Bound,
+    out: &mut [u8],
+)
+    requires has { Has lanes.now set.now.caller [] pass.old }
+    requires cpu { set.now.cpu < lanes.now.cpus }
+    requires moment { set.now.now < 2 ^ 40 }
+    requires fits { length out.old ≡ wants bound.old.act }
+    requires ready { is_ready bound.old ≡ true }
+    ensures has { Has lanes.now set.entry.now.caller [] pass.new }
+    ensures ask { ask_of bound.new ≡ ask_of bound.old }
+    ensures ready { is_ready bound.new ≡ true }
+    ensures ran { ActAt set.entry.now point (ask_of bound.old) (view pass.old) (view pass.new)
+        (outcome_of bound.old out.old) (outcome_of bound.new out.new) }
+{
+    if number(point) == number(bound.point) && !bound.done {
+        run(rt, lanes, pass, set, bound, out);
+    }
+}
+
+// Whether an act wipes the state at a point.
+fn is_wiped_by(bound: &Bound, point: Point) -> bool
+    ensures { result ≡ (number_of bound.now.point == number_of point && is_wipe bound.now.act) }
+{
+    number(bound.point) == number(point) && is_wipe(bound.act)
+}
+
+/// Does the acts of a list that are bound to a point and were not done yet, one after another. The answer is whether
+/// one of the point wipes the state, done before or not.
+pub(crate) fn run_acts<R: Wait>(
+    rt: &R,
+    lanes: &Lanes,
+    pass: &mut Pass,
+    set: &Setting,
+    point: Point,
+    acts: &mut [Bound],
+    out: &mut [u8],
+) -> bool
+    requires has { Has lanes.now set.now.caller [] pass.old }
+    requires cpu { set.now.cpu < lanes.now.cpus }
+    requires moment { set.now.now < 2 ^ 40 }
+    requires fits { length out.old ≡ all_wanted (asks_of acts.old) }
+    requires ready { all_ready acts.old ≡ true }
+    ensures has { Has lanes.now set.entry.now.caller [] pass.new }
+    ensures wipes { result ≡ wipes_at (asks_of acts.old) point }
+    ensures asks { asks_of acts.new ≡ asks_of acts.old }
+    ensures ready { all_ready acts.new ≡ true }
+    ensures ran { ActsAt set.entry.now point (asks_of acts.old) (view pass.old) (view pass.new)
+        (outcomes_of acts.old out.old) (outcomes_of acts.new out.new) }
+{
+    if let Some((first, rest)) = acts.split_first_mut() {
+        let (place, places) = out.split_at_mut(wanted(first.act));
+        let wipes = is_wiped_by(first, point);
+        run_at(rt, lanes, pass, set, point, first, place);
+        let others = run_acts(rt, lanes, pass, set, point, rest, places);
+        return wipes || others;
+    }
+    false
+}
