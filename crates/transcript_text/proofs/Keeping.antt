@@ -1,12 +1,12 @@
--- One more line of a caller leaves those before it, and shows the bytes that were added.
-use Rattle.std.proofs.Common.{◌≡◌, ℕ, ◌≤◌, List, [], ◌∷◌, ◌++◌, length, take, drop, refl, ap, sym, subst, ◌∙◌, All, arith}
+-- Another line of a caller, at the end or in the place of one, leaves the others, and shows the bytes that were added.
+use Rattle.std.proofs.Common.{◌≡◌, ℕ, zero, suc, ◌≤◌, List, [], ◌∷◌, ◌++◌, length, take, drop, set, refl, ap, ◌∙◌, All, arith}
 use Rattle.std.specs.List.{AllByRecursion}
-use Rattle.std.proofs.lemmas.List.{length-append, length-drop, take-append-le, drop-append-le, take_all, drop_at, map_push, flat_map_more}
+use Rattle.std.proofs.lemmas.List.{length-append, length-drop, take-append-le, drop-append-le, take_all, drop_at, map_push, map-set}
 use Rattle.std.proofs.lemmas.List.Elements.{All-from_recursion}
 use Rattle.key_names.specs.declared.lines.Data.{Data}
 use Rattle.key_names.specs.declared.lines.Data.TheVariants.{None as NoData, Bytes, Count}
 use Rattle.key_names.specs.declared.lines.Line.{Line}
-use Rattle.key_names.specs.SeenLine.{bytes, shown_in, seen_line, seen_lines, bytes_of, bytes_shown, bytes_or_none, showing}
+use Rattle.key_names.specs.SeenLine.{bytes, shown_in, seen_line, seen_lines, bytes_or_none, showing}
 use Rattle.key_names.specs.TranscriptGrammar.{LineFits}
 use Rattle.transcript_text.specs.Gathered.{IsWithin, IsKept, data_from}
 
@@ -57,10 +57,6 @@ data_from_within : (kept shown : List ℕ) → IsWithin (length (kept ++ shown))
 data_from_within kept [] = tt
 data_from_within kept (b ∷ bs) = omega (arith, length-append kept (b ∷ bs))
 
-bytes_of_those : (shown : List ℕ) → bytes_of (bytes_or_none shown) ≡ shown
-bytes_of_those [] = refl
-bytes_of_those (b ∷ bs) = refl
-
 abbrev pub with_data : Line → Data → Line
 with_data line shown = record line { shown = shown }
 
@@ -82,12 +78,36 @@ kept_after kept shown start lines line e old fits =
       within = AllByRecursion-push (λ l. IsWithin (length (kept ++ shown)) l.shown) lines
           (with_data line (data_from start shown)) (all_within_more kept shown lines old.within)
           (rw e (data_from_within kept shown));
-      in_order = sym (ap bytes_shown seen
-          ∙ sym (flat_map_more (λ l. bytes_of l.shown) [] (seen_lines kept lines) (showing shown (seen_line [] line)))
-          ∙ ap (λ (x : List ℕ). x ++ bytes_of (bytes_or_none shown)) (sym old.in_order)
-          ∙ ap (λ (x : List ℕ). kept ++ x) (bytes_of_those shown));
       fits = rw seen (AllByRecursion-push LineFits (seen_lines kept lines) (showing shown (seen_line [] line))
           old.fits fits);
+    }
+
+AllByRecursion-set : {A : Type 0} (P : A → Type 0) (xs : List A) (i : ℕ) (x : A) → AllByRecursion P xs → P x
+    → AllByRecursion P (set xs i x)
+AllByRecursion-set P [] i x all here = tt
+AllByRecursion-set P (y ∷ xs) zero x all here = (here, all.1)
+AllByRecursion-set P (y ∷ xs) (suc i) x all here = (all.0, AllByRecursion-set P xs i x all.1 here)
+
+-- the lines as they are seen after another one stands in the place of line `number`
+pub seen_replaced : (kept shown : List ℕ) (start number : ℕ) (lines : List Line) (line : Line) → start ≡ length kept
+    → IsKept kept lines
+    → seen_lines (kept ++ shown) (set lines number (with_data line (data_from start shown)))
+    ≡ set (seen_lines kept lines) number (showing shown (seen_line [] line))
+seen_replaced kept shown start number lines line e old =
+    map-set (seen_line (kept ++ shown)) lines number (with_data line (data_from start shown))
+    ∙ rw (seen_lines-more kept shown lines old.within, e, shown_in-data_from kept shown) refl
+
+pub kept_replaced : (kept shown : List ℕ) (start number : ℕ) (lines : List Line) (line : Line) → start ≡ length kept
+    → IsKept kept lines
+    → LineFits (showing shown (seen_line [] line))
+    → IsKept (kept ++ shown) (set lines number (with_data line (data_from start shown)))
+kept_replaced kept shown start number lines line e old fits =
+    let seen = seen_replaced kept shown start number lines line e old in record {
+      within = AllByRecursion-set (λ l. IsWithin (length (kept ++ shown)) l.shown) lines number
+          (with_data line (data_from start shown)) (all_within_more kept shown lines old.within)
+          (rw e (data_from_within kept shown));
+      fits = rw seen (AllByRecursion-set LineFits (seen_lines kept lines) number
+          (showing shown (seen_line [] line)) old.fits fits);
     }
 
 few_steps : (kept : List ℕ) (lines : List Line) → AllByRecursion LineFits (seen_lines kept lines)
@@ -99,7 +119,5 @@ pub all_few_steps : (kept : List ℕ) (lines : List Line) → IsKept kept lines 
 all_few_steps kept lines old = All-from_recursion (λ line. length line.trace ≤ 20) lines (few_steps kept lines old.fits)
 
 pub all_within : (kept : List ℕ) (lines : List Line) → IsKept kept lines
-    → All (λ line. IsWithin (length (bytes_shown (seen_lines kept lines))) line.shown) lines
-all_within kept lines old =
-    subst (λ (k : List ℕ). All (λ line. IsWithin (length k) line.shown) lines) old.in_order
-    (All-from_recursion (λ line. IsWithin (length kept) line.shown) lines old.within)
+    → All (λ line. IsWithin (length kept) line.shown) lines
+all_within kept lines old = All-from_recursion (λ line. IsWithin (length kept) line.shown) lines old.within

@@ -6,7 +6,7 @@ use Rattle.std.proofs.lemmas.List.{drop_more, drop_all}
 use Rattle.std.specs.Io.KnownBytes.{Appends}
 use Rattle.std.proofs.lemmas.List.Concat.{flat_map-append}
 use Rattle.key_names.specs.declared.lines.Line.{Line}
-use Rattle.key_names.specs.SeenLine.{SeenLine, shown_in, seen_line, seen_lines, bytes_shown}
+use Rattle.key_names.specs.SeenLine.{SeenLine, shown_in, seen_line, seen_lines}
 use Rattle.key_names.specs.Spelling.{lined}
 use Rattle.key_names.specs.TranscriptGrammar.{shown_text, line_text, all_lines, transcript_text}
 use Rattle.transcript_text.specs.Heads.{head_text}
@@ -50,11 +50,11 @@ transcript_text-parts callers =
     ∙ ap (λ (x : List ℕ). x ++ codes "end\n") (lines_text (all_lines callers) ∙ callers_lines callers) in
     ap (λ (x : List ℕ). codes "rngtranscript 1\n" ++ x) middle
 
--- the lines of a caller that keeps the bytes that they show
-pub text_of-kept : (kept : List ℕ) (raw : List Line) (lines : List SeenLine) → kept ≡ bytes_shown lines
-    → seen_lines (bytes_shown lines) raw ≡ lines
-    → text_of kept raw ≡ caller_text lines
-text_of-kept kept raw lines e seen = ap (λ (k : List ℕ). text_of k raw) e ∙ ap caller_text seen
+-- the lines of a caller that has these bytes
+pub text_of-kept : (bytes kept : List ℕ) (raw : List Line) (lines : List SeenLine) → bytes ≡ kept
+    → seen_lines kept raw ≡ lines
+    → text_of bytes raw ≡ caller_text lines
+text_of-kept bytes kept raw lines e seen = ap (λ (k : List ℕ). text_of k raw) e ∙ ap caller_text seen
 
 -- what is still to come from a caller on
 abbrev pub rest_from : ℕ → List (List SeenLine) → List ℕ

@@ -1,15 +1,16 @@
 -- The lines of one caller while they are gathered.
-use Rattle.std.specs.Prelude.{ℕ, ◌≡◌, ◌+◌, ◌≤◌, ⊤, List, [], ◌∷◌, length}
+use Rattle.std.specs.Prelude.{ℕ, ◌+◌, ◌≤◌, ⊤, List, [], ◌∷◌, length}
 use Rattle.std.specs.List.{AllByRecursion}
 use Rattle.key_names.specs.declared.lines.Data.{Data}
 use Rattle.key_names.specs.declared.lines.Data.TheVariants.{None as NoData, Bytes}
 use Rattle.key_names.specs.declared.lines.Line.{Line}
-use Rattle.key_names.specs.SeenLine.{SeenLine, seen_lines, bytes_shown}
+use Rattle.key_names.specs.SeenLine.{SeenLine, seen_lines}
 use Rattle.key_names.specs.TranscriptGrammar.{LineFits}
 
--- the lines so far, and for how many more lines and bytes there is room
+-- the lines so far, the bytes in the order in which they were told, and for how many more of both there is room
 pub record Gathered : Type 0 where
   pub lines : List SeenLine
+  pub kept : List ℕ
   pub line_room : ℕ
   pub byte_room : ℕ
 
@@ -18,10 +19,9 @@ abbrev pub IsWithin : ℕ → Data → Type 0
 IsWithin n (Bytes start len) = start + len ≤ n
 IsWithin n _ = ⊤
 
--- the bytes that the lines show are all that are kept, one line's behind the other's
+-- the lines name places in the bytes that are kept, and fit a transcript with what stands there
 pub record IsKept (kept : List ℕ) (lines : List Line) : Type 0 where
   pub within : AllByRecursion (λ line. IsWithin (length kept) line.shown) lines
-  pub in_order : kept ≡ bytes_shown (seen_lines kept lines)
   pub fits : AllByRecursion LineFits (seen_lines kept lines)
 
 -- the data of a line that shows these bytes, which are kept from start on

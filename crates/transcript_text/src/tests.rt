@@ -287,12 +287,13 @@ fn the_number_of_bits_is_read(rt: HostRuntime) -> Result<(), Fail> {
         .ok()
         .ok_or("a transcript")?;
     assert_eq!(rt; transcript.callers(), 1);
-    let lines = transcript.lines(0);
+    let caller = transcript.caller(0);
+    let lines = caller.lines();
     assert_eq!(rt; lines.len(), 1);
     assert_eq!(rt; lines[0].shown, Data::Count(7));
     assert_eq!(rt; lines[0].word, Word::Bits);
     assert_eq!(rt; lines[0].trace.len(), 1);
-    assert_eq!(rt; transcript.bytes(0).len(), 0);
+    assert_eq!(rt; caller.bytes().len(), 0);
     Ok(())
 }
 

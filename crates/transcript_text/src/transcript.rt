@@ -1,12 +1,8 @@
 //! A whole transcript.
-ghost use Rattle.std.specs.Prelude.{◌≡◌, ◌<◌, ◌≤◌, [], map, length, All, vec_len, slice_index_or};
-ghost use Rattle.std.specs.List.{AllByRecursion};
-ghost use Rattle.key_names.specs.SeenLine.{seen_lines, bytes_shown};
-ghost use Rattle.transcript_text.specs.Gathered.{IsWithin};
+ghost use Rattle.std.specs.Prelude.{◌≡◌, ◌<◌, ◌≤◌, [], map, length, vec_len, slice_index_or};
 ghost use Rattle.key_names.specs.TranscriptGrammar.{LastHasLines, TranscriptFits};
 
 use crate::gathered::CallerLines;
-use key_names::Line;
 use std::marker::Model;
 
 /// The lines of at most 64 callers, the last of whom has one. Contracts see the list of each caller's lines.
@@ -18,7 +14,6 @@ pub struct Transcript {
 impl Model for Transcript {
     ghost use Rattle.std.specs.Prelude.{List, map};
     ghost use Rattle.key_names.specs.SeenLine.{SeenLine};
-    ghost use Rattle.transcript_text.specs.Gathered.{IsWithin};
     ghost use Rattle.key_names.specs.TranscriptGrammar.{TranscriptFits};
 
     ghost Value = { List (List SeenLine) };
@@ -50,23 +45,11 @@ impl Transcript {
         self.callers.len() as u32
     }
 
-    /// The lines of a caller. Where they show bytes, they name places in its `bytes`.
-    pub fn lines(&self, caller: u32) -> &[Line]
+    /// The lines of a caller, with the bytes that they show.
+    pub fn caller(&self, caller: u32) -> &CallerLines
         requires { caller < length self.now }
-        ensures seen { let lines = slice_index_or self.now caller [] in
-            seen_lines (bytes_shown lines) result.now ≡ lines }
-        ensures within { let kept = bytes_shown (slice_index_or self.now caller []) in
-            All (λ line. IsWithin (length kept) line.shown) result.now }
-        ensures few_steps { All (λ line. length line.trace ≤ 20) result.now }
+        ensures { result.now.lines ≡ slice_index_or self.now caller [] }
     {
-        self.callers[caller as usize].lines()
-    }
-
-    /// The bytes that a caller's lines show, one line's behind the other's.
-    pub fn bytes(&self, caller: u32) -> &[u8]
-        requires { caller < length self.now }
-        ensures { result.now ≡ bytes_shown (slice_index_or self.now caller []) }
-    {
-        self.callers[caller as usize].bytes()
+        &self.callers[caller as usize]
     }
 }

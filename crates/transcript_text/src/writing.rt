@@ -171,9 +171,9 @@ pub fn write_all<K: Sink>(sink: &mut K, transcript: &Transcript) -> Result<(), F
 {
     let mut piece = Piece::empty();
     put_all(sink, b"rngtranscript 1\n")?;
-    for caller in 0..transcript.callers() {
-        let lines = transcript.lines(caller);
-        put_lines(sink, &mut piece, lines, transcript.bytes(caller))?;
+    for number in 0..transcript.callers() {
+        let caller = transcript.caller(number);
+        put_lines(sink, &mut piece, caller.lines(), caller.bytes())?;
     }
     put_all(sink, b"end\n")
 }

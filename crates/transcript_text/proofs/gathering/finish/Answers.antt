@@ -1,6 +1,6 @@
 use Rattle.std.proofs.Common.{◌<◌, length, ap, refl, ◌∙◌, arith}
 use Rattle.std.proofs.lemmas.List.{length-map}
-use Rattle.key_names.specs.SeenLine.{seen_line, bytes_shown}
+use Rattle.key_names.specs.SeenLine.{seen_line}
 use Rattle.transcript_text.specs.Grouping.{seen_callers}
 use Rattle.transcript_text.proofs.GroupedLines.{LastHasLines-push, seen_callers-push, finished}
 use Rattle.transcript_text.proofs.gathering.finish.Goals as goal
@@ -12,7 +12,7 @@ of-requires-2-clause-last c =
       arith,
       ap length c.lines.ensures.seen,
       length-map
-          c.lines.result.now (seen_line (bytes_shown c.args.current.lines)),
+          c.lines.result.now (seen_line c.args.current.kept),
     ) in
     rw (seen_callers-push c.args.done.items c.push.new.self.items c.args.current c.args.current.lines
     c.in_ok-push.ensures.items refl)

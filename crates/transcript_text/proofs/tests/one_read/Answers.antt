@@ -1,11 +1,9 @@
-use Rattle.std.proofs.Common.{◌≡◌, ◌≢◌, ◌<◌, ◌≤◌, List, ℕ, [], ◌∷◌, length, sym, subst, arith}
-use Rattle.std.specs.List.{AllByRecursion}
+use Rattle.std.proofs.Common.{◌≡◌, ◌<◌, List, ℕ, [], ◌∷◌, length, arith}
 use Rattle.hex.specs.Hex.{IsBytes}
 use Rattle.key_names.specs.declared.events.Word.{Word}
 use Rattle.key_names.specs.declared.events.Word.TheVariants.{Bits}
-use Rattle.key_names.specs.declared.names.Step.{Step}
-use Rattle.key_names.specs.SeenLine.{SeenLine, bytes_or_none}
-use Rattle.key_names.specs.TranscriptGrammar.{LineFits, StepFits, ShownFits}
+use Rattle.key_names.specs.SeenLine.{bytes_or_none}
+use Rattle.key_names.specs.TranscriptGrammar.{ShownFits}
 use Rattle.transcript_text.proofs.tests.one_read.Goals as goal
 
 some_fit : (word : Word) (shown : List ℕ) → (word ≡ Bits → ⊥) → 0 < length shown → IsBytes shown

@@ -1,4 +1,4 @@
-use Rattle.std.proofs.Common.{◌+◌, [], get_or, subst, sym, arith}
+use Rattle.std.proofs.Common.{◌+◌, [], get_or, subst, sym, ◌∙◌, arith}
 use Rattle.std.specs.Prelude.{codes}
 use Rattle.std.specs.Io.KnownBytes.{Appends}
 use Rattle.key_names.specs.TranscriptGrammar.{transcript_text}
@@ -16,8 +16,8 @@ returns-in_err-put_all-clause-prefix g c =
     (longer (held c.args.sink.now) (held c.put_all.new.sink) (codes "rngtranscript 1\n")
     (rest_from 0 c.args.transcript.now) c.put_all.ensures.prefix)
 
-pub loop-caller-init : goal.loop-caller-init
-loop-caller-init g c = record {
+pub loop-number-init : goal.loop-number-init
+loop-number-init g c = record {
   so_far = puts_head (g.K.Sink.held c.args.sink.now) (g.K.Sink.held c.put_all.new.sink) c.args.transcript.now
       c.in_ok-put_all.ensures.whole;
   empty = c.empty-piece.ensures;
@@ -28,49 +28,49 @@ pub returns-in_err-put_lines-clause-prefix : goal.returns-in_err-put_lines-claus
 returns-in_err-put_lines-clause-prefix g c =
     let held = g.K.Sink.held in
     let t = c.args.transcript.now in
-    let i = c.loop-caller.caller in
-    let so_far = subst (PutSoFar (held c.args.sink.now) (held c.loop-caller.sink) (transcript_text t))
-    (next_caller t i (omega (arith, c.callers-caller-end.ensures.number))) c.loop-caller.invariant.so_far in
-    breaks_off (held c.args.sink.now) (held c.loop-caller.sink) (held c.put_lines.new.sink) (transcript_text t)
+    let i = c.loop-number.number in
+    let so_far = subst (PutSoFar (held c.args.sink.now) (held c.loop-number.sink) (transcript_text t))
+    (next_caller t i (omega (arith, c.callers-number-end.ensures.number))) c.loop-number.invariant.so_far in
+    breaks_off (held c.args.sink.now) (held c.loop-number.sink) (held c.put_lines.new.sink) (transcript_text t)
     (caller_text (get_or t i [])) (rest_from (i + 1) t) so_far
-    (subst (AppendsPrefix (held c.loop-caller.sink) (held c.put_lines.new.sink))
-    (text_of-kept c.bytes.result.now c.lines-lines.result.now (get_or t i []) c.bytes.ensures
-    c.lines-lines.ensures.seen) c.put_lines.ensures.prefix)
+    (subst (AppendsPrefix (held c.loop-number.sink) (held c.put_lines.new.sink))
+    (text_of-kept c.bytes.result.now _ c.lines.result.now (get_or t i []) c.bytes.ensures
+    (c.lines.ensures.seen ∙ c.caller-caller.ensures)) c.put_lines.ensures.prefix)
 
-pub loop-caller-preserved : goal.loop-caller-preserved
-loop-caller-preserved g c =
+pub loop-number-preserved : goal.loop-number-preserved
+loop-number-preserved g c =
     let held = g.K.Sink.held in
     let t = c.args.transcript.now in
-    let i = c.loop-caller.caller in
-    let so_far = subst (PutSoFar (held c.args.sink.now) (held c.loop-caller.sink) (transcript_text t))
-    (next_caller t i (omega (arith, c.callers-caller-end.ensures.number))) c.loop-caller.invariant.so_far in
+    let i = c.loop-number.number in
+    let so_far = subst (PutSoFar (held c.args.sink.now) (held c.loop-number.sink) (transcript_text t))
+    (next_caller t i (omega (arith, c.callers-number-end.ensures.number))) c.loop-number.invariant.so_far in
     record {
-      so_far = goes_on (held c.args.sink.now) (held c.loop-caller.sink) (held c.put_lines.new.sink)
+      so_far = goes_on (held c.args.sink.now) (held c.loop-number.sink) (held c.put_lines.new.sink)
           (transcript_text t) (caller_text (get_or t i [])) (rest_from (i + 1) t) [] so_far
-          (puts_whole (held c.loop-caller.sink) (held c.put_lines.new.sink) (caller_text (get_or t i []))
-          (subst (Appends (held c.loop-caller.sink) (held c.put_lines.new.sink))
-          (text_of-kept c.bytes.result.now c.lines-lines.result.now (get_or t i []) c.bytes.ensures
-          c.lines-lines.ensures.seen) c.in_ok-put_lines.ensures.whole));
+          (puts_whole (held c.loop-number.sink) (held c.put_lines.new.sink) (caller_text (get_or t i []))
+          (subst (Appends (held c.loop-number.sink) (held c.put_lines.new.sink))
+          (text_of-kept c.bytes.result.now _ c.lines.result.now (get_or t i []) c.bytes.ensures
+          (c.lines.ensures.seen ∙ c.caller-caller.ensures)) c.in_ok-put_lines.ensures.whole));
       empty = c.in_ok-put_lines.ensures.emptied;
-      counted = omega (arith, c.loop-caller.invariant.counted, c.put_lines.ensures.never_falls);
+      counted = omega (arith, c.loop-number.invariant.counted, c.put_lines.ensures.never_falls);
     }
 
 pub returns-clause-whole : goal.returns-clause-whole
 returns-clause-whole g c =
     let held = g.K.Sink.held in
     let t = c.args.transcript.now in
-    let so_far = subst (PutSoFar (held c.args.sink.now) (held c.loop-caller.sink) (transcript_text t))
-    (no_caller t c.loop-caller.caller (omega (arith, c.callers-caller-end.ensures.number)))
-    c.loop-caller.invariant.so_far in
-    on_ok c.put_all-2.result _ _ (finishes (held c.args.sink.now) (held c.loop-caller.sink)
+    let so_far = subst (PutSoFar (held c.args.sink.now) (held c.loop-number.sink) (transcript_text t))
+    (no_caller t c.loop-number.number (omega (arith, c.callers-number-end.ensures.number)))
+    c.loop-number.invariant.so_far in
+    on_ok c.put_all-2.result _ _ (finishes (held c.args.sink.now) (held c.loop-number.sink)
     (held c.put_all-2.new.sink) (transcript_text t) (codes "end\n") so_far) c.put_all-2.ensures.whole
 
 pub returns-clause-prefix : goal.returns-clause-prefix
 returns-clause-prefix g c =
     let held = g.K.Sink.held in
     let t = c.args.transcript.now in
-    let so_far = subst (PutSoFar (held c.args.sink.now) (held c.loop-caller.sink) (transcript_text t))
-    (no_caller t c.loop-caller.caller (omega (arith, c.callers-caller-end.ensures.number)))
-    c.loop-caller.invariant.so_far in
-    breaks_within (held c.args.sink.now) (held c.loop-caller.sink) (held c.put_all-2.new.sink) (transcript_text t)
+    let so_far = subst (PutSoFar (held c.args.sink.now) (held c.loop-number.sink) (transcript_text t))
+    (no_caller t c.loop-number.number (omega (arith, c.callers-number-end.ensures.number)))
+    c.loop-number.invariant.so_far in
+    breaks_within (held c.args.sink.now) (held c.loop-number.sink) (held c.put_all-2.new.sink) (transcript_text t)
     (codes "end\n") so_far c.put_all-2.ensures.prefix

@@ -1,21 +1,16 @@
+use Rattle.std.proofs.Common.{refl}
 use Rattle.transcript_text.proofs.Keeping.{kept_after, seen_after}
 use Rattle.transcript_text.proofs.gathered.CallerLines.push_showing.Goals as goal
 
 pub invariant_of-self : goal.invariant_of-self
-invariant_of-self c = rw (
-  c.push_reserved.ensures.items,
-  c.append_reserved.ensures.items,
-  c.data_at-line.ensures,
-  c.len.ensures,
-) (kept_after c.self.inside.bytes.items c.args.shown.now _ c.self.inside.lines.items c.args.line
-    c.self.inside.bytes.ok.0 c.self.invariant c.requires.fits)
+invariant_of-self c = rw (c.push_reserved.ensures.items, c.keep-line.ensures.items, c.keep-line.ensures.data)
+    (kept_after c.self.inside.bytes.items c.args.shown.now _ c.self.inside.lines.items c.args.line refl
+    c.self.invariant c.requires.fits)
 
 pub returns-clause-lines : goal.returns-clause-lines
 returns-clause-lines c = rw (
   c.push_reserved.ensures.items,
-  c.append_reserved.ensures.items,
-  c.data_at-line.ensures,
-  c.len.ensures,
+  c.keep-line.ensures.items,
+  c.keep-line.ensures.data,
   ← c.self.view_is,
-) (seen_after c.self.inside.bytes.items c.args.shown.now _
-    c.self.inside.lines.items c.args.line c.self.inside.bytes.ok.0 c.self.invariant)
+) (seen_after c.self.inside.bytes.items c.args.shown.now _ c.self.inside.lines.items c.args.line refl c.self.invariant)
