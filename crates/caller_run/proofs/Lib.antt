@@ -15,12 +15,15 @@ pub mod LineVisits
 pub mod SampleLaw
 pub mod AloneDone
 pub mod QuietForms
+pub mod LineFits
 pub mod LoopCalls
 pub mod CoreDone
 pub mod Standing
 pub mod Callings
 pub mod Starts
+pub mod RoomFills
+pub mod Binding
+pub mod StateReads
 pub mod Going
-pub mod Serving
 pub mod VreadDone
 pub mod Seeing

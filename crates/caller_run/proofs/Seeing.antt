@@ -4,7 +4,7 @@ use Rattle.std.specs.Prelude.{slice_set}
 use Rattle.std.specs.List.{AllByRecursion}
 use Rattle.std.proofs.lemmas.List.{length-set}
 use Rattle.key_names.specs.declared.events.Event.{Event}
-use Rattle.key_names.specs.declared.events.Event.TheVariants.{Vread, Inside, Drop, State, Fork}
+use Rattle.key_names.specs.declared.events.Event.TheVariants.{Vread, Drop, State}
 use Rattle.key_names.specs.declared.names.Step.{Step}
 use Rattle.key_names.specs.Calls as calls
 use Rattle.key_names.specs.Meaning.{CallerState, caller_start, state_after, with_state}
@@ -20,8 +20,10 @@ use Rattle.rng_core.specs.Told.{moment}
 use Rattle.rng_core.specs.Did.{setting_of}
 use Rattle.rng_core.proofs.Doing.{did_floor}
 use Rattle.caller_run.proofs.Callings.{no_count}
-use Rattle.caller_run.specs.Calling.{caller_at, stand, Seen, StatesStand, Called, StateRead, Made}
-use Rattle.caller_run.specs.Kinds.{IsCall, MakesCall}
+use Rattle.lane_table.proofs.Sights.{sees_up}
+use Rattle.rng_core.specs.Acts.{Ask, ActOutcome}
+use Rattle.caller_run.specs.Calling.{caller_at, stand, Seen, StatesStand, Called, StateRead}
+use Rattle.caller_run.specs.Doings.{deals_of}
 use Rattle.caller_run.specs.Says.{ShowsFit}
 use Rattle.caller_run.specs.declared.caller.Caller.{Caller}
 use Rattle.caller_run.specs.declared.said.Said.{Said}
@@ -85,7 +87,7 @@ module _ (t : Lanes) (event : Event) (c d : Caller) (said : Said) (served : List
   pub same_stand : Called t event c d said served steps → stand d ≡ stand c
   same_stand k = (λ i. caller_at (setting_of (k.set i)) (k.states i))
 
-  called_kept : Called t event c d said served steps → Kept t event c d said
+  pub called_kept : Called t event c d said served steps → Kept t event c d said
   called_kept k = record {
     has = k.has;
     set = k.set;
@@ -94,29 +96,14 @@ module _ (t : Lanes) (event : Event) (c d : Caller) (said : Said) (served : List
     shows = k.shows;
   }
 
-read_kept : (t : Lanes) (n flags : ℕ) (c d : Caller) (said : Said) (served : List ℕ) (steps : List Step) →
-    StateRead t n flags c d said served steps → Kept t (Vread n flags) c d said
-read_kept t n flags c d said served steps k = record {
+pub read_kept : (t : Lanes) (n flags : ℕ) (c d : Caller) (said : Said) (served : List ℕ) (steps : List Step) (asks : List Ask)
+    (zs : List ActOutcome) → StateRead t n flags c d said served steps asks zs → Kept t (Vread n flags) c d said
+read_kept t n flags c d said served steps asks zs k = record {
   has = k.has;
   set = k.set;
   states = λ s. subst (Seen (floor (view d.pass))) (sym k.stands)
       (seen_with (floor (view d.pass)) (stand c) k.left k.published
       (seen_up (floor (view c.pass)) (floor (view d.pass)) (stand c)
-      (let a = k.did.glanced.floors in let b = did_floor c.set _ _ k.did.did in omega arith) s));
+      (sees_up (view d.pass) (floor (view c.pass)) (floor (view d.pass)) (deals_of k.done.doings) k.done.ran.sees) s));
   shows = no_count _ said.shows (λ same. cc) k.shows;
 }
-
-pub made_kept : (t : Lanes) (event : Event) (c d : Caller) (said : Said) (served : List ℕ) (steps : List Step) → MakesCall event →
-    Made t event c d said served steps → Kept t event c d said
-made_kept t (Vread n flags) c d said served steps is k = read_kept t n flags c d said served steps k
-made_kept t (Inside point act) c d said served steps is k = absurd is
-made_kept t (Fork child) c d said served steps is k = absurd is
-made_kept t event c d said served steps is k = called_kept t event c d said served steps k
-
--- a call of the core is one
-pub by_core : (t : Lanes) (event : Event) (c d : Caller) (said : Said) (served : List ℕ) (steps : List Step) → IsCall event →
-    Called t event c d said served steps → Made t event c d said served steps
-by_core t (Vread n flags) c d said served steps is k = absurd is
-by_core t (Inside point act) c d said served steps is k = absurd is
-by_core t (Fork child) c d said served steps is k = absurd is
-by_core t event c d said served steps is k = k

@@ -2,13 +2,14 @@
 use Rattle.std.specs.Prelude.{◌≡◌, ℕ, ◌<◌, ◌≤◌, ◌^◌, List, [], length}
 use Rattle.std.specs.List.{AllByRecursion}
 use Rattle.key_names.specs.declared.events.Event.{Event}
-use Rattle.key_names.specs.declared.events.Event.TheVariants.{Vread}
 use Rattle.key_names.specs.declared.events.Answer.{Answer}
+use Rattle.key_names.specs.declared.events.Word.TheVariants.{Vread as VreadWord}
 use Rattle.key_names.specs.declared.names.Step.{Step}
-use Rattle.key_names.specs.Calls.{Setting as Told}
-use Rattle.key_names.specs.Meaning.{CallerState, current_state, with_state}
+use Rattle.key_names.specs.Calls.{Setting as Told, vread_call}
+use Rattle.key_names.specs.Meaning.{CallerState, with_state}
 use Rattle.key_names.specs.ScriptGrammar.{event_word}
 use Rattle.key_names.specs.SeenLine.{Shown}
+use Rattle.key_names.specs.TranscriptGrammar.{StepFits}
 use Rattle.key_names.specs.VgetrandomState.{VgetrandomState}
 use Rattle.key_names.specs.VreadSteps.{published_by}
 use Rattle.lane_table.specs.declared.lanes.Lanes.{Lanes}
@@ -19,8 +20,10 @@ use Rattle.rng_core.specs.declared.setting.Setting.{Setting}
 use Rattle.rng_core.specs.Told.{Moment, moment}
 use Rattle.rng_core.specs.Did.{DidIn, Fulfils, setting_of}
 use Rattle.rng_core.specs.SampleDeeds.{Sampled}
-use Rattle.rng_core.specs.VreadDid.{VreadDid}
-use Rattle.caller_run.specs.Says.{shown_by, ShowsFit, IsNoCount}
+use Rattle.rng_core.specs.Acts.{Ask, ActOutcome}
+use Rattle.rng_core.specs.InsideDid.{bound_acts}
+use Rattle.caller_run.specs.Done.{CallDone}
+use Rattle.caller_run.specs.Says.{shown_by, line_of, ShowsFit, IsNoCount}
 use Rattle.caller_run.specs.declared.caller.Caller.{Caller}
 use Rattle.caller_run.specs.declared.said.Said.{Said}
 use Rattle.caller_run.specs.declared.states.States.{States}
@@ -61,19 +64,17 @@ pub record Called (t : Lanes) (event : Event) (c d : Caller) (said : Said) (serv
   pub does : Does c.set event said.answer (shown_by served said.shows) (moment c.pass []) (moment d.pass steps)
   pub shows : ShowsFit (event_word event) said.shows
 
--- the caller, then c and now d, read n bytes out of its current state with these flags, with no act inside
-pub record StateRead (t : Lanes) (n flags : ℕ) (c d : Caller) (said : Said) (served : List ℕ) (steps : List Step) :
-    Type 0 where
+-- the caller, then c and now d, read n bytes out of its current state with these flags and these acts inside, of which
+-- this came
+pub record StateRead (t : Lanes) (n flags : ℕ) (c d : Caller) (said : Said) (served : List ℕ) (steps : List Step)
+    (asks : List Ask) (zs : List ActOutcome) : Type 0 where
   pub has : Has t d.set.caller [] d.pass
   pub set : d.set ≡ c.set
   pub left : VgetrandomState
   pub stands : stand d ≡ with_state (stand c) left
   pub published : left.generation ≤ published_by (floor (view d.pass))
-  pub did : VreadDid n flags (current_state (stand c)) left said.answer (shown_by served said.shows) c.set
-      (moment c.pass []) (moment d.pass steps)
+  pub done : CallDone c.set.caller (view c.pass) (view d.pass) (stand c) (stand d)
+      (vread_call n flags (line_of c.set VreadWord served said steps) (bound_acts c.set asks zs))
+  pub long : length zs ≡ length asks
+  pub fit : AllByRecursion (λ z. AllByRecursion StepFits z.steps) zs
   pub shows : IsNoCount said.shows
-
--- the call of an event, whichever it is
-abbrev pub Made : Lanes → Event → Caller → Caller → Said → List ℕ → List Step → Type 0
-Made t (Vread n flags) c d said served steps = StateRead t n flags c d said served steps
-Made t event c d said served steps = Called t event c d said served steps

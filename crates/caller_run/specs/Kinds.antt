@@ -1,9 +1,7 @@
 -- The kinds of events, by the calls that they ask for.
-use Rattle.std.specs.Prelude.{◌≡◌, false, ⊤, List, [], ◌∷◌}
+use Rattle.std.specs.Prelude.{⊤}
 use Rattle.key_names.specs.declared.events.Event.{Event}
 use Rattle.key_names.specs.declared.events.Event.TheVariants.{At, On, Hw, Device, Write, Add, Credit, Bits, Irq, Input, Read, Vread, Kread, Dread, Uread, Int8, Int16, Int32, Int64, Reseed, Tick, Drop, Fork, Inside, Prepare, Online, Vmfork, State}
-use Rattle.key_names.specs.Calls.{has_vread}
-use Rattle.key_names.specs.ScriptGrammar.{Script}
 
 -- they set something, and ask nothing of the core
 abbrev pub IsSetting : Event → Type 0
@@ -53,11 +51,6 @@ IsInteger Int32 = ⊤
 IsInteger Int64 = ⊤
 IsInteger _ = ⊥
 
--- an act that waits for a vread
-abbrev pub IsAct : Event → Type 0
-IsAct (Inside point act) = ⊤
-IsAct _ = ⊥
-
 -- each is a call of the core by itself
 abbrev pub IsCall : Event → Type 0
 IsCall (Vread len flags) = ⊥
@@ -65,26 +58,7 @@ IsCall (Fork child) = ⊥
 IsCall (Inside point act) = ⊥
 IsCall _ = ⊤
 
--- a call of the core, or a read out of a vgetrandom state
-abbrev pub MakesCall : Event → Type 0
-MakesCall (Fork child) = ⊥
-MakesCall (Inside point act) = ⊥
-MakesCall _ = ⊤
-
--- an event that the only caller of a script makes, with those behind it: a call, or an act that no vread follows
-abbrev pub IsServed : Event → List Event → Type 0
-IsServed (Inside point act) rest = has_vread rest ≡ false
-IsServed event rest = MakesCall event
-
-abbrev pub AllServed : List Event → Type 0
-AllServed [] = ⊤
-AllServed (event ∷ rest) = IsServed event rest × AllServed rest
-
--- a script of one caller that makes such events
-abbrev pub RunsAlone : Script → Type 0
-RunsAlone script = AllOfOne script.callers
-  where
-    AllOfOne : List (List Event) → Type 0
-    AllOfOne [] = ⊥
-    AllOfOne (events ∷ []) = AllServed events
-    AllOfOne (events ∷ next ∷ callers) = ⊥
+-- nobody else runs
+abbrev pub ForksNobody : Event → Type 0
+ForksNobody (Fork child) = ⊥
+ForksNobody _ = ⊤

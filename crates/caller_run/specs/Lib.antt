@@ -3,7 +3,7 @@ pub mod Doings
 pub mod Ran
 pub mod Done
 pub mod Laws
-pub mod Slots
+pub mod Waiting
 pub mod Says
 pub mod Calling
 pub mod Kinds

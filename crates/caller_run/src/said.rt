@@ -1,6 +1,7 @@
 //! What a call told, beside its steps.
-ghost use Rattle.std.specs.Prelude.{◌≡◌, ℕ, List};
-ghost use Rattle.key_names.specs.SeenLine.{bytes_or_none};
+ghost use Rattle.std.specs.Prelude.{◌≡◌, ◌≤◌, ℕ, List, length, if◌then◌else◌};
+ghost use Rattle.key_names.specs.declared.events.Answer.TheVariants.{Unused};
+ghost use Rattle.key_names.specs.SeenLine.{bytes_or_none, no_data};
 ghost use Rattle.rng_core.specs.Did.{errno_answer, result_answer, tick_result, given};
 ghost use Rattle.caller_run.specs.Says.{shown_by, IsNoCount};
 
@@ -73,6 +74,32 @@ impl Said {
         match ended {
             Ok(()) => Said::done(Shows::Served),
             Err(errno) => Said::only(answer_of(errno)),
+        }
+    }
+
+    /// An act inside a vread: it was not done where the call did not come to its point.
+    pub(crate) fn of_act(done: bool, ended: Result<(), Errno>) -> Said
+        ensures answer { result.answer ≡ (if done then result_answer ended else Unused) }
+        ensures shows { (served : List ℕ) → shown_by served result.shows
+            ≡ (if done then bytes_or_none (given ended served) else no_data) }
+        ensures bytes { IsNoCount result.shows }
+    {
+        if done {
+            Said::read(ended)
+        } else {
+            Said::only(Answer::Unused)
+        }
+    }
+
+    /// What a line that shows no count shows of the bytes that were served.
+    pub(crate) fn bytes<'a>(&self, served: &'a [u8]) -> &'a [u8]
+        requires { IsNoCount self.now.shows }
+        ensures shown { bytes_or_none result.now ≡ shown_by served.now self.now.shows }
+        ensures len { length result.now ≤ length served.now }
+    {
+        match self.shows {
+            Shows::Served => served,
+            Shows::Nothing | Shows::Count(_) => &[],
         }
     }
 

@@ -1,19 +1,26 @@
 //! Reads out of a caller's vgetrandom states.
-ghost use Rattle.std.specs.Prelude.{◌≡◌, ◌≤◌, ◌^◌, ℕ, [], length};
-ghost use Rattle.key_names.specs.ScriptGrammar.{InRange};
-ghost use Rattle.caller_run.specs.Calling.{IsReady, StatesStand, StateRead, Made};
-ghost use Rattle.caller_run.specs.Kinds.{MakesCall};
-ghost use Rattle.caller_run.specs.Says.{most_shown};
+ghost use Rattle.std.specs.Prelude.{◌≡◌, ◌≤◌, ◌^◌, ◌∷◌, ℕ, List, [], length, vec_capacity};
+ghost use Rattle.std.specs.List.{AllByRecursion};
+ghost use Rattle.key_names.specs.declared.events.Event.{Event};
+ghost use Rattle.key_names.specs.declared.events.Event.TheVariants.{Vread};
+ghost use Rattle.lane_table.specs.declared.view.View.{View};
+ghost use Rattle.rng_core.specs.Acts.{all_wanted, asks_of, outcomes_of};
+ghost use Rattle.rng_core.specs.InsideDid.{IsFresh};
+ghost use Rattle.caller_run.specs.Calling.{IsReady, StatesStand, StateRead};
+ghost use Rattle.caller_run.specs.Standing.{CanGo, HasGone, waiting_in};
 
+use crate::acts::all_wanted;
 use crate::caller::Caller;
+use crate::room::{Room, most_shown};
 use crate::said::Said;
-use key_names::{Event, Trace};
+use key_names::{Event, Trace, Word};
 use lane_table::Lanes;
-use rng_core::vread;
+use rng_core::{Bound, vread, vread_inside};
 use std::sync::Wait;
 
 impl Caller {
-    // A read out of the current state, of as many bytes as `served` has. No act is inside.
+    // A read out of the current state, of as many bytes as `served` has, with these acts inside. What they read goes into
+    // `inside`.
     fn vread<R: Wait>(
         &mut self,
         rt: &R,
@@ -21,47 +28,56 @@ impl Caller {
         trace: &mut Trace,
         served: &mut [u8],
         flags: u32,
+        acts: &mut [Bound],
+        inside: &mut [u8],
     ) -> Said
         requires ready { IsReady lanes.now self.old }
         requires states { StatesStand self.old }
         requires short { length served.old ≤ 2 ^ 20 }
         requires new { trace.old ≡ [] }
-        ensures { StateRead lanes.now (length served.old) flags self.old self.new result served.new trace.new }
+        requires fresh { AllByRecursion IsFresh acts.old }
+        requires fits { length inside.old ≡ all_wanted (asks_of acts.old) }
+        ensures asks { asks_of acts.new ≡ asks_of acts.old }
+        ensures read { StateRead lanes.now (length served.old) flags self.old self.new result served.new trace.new
+            (asks_of acts.old) (outcomes_of acts.new inside.new) }
     {
         let st = &mut self.states.all[self.states.current as usize];
-        let ended = vread(
-            rt,
-            lanes,
-            &mut self.pass,
-            trace,
-            &self.set,
-            st,
-            served,
-            flags,
-        );
-        Said::read(ended)
+        let pass = &mut self.pass;
+        let set = &self.set;
+        if acts.is_empty() {
+            return Said::read(vread(rt, lanes, pass, trace, set, st, served, flags));
+        }
+        Said::read(vread_inside(rt, lanes, pass, trace, set, st, served, flags, acts, inside))
     }
 
-    /// The call that an event makes, and what its line tells beside the steps. `served` gets the bytes that it shows.
-    pub(crate) fn make_call<R: Wait>(
+    /// A read out of the current state, with the acts inside that waited for it. Their lines are told anew.
+    pub(crate) fn read_state<R: Wait>(
         &mut self,
         rt: &R,
         lanes: &Lanes,
-        trace: &mut Trace,
+        room: &mut Room,
         served: &mut [u8],
+        inside: &mut [u8],
         event: &Event,
-    ) -> Said
-        requires ready { IsReady lanes.now self.old }
-        requires states { StatesStand self.old }
-        requires range { (version : ℕ) × InRange version lanes.now.cpus event.now }
-        requires len { length served.old ≡ most_shown event.now }
-        requires kind { MakesCall event.now }
-        requires new { trace.old ≡ [] }
-        ensures { Made lanes.now event.now self.old self.new result served.new trace.new }
+        flags: u32,
+    )
+        requires can { CanGo lanes.now self.old room.old (length served.old) (length inside.old) (event.now ∷ []) }
+        requires is { (len : ℕ) × (event.now ≡ Vread len flags) }
+        ensures act_room { vec_capacity room.new.acts ≡ vec_capacity room.old.acts }
+        ensures can { (rest : List Event)
+            → CanGo lanes.now self.old room.old (length served.old) (length inside.old) (event.now ∷ rest)
+            → CanGo lanes.now self.new room.new (length served.old) (length inside.old) rest }
+        ensures gone { (v : View) (caller : ℕ) (events rest : List Event)
+            → HasGone v caller events (event.now ∷ rest) self.old room.old.lines.lines (waiting_in room.old)
+            → HasGone v caller events rest self.new room.new.lines.lines (waiting_in room.new) }
     {
-        match event {
-            Event::Vread { flags, .. } => self.vread(rt, lanes, trace, served, *flags),
-            _ => self.call(rt, lanes, trace, served, event),
-        }
+        let mut trace = Trace::empty();
+        let served = &mut served[..most_shown(event) as usize];
+        let inside = &mut inside[..all_wanted(&room.acts)];
+        let said = self.vread(rt, lanes, &mut trace, served, flags, &mut room.acts, inside);
+        self.tell_acts(&mut room.lines, &mut room.acts, inside);
+        self.tell(&mut room.lines, Word::Vread, said, trace, served);
+        room.acts.clear();
+        self.go_on(event);
     }
 }

@@ -47,6 +47,13 @@ impl Bound {
             trace: Trace::empty(),
         }
     }
+
+    /// How many bytes the act reads.
+    pub fn wanted(&self) -> usize
+        ensures { result ≡ wants self.now.act }
+    {
+        wanted(self.act)
+    }
 }
 
 /// How many bytes an act asks for.

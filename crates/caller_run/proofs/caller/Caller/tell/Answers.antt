@@ -1,17 +1,11 @@
-use Rattle.std.proofs.Common.{◌≡◌, ℕ, List, [], ◌∷◌, Fits, w8, arith, rules, subst, sym}
+use Rattle.std.proofs.Common.{List, rules, subst, sym}
 use Rattle.std.specs.List.{AllByRecursion}
-use Rattle.std.specs.Prelude.{slice_index}
-use Rattle.key_names.specs.declared.events.Word.{Word}
-use Rattle.key_names.specs.declared.events.Word.TheVariants.{Bits}
 use Rattle.key_names.specs.SeenLine.{bytes_or_none}
 use Rattle.key_names.specs.TranscriptGrammar.{StepFits, ShownFits}
 use Rattle.key_names.specs.declared.lines.Line.{Line}
 use Rattle.caller_run.specs.Says.{ShowsFit}
+use Rattle.caller_run.proofs.LineFits.{bytes_fit}
 use Rattle.caller_run.proofs.caller.Caller.tell.Goals as goal
-
-fits : (word : Word) (bytes : List ℕ) → (word ≡ Bits → ⊥) → ((i : ℕ) → Fits w8 (slice_index bytes i)) → ShownFits word (bytes_or_none bytes)
-fits word [] other is = tt
-fits word (b ∷ bytes) other is = (other, omega arith, λ i. let byte = is i in omega arith)
 
 pub push_showing-requires-clause-fits : goal.push_showing-requires-clause-fits
 push_showing-requires-clause-fits c = let e = c.line-in-Served.ensures in record {
@@ -20,5 +14,5 @@ push_showing-requires-clause-fits c = let e = c.line-in-Served.ensures in record
   few_steps = search rules;
   steps = subst (λ (l : Line). AllByRecursion StepFits l.trace) (sym e) c.requires.steps;
   shown = subst (λ (l : Line). ShownFits l.word (bytes_or_none c.args.served.now)) (sym e)
-      (fits c.args.word c.args.served.now (subst (ShowsFit c.args.word) c.in-Served.is c.requires.shows) c.type_inv.served);
+      (bytes_fit c.args.word c.args.served.now (subst (ShowsFit c.args.word) c.in-Served.is c.requires.shows) c.type_inv.served);
 }

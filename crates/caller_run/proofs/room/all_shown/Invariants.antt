@@ -1,7 +1,7 @@
 use Rattle.std.proofs.Common.{◌≡◌, ◌≤◌, ◌*◌, take}
 use Rattle.std.specs.Prelude.{sum_by}
 use Rattle.caller_run.specs.Says.{most_shown}
-use Rattle.caller_run.proofs.alone.all_shown.Given as goal
+use Rattle.caller_run.proofs.room.all_shown.Given as goal
 
 abbrev pub invariant-loop-event : goal.invariant-loop-event
 invariant-loop-event l = record {

@@ -5,7 +5,7 @@ use Rattle.std.proofs.lemmas.Bool.Decides.{nat_tests}
 use Rattle.std.proofs.lemmas.List.{take_all}
 use Rattle.std.proofs.lemmas.List.Elements.{All-more}
 use Rattle.caller_run.specs.Says.{most_shown}
-use Rattle.caller_run.proofs.alone.longest_shown.Goals as goal
+use Rattle.caller_run.proofs.room.longest_shown.Goals as goal
 
 above : (n most more max : ℕ) → max ≡ ord_max nat_cmp most more → n ≤ most → n ≤ max
 above n most more max is le = grind (arith, nat_tests)

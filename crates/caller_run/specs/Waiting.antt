@@ -1,0 +1,47 @@
+-- The acts that wait for a caller's next vread: the line of each says that it was not done, until that vread tells it
+-- anew.
+use Rattle.std.specs.Prelude.{◌≡◌, ℕ, ◌<◌, false, ⊤, List, [], ◌∷◌, ◌++◌, length, slice_set}
+use Rattle.std.specs.List.{AllByRecursion}
+use Rattle.key_names.specs.declared.events.Event.{Event}
+use Rattle.key_names.specs.declared.events.Event.TheVariants.{Vread, Inside}
+use Rattle.key_names.specs.Calls.{Call, BoundAct, has_vread, calls_from, calls_of}
+use Rattle.key_names.specs.SeenLine.{SeenLine}
+use Rattle.key_names.specs.VreadSteps.{number_of}
+use Rattle.rng_core.specs.Acts.{Ask, ActOutcome}
+use Rattle.rng_core.specs.InsideDid.{act_line}
+use Rattle.rng_core.specs.declared.setting.Setting.{Setting}
+
+-- a caller's lines, these being told anew as the lines of the acts that ask this
+abbrev pub told_anew : List SeenLine → List Ask → List SeenLine → List SeenLine
+told_anew lines [] acts = lines
+told_anew lines (a ∷ asks) [] = lines
+told_anew lines (a ∷ asks) (line ∷ acts) = told_anew (slice_set lines a.event line) asks acts
+
+-- the lines of acts, by what came of them
+abbrev pub act_lines : Setting → List Ask → List ActOutcome → List SeenLine
+act_lines set [] zs = []
+act_lines set (a ∷ asks) [] = []
+act_lines set (a ∷ asks) (z ∷ zs) = act_line set a z ∷ act_lines set asks zs
+
+abbrev pub bound_by : Ask → SeenLine → BoundAct
+bound_by a line = record { point = number_of a.point; act = a.act; line = line }
+
+-- acts, each with its line
+abbrev pub all_bound : List Ask → List SeenLine → List BoundAct
+all_bound [] lines = []
+all_bound (a ∷ asks) [] = []
+all_bound (a ∷ asks) (line ∷ lines) = bound_by a line ∷ all_bound asks lines
+
+-- an event that is a call of its own
+abbrev pub IsAlone : Event → Type 0
+IsAlone (Vread len flags) = ⊥
+IsAlone (Inside point act) = ⊥
+IsAlone _ = ⊤
+
+-- what a loop over the events keeps, rest being those that it has not come to: whatever lines are told anew and follow,
+-- these calls were made
+pub record CallsSoFar (events rest : List Event) (lines : List SeenLine) (waiting : List Ask) (calls : List Call) : Type 0 where
+  pub told : AllByRecursion (λ a. a.event < length lines) waiting
+  pub follows : has_vread rest ≡ false → waiting ≡ []
+  pub calls_are : (acts more : List SeenLine) → length acts ≡ length waiting →
+      calls_of events (told_anew lines waiting acts ++ more) ≡ calls ++ calls_from (all_bound waiting acts) rest more

@@ -1,0 +1,114 @@
+//! Acts that wait for a caller's next `vread`.
+ghost use Rattle.std.specs.Prelude.{◌≡◌, ◌+◌, ◌<◌, ◌≤◌, ◌^◌, ◌∷◌, ℕ, List, [], length, slice_set};
+ghost use Rattle.std.specs.List.{AllByRecursion};
+ghost use Rattle.key_names.specs.TranscriptGrammar.{StepFits};
+ghost use Rattle.key_names.specs.VreadSteps.{number_of};
+ghost use Rattle.key_names.specs.declared.events.Event.{Event};
+ghost use Rattle.key_names.specs.declared.events.Event.TheVariants.{Inside};
+ghost use Rattle.lane_table.specs.declared.view.View.{View};
+ghost use Rattle.rng_core.specs.Acts.{all_wanted, ask_of, asks_of, outcome_of, outcomes_of};
+ghost use Rattle.rng_core.specs.InsideDid.{act_line};
+ghost use Rattle.caller_run.specs.Standing.{CanGo, HasGone, waiting_in};
+ghost use Rattle.caller_run.specs.Waiting.{act_lines, told_anew};
+
+use crate::caller::Caller;
+use crate::room::Room;
+use crate::said::Said;
+use key_names::{Answer, Data, Event, InsideAct, Line, Point, Trace, Word};
+use lane_table::Lanes;
+use rng_core::Bound;
+use std::mem;
+use transcript_text::CallerLines;
+
+fn point_of(number: u8) -> Point
+    requires { (0 < number) × (number ≤ 4) }
+    ensures { number_of result ≡ number }
+{
+    match number {
+        1 => Point::Start,
+        2 => Point::Written,
+        3 => Point::Serve,
+        _ => Point::End,
+    }
+}
+
+/// How many bytes the acts read.
+pub(crate) fn all_wanted(acts: &[Bound]) -> usize
+    requires { all_wanted (asks_of acts.now) < 2 ^ 32 }
+    ensures { result ≡ all_wanted (asks_of acts.now) }
+{
+    match acts.split_first() {
+        Some((first, rest)) => first.wanted() + all_wanted(rest),
+        None => 0,
+    }
+}
+
+impl Caller {
+    /// An act waits for the caller's next `vread`. Its line says that it was not done, until that `vread` tells it anew.
+    pub(crate) fn wait(
+        &mut self,
+        lanes: &Lanes,
+        room: &mut Room,
+        event: &Event,
+        point: u8,
+        act: InsideAct,
+    )
+        requires can { (served : ℕ) × (inside : ℕ) × CanGo lanes.now self.old room.old served inside (event.now ∷ []) }
+        requires is { event.now ≡ Inside point act }
+        ensures can { (served inside : ℕ) (rest : List Event)
+            → CanGo lanes.now self.old room.old served inside (event.now ∷ rest)
+            → CanGo lanes.now self.new room.new served inside rest }
+        ensures gone { (v : View) (caller : ℕ) (events rest : List Event)
+            → HasGone v caller events (event.now ∷ rest) self.old room.old.lines.lines (waiting_in room.old)
+            → HasGone v caller events rest self.new room.new.lines.lines (waiting_in room.new) }
+    {
+        let _cpus = lanes.cpus();
+        let unused = Said::only(Answer::Unused);
+        self.tell(&mut room.lines, Word::Inside, unused, Trace::empty(), &[]);
+        let bound = Bound::of(point_of(point), act, self.set.event);
+        room.acts.push_reserved(bound);
+        self.go_on(event);
+    }
+
+    // Tells the line of an act anew, with these bytes of it.
+    fn tell_act(&self, lines: &mut CallerLines, bound: &mut Bound, bytes: &[u8])
+        requires told { bound.old.event < length lines.old.lines }
+        requires byte_room { length bytes.now ≤ lines.old.byte_room }
+        requires short { length bytes.now < 2 ^ 32 }
+        requires steps { AllByRecursion StepFits bound.old.trace }
+        ensures lines { lines.new.lines ≡ slice_set lines.old.lines bound.old.event
+            (act_line self.now.set (ask_of bound.old) (outcome_of bound.old bytes.now)) }
+        ensures line_room { lines.new.line_room ≡ lines.old.line_room }
+        ensures byte_room { lines.old.byte_room ≤ lines.new.byte_room + length bytes.now }
+    {
+        let said = Said::of_act(bound.done, bound.answer);
+        let line = Line {
+            caller: self.set.caller,
+            event: bound.event,
+            word: Word::Inside,
+            answer: said.answer,
+            trace: mem::replace(&mut bound.trace, Trace::empty()),
+            shown: Data::None,
+        };
+        lines.replace_showing(bound.event as usize, line, said.bytes(bytes));
+    }
+
+    /// Tells the lines of acts anew, behind the `vread` that they waited for. Their bytes follow each other.
+    pub(crate) fn tell_acts(&self, lines: &mut CallerLines, acts: &mut [Bound], bytes: &[u8])
+        requires told { AllByRecursion (λ a. a.event < length lines.old.lines) (asks_of acts.old) }
+        requires fits { length bytes.now ≡ all_wanted (asks_of acts.old) }
+        requires byte_room { length bytes.now ≤ lines.old.byte_room }
+        requires short { length bytes.now < 2 ^ 32 }
+        requires steps { AllByRecursion (λ z. AllByRecursion StepFits z.steps) (outcomes_of acts.old bytes.now) }
+        ensures lines { lines.new.lines ≡ told_anew lines.old.lines (asks_of acts.old)
+            (act_lines self.now.set (asks_of acts.old) (outcomes_of acts.old bytes.now)) }
+        ensures line_room { lines.new.line_room ≡ lines.old.line_room }
+        ensures byte_room { lines.old.byte_room ≤ lines.new.byte_room + length bytes.now }
+    {
+        if let Some((first, rest)) = acts.split_first_mut() {
+            let (of_first, of_rest) = bytes.split_at(first.wanted());
+            self.tell_act(lines, first, of_first);
+            self.tell_acts(lines, rest, of_rest);
+        }
+    }
+}
