@@ -24,3 +24,12 @@ pub mod Going
 pub mod Serving
 pub mod VreadDone
 pub mod Seeing
+pub mod PartItems
+pub mod ActDoings
+pub mod OwnSteps
+pub mod CallShapes
+pub mod KeyCuts
+pub mod InsideOrder
+pub mod InsideCourse
+pub mod ActsMeant
+pub mod InsideDone
