@@ -27,3 +27,12 @@ pub mod StateReads
 pub mod Going
 pub mod VreadDone
 pub mod Seeing
+pub mod PartItems
+pub mod ActDoings
+pub mod OwnSteps
+pub mod CallShapes
+pub mod KeyCuts
+pub mod InsideOrder
+pub mod InsideCourse
+pub mod ActsMeant
+pub mod InsideDone

@@ -21,7 +21,7 @@ use vdso_state::{VHost, VState};
 
 /// Which attempt of a call runs.
 #[derive(Clone, Copy)]
-pub(crate) enum Attempt {
+pub enum Attempt {
     Before,
     First,
     Later,

@@ -22,6 +22,7 @@ mod setting;
 mod system_call;
 mod vreads;
 
+pub use act_host::Attempt;
 pub use acts::Bound;
 pub use cpus::{online, prepare};
 pub use forks::fork;
