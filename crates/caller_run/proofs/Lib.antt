@@ -24,6 +24,7 @@ pub mod Starts
 pub mod RoomFills
 pub mod Binding
 pub mod StateReads
+pub mod ReadGoes
 pub mod Going
 pub mod VreadDone
 pub mod Seeing

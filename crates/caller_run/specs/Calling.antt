@@ -76,5 +76,6 @@ pub record StateRead (t : Lanes) (n flags : ℕ) (c d : Caller) (said : Said) (s
   pub done : CallDone c.set.caller (view c.pass) (view d.pass) (stand c) (stand d)
       (vread_call n flags (line_of c.set VreadWord served said steps) (bound_acts c.set asks zs))
   pub long : length zs ≡ length asks
-  pub fit : AllByRecursion (λ z. AllByRecursion StepFits z.steps) zs
+  pub steps_fit : AllByRecursion StepFits steps
+  pub acts_fit : AllByRecursion (λ z. AllByRecursion StepFits z.steps) zs
   pub shows : IsNoCount said.shows

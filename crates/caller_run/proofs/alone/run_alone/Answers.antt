@@ -35,7 +35,7 @@ as_slices P a b c d first second here = subst (λ (n : ℕ). P n d) (sym first) 
 pub step-requires : goal.step-requires
 step-requires g c = record {
   can = as_slices (λ n m. CanGo c.in_ok-lanes.lanes c.loop-event.caller c.loop-event.room n m (c.event-item.result ∷ []))
-      (vec_len c.loop-event.served) (vec_len c.loop-event.inside) _ _ c.deref_mut.ensures.len c.deref_mut-inside.ensures.len
+      (vec_len c.loop-event.served) (vec_len c.loop-event.inside) _ _ c.deref_mut.ensures.len c.deref_mut-in-loop-event.ensures.len
       (first_can c.in_ok-lanes.lanes c.loop-event.caller c.loop-event.room (vec_len c.loop-event.served) (vec_len c.loop-event.inside)
       c.event-item.result (drop (c.loop-event.event-index + 1) c.args.events.now)
       (can_here c.in_ok-lanes.lanes (view c.start-caller.result.pass) 0 c.args.events.now c.loop-event.event-index c.event-item.result c.loop-event.caller
@@ -48,9 +48,9 @@ loop-event-preserved g c =
     c.loop-event.room (vec_len c.loop-event.served) (vec_len c.loop-event.inside) c.loop-event-test.true c.event-item.is c.loop-event.invariant
     c.step.new.self c.step.new.room
     (λ rest can. as_slices (λ n m. CanGo c.in_ok-lanes.lanes c.step.new.self c.step.new.room n m rest) _ _ (vec_len c.loop-event.served)
-    (vec_len c.loop-event.inside) (sym c.deref_mut.ensures.len) (sym c.deref_mut-inside.ensures.len)
+    (vec_len c.loop-event.inside) (sym c.deref_mut.ensures.len) (sym c.deref_mut-in-loop-event.ensures.len)
     (c.step.ensures.can rest (as_slices (λ n m. CanGo c.in_ok-lanes.lanes c.loop-event.caller c.loop-event.room n m (c.event-item.result ∷ rest))
-    (vec_len c.loop-event.served) (vec_len c.loop-event.inside) _ _ c.deref_mut.ensures.len c.deref_mut-inside.ensures.len can)))
+    (vec_len c.loop-event.served) (vec_len c.loop-event.inside) _ _ c.deref_mut.ensures.len c.deref_mut-in-loop-event.ensures.len can)))
     c.step.ensures.gone
 
 pub finish-requires : goal.finish-requires

@@ -10,14 +10,14 @@ use Rattle.caller_run.proofs.Seeing.{called_kept}
 use Rattle.caller_run.proofs.caller.Caller.make.Goals as goal
 
 pub returns-clause-can : goal.returns-clause-can
-returns-clause-can g c rest can =
+returns-clause-can g c inside rest can =
     let lines = c.args.room.now.lines in
     let acts = c.args.room.now.acts.items in
     let k = called_kept c.args.lanes.now c.args.event.now c.args.self.now c.call-said.new.self c.call-said.result c.call-said.new.served c.call-said.new.trace c.call-said.ensures in
     let long : length c.call-said.new.served ≡ most_shown c.args.event.now = search rules in
     record {
       goes = can_next c.args.lanes.now c.args.event.now c.args.self.now c.call-said.new.self c.go_on.new.self lines c.tell.new.lines acts acts
-          _ _ rest k.set k.has (k.states can.goes.states) (record {
+          _ inside rest k.set k.has (k.states can.goes.states) (record {
             stands = c.go_on.ensures.stand;
             caller = c.go_on.ensures.caller;
             event_is = c.go_on.ensures.event;

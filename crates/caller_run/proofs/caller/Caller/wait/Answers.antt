@@ -44,7 +44,7 @@ returns-clause-gone c v caller events rest gone =
     (line_of set InsideWord [] c.only-unused.result c.empty.result) c.requires.is c.point_of.ensures c.of-bound.ensures
     c.push_reserved.ensures.items c.tell.ensures.lines
     (ap (λ (s : Said). line_of set InsideWord [] s c.empty.result) c.only-unused.ensures ∙ ap (λ (l : List Step). line_of set InsideWord [] (record { answer = Unused; shows = Nothing }) l) c.empty.ensures)
-    c.requires.can.goes.at (record {
+    c.requires.can.2.goes.at (record {
       stands = c.go_on.ensures.stand;
       caller = c.go_on.ensures.caller;
       event_is = c.go_on.ensures.event;
