@@ -14,8 +14,8 @@ use Rattle.lane_table.specs.Went.{step_of, floor}
 use Rattle.lane_table.proofs.BookEnds.{continues_before, known_lanes}
 use Rattle.lane_table.proofs.VisitLists.{begins_refl}
 use Rattle.vdso_state.specs.Host.{DoesAll}
-use Rattle.rng_core.specs.declared.act_host.Attempt.{Attempt}
-use Rattle.rng_core.specs.declared.act_host.Attempt.TheVariants.{Before, First}
+use Rattle.rng_core.specs.declared.attempt.Attempt.{Attempt}
+use Rattle.rng_core.specs.declared.attempt.Attempt.TheVariants.{Before, First}
 use Rattle.rng_core.specs.declared.setting.Setting.{Setting}
 use Rattle.rng_core.specs.Acts.{Ask}
 use Rattle.rng_core.specs.Acting.{acting, ActPublished, ActPassed}

@@ -15,7 +15,7 @@ use Rattle.lane_table.specs.Calls.{view}
 use Rattle.lane_table.specs.Went.{step_of}
 use Rattle.lane_table.specs.declared.lanes.Pass.{Pass}
 use Rattle.rng_core.specs.declared.acts.Bound.{Bound}
-use Rattle.rng_core.specs.declared.act_host.Attempt.TheVariants.{Before}
+use Rattle.rng_core.specs.declared.attempt.Attempt.TheVariants.{Before}
 use Rattle.rng_core.specs.Acting.{act_stand, InsideRan}
 use Rattle.rng_core.specs.Acts.{Ask, asks_of, outcomes_of}
 use Rattle.rng_core.specs.Did.{result_answer, given}

@@ -1,15 +1,13 @@
 -- What acts at a point do to what a pass knows.
 use Rattle.std.proofs.Common.{◌≡◌, ℕ, ◌≤◌, Bool, true, false, not, List, [], ◌∷◌, ◌++◌, length, map, refl, sym, ap, ◌∙◌, subst, arith, append-nil, append_assoc}
-use Rattle.std.proofs.lemmas.List.{map-append}
 use Rattle.std.specs.Prelude.{MatchBool, ◌==◌, ◌&&◌, ◌||◌, ⊤}
 use Rattle.std.specs.List.{AllByRecursion, list_any}
 use Rattle.key_names.specs.declared.names.Step.{Step}
 use Rattle.key_names.specs.declared.point.Point.{Point}
-use Rattle.key_names.specs.Deeds.{Deed, deed_of, deeds_of}
+use Rattle.key_names.specs.Deeds.{Deed, deeds_of}
 use Rattle.key_names.specs.Meaning.{ActMeans}
 use Rattle.key_names.specs.TranscriptGrammar.{StepFits}
 use Rattle.key_names.specs.VreadSteps.{PointReached, number_of}
-use Rattle.key_names.proofs.Each.{each_append}
 use Rattle.lane_table.specs.declared.view.View.{View}
 use Rattle.lane_table.specs.declared.view.Visit.{Visit}
 use Rattle.lane_table.specs.BookLists.{StateLists, book_lists}
@@ -19,10 +17,11 @@ use Rattle.lane_table.specs.WorldRule.{known_of}
 use Rattle.lane_table.specs.Went.{Deal, looked, visited, step_of, looks_in, Sees, floor}
 use Rattle.lane_table.proofs.BookEnds.{continues_before}
 use Rattle.rng_core.specs.declared.setting.Setting.{Setting}
-use Rattle.rng_core.specs.Told.{Moment}
+use Rattle.rng_core.specs.Told.{Moment, Told}
 use Rattle.rng_core.specs.Did.{DidIn, Did, setting_of}
 use Rattle.rng_core.specs.Acts.{Ask, ActOutcome, ActRan, ActAt, ActsAt, done_line}
-use Rattle.rng_core.proofs.Doing.{After, did_floor}
+use Rattle.rng_core.proofs.Doing.{After, did_floor, deeds_then}
+use Rattle.rng_core.proofs.TellLemmas.{told_then, trace_then, fits_then}
 
 -- a pass knows no less
 pub record Onward (v w : View) : Type 0 where
@@ -81,7 +80,7 @@ risen_then : (low mid high : ℕ) (xs ys : List ℕ) → Risen low xs mid → Ri
 risen_then low mid high [] ys a b = risen_lower low mid high ys a b
 risen_then low mid high (g ∷ xs) ys a b = (a.0, risen_then g mid high xs ys a.1 b)
 
-sees_risen : (w : View) (low high : ℕ) (deals : List Deal) → Sees w low deals high → Risen low (looks_in deals) high
+pub sees_risen : (w : View) (low high : ℕ) (deals : List Deal) → Sees w low deals high → Risen low (looks_in deals) high
 sees_risen w low high [] h = h
 sees_risen w low high (looked g ∷ deals) h = (h.0, sees_risen w g high deals h.1)
 sees_risen w low high (visited mark e ∷ deals) h = risen_lower low h.0 high (looks_in deals) h.1 (sees_risen w h.0 high deals h.3)
@@ -93,64 +92,57 @@ looks_append (visited mark e ∷ xs) ys = looks_append xs ys
 
 -- The caller's own steps, with those of acts between them
 
--- from l to m these are the caller's own steps, and of the deeds behind them this holds
-pub record Own (P : List Deed → Type 0) (l m : Moment) : Type 0 where
+-- from l to m these are the caller's own steps, and of the deeds behind them this holds; alone they are all that was done
+pub record Own (set : Setting) (Alone : Type 0) (P : List Deed → Type 0) (l m : Moment) : Type 0 where
   pub deals : List Deal
   pub trace : m.steps ≡ l.steps ++ map step_of deals
   pub fits : AllByRecursion StepFits (map step_of deals)
   pub rises : Risen (floor l.view) (looks_in deals) (floor m.view)
   pub onward : Onward l.view m.view
+  pub alone : Alone → Told set l m deals
   pub stands : (lanes : ℕ) (visits : ℕ → List Visit) (callers : StateLists) → Continues lanes m.view visits →
       P (deeds_of (book_lists lanes visits callers) (map step_of deals))
 
-pub own_nothing : {P : List Deed → Type 0} (m : Moment) → P [] → Own P m m
-own_nothing m p = record {
-  deals = [];
-  trace = sym (append-nil m.steps);
-  fits = tt;
-  rises = omega arith;
-  onward = onward_same m.view;
-  stands = λ lanes visits callers c. p;
-}
-
-pub own_did : {P : List Deed → Type 0} (set : Setting) (l m : Moment) → Did P set l m → Own P l m
+pub own_did : {P : List Deed → Type 0} {Alone : Type 0} (set : Setting) (l m : Moment) → Did P set l m → Own set Alone P l m
 own_did set l m k = record {
   deals = k.deals;
   trace = k.told.trace;
   fits = k.told.fits;
   rises = sees_risen m.view (floor l.view) (floor m.view) k.deals k.told.went.sees;
   onward = did_onward set l m k;
+  alone = λ _. k.told;
   stands = k.stands;
 }
 
-pub own_map : {P Q : List Deed → Type 0} (l m : Moment) → ((deeds : List Deed) → P deeds → Q deeds) → Own P l m → Own Q l m
-own_map l m f k = record { deals = k.deals; trace = k.trace; fits = k.fits; rises = k.rises; onward = k.onward; stands = λ lanes visits callers c. f _ (k.stands lanes visits callers c) }
+pub own_map : {set : Setting} {Alone : Type 0} {P Q : List Deed → Type 0} (l m : Moment) → ((deeds : List Deed) → P deeds → Q deeds) → Own set Alone P l m → Own set Alone Q l m
+own_map l m f k = record { deals = k.deals; trace = k.trace; fits = k.fits; rises = k.rises; onward = k.onward; alone = k.alone; stands = λ lanes visits callers c. f _ (k.stands lanes visits callers c) }
 
-pub own_then : {P Q : List Deed → Type 0} (l m n : Moment) → Own P l m → Own Q m n → Own (After P Q) l n
-own_then l m n a b = record {
+pub own_then : {set : Setting} {Alone : Type 0} {P Q : List Deed → Type 0} (l m n : Moment) → Own set Alone P l m → Own set Alone Q m n → Own set Alone (After P Q) l n
+own_then {set} l m n a b = record {
   deals = a.deals ++ b.deals;
-  trace = b.trace ∙ ap (λ (s : List Step). s ++ map step_of b.deals) a.trace ∙ append_assoc l.steps (map step_of a.deals) (map step_of b.deals)
-      ∙ ap (λ (s : List Step). l.steps ++ s) (sym (map-append step_of a.deals b.deals));
-  fits = subst (AllByRecursion StepFits) (sym (map-append step_of a.deals b.deals)) (each_append StepFits (map step_of a.deals) (map step_of b.deals) a.fits b.fits);
+  trace = trace_then l m n a.deals b.deals a.trace b.trace;
+  fits = fits_then a.deals b.deals a.fits b.fits;
   rises = subst (λ (looks : List ℕ). Risen (floor l.view) looks (floor n.view)) (sym (looks_append a.deals b.deals)) (risen_then (floor l.view) (floor m.view) (floor n.view) (looks_in a.deals) (looks_in b.deals) a.rises b.rises);
   onward = onward_then l.view m.view n.view a.onward b.onward;
+  alone = λ e. told_then set l m n a.deals b.deals (a.alone e) (b.alone e);
   stands = λ lanes visits callers c. let book = book_lists lanes visits callers in record {
     first = deeds_of book (map step_of a.deals);
     rest = deeds_of book (map step_of b.deals);
-    deeds_are = ap (deeds_of book) (map-append step_of a.deals b.deals) ∙ map-append (deed_of book) (map step_of a.deals) (map step_of b.deals);
+    deeds_are = deeds_then book a.deals b.deals;
     before = a.stands lanes visits callers (continues_before lanes m.view n.view visits b.onward.sized b.onward.grows c);
     behind = b.stands lanes visits callers c;
   };
 }
 
 -- behind acts
-pub own_behind : {P : List Deed → Type 0} (l m n : Moment) → m.steps ≡ l.steps → Onward l.view m.view → Own P m n → Own P l n
-own_behind l m n same onward k = record {
+pub own_behind : {set : Setting} {Alone : Type 0} {P : List Deed → Type 0} (l m n : Moment) → m.steps ≡ l.steps → Onward l.view m.view → (Alone → m.view ≡ l.view) → Own set Alone P m n → Own set Alone P l n
+own_behind {set} l m n same onward idle k = record {
   deals = k.deals;
   trace = k.trace ∙ ap (λ (s : List Step). s ++ map step_of k.deals) same;
   fits = k.fits;
   rises = risen_lower (floor l.view) (floor m.view) (floor n.view) (looks_in k.deals) onward.floors k.rises;
   onward = onward_then l.view m.view n.view onward k.onward;
+  alone = λ e. subst (λ (z : Moment). Told set z n k.deals) (λ i. record { view = idle e i; steps = same i }) (k.alone e);
   stands = k.stands;
 }
 

@@ -1,5 +1,6 @@
 -- Calls out of visits: what is done one after another, and the forms of the most used pieces.
 use Rattle.std.proofs.Common.{◌≡◌, ℕ, ◌+◌, ◌<◌, ◌≤◌, length, arith, List, [], ◌∷◌, ◌++◌, map, Some, None, sym, refl, ap, ◌∙◌, subst, append-nil}
+use Rattle.std.proofs.lemmas.List.{map-append}
 use Rattle.key_names.specs.declared.entries.Taken.{Taken}
 use Rattle.key_names.specs.declared.entries.PoolEntry.{PoolEntry}
 use Rattle.key_names.specs.declared.entries.PoolEntry.TheVariants.{Extract, Bits}
@@ -7,6 +8,7 @@ use Rattle.key_names.specs.declared.entries.BaseEntry.{BaseEntry}
 use Rattle.key_names.specs.declared.entries.BaseEntry.TheVariants.{Refill}
 use Rattle.key_names.specs.declared.entries.CpuEntry.{CpuEntry}
 use Rattle.key_names.specs.declared.entries.CpuEntry.TheVariants.{Read}
+use Rattle.key_names.specs.Book.{Lists}
 use Rattle.key_names.specs.Deeds.{Deed, looked, deed_of, deeds_of}
 use Rattle.key_names.specs.Answers.{deed_bytes, served_bytes, bits_read}
 use Rattle.key_names.specs.SeenLine.{count}
@@ -34,10 +36,6 @@ use Rattle.rng_core.specs.Did.{DidIn, Did, Serving, Served, Fulfils, setting_of,
 use Rattle.rng_core.proofs.TellLemmas.{told_then, told_idly}
 use Rattle.rng_core.proofs.Finding.{found_pool, found_base, found_cpu}
 
-map_append : {A B : Type 0} (f : A → B) (xs ys : List A) → map f (xs ++ ys) ≡ map f xs ++ map f ys
-map_append f [] ys = refl
-map_append f (x ∷ xs) ys = ap (λ l. f x ∷ l) (map_append f xs ys)
-
 -- what was seen of the generation does not fall
 pub did_floor : {P : (ℕ → List Visit) → List Deed → Type 0} (set : Setting) (m n : Moment) → DidIn P set m n → floor m.view ≤ floor n.view
 did_floor set m n k = sees_up n.view (floor m.view) (floor n.view) k.deals k.told.went.sees
@@ -58,14 +56,6 @@ served_of set m n lane place s e got x = record { model = s; got = got; visited 
 -- behind what no step tells
 pub did_after : {P : (ℕ → List Visit) → List Deed → Type 0} (set : Setting) (l m n : Moment) → Told set l m [] → DidIn P set m n → DidIn P set l n
 did_after set l m n a k = record { deals = k.deals; told = told_then set l m n [] k.deals a k.told; stands = k.stands }
-
--- and before it
-pub did_before : {P : List Deed → Type 0} (set : Setting) (l m n : Moment) → Did P set l m → Told set m n [] → Did P set l n
-did_before {P} set l m n k a = record {
-  deals = k.deals ++ [];
-  told = told_then set l m n k.deals [] k.told a;
-  stands = λ lanes visits callers c. subst (λ (ds : List Deal). P (deeds_of (book_lists lanes visits callers) (map step_of ds))) (sym (append-nil k.deals)) (k.stands lanes visits callers (continues_before lanes _ _ visits a.went.same.sized a.went.grows c));
-}
 
 -- behind a look
 pub did_looked : {P : ℕ → List Deed → Type 0} (set : Setting) (l m n : Moment) (g : ℕ) → Told set l m (went.looked g ∷ []) → Did (P g) set m n → Did (forms.Looked P) set l n
@@ -218,6 +208,9 @@ pub record After (P Q : List Deed → Type 0) (deeds : List Deed) : Type 0 where
   pub before : P first
   pub behind : Q rest
 
+pub deeds_then : (book : Lists) (xs ys : List Deal) → deeds_of book (map step_of (xs ++ ys)) ≡ deeds_of book (map step_of xs) ++ deeds_of book (map step_of ys)
+deeds_then book xs ys = ap (deeds_of book) (map-append step_of xs ys) ∙ map-append (deed_of book) (map step_of xs) (map step_of ys)
+
 pub did_in_then : {P Q : (ℕ → List Visit) → List Deed → Type 0} (set : Setting) (l m n : Moment) → DidIn P set l m → DidIn Q set m n → DidIn (λ visits. After (P visits) (Q visits)) set l n
 did_in_then set l m n a b = record {
   deals = a.deals ++ b.deals;
@@ -225,7 +218,7 @@ did_in_then set l m n a b = record {
   stands = λ lanes visits callers c. let book = book_lists lanes visits callers in record {
     first = deeds_of book (map step_of a.deals);
     rest = deeds_of book (map step_of b.deals);
-    deeds_are = ap (deeds_of book) (map_append step_of a.deals b.deals) ∙ map_append (deed_of book) (map step_of a.deals) (map step_of b.deals);
+    deeds_are = deeds_then book a.deals b.deals;
     before = a.stands lanes visits callers (continues_before lanes _ _ visits b.told.went.same.sized b.told.went.grows c);
     behind = b.stands lanes visits callers c;
   };

@@ -1,11 +1,9 @@
 -- What a caller does as the host of its own vgetrandom calls.
-use Rattle.std.proofs.Common.{◌≡◌, ℕ, zero, suc, ◌+◌, ◌<◌, ◌≤◌, Bool, true, false, Option, Some, None, Ok, Err, List, [], ◌∷◌, ◌++◌, length, map, refl, sym, ap, ◌∙◌, subst, arith}
-use Rattle.std.specs.Prelude.{Result, slice_get, if◌then◌else◌}
-use Rattle.std.specs.List.{AllByRecursion}
+use Rattle.std.proofs.Common.{◌≡◌, ℕ, zero, suc, ◌+◌, ◌<◌, ◌≤◌, true, Option, Some, None, Ok, Err, List, [], ◌∷◌, ◌++◌, length, map, refl, sym, ap, ◌∙◌, subst, arith}
+use Rattle.std.specs.Prelude.{Result, slice_get}
 use mathlib.Core.Option.{some}
 use lib.ListN.{get_elem?}
 use Rattle.atomic_table.proofs.Lists.{at_longer}
-use Rattle.key_names.specs.declared.point.Point.{Point}
 use Rattle.key_names.specs.declared.names.LaneId.{LaneId}
 use Rattle.key_names.specs.declared.names.LaneId.TheVariants.{Pool as PoolLane, Base as BaseLane, Cpu as CpuLaneId}
 use Rattle.key_names.specs.declared.entries.VEntry.{VEntry}
@@ -17,8 +15,8 @@ use Rattle.key_names.specs.Deeds.{Deed, deed_or, deed_at, deed_of, deeds_of, at_
 use Rattle.key_names.specs.Book.{Lists, cpu_list}
 use Rattle.key_names.specs.Answers.{system_answer, served_bytes}
 use Rattle.key_names.specs.SeenLine.{bytes_or_none, bytes_of}
-use Rattle.key_names.specs.Vgetrandom.{CpuPlace, SystemAnswer, read, failed, HostStep, publishes, system_call, at_point, Outcome}
-use Rattle.key_names.specs.VreadSteps.{published_by, place_of, last_place, errno_of, answer_with, answer_behind, Shows, PointReached, points_of, is_start, before_start, from_start, WipesStand}
+use Rattle.key_names.specs.Vgetrandom.{CpuPlace, SystemAnswer, read, failed}
+use Rattle.key_names.specs.VreadSteps.{published_by, place_of, last_place, errno_of, answer_with, answer_behind}
 use Rattle.lane_table.specs.declared.view.Visit.{Visit}
 use Rattle.lane_table.specs.declared.view.View.{View}
 use Rattle.lane_table.specs.declared.view.Stage.{Stage}
@@ -30,20 +28,17 @@ use Rattle.lane_table.specs.WorldRule.{known_of, at}
 use Rattle.lane_table.specs.Calls.{slots, view}
 use Rattle.lane_table.specs.Hands.{Has}
 use Rattle.lane_table.specs.BookLists.{book_lists}
-use Rattle.lane_table.specs.Went.{Deal, looked, visited, step_of, AllStand, floor}
+use Rattle.lane_table.specs.Went.{Deal, looked, visited, step_of, AllStand}
 use Rattle.lane_table.proofs.Places.{stands_at}
 use Rattle.lane_table.proofs.BookEntries.{lane_at, cpu_kind}
 use Rattle.lane_table.proofs.BookWhole.{cpu_lane_of}
 use Rattle.lane_table.proofs.BookCpus.{CpuLane}
-use Rattle.vdso_state.specs.Host.{Doings, Does, DoesAll, IsAnswer}
-use Rattle.vdso_state.specs.Call.{Runs, Finish}
+use Rattle.vdso_state.specs.Host.{IsAnswer}
 use Rattle.rng_core.specs.declared.setting.Setting.{Setting}
 use Rattle.rng_core.specs.Told.{Moment}
 use Rattle.lane_table.specs.BookLaws.{Continues}
 use Rattle.rng_core.specs.Did.{Did, Fulfils, setting_of, errno_answer, result_answer, given}
-use Rattle.rng_core.specs.Hosted.{is_away, IsFree, Stand, Published, SystemCall, Answered, Passed}
-use Rattle.rng_core.proofs.Doing.{did_floor, did_nothing, did_map, did_looked, did_then}
-use Rattle.rng_core.proofs.CallEnds.{PublishesUpTo}
+use Rattle.rng_core.specs.Hosted.{is_away, IsFree, SystemCall}
 
 -- Empty hands
 
@@ -56,10 +51,7 @@ away_of Away h = refl
 away_of (Queued ticket) h = absurd (cc h)
 away_of (Holding ticket) h = absurd (cc h)
 
-pub has_free : (t : Lanes) (caller : ℕ) (p : Pass) → Has t caller [] p → IsFree t caller p
-has_free t caller p k = record { pass = k.pass; own = k.own; out = ap length k.out; away = λ lane low. ap is_away (k.away lane low tt) }
-
-pub free_has : (t : Lanes) (caller : ℕ) (p : Pass) → IsFree t caller p → Has t caller [] p
+free_has : (t : Lanes) (caller : ℕ) (p : Pass) → IsFree t caller p → Has t caller [] p
 free_has t caller p k = record {
   pass = k.pass;
   own = k.own;
@@ -167,123 +159,6 @@ system_called set n flags result bytes l m k = record {
     answers = answered_behind flags result bytes (visit_of k.deals) (deeds_of (book_lists lanes visits callers) (map step_of k.deals)) h.answers h.shows (sym (last_found lanes m.view visits callers c set.caller set.event (length l.steps) k.deals k.told.went.stand));
   };
 }
-
--- Step after step
-
-abbrev pub StepTold : Stand → HostStep → Stand → Type 0
-StepTold s (publishes g) t = Published s g t
-StepTold s (system_call n flags answer) t = Answered s n flags answer t
-StepTold s (at_point point wiped) t = Passed s wiped t
-
-step_set : (s t : Stand) (step : HostStep) → StepTold s step t → t.set ≡ s.set
-step_set s t (publishes g) k = k.same
-step_set s t (system_call n flags answer) k = k.same
-step_set s t (at_point point wiped) k = ap (λ (z : Stand). z.set) k.same
-
-step_two : (s t : Stand) (step : HostStep) → StepTold s step t → 1 < length s.moment.view.lanes → 1 < length t.moment.view.lanes
-step_two s t (publishes g) k two = let e = k.told.went.same.sized in omega arith
-step_two s t (system_call n flags answer) k two = let e = k.did.told.went.same.sized in omega arith
-step_two s t (at_point point wiped) k two = subst (λ (z : Stand). 1 < length z.moment.view.lanes) (sym k.same) two
-
-step_floor : (s t : Stand) (step : HostStep) → StepTold s step t → floor s.moment.view ≤ floor t.moment.view
-step_floor s t (publishes g) k = let a = k.above in let b = k.known in omega arith
-step_floor s t (system_call n flags answer) k = did_floor s.set s.moment t.moment k.did
-step_floor s t (at_point point wiped) k = subst (λ (z : Stand). floor s.moment.view ≤ floor z.moment.view) (sym k.same) (omega arith)
-
-abbrev IsUnwiped : PointReached → Type 0
-IsUnwiped reached = reached.wiped ≡ false
-
-unwiped_if : (b : Bool) (xs ys : List PointReached) → AllByRecursion IsUnwiped xs → AllByRecursion IsUnwiped ys → AllByRecursion IsUnwiped (if b then xs else ys)
-unwiped_if true xs ys first second = first
-unwiped_if false xs ys first second = second
-
-unwiped_before : (points : List PointReached) → AllByRecursion IsUnwiped points → AllByRecursion IsUnwiped (before_start points)
-unwiped_before [] all = tt
-unwiped_before (reached ∷ points) all = unwiped_if (is_start reached) [] (reached ∷ before_start points) tt (all.0, unwiped_before points all.1)
-
-unwiped_from : (points : List PointReached) → AllByRecursion IsUnwiped points → AllByRecursion IsUnwiped (from_start points)
-unwiped_from [] all = tt
-unwiped_from (reached ∷ points) all = unwiped_if (is_start reached) (reached ∷ points) (from_start points) all (unwiped_from points all.1)
-
--- where no act is inside, nothing is wiped
-wipes_stand : (points : List PointReached) → AllByRecursion IsUnwiped points → WipesStand [] points
-wipes_stand [] all = record { first = tt; second = tt }
-wipes_stand (start ∷ points) all = record { first = (all.0, unwiped_before points all.1); second = unwiped_from points all.1 }
-
--- the host does over the lanes what its steps say
-pub record IsCaller {H : Type 0} (host : Doings H) (at : H → Stand) : Type 0 where
-  pub published : (h : H) (g : ℕ) (next : H) → host.publishes_as h g next → Published (at h) g (at next)
-  pub answered : (h : H) (n flags : ℕ) (answer : SystemAnswer) (next : H) → host.answers_as h n flags answer next → Answered (at h) n flags answer (at next)
-  pub passed : (h : H) (point : Point) (wiped : Bool) (next : H) → host.passes_as h point wiped next → Passed (at h) wiped (at next)
-
-module _ {H : Type 0} (host : Doings H) (at : H → Stand) (is : IsCaller host at) where
-  tells : (h next : H) (step : HostStep) → Does host h step next → StepTold (at h) step (at next)
-  tells h next (publishes g) does = is.published h g next does
-  tells h next (system_call n flags answer) does = is.answered h n flags answer next does
-  tells h next (at_point point wiped) does = is.passed h point wiped next does
-
-  pub hosted_set : (steps : List HostStep) (h last : H) → DoesAll host h steps last → (at last).set ≡ (at h).set
-  hosted_set [] h last does = ap (λ (k : H). (at k).set) (sym does)
-  hosted_set (step ∷ steps) h last does = hosted_set steps does.0 last does.2 ∙ step_set (at h) (at does.0) step (tells h does.0 step does.1)
-
-  pub hosted_floor : (steps : List HostStep) (h last : H) → DoesAll host h steps last → floor (at h).moment.view ≤ floor (at last).moment.view
-  hosted_floor [] h last does = subst (λ (k : H). floor (at h).moment.view ≤ floor (at k).moment.view) does (omega arith)
-  hosted_floor (step ∷ steps) h last does = let a = step_floor (at h) (at does.0) step (tells h does.0 step does.1) in let b = hosted_floor steps does.0 last does.2 in omega arith
-
-  pub hosted_up_to : (steps : List HostStep) (h last : H) → DoesAll host h steps last → PublishesUpTo (published_by (floor (at last).moment.view)) steps
-  hosted_up_to [] h last does = tt
-  hosted_up_to (publishes g ∷ steps) h last does =
-      let p = tells h does.0 (publishes g) does.1 in
-      let more = published_more p.found (floor (at last).moment.view) (let a = p.known in let b = hosted_floor steps does.0 last does.2 in omega arith) in
-      (let e = p.is in omega arith, hosted_up_to steps does.0 last does.2)
-  hosted_up_to (system_call n flags answer ∷ steps) h last does = hosted_up_to steps does.0 last does.2
-  hosted_up_to (at_point point wiped ∷ steps) h last does = hosted_up_to steps does.0 last does.2
-
-  all_unwiped : (steps : List HostStep) (h last : H) → DoesAll host h steps last → AllByRecursion IsUnwiped (points_of steps)
-  all_unwiped [] h last does = tt
-  all_unwiped (publishes g ∷ steps) h last does = all_unwiped steps does.0 last does.2
-  all_unwiped (system_call n flags answer ∷ steps) h last does = all_unwiped steps does.0 last does.2
-  all_unwiped (at_point point wiped ∷ steps) h last does = ((tells h does.0 (at_point point wiped) does.1).kept, all_unwiped steps does.0 last does.2)
-
-  pub hosted_wipes : (steps : List HostStep) (h last : H) → DoesAll host h steps last → WipesStand [] (points_of steps)
-  hosted_wipes steps h last does = wipes_stand (points_of steps) (all_unwiped steps h last does)
-
-  -- what stands behind the caller's steps is what the host did
-  pub hosted : (steps : List HostStep) (h last : H) → 1 < length (at h).moment.view.lanes → DoesAll host h steps last → Did (Shows (setting_of (at h).set) steps) (at h).set (at h).moment (at last).moment
-  hosted [] h last two does = subst (λ (k : H). Did (Shows (setting_of (at h).set) []) (at h).set (at h).moment (at k).moment) does (did_nothing (at h).set (at h).moment two refl)
-  hosted (publishes g ∷ steps) h last two does =
-      let p = tells h does.0 (publishes g) does.1 in
-      let rest = hosted steps does.0 last (step_two (at h) (at does.0) (publishes g) p two) does.2 in
-      let behind = subst (λ (z : Setting). Did (Shows (setting_of z) steps) z (at does.0).moment (at last).moment) p.same rest in
-      did_looked {P = λ (look : ℕ) (deeds : List Deed). (g ≡ published_by look) × Shows (setting_of (at h).set) steps deeds} (at h).set (at h).moment (at does.0).moment (at last).moment p.found p.told
-      (did_map (at h).set (at does.0).moment (at last).moment (λ deeds shows. (p.is, shows)) behind)
-  hosted (system_call n flags answer ∷ steps) h last two does =
-      let p = tells h does.0 (system_call n flags answer) does.1 in
-      let rest = hosted steps does.0 last (step_two (at h) (at does.0) (system_call n flags answer) p two) does.2 in
-      let behind = subst (λ (z : Setting). Did (Shows (setting_of z) steps) z (at does.0).moment (at last).moment) p.same rest in
-      did_map (at h).set (at h).moment (at last).moment
-      (λ deeds a. record { call = a.first; rest = a.rest; deeds_are = a.deeds_are; form = a.before.form; answers = a.before.answers; goes_on = a.behind })
-      (did_then (at h).set (at h).moment (at does.0).moment (at last).moment p.did behind)
-  hosted (at_point point wiped ∷ steps) h last two does =
-      let p = tells h does.0 (at_point point wiped) does.1 in
-      let rest = hosted steps does.0 last (step_two (at h) (at does.0) (at_point point wiped) p two) does.2 in
-      subst (λ (s : Stand). Did (Shows (setting_of s.set) steps) s.set s.moment (at last).moment) p.same rest
-
--- what no step changes is as it was
-pub record Keeps {H X : Type 0} (host : Doings H) (f : H → X) : Type 0 where
-  pub published : (h : H) (g : ℕ) (next : H) → host.publishes_as h g next → f next ≡ f h
-  pub answered : (h : H) (n flags : ℕ) (answer : SystemAnswer) (next : H) → host.answers_as h n flags answer next → f next ≡ f h
-  pub passed : (h : H) (point : Point) (wiped : Bool) (next : H) → host.passes_as h point wiped next → f next ≡ f h
-
-kept : {H X : Type 0} (host : Doings H) (f : H → X) → Keeps host f → (steps : List HostStep) (h last : H) → DoesAll host h steps last → f last ≡ f h
-kept host f k [] h last does = ap f (sym does)
-kept host f k (publishes g ∷ steps) h last does = kept host f k steps does.0 last does.2 ∙ k.published h g does.0 does.1
-kept host f k (system_call n flags answer ∷ steps) h last does = kept host f k steps does.0 last does.2 ∙ k.answered h n flags answer does.0 does.1
-kept host f k (at_point point wiped ∷ steps) h last does = kept host f k steps does.0 last does.2 ∙ k.passed h point wiped does.0 does.1
-
--- the same of a whole call
-pub kept_by_call : {H X : Type 0} {host : Doings H} {Relates : List HostStep → Outcome → Type 0} {h last : H} {finish : Finish} → Runs host Relates h last finish → (f : H → X) → Keeps host f → f last ≡ f h
-kept_by_call {H} {X} {host} {Relates} {h} {last} runs f k = kept host f k runs.steps h last runs.does
 
 pub has_again : (t t' : Lanes) (set set' : Setting) (p : Pass) → t' ≡ t → set' ≡ set → IsFree t' set'.caller p → Has t set.caller [] p
 has_again t t' set set' p same_table same_set k =

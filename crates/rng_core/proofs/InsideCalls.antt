@@ -1,4 +1,4 @@
--- What a read out of a caller's vgetrandom state did with acts inside, out of a call on its host.
+-- What a read out of a caller's vgetrandom state did, out of a call on its host, with acts inside or without.
 use Rattle.std.proofs.Common.{◌≡◌, ℕ, ◌<◌, ◌≤◌, Bool, true, false, not, List, [], ◌∷◌, length, map, drop, refl, sym, ap, ◌∙◌, subst, arith}
 use Rattle.std.specs.Prelude.{MatchBool, ◌==◌, ◌&&◌, ◌||◌, ◌^◌, if◌then◌else◌}
 use Rattle.std.specs.List.{AllByRecursion}
@@ -13,31 +13,33 @@ use Rattle.key_names.specs.SeenLine.{Shown, bytes_or_none}
 use Rattle.key_names.specs.TranscriptGrammar.{StepFits}
 use Rattle.key_names.specs.Vgetrandom.{IsCall}
 use Rattle.key_names.specs.VgetrandomState.{VgetrandomState}
-use Rattle.key_names.specs.VreadSteps.{published_by, Shows, WipesStand, PointReached, points_of, first_points, is_wiped, is_reached, is_wipe, number_of, NeverFall}
+use Rattle.key_names.specs.VreadSteps.{published_by, Shows, WipesStand, PointReached, points_of, first_points, is_wiped, is_reached, is_wipe, number_of, ending_answer, ending_shown, NeverFall}
 use Rattle.key_names.proofs.Attempts.{match_false}
 use Rattle.key_names.proofs.Each.{each_weaker}
 use Rattle.lane_table.specs.declared.view.View.{View}
 use Rattle.lane_table.specs.declared.view.Visit.{Visit}
 use Rattle.lane_table.specs.BookLists.{StateLists, book_lists}
 use Rattle.lane_table.specs.BookLaws.{Continues}
+use Rattle.lane_table.specs.Calls.{view}
 use Rattle.lane_table.specs.Went.{step_of, looks_in, floor}
-use Rattle.vdso_state.specs.Host.{Doings, DoesAll}
+use Rattle.vdso_state.specs.Host.{DoesAll}
 use Rattle.vdso_state.specs.Call.{Runs, Finish}
 use Rattle.rng_core.specs.declared.acts.Bound.{Bound}
-use Rattle.rng_core.specs.declared.act_host.Attempt.{Attempt}
-use Rattle.rng_core.specs.declared.act_host.Attempt.TheVariants.{Before}
+use Rattle.rng_core.specs.declared.lane_host.LaneHost.{LaneHost}
+use Rattle.rng_core.specs.declared.attempt.Attempt.TheVariants.{Before}
 use Rattle.rng_core.specs.declared.setting.Setting.{Setting}
-use Rattle.rng_core.specs.Told.{Moment}
 use Rattle.rng_core.specs.Did.{setting_of, result_answer, given}
-use Rattle.rng_core.specs.VreadDid.{done_of}
+use Rattle.rng_core.specs.VreadDid.{done_of, Called}
+use Rattle.rng_core.specs.Hosted.{stand}
 use Rattle.rng_core.specs.Acts.{Ask, ActOutcome, wants, asks_of, outcomes_of, is_ready, all_ready, wipes_at, done_line}
 use Rattle.rng_core.specs.Acting.{ActStand, act_stand, acting, InsideRan}
+use Rattle.rng_core.specs.Hosting.{standing, SameLoans, hosting}
 use Rattle.rng_core.specs.InsideDid.{IsFresh, bound_acts, outcome_line, inside_meaning, InsideDid}
-use Rattle.rng_core.proofs.ActRuns.{Risen, AllDone, AllMeant, came, Own}
-use Rattle.rng_core.proofs.Acting.{IsActor, acted_set, acted_asks, acted_onward, acted_up_to, acted_own, acted_wipes, acted_done, acted_meant, acted_all}
+use Rattle.rng_core.proofs.ActRuns.{AllDone, AllMeant, came, Own}
+use Rattle.rng_core.proofs.Acting.{acted_set, acted_asks, acted_onward, acted_up_to, acted_own, acted_wipes, acted_done, acted_meant, host_acts}
 use Rattle.rng_core.proofs.CallEnds.{EndsWell, call_ends}
-use Rattle.rng_core.proofs.Hosting.{published_more}
-use Rattle.rng_core.proofs.Readings.{ending_is, same_looks}
+use Rattle.rng_core.proofs.Hosting.{none_left, published_more}
+use Rattle.rng_core.proofs.Readings.{ending_is, same_looks, never_fall}
 
 -- Acts as they are handed over
 
@@ -70,13 +72,6 @@ fresh_idle (b ∷ bounds) out all = (all.0.idle, fresh_idle bounds (drop (wants 
 fresh_long : (bounds : List Bound) (out : List ℕ) → length (outcomes_of bounds out) ≡ length (asks_of bounds)
 fresh_long [] out = refl
 fresh_long (b ∷ bounds) out = let e = fresh_long bounds (drop (wants b.act) out) in omega arith
-
--- Looks
-
-never_falls : (low : ℕ) (looks : List ℕ) (high : ℕ) → Risen low looks high → NeverFall looks
-never_falls low [] high h = tt
-never_falls low (a ∷ []) high h = tt
-never_falls low (a ∷ b ∷ rest) high h = (h.1.0, never_falls a (b ∷ rest) high h.1)
 
 -- What the acts mean
 
@@ -123,65 +118,69 @@ asks_long : (bounds : List Bound) → length (asks_of bounds) ≡ length bounds
 asks_long [] = refl
 asks_long (b ∷ bounds) = let e = asks_long bounds in omega arith
 
--- a call on a host that is the caller itself, h being where the call began
-module _ {H : Type 0} {host : Doings H} {h last : H} {finish : Finish} (n flags : ℕ) (s : VgetrandomState) (runs : Runs host (IsCall n flags s) h last finish)
-    (at : H → ActStand) (is : IsActor host at) where
-  pub same_set : (at last).core.set ≡ (at h).core.set
-  same_set = acted_set host at is runs.steps h last runs.does
+-- a call on the host over the lanes, h being where it began
+module _ {R : Type 0} {h last : LaneHost R} {finish : Finish} (n flags : ℕ) (s : VgetrandomState) (runs : Runs hosting (IsCall n flags s) h last finish) where
+  abbrev from : ActStand
+  from = standing h
 
-  pub same_asks : (at last).asks ≡ (at h).asks
-  same_asks = acted_asks host at is runs.steps h last runs.does
+  abbrev to : ActStand
+  to = standing last
+
+  does : DoesAll acting from runs.steps to
+  does = (host_acts runs.steps h last runs.does).0
+
+  pub same_loans : SameLoans h last
+  same_loans = (host_acts runs.steps h last runs.does).1
+
+  pub same_set : last.set.now ≡ h.set.now
+  same_set = acted_set runs.steps from to does
+
+  pub same_asks : asks_of last.acts.now ≡ asks_of h.acts.now
+  same_asks = acted_asks runs.steps from to does
 
   -- each step is one of the caller itself
-  pub inside_ran : (set : Setting) (asks : List Ask) (q : Moment) (outcomes : List ActOutcome) (attempt : Attempt) → at last ≡ act_stand (record { set = set; moment = q }) attempt asks outcomes →
-      (set' : Setting) → set ≡ set' → (at h).attempt ≡ Before → InsideRan n flags s finish.state (record (at h) { attempt = Before }) (λ a. act_stand (record { set = set'; moment = q }) a asks outcomes)
-  inside_ran set asks q outcomes attempt there set' same before_all = record {
+  pub inside_ran : InsideRan n flags s finish.state from (λ attempt. act_stand (stand h.set.now last.pass.now last.trace.now) attempt (asks_of last.acts.now) (outcomes_of last.acts.now last.out.now))
+  inside_ran = record {
     steps = runs.steps;
     outcome = runs.outcome;
     is_call = runs.relates;
     state = runs.state;
-    last = attempt;
-    does = subst (λ (z : ActStand). DoesAll acting z runs.steps (act_stand (record { set = set'; moment = q }) attempt asks outcomes)) (λ i. record (at h) { attempt = before_all i })
-        (subst (λ (z : ActStand). DoesAll acting (at h) runs.steps z) (there ∙ ap (λ (z : Setting). act_stand (record { set = z; moment = q }) attempt asks outcomes) same)
-        (acted_all host at is runs.steps h last runs.does));
+    last = last.attempt;
+    does = subst (λ (z : Setting). DoesAll acting from runs.steps (act_stand (stand z last.pass.now last.trace.now) last.attempt (asks_of last.acts.now) (outcomes_of last.acts.now last.out.now))) same_set does;
   }
 
-  module _ (low : s.generation ≤ published_by (floor (at h).core.moment.view)) where
-    ended : EndsWell (published_by (floor (at last).core.moment.view)) n runs.outcome
+  module _ (low : s.generation ≤ published_by (floor (view h.pass.now))) where
+    ended : EndsWell (published_by (floor (view last.pass.now))) n runs.outcome
     ended =
-        let more = published_more (floor (at h).core.moment.view) (floor (at last).core.moment.view) (acted_onward host at is runs.steps h last runs.does).floors in
-        call_ends (published_by (floor (at last).core.moment.view)) n flags s runs.steps runs.outcome (omega arith)
-        (acted_up_to host at is runs.steps h last runs.does) runs.relates
+        let more = published_more (floor (view h.pass.now)) (floor (view last.pass.now)) (acted_onward runs.steps from to does).floors in
+        call_ends (published_by (floor (view last.pass.now))) n flags s runs.steps runs.outcome (omega arith) (acted_up_to runs.steps from to does) runs.relates
 
-    pub still_current : finish.state.generation ≤ published_by (floor (at last).core.moment.view)
+    pub still_current : finish.state.generation ≤ published_by (floor (view last.pass.now))
     still_current = let a = ended.low in let e = ap (λ (z : VgetrandomState). z.generation) runs.state in omega arith
 
-    module _ (bounds : List Bound) (out : List ℕ) (some : 0 < length bounds) (fresh : AllByRecursion IsFresh bounds) (is_asks : (at h).asks ≡ asks_of bounds) (is_outcomes : (at h).outcomes ≡ outcomes_of bounds out)
-        (before_all : (at h).attempt ≡ Before) (long : length finish.buf ≡ n) where
+    module _ (two : 1 < length (view h.pass.now).lanes) (fresh : AllByRecursion IsFresh h.acts.now) (before_all : h.attempt ≡ Before) (long : length finish.buf ≡ n) where
       abbrev set : Setting
-      set = (at h).core.set
+      set = h.set.now
 
       abbrev asks : List Ask
-      asks = asks_of bounds
+      asks = asks_of h.acts.now
 
       abbrev zs : List ActOutcome
-      zs = (at last).outcomes
+      zs = outcomes_of last.acts.now last.out.now
 
-      meant : AllMeant set (at last).core.moment.view asks zs
-      meant = acted_meant host at is runs.steps set asks h last refl is_asks runs.does
-          (subst (AllMeant set (at h).core.moment.view asks) (sym is_outcomes) (fresh_meant set (at h).core.moment.view bounds out fresh))
+      meant : AllMeant set (view last.pass.now) asks zs
+      meant = acted_meant runs.steps set asks from to refl refl does (fresh_meant set (view h.pass.now) h.acts.now h.out.now fresh)
 
-      done : AllDone (first_points (points_of runs.steps)) asks (outcomes_of bounds out) zs
-      done = subst (λ (l : List ActOutcome). AllDone (first_points (points_of runs.steps)) asks l zs) is_outcomes
-          (acted_done host at is runs.steps asks Before h last is_asks before_all (ap length is_outcomes ∙ fresh_long bounds out) runs.does)
+      done : AllDone (first_points (points_of runs.steps)) asks (outcomes_of h.acts.now h.out.now) zs
+      done = acted_done runs.steps asks Before from to refl before_all (fresh_long h.acts.now h.out.now) does
 
-      own : Own (Shows (setting_of set) runs.steps) (at h).core.moment (at last).core.moment
-      own = acted_own host at is runs.steps set h last refl runs.does
+      own : Own set (asks ≡ []) (Shows (setting_of set) runs.steps) from.core.moment to.core.moment
+      own = acted_own runs.steps set asks from to refl refl two does
 
       wipes : WipesStand (bound_acts set asks zs) (points_of runs.steps)
-      wipes = let k = acted_wipes host at is runs.steps asks Before h last is_asks before_all runs.does in record {
+      wipes = let k = acted_wipes runs.steps asks Before from to refl before_all does in record {
         first = each_weaker (λ (reached : PointReached). reached.wiped ≡ wipes_at asks reached.point) (λ (reached : PointReached). reached.wiped ≡ is_wiped (bound_acts set asks zs) reached.point)
-            (first_points (points_of runs.steps)) (λ reached e. e ∙ sym (wiped_is set (at last).core.moment.view reached.point asks zs meant)) k.0;
+            (first_points (points_of runs.steps)) (λ reached e. e ∙ sym (wiped_is set (view last.pass.now) reached.point asks zs meant)) k.0;
         second = k.1;
       }
 
@@ -191,7 +190,22 @@ module _ {H : Type 0} {host : Doings H} {h last : H} {finish : Finish} (n flags 
       abbrev shown : Shown
       shown = bytes_or_none (given (done_of finish.result) finish.buf)
 
-      module _ (lanes : ℕ) (visits : ℕ → List Visit) (callers : StateLists) (c : Continues lanes (at last).core.moment.view visits) (before : CallerState) (set_is : before.setting ≡ setting_of set) (state_is : current_state before ≡ s) where
+      ends : (answer ≡ ending_answer runs.outcome.ending) × (shown ≡ ending_shown runs.outcome.ending)
+      ends = ending_is n runs.outcome.ending finish.result finish.buf long ended.none runs.ends
+
+      pub called : length h.acts.now ≡ 0 → Called n flags s finish.state answer shown set from.core.moment to.core.moment
+      called idle = let none = ap asks_of (none_left h.acts.now idle) in record {
+        steps = runs.steps;
+        outcome = runs.outcome;
+        is_call = runs.relates;
+        state = runs.state;
+        answers = ends.0;
+        shows = ends.1;
+        wipes = subst (λ (l : List Ask). WipesStand (bound_acts set l zs) (points_of runs.steps)) none wipes;
+        did = record { deals = own.deals; told = own.alone none; stands = own.stands };
+      }
+
+      module _ (lanes : ℕ) (visits : ℕ → List Visit) (callers : StateLists) (c : Continues lanes (view last.pass.now) visits) (before : CallerState) (set_is : before.setting ≡ setting_of set) (state_is : current_state before ≡ s) where
         abbrev book : Lists
         book = book_lists lanes visits callers
 
@@ -202,33 +216,33 @@ module _ {H : Type 0} {host : Doings H} {h last : H} {finish : Finish} (n flags 
         meaning = inside_meaning book deeds answer shown runs.outcome.entries zs before finish.state
 
         by_call : ByVgetrandom n flags (bound_acts set asks zs) meaning
-        by_call = let e = ending_is n runs.outcome.ending finish.result finish.buf long ended.none runs.ends in record {
+        by_call = record {
           steps = runs.steps;
           outcome = runs.outcome;
           is_call = subst (λ (z : VgetrandomState). IsCall n flags z runs.steps runs.outcome) (sym state_is) runs.relates;
           shows = subst (λ z. Shows z runs.steps deeds) (sym set_is) (own.stands lanes visits callers c);
           wipes = wipes;
           inside = subst (λ z. ActsMean z (is_reached (points_of runs.steps)) (bound_acts set asks zs) (map (outcome_line book) zs)) (sym set_is)
-              (acts_mean set (at last).core.moment.view lanes visits callers c (points_of runs.steps) asks (outcomes_of bounds out) zs (fresh_idle bounds out fresh) done meant);
-          answer = e.0;
-          shown = e.1;
+              (acts_mean set (view last.pass.now) lanes visits callers c (points_of runs.steps) asks (outcomes_of h.acts.now h.out.now) zs (fresh_idle h.acts.now h.out.now fresh) done meant);
+          answer = ends.0;
+          shown = ends.1;
           entries = refl;
           after = ap (with_state before) runs.state;
         }
 
-        line : VreadMeans n flags (bound_acts set asks zs) meaning
-        line = record {
-          looks = subst NeverFall (sym (same_looks book own.deals)) (never_falls (floor (at h).core.moment.view) (looks_in own.deals) (floor (at last).core.moment.view) own.rises);
+        line : 0 < length h.acts.now → VreadMeans n flags (bound_acts set asks zs) meaning
+        line some = record {
+          looks = subst NeverFall (sym (same_looks book own.deals)) (never_fall (floor (view h.pass.now)) (looks_in own.deals) (floor (view last.pass.now)) own.rises);
           ways = match_false _ _ (tries_local n flags (bound_acts set asks zs))
-              (no_local n flags set (at last).core.moment.view asks zs (let e = asks_long bounds in omega arith) meant) by_call;
+              (no_local n flags set (view last.pass.now) asks zs (let e = asks_long h.acts.now in omega arith) meant) by_call;
         }
 
-      pub inside_did : InsideDid n flags s finish.state answer shown set (at h).core.moment (at last).core.moment asks zs
-      inside_did = record {
+      pub inside_did : 0 < length h.acts.now → InsideDid n flags s finish.state answer shown set from.core.moment to.core.moment asks zs
+      inside_did some = record {
         entries = runs.outcome.entries;
         deals = own.deals;
         trace = own.trace;
         fits = own.fits;
-        acts_fit = all_fit set (at last).core.moment.view asks zs meant;
-        stands = line;
+        acts_fit = all_fit set (view last.pass.now) asks zs meant;
+        stands = λ lanes visits callers c before set_is state_is. line lanes visits callers c before set_is state_is some;
       }

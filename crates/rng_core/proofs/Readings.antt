@@ -1,6 +1,6 @@
 -- What a read out of a caller's vgetrandom state did, out of a copy or a call.
-use Rattle.std.proofs.Common.{◌≡◌, ℕ, ◌<◌, ◌≤◌, Bool, true, false, not, Ok, List, [], ◌∷◌, length, map, refl, sym, ap, ◌∙◌, subst, arith}
-use Rattle.std.specs.Prelude.{Result, MatchBool, Option, Some, None, ⊤, ◌==◌, ◌&&◌}
+use Rattle.std.proofs.Common.{◌≡◌, ℕ, ◌≤◌, Bool, true, false, not, Ok, List, [], ◌∷◌, length, map, refl, sym, ap, ◌∙◌, subst, arith}
+use Rattle.std.specs.Prelude.{Result, MatchBool, Option, Some, None, ◌==◌, ◌&&◌}
 use Rattle.std.proofs.lemmas.Bool.{ne_eqb}
 use mathlib.Core.Logic.{dite}
 use native.Mathlib.Decide.{ℕ_discrete}
@@ -24,17 +24,15 @@ use Rattle.key_names.specs.VreadSteps.{Shows, answer_of_errno, ending_answer, en
 use Rattle.key_names.proofs.Attempts.{match_true, match_false}
 use Rattle.lane_table.specs.declared.view.View.{View}
 use Rattle.lane_table.specs.BookLists.{book_lists}
-use Rattle.lane_table.specs.Went.{Deal, looked, visited, step_of, looks_in, Sees, floor}
+use Rattle.lane_table.specs.Went.{Deal, looked, visited, step_of, looks_in, floor}
 use Rattle.vdso_state.specs.declared.outcome.VEnd.{VEnd}
-use Rattle.vdso_state.specs.Host.{Doings}
-use Rattle.vdso_state.specs.Call.{Runs, Finish, EndsAs}
+use Rattle.vdso_state.specs.Call.{EndsAs}
 use Rattle.rng_core.specs.declared.setting.Setting.{Setting}
 use Rattle.rng_core.specs.Told.{Moment, Told}
 use Rattle.rng_core.specs.Did.{Did, setting_of, errno_answer, result_answer, given}
-use Rattle.rng_core.specs.Hosted.{Stand}
 use Rattle.rng_core.specs.VreadDid.{done_of, Glanced, LocallyServed, Refused, LeftToSystem, Called, VreadLine, VreadDid, vread_meaning}
-use Rattle.rng_core.proofs.CallEnds.{EndsWell, call_ends}
-use Rattle.rng_core.proofs.Hosting.{none_left, published_more, IsCaller, hosted, hosted_set, hosted_floor, hosted_up_to, hosted_wipes}
+use Rattle.rng_core.proofs.ActRuns.{Risen, sees_risen}
+use Rattle.rng_core.proofs.Hosting.{none_left, published_more}
 
 -- Looks
 
@@ -53,28 +51,14 @@ same_looks lists [] = refl
 same_looks lists (looked g ∷ deals) = ap (λ (l : List ℕ). g ∷ l) (same_looks lists deals)
 same_looks lists (visited mark e ∷ deals) = visit_looks lists mark.lane mark.place (deeds_of lists (map step_of deals)) ∙ same_looks lists deals
 
--- numbers that never fall, from the first one on
-abbrev Rise : ℕ → List ℕ → Type 0
-Rise low [] = ⊤
-Rise low (g ∷ looks) = (low ≤ g) × Rise g looks
+pub never_fall : (low : ℕ) (looks : List ℕ) (high : ℕ) → Risen low looks high → NeverFall looks
+never_fall low [] high h = tt
+never_fall low (a ∷ []) high h = tt
+never_fall low (a ∷ b ∷ rest) high h = (h.1.0, never_fall a (b ∷ rest) high h.1)
 
-rise_lower : (low high : ℕ) (looks : List ℕ) → low ≤ high → Rise high looks → Rise low looks
-rise_lower low high [] less h = tt
-rise_lower low high (g ∷ looks) less h = (let a = h.0 in omega arith, h.1)
-
-sees_rise : (w : View) (low high : ℕ) (deals : List Deal) → Sees w low deals high → Rise low (looks_in deals)
-sees_rise w low high [] h = tt
-sees_rise w low high (looked g ∷ deals) h = (h.0, sees_rise w g high deals h.1)
-sees_rise w low high (visited mark e ∷ deals) h = rise_lower low h.0 (looks_in deals) h.1 (sees_rise w h.0 high deals h.3)
-
-never_fall : (low : ℕ) (looks : List ℕ) → Rise low looks → NeverFall looks
-never_fall low [] h = tt
-never_fall low (a ∷ []) h = tt
-never_fall low (a ∷ b ∷ rest) h = (h.1.0, never_fall a (b ∷ rest) h.1)
-
-told_rise : (lists : Lists) (set : Setting) (l m : Moment) (deals : List Deal) → Told set l m deals → Rise (floor l.view) (looks_of (deeds_of lists (map step_of deals)))
+told_rise : (lists : Lists) (set : Setting) (l m : Moment) (deals : List Deal) → Told set l m deals → Risen (floor l.view) (looks_of (deeds_of lists (map step_of deals))) (floor m.view)
 told_rise lists set l m deals told =
-    subst (Rise (floor l.view)) (sym (same_looks lists deals)) (sees_rise m.view (floor l.view) (floor m.view) deals told.went.sees)
+    subst (λ (looks : List ℕ). Risen (floor l.view) looks (floor m.view)) (sym (same_looks lists deals)) (sees_risen m.view (floor l.view) (floor m.view) deals told.went.sees)
 
 -- A batch that did not serve does not serve later either
 
@@ -109,36 +93,6 @@ ending_is n no_bytes result buf long none e = let empty = none_left buf (long �
 ending_is n (by_batch bytes) result buf long none e = (ap answered e.0, (λ i. showing (e.0 i) (e.1 i)))
 ending_is n (by_system (read bytes visit)) result buf long none e = (ap answered e.0, (λ i. showing (e.0 i) (e.1 i)))
 ending_is n (by_system (failed errno)) result buf long none e = (ap answered e ∙ same_errno errno, ap (λ (r : Result VEnd Errno). showing r buf) e)
-
--- a call on a host that is the caller itself, h being where the call began
-module _ {H : Type 0} {host : Doings H} {h last : H} {finish : Finish} (n flags : ℕ) (s : VgetrandomState) (runs : Runs host (IsCall n flags s) h last finish)
-    (at : H → Stand) (is : IsCaller host at) where
-  pub same_set : (at last).set ≡ (at h).set
-  same_set = hosted_set host at is runs.steps h last runs.does
-
-  module _ (low : s.generation ≤ published_by (floor (at h).moment.view)) where
-    ended : EndsWell (published_by (floor (at last).moment.view)) n runs.outcome
-    ended =
-        let more = published_more (floor (at h).moment.view) (floor (at last).moment.view) (hosted_floor host at is runs.steps h last runs.does) in
-        call_ends (published_by (floor (at last).moment.view)) n flags s runs.steps runs.outcome (omega arith)
-        (hosted_up_to host at is runs.steps h last runs.does) runs.relates
-
-    pub still_current : finish.state.generation ≤ published_by (floor (at last).moment.view)
-    still_current = let a = ended.low in let e = ap (λ (z : VgetrandomState). z.generation) runs.state in omega arith
-
-    pub called : 1 < length (at h).moment.view.lanes → length finish.buf ≡ n →
-        Called n flags s finish.state (result_answer (done_of finish.result)) (bytes_or_none (given (done_of finish.result) finish.buf))
-        (at h).set (at h).moment (at last).moment
-    called two long = let e = ending_is n runs.outcome.ending finish.result finish.buf long ended.none runs.ends in record {
-      steps = runs.steps;
-      outcome = runs.outcome;
-      is_call = runs.relates;
-      state = runs.state;
-      answers = e.0;
-      shows = e.1;
-      wipes = hosted_wipes host at is runs.steps h last runs.does;
-      did = hosted host at is runs.steps h last two runs.does;
-    }
 
 -- Reads
 
@@ -186,7 +140,7 @@ good_flags x false e = refl
 -- by a call
 module _ (n flags : ℕ) (s t : VgetrandomState) (answer : Answer) (shown : Shown) (set : Setting) (l m o : Moment) (low : s.generation ≤ published_by (floor l.view))
     (left : tries_local n flags [] ≡ true → Refused n s l.view m.view) (k : Called n flags s t answer shown set m o) where
-  module _ (deeds : List Deed) (shows : Shows (setting_of set) k.steps deeds) (rise : Rise (floor m.view) (looks_of deeds)) (before : CallerState) (set_is : before.setting ≡ setting_of set) (state_is : current_state before ≡ s) where
+  module _ (deeds : List Deed) (shows : Shows (setting_of set) k.steps deeds) (rise : Risen (floor m.view) (looks_of deeds) (floor o.view)) (before : CallerState) (set_is : before.setting ≡ setting_of set) (state_is : current_state before ≡ s) where
     abbrev meant : CallMeaning
     meant = vread_meaning deeds answer shown k.outcome.entries before t
 
@@ -208,7 +162,7 @@ module _ (n flags : ℕ) (s t : VgetrandomState) (answer : Answer) (shown : Show
     behind_look : (refused : Refused n s l.view m.view) → FromLook n flags s k.steps k.outcome → Looked (LocalOrCall n flags [] meant) deeds
     behind_look refused from =
         let shown = subst (λ (z : List HostStep). Shows (setting_of set) z deeds) from.steps_are shows in
-        let rises = subst (λ (z : List Deed). Rise (floor m.view) (looks_of z)) shown.2 rise in
+        let rises = subst (λ (z : List Deed). Risen (floor m.view) (looks_of z) (floor o.view)) shown.2 rise in
         let a = published_more (floor l.view) refused.found refused.above in
         let b = published_more refused.found shown.0 (let x = refused.known in let y = rises.0 in omega arith) in (
           shown.0,
@@ -223,7 +177,7 @@ module _ (n flags : ℕ) (s t : VgetrandomState) (answer : Answer) (shown : Show
     ways true e = behind_look (left e) (subst (λ (b : Bool). MatchBool b (BySystem n flags s k.steps k.outcome) (FromLook n flags s k.steps k.outcome)) (good_flags (not (n == 0)) (is_bad flags) e) k.is_call)
 
     line : VreadMeans n flags [] meant
-    line = record { looks = never_fall (floor m.view) (looks_of deeds) rise; ways = ways (tries_local n flags []) refl }
+    line = record { looks = never_fall (floor m.view) (looks_of deeds) (floor o.view) rise; ways = ways (tries_local n flags []) refl }
 
   called_did : Did (VreadLine (setting_of set) n flags s t answer shown k.outcome.entries) set m o
   called_did = record {

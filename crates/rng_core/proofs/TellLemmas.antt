@@ -1,5 +1,6 @@
 -- What is told, call after call.
 use Rattle.std.proofs.Common.{◌≡◌, ℕ, List, [], ◌∷◌, ◌++◌, map, take, length, ◌+◌, ◌<◌, ◌≤◌, ◌^◌, max, sym, refl, ap, ◌∙◌, subst, arith, append_assoc, append-nil, length-append}
+use Rattle.std.proofs.lemmas.List.{map-append}
 use Rattle.std.proofs.Math.Seq.{take-append_seam}
 use Rattle.std.specs.List.{AllByRecursion}
 use lib.ListN.{get_elem?}
@@ -25,28 +26,27 @@ use Rattle.lane_table.proofs.WentLemmas.{went_then, went_put}
 use Rattle.rng_core.specs.declared.setting.Setting.{Setting}
 use Rattle.rng_core.specs.Told.{Moment, Told, Visited}
 
-pub map_append : (xs ys : List Deal) → map step_of (xs ++ ys) ≡ map step_of xs ++ map step_of ys
-map_append [] ys = refl
-map_append (x ∷ xs) ys = ap (λ (l : List Step). step_of x ∷ l) (map_append xs ys)
-
 length_map : (xs : List Deal) → length (map step_of xs) ≡ length xs
 length_map [] = refl
 length_map (x ∷ xs) = let e = length_map xs in omega arith
 
 -- one after another
+pub trace_then : (l m n : Moment) (xs ys : List Deal) → m.steps ≡ l.steps ++ map step_of xs → n.steps ≡ m.steps ++ map step_of ys → n.steps ≡ l.steps ++ map step_of (xs ++ ys)
+trace_then l m n xs ys a b = b ∙ ap (λ (s : List Step). s ++ map step_of ys) a ∙ append_assoc l.steps (map step_of xs) (map step_of ys) ∙ ap (λ (s : List Step). l.steps ++ s) (sym (map-append step_of xs ys))
+
+pub fits_then : (xs ys : List Deal) → AllByRecursion StepFits (map step_of xs) → AllByRecursion StepFits (map step_of ys) → AllByRecursion StepFits (map step_of (xs ++ ys))
+fits_then xs ys a b = subst (AllByRecursion StepFits) (sym (map-append step_of xs ys)) (each_append StepFits (map step_of xs) (map step_of ys) a b)
+
 pub told_then : (set : Setting) (l m n : Moment) (xs ys : List Deal) → Told set l m xs → Told set m n ys → Told set l n (xs ++ ys)
 told_then set l m n xs ys a b = record {
-  trace = b.trace ∙ ap (λ (s : List Step). s ++ map step_of ys) a.trace ∙ append_assoc l.steps (map step_of xs) (map step_of ys) ∙ ap (λ (s : List Step). l.steps ++ s) (sym (map_append xs ys));
+  trace = trace_then l m n xs ys a.trace b.trace;
   went = went_then set.caller set.event (length l.steps) (length m.steps) l.view m.view n.view xs ys (ap length a.trace ∙ (let e = length_map xs in omega (arith, length-append l.steps (map step_of xs)))) a.went b.went;
-  fits = subst (AllByRecursion StepFits) (sym (map_append xs ys)) (each_append StepFits (map step_of xs) (map step_of ys) a.fits b.fits);
+  fits = fits_then xs ys a.fits b.fits;
 }
 
 -- no step
 pub told_idly : (set : Setting) (m n : Moment) → n.steps ≡ m.steps → Went set.caller set.event (length m.steps) m.view n.view [] → Told set m n []
 told_idly set m n same went = record { trace = same ∙ sym (append-nil m.steps); went = went; fits = tt }
-
-pub told_is : (set : Setting) (m n : Moment) (xs ys : List Deal) → xs ≡ ys → Told set m n xs → Told set m n ys
-told_is set m n xs ys e k = subst (Told set m n) e k
 
 lane_fits : (lane : LaneId) → index_of lane < 2 ^ 32 → LaneFits lane
 lane_fits PoolLane low = tt

@@ -64,8 +64,3 @@ pub record SystemCall (set : Told) (n flags : ℕ) (answer : SystemAnswer) (deed
 pub record Answered (s : Stand) (n flags : ℕ) (answer : SystemAnswer) (t : Stand) : Type 0 where
   pub same : t.set ≡ s.set
   pub did : Did (SystemCall (setting_of s.set) n flags answer) s.set s.moment t.moment
-
--- it did nothing at a point
-pub record Passed (s : Stand) (wiped : Bool) (t : Stand) : Type 0 where
-  pub same : t ≡ s
-  pub kept : wiped ≡ false

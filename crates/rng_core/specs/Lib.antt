@@ -5,6 +5,7 @@ pub mod Forks
 pub mod InsideDid
 pub mod Integers
 pub mod Hosted
+pub mod Hosting
 pub mod Reading
 pub mod SampleDeeds
 pub mod Told

@@ -52,17 +52,10 @@ impl Bound {
     pub fn wanted(&self) -> usize
         ensures { result ≡ wants self.now.act }
     {
-        wanted(self.act)
-    }
-}
-
-/// How many bytes an act asks for.
-pub(crate) fn wanted(act: InsideAct) -> usize
-    ensures { result ≡ wants act }
-{
-    match act {
-        InsideAct::Vread(len) => len as usize,
-        InsideAct::Wipe | InsideAct::Reseed => 0,
+        match self.act {
+            InsideAct::Vread(len) => len as usize,
+            InsideAct::Wipe | InsideAct::Reseed => 0,
+        }
     }
 }
 
@@ -187,7 +180,7 @@ pub(crate) fn run_acts<R: Wait>(
 ) -> bool
     requires has { Has lanes.now set.now.caller [] pass.old }
     requires cpu { set.now.cpu < lanes.now.cpus }
-    requires moment { set.now.now < 2 ^ 40 }
+    requires moment { 0 < length acts.old → set.now.now < 2 ^ 40 }
     requires fits { length out.old ≡ all_wanted (asks_of acts.old) }
     requires ready { all_ready acts.old ≡ true }
     ensures has { Has lanes.now set.entry.now.caller [] pass.new }
@@ -198,7 +191,7 @@ pub(crate) fn run_acts<R: Wait>(
         (outcomes_of acts.old out.old) (outcomes_of acts.new out.new) }
 {
     if let Some((first, rest)) = acts.split_first_mut() {
-        let (place, places) = out.split_at_mut(wanted(first.act));
+        let (place, places) = out.split_at_mut(first.wanted());
         let wipes = is_wiped_by(first, point);
         run_at(rt, lanes, pass, set, point, first, place);
         let others = run_acts(rt, lanes, pass, set, point, rest, places);

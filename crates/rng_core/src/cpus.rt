@@ -8,8 +8,8 @@ ghost use Rattle.rng_core.specs.Told.{moment};
 ghost use Rattle.rng_core.specs.Did.{Did, Fulfils, setting_of};
 
 use crate::cpu_values;
-use crate::desk::{enter, leave};
 use crate::setting::Setting;
+use crate::visits::{enter, leave};
 use key_names::{CpuEntry, LaneId, Trace};
 use lane_table::{Lanes, Pass};
 use std::sync::Wait;

@@ -8,9 +8,9 @@ ghost use Rattle.rng_core.specs.Told.{moment};
 ghost use Rattle.rng_core.specs.Did.{Did, Fulfils, setting_of};
 ghost use Rattle.rng_core.specs.Forks.{Forked};
 
-use crate::desk::{enter, leave};
 use crate::lane_values;
 use crate::setting::Setting;
+use crate::visits::{enter, leave};
 use key_names::{BaseEntry, LaneId, Trace};
 use lane_table::{Lanes, Pass};
 use std::sync::Wait;

@@ -6,7 +6,7 @@ ghost use Rattle.key_names.specs.SeenLine.{bytes_or_none};
 ghost use Rattle.lane_table.specs.Calls.{view};
 ghost use Rattle.lane_table.specs.Hands.{Has};
 ghost use Rattle.lane_table.specs.Went.{floor};
-ghost use Rattle.rng_core.specs.declared.act_host.Attempt.TheVariants.{Before};
+ghost use Rattle.rng_core.specs.declared.attempt.Attempt.TheVariants.{Before};
 ghost use Rattle.rng_core.specs.Told.{moment};
 ghost use Rattle.rng_core.specs.Did.{result_answer, given};
 ghost use Rattle.rng_core.specs.Hosted.{stand};
@@ -14,49 +14,15 @@ ghost use Rattle.rng_core.specs.Acting.{act_stand, InsideRan};
 ghost use Rattle.rng_core.specs.Acts.{asks_of, all_wanted, outcomes_of};
 ghost use Rattle.rng_core.specs.InsideDid.{IsFresh, InsideDid};
 
-use crate::act_host::{ActHost, Attempt};
 use crate::acts::Bound;
+use crate::attempt::Attempt;
+use crate::host_call::call_host;
+use crate::lane_host::LaneHost;
 use crate::setting::Setting;
-use crate::vreads::done;
 use key_names::{Errno, Trace};
 use lane_table::{Lanes, Pass};
 use std::sync::Wait;
-use vdso_state::{VState, vgetrandom};
-
-// A call of vgetrandom on the host.
-fn call_host<R: Wait>(
-    host: &mut ActHost<'_, R>,
-    st: &mut VState,
-    buf: &mut [u8],
-    flags: u32,
-) -> Result<(), Errno>
-    requires looks { 5 ≤ host.old.looks }
-    requires calls { 3 ≤ host.old.calls }
-    requires current { st.old.generation ≤ published_by (floor (view host.old.pass.now)) }
-    requires short { length buf.old ≤ 2 ^ 20 }
-    requires before { host.old.attempt ≡ Before }
-    requires some { 0 < length host.old.acts.now }
-    requires fresh { AllByRecursion IsFresh host.old.acts.now }
-    ensures pass { host.new.pass.ghost_name ≡ host.old.pass.ghost_name }
-    ensures trace { host.new.trace.ghost_name ≡ host.old.trace.ghost_name }
-    ensures acts { host.new.acts.ghost_name ≡ host.old.acts.ghost_name }
-    ensures out { host.new.out.ghost_name ≡ host.old.out.ghost_name }
-    ensures has { Has host.old.lanes.now host.old.set.now.caller [] host.new.pass.now }
-    ensures current { st.new.generation ≤ published_by (floor (view host.new.pass.now)) }
-    ensures asks { asks_of host.new.acts.now ≡ asks_of host.old.acts.now }
-    ensures did { InsideDid (length buf.old) flags st.old st.new
-        (result_answer result) (bytes_or_none (given result buf.new)) host.old.set.now
-        (moment host.old.pass.now host.old.trace.now) (moment host.new.pass.now host.new.trace.now)
-        (asks_of host.old.acts.now) (outcomes_of host.new.acts.now host.new.out.now) }
-    ensures ran { InsideRan (length buf.old) flags st.old st.new
-        (act_stand (stand host.old.set.now host.old.pass.now host.old.trace.now) Before (asks_of host.old.acts.now)
-        (outcomes_of host.old.acts.now host.old.out.now))
-        (λ last. act_stand (stand host.old.set.now host.new.pass.now host.new.trace.now) last
-        (asks_of host.new.acts.now) (outcomes_of host.new.acts.now host.new.out.now)) }
-{
-    let ended = vgetrandom(host, st, buf, flags);
-    done(ended)
-}
+use vdso_state::VState;
 
 /// Random bytes for a user as [`vread`](crate::vread) gives them, with at least one act inside, so that no copy is
 /// tried before the call (`vgetrandom`).
@@ -103,7 +69,7 @@ pub fn vread_inside<R: Wait>(
         (λ last. act_stand (stand set.entry.now pass.new trace.new) last (asks_of acts.new)
         (outcomes_of acts.new out.new)) }
 {
-    let mut host = ActHost {
+    let mut host = LaneHost {
         rt,
         lanes,
         pass,

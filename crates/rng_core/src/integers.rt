@@ -15,10 +15,10 @@ ghost use Rattle.rng_core.specs.Did.{Did, Serving, Served, Fulfils, setting_of};
 ghost use Rattle.rng_core.specs.Integers.{IsWidth, BatchedForm, int_event};
 
 use crate::cpu_values;
-use crate::desk::{enter, leave, look, look_holding};
-use crate::pairs::{HandedOver, refill};
+use crate::keys::{HandedOver, refill};
 use crate::reads::read_behind;
 use crate::setting::Setting;
+use crate::visits::{enter, leave, look, look_holding};
 use key_names::{CpuEntry, LaneId, Taken, Trace};
 use lane_table::{Held, Lanes, Pass};
 use std::sync::Wait;

@@ -11,9 +11,9 @@ ghost use Rattle.rng_core.specs.Did.{DidIn, Fulfils, setting_of};
 ghost use Rattle.rng_core.specs.SampleDeeds.{DumpStands, Sampled};
 
 use crate::cpu_values;
-use crate::desk::{enter, leave};
 use crate::samples::add;
 use crate::setting::Setting;
+use crate::visits::{enter, leave};
 use key_names::{CpuEntry, LaneId, Trace};
 use lane_table::{Lanes, Pass};
 use std::sync::Wait;

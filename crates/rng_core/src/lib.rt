@@ -1,29 +1,30 @@
 //! The calls of the core: reads, samples, reseeds and what else a caller asks of the lanes.
 #![tactic(auto)]
 
-mod act_host;
 mod acts;
+mod attempt;
 mod batches;
 mod cpu_values;
 mod cpus;
-mod desk;
 mod forks;
+mod host_call;
 mod inside;
 mod integers;
 mod interrupts;
+mod keys;
 mod lane_host;
 mod lane_values;
-mod pairs;
 mod reads;
 mod reseeds;
 mod running;
 mod samples;
 mod setting;
 mod system_call;
+mod visits;
 mod vreads;
 
-pub use act_host::Attempt;
 pub use acts::Bound;
+pub use attempt::Attempt;
 pub use cpus::{online, prepare};
 pub use forks::fork;
 pub use inside::vread_inside;

@@ -17,9 +17,9 @@ ghost use Rattle.rng_core.specs.Reading.{taken_count};
 ghost use Rattle.rng_core.specs.Told.{moment};
 ghost use Rattle.rng_core.specs.Did.{Did, Serving, Served, Fulfils, setting_of};
 
-use crate::desk::{enter, give_back, leave, look, look_holding};
-use crate::pairs::{HandedOver, extract, refill};
+use crate::keys::{HandedOver, extract, refill};
 use crate::setting::Setting;
+use crate::visits::{enter, give_back, leave, look, look_holding};
 use crate::{cpu_values, lane_values};
 use base_gen::Phase;
 use key_names::{BaseEntry, CpuEntry, LaneId, Taken, Trace};

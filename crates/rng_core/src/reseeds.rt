@@ -14,10 +14,10 @@ ghost use Rattle.input_pool.specs.PoolStands.{crossing_of};
 ghost use Rattle.rng_core.specs.Told.{moment};
 ghost use Rattle.rng_core.specs.Did.{Did, Fulfils, setting_of, result_answer, tick_result};
 
-use crate::desk::{enter, leave, look, raise};
+use crate::keys::extract;
 use crate::lane_values;
-use crate::pairs::extract;
 use crate::setting::Setting;
+use crate::visits::{enter, leave, look, raise};
 use base_gen::Phase;
 use input_pool::Crossing;
 use key_names::{BaseEntry, Errno, LaneId, Trace};

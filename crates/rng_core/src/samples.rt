@@ -8,10 +8,10 @@ ghost use Rattle.lane_table.specs.Hands.{Has};
 ghost use Rattle.rng_core.specs.Told.{moment};
 ghost use Rattle.rng_core.specs.Did.{Did, Fulfils, setting_of};
 
-use crate::desk::{enter, leave};
 use crate::lane_values;
 use crate::reseeds::{cross, reseed};
 use crate::setting::Setting;
+use crate::visits::{enter, leave};
 use key_names::{LaneId, PoolNote, Trace};
 use lane_table::{Lanes, Pass};
 use std::sync::Wait;

@@ -13,10 +13,10 @@ ghost use Rattle.key_names.specs.SeenLine.{bytes_or_none};
 ghost use Rattle.rng_core.specs.Did.{Did, Serving, Fulfils, setting_of, result_answer, given};
 ghost use Rattle.rng_core.specs.Waits.{Waits, waiting};
 
-use crate::desk::{enter, give_back, leave, look};
 use crate::lane_values;
 use crate::reads::{read_behind, read_cpu};
 use crate::setting::Setting;
+use crate::visits::{enter, give_back, leave, look};
 use key_names::flags::{GRND_INSECURE, GRND_NONBLOCK, are_bad};
 use key_names::{BaseEntry, Errno, LaneId, Taken, Trace};
 use lane_table::{Held, Lanes, Pass};

@@ -7,15 +7,17 @@ ghost use Rattle.lane_table.specs.Hands.{Has};
 ghost use Rattle.lane_table.specs.Went.{floor};
 ghost use Rattle.rng_core.specs.Told.{moment};
 ghost use Rattle.rng_core.specs.Did.{result_answer, given};
-ghost use Rattle.rng_core.specs.VreadDid.{done_of, LocalRead, Called, VreadDid};
+ghost use Rattle.rng_core.specs.VreadDid.{LocalRead, VreadDid};
 
+use crate::attempt::Attempt;
+use crate::host_call::call_host;
 use crate::lane_host::{LaneHost, publish};
 use crate::setting::Setting;
 use key_names::flags::are_bad;
 use key_names::{Errno, Step, Trace};
 use lane_table::{Lanes, Pass};
 use std::sync::Wait;
-use vdso_state::{Local, VEnd, VState, local, vgetrandom};
+use vdso_state::{Local, VState, local};
 
 /// Copies bytes of the batch over all of `buf` where the state's key is of the published generation and the batch has
 /// as many left. It waits for nobody. A look whose value is not used is no step: the trace then stays as it was.
@@ -53,73 +55,6 @@ pub fn vread_local(
     }
 }
 
-// The result of a call, whichever way it ended.
-pub(crate) fn done(ended: Result<VEnd, Errno>) -> Result<(), Errno>
-    ensures { result ≡ done_of ended }
-{
-    match ended {
-        Ok(_) => Ok(()),
-        Err(errno) => Err(errno),
-    }
-}
-
-// A call of vgetrandom on the host.
-fn call_host<R: Wait>(
-    host: &mut LaneHost<'_, R>,
-    st: &mut VState,
-    buf: &mut [u8],
-    flags: u32,
-) -> Result<(), Errno>
-    requires looks { 5 ≤ host.old.looks }
-    requires calls { 3 ≤ host.old.calls }
-    requires current { st.old.generation ≤ published_by (floor (view host.old.pass.now)) }
-    requires short { length buf.old ≤ 2 ^ 20 }
-    ensures pass { host.new.pass.ghost_name ≡ host.old.pass.ghost_name }
-    ensures trace { host.new.trace.ghost_name ≡ host.old.trace.ghost_name }
-    ensures has { Has host.old.lanes.now host.old.set.now.caller [] host.new.pass.now }
-    ensures current { st.new.generation ≤ published_by (floor (view host.new.pass.now)) }
-    ensures called { Called (length buf.old) flags st.old st.new
-        (result_answer result) (bytes_or_none (given result buf.new)) host.old.set.now
-        (moment host.old.pass.now host.old.trace.now) (moment host.new.pass.now host.new.trace.now) }
-{
-    let ended = vgetrandom(host, st, buf, flags);
-    done(ended)
-}
-
-// A call of vgetrandom over the lanes.
-fn call<R: Wait>(
-    rt: &R,
-    lanes: &Lanes,
-    pass: &mut Pass,
-    trace: &mut Trace,
-    set: &Setting,
-    st: &mut VState,
-    buf: &mut [u8],
-    flags: u32,
-) -> Result<(), Errno>
-    requires has { Has lanes.now set.now.caller [] pass.old }
-    requires cpu { set.now.cpu < lanes.now.cpus }
-    requires current { st.old.generation ≤ published_by (floor (view pass.old)) }
-    requires short { length buf.old ≤ 2 ^ 20 }
-    requires room { length trace.old ≡ 0 }
-    ensures has { Has lanes.now set.entry.now.caller [] pass.new }
-    ensures current { st.new.generation ≤ published_by (floor (view pass.new)) }
-    ensures called { Called (length buf.old) flags st.old st.new
-        (result_answer result) (bytes_or_none (given result buf.new)) set.entry.now
-        (moment pass.old trace.old) (moment pass.new trace.new) }
-{
-    let mut host = LaneHost {
-        rt,
-        lanes,
-        pass,
-        trace,
-        set,
-        looks: 5,
-        calls: 3,
-    };
-    call_host(&mut host, st, buf, flags)
-}
-
 /// Random bytes for a user, out of the caller's vgetrandom state where that can serve them and by the system call
 /// otherwise (`vgetrandom`). No act is inside. The state's generation has to be one that the pass has seen published,
 /// and the trace empty.
@@ -150,6 +85,20 @@ pub fn vread<R: Wait>(
 {
     match vread_local(lanes, pass, trace, set, st, buf, flags) {
         Local::Served => Ok(()),
-        Local::NeedsSystem => call(rt, lanes, pass, trace, set, st, buf, flags),
+        Local::NeedsSystem => {
+            let mut host = LaneHost {
+                rt,
+                lanes,
+                pass,
+                trace,
+                set,
+                acts: &mut [],
+                out: &mut [],
+                attempt: Attempt::Before,
+                looks: 5,
+                calls: 3,
+            };
+            call_host(&mut host, st, buf, flags)
+        }
     }
 }

@@ -2,7 +2,7 @@ use Rattle.std.proofs.Common.{arith, refl, []}
 use Rattle.lane_table.proofs.Floors.{agrees_lawful}
 use Rattle.lane_table.proofs.WentLemmas.{went_tried, went_taken}
 use Rattle.rng_core.proofs.TellLemmas.{told_then, told_idly}
-use Rattle.rng_core.proofs.desk.enter.Goals as goal
+use Rattle.rng_core.proofs.visits.enter.Goals as goal
 
 pub returns-in-Ok-clause-agrees : goal.returns-in-Ok-clause-agrees
 returns-in-Ok-clause-agrees g c = λ _. agrees_lawful _ _ (c.in-Ok.ensures.taken.consistent.lawful 1 (let a = c.in-Ok.ensures.pass.pass.sized in omega arith))

@@ -1,7 +1,7 @@
 use Rattle.std.proofs.Common.{length, refl}
 use Rattle.rng_core.proofs.Doing.{did_floor}
 use Rattle.rng_core.proofs.Hosting.{published_more, answer_by, is_answer, visit_of, system_called}
-use Rattle.rng_core.proofs.act_host.ActHostVHost.getrandom.Goals as goal
+use Rattle.rng_core.proofs.host_call.LaneHostVHost.getrandom.Goals as goal
 
 pub returns-clause-answers : goal.returns-clause-answers
 returns-clause-answers g c = let k = c.getrandom.ensures.did in (
@@ -13,11 +13,7 @@ returns-clause-answers g c = let k = c.getrandom.ensures.did in (
       begins = c.getrandom.ensures.begins;
       acts = record { attempt = refl; asks = refl; outcomes = refl };
     },
-    refl,
-    refl,
-    refl,
-    refl,
-    refl,
+    record { pass = refl; trace = refl; acts = refl; out = refl; lanes = refl },
   ),
 )
 

@@ -1,4 +1,4 @@
-//! Two lanes in the hands: the pool under the base for a root, and the base under a CPU for its key.
+//! Keys out of the lane behind one that is held: a root for the base, and a CPU's key.
 ghost use Rattle.std.specs.Prelude.{◌≡◌, ◌≢◌, ◌<◌, ◌≤◌, ◌+◌, ◌^◌, ◌∷◌, [], None, Some, length};
 ghost use Rattle.key_names.specs.declared.entries.PoolEntry.TheVariants.{Extract};
 ghost use Rattle.key_names.specs.declared.entries.BaseEntry.TheVariants.{Refill};
@@ -10,9 +10,9 @@ ghost use Rattle.lane_table.specs.Hands.{Has, hand, model};
 ghost use Rattle.lane_table.specs.Went.{floor};
 ghost use Rattle.rng_core.specs.Told.{Visited, moment};
 
-use crate::desk::{enter_under, leave_naming};
 use crate::lane_values;
 use crate::setting::Setting;
+use crate::visits::{enter_under, leave_naming};
 use key_names::{BaseEntry, LaneId, PoolNote, Trace};
 use lane_table::{Held, Lanes, Pass};
 use std::sync::Wait;

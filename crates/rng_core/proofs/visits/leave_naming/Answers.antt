@@ -4,7 +4,7 @@ use Rattle.lane_table.specs.Meaning.{behind_of, raise_of, replay}
 use Rattle.lane_table.specs.Hands.{Has, hand}
 use Rattle.lane_table.proofs.HandLemmas.{has_put_naming}
 use Rattle.rng_core.proofs.TellLemmas.{mark_fits, visited_at}
-use Rattle.rng_core.proofs.desk.leave_naming.Goals as goal
+use Rattle.rng_core.proofs.visits.leave_naming.Goals as goal
 
 pub returns-clause-visited : goal.returns-clause-visited
 returns-clause-visited g c = let h = c.requires.has.held.0 in

@@ -1,4 +1,4 @@
-//! A pass at its lanes: at most two are in its hands, the last one taken in front.
+//! The visits of a pass at its lanes: at most two are in its hands, the last one taken in front.
 ghost use Rattle.std.specs.Prelude.{◌≡◌, ◌≢◌, ◌<◌, ◌≤◌, ◌+◌, ◌^◌, ◌∷◌, [], None, Some, length};
 ghost use Rattle.lane_table.specs.Meaning.{behind_of, ahead_of, raise_of, made_of, gave_of, got_of, IsOf, Fits, ValueStands, parent};
 ghost use Rattle.lane_table.specs.WorldRule.{known_of, Consistent};

@@ -1,6 +1,6 @@
 use Rattle.std.proofs.Common.{arith, ◌∙◌}
 use Rattle.rng_core.proofs.TellLemmas.{mark_fits, visited_at, visited_place}
-use Rattle.rng_core.proofs.desk.leave.Goals as goal
+use Rattle.rng_core.proofs.visits.leave.Goals as goal
 
 pub returns-clause-visited : goal.returns-clause-visited
 returns-clause-visited g c = let h = c.requires.has.held.0 in

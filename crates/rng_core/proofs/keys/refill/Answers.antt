@@ -4,7 +4,7 @@ use Rattle.lane_table.specs.declared.view.LaneEntry.TheVariants.{Base}
 use Rattle.lane_table.specs.Meaning.{nothing}
 use Rattle.lane_table.proofs.Lent.{lent}
 use Rattle.rng_core.proofs.TellLemmas.{visited_after, visited_is}
-use Rattle.rng_core.proofs.pairs.refill.Goals as goal
+use Rattle.rng_core.proofs.keys.refill.Goals as goal
 
 pub leave_naming-place-requires-clause-makes : goal.leave_naming-place-requires-clause-makes
 leave_naming-place-requires-clause-makes g c = c.hand_over-key.ensures.made _ nothing c.args.set.now.cpu c.place.result (lent _ _ _ _ c.state_mut.ensures.value c.enter_under-base.ensures.value)

@@ -2,7 +2,7 @@ use Rattle.std.proofs.Common.{ap, sym, ◌∙◌, arith}
 use Rattle.rng_core.specs.Acts.{all_wanted}
 use Rattle.rng_core.proofs.ActRuns.{acts_onward}
 use Rattle.rng_core.proofs.Hosting.{published_more}
-use Rattle.rng_core.proofs.act_host.ActHostVHost.at.Goals as goal
+use Rattle.rng_core.proofs.host_call.LaneHostVHost.at.Goals as goal
 
 pub invariant_of-self-clause-room : goal.invariant_of-self-clause-room
 invariant_of-self-clause-room g c =
