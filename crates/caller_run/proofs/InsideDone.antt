@@ -19,11 +19,11 @@ use Rattle.rng_core.specs.declared.attempt.Attempt.TheVariants.{Before}
 use Rattle.rng_core.specs.declared.setting.Setting.{Setting}
 use Rattle.rng_core.specs.Did.{setting_of}
 use Rattle.rng_core.specs.Acts.{Ask, ActOutcome}
-use Rattle.rng_core.specs.Acting.{ActStand, act_stand, acting, InsideRan}
+use Rattle.rng_core.specs.Acting.{act_stand, InsideRan}
 use Rattle.rng_core.specs.InsideDid.{bound_acts, inside_meaning, InsideDid}
 use Rattle.rng_core.specs.SampleDeeds.{SamplesStand, fast_in}
 use Rattle.rng_core.proofs.ActRuns.{AllMeant}
-use Rattle.rng_core.proofs.Acting.{IsActor, acted_meant}
+use Rattle.rng_core.proofs.Acting.{acted_meant}
 use Rattle.caller_run.specs.Done.{CallDone}
 use Rattle.caller_run.specs.Items.{line_items, vread_items}
 use Rattle.caller_run.proofs.ActDoings.{IsUndone, all_untouched}
@@ -31,14 +31,6 @@ use Rattle.caller_run.proofs.ActsMeant.{undone_meant, points_fit, each_act, act_
 use Rattle.caller_run.proofs.InsideCourse.{inside_part}
 use Rattle.caller_run.proofs.PartItems.{Part}
 use Rattle.caller_run.proofs.VreadDone.{vread_quiet}
-
--- a caller at such a stand is its own host
-is_itself : IsActor acting (λ (h : ActStand). h)
-is_itself = record {
-  published = λ h g next does. does;
-  answered = λ h n flags answer next does. does;
-  passed = λ h point wiped next does. does;
-}
 
 -- the read went from v to w, with these steps in its line, and with acts of which none was done before it
 module _ (set : Setting) (v w : View) (s : CallerState) (n flags : ℕ) (t : VgetrandomState) (answer : Answer) (shown : Shown)
@@ -55,7 +47,7 @@ module _ (set : Setting) (v w : View) (s : CallerState) (n flags : ℕ) (t : Vge
   acts = bound_acts set asks zs
 
   meant : AllMeant set w asks zs
-  meant = acted_meant acting (λ (h : ActStand). h) is_itself ran.steps set asks
+  meant = acted_meant ran.steps set asks
       (act_stand (record { set = set; moment = record { view = v; steps = [] } }) Before asks xs)
       (act_stand (record { set = set; moment = record { view = w; steps = steps } }) ran.last asks zs) refl refl ran.does
       (undone_meant set v asks xs fresh long)
