@@ -1,5 +1,5 @@
 -- What the run of a script's only caller is in the words of the program's contract.
-use Rattle.std.proofs.Common.{◌≡◌, ℕ, ◌<◌, ◌≤◌, Bool, true, false, List, [], ◌∷◌, Some, length, sym, ap, subst, arith}
+use Rattle.std.proofs.Common.{◌≡◌, ℕ, suc, ◌+◌, ◌≤◌, refl, Bool, true, false, List, [], ◌∷◌, Some, length, sym, ap, subst, arith}
 use Rattle.std.specs.Prelude.{slice_get, nat_lt, if◌then◌else◌}
 use Rattle.std.specs.List.{AllByRecursion}
 use Rattle.std.proofs.lemmas.List.Sums.{sum_by-cons}
@@ -15,11 +15,14 @@ use Rattle.caller_run.specs.Laws.{one_caller, RanAlone, LawfulRun}
 use Rattle.caller_run.proofs.Whole.{lawful_run}
 use Rattle.rng_tool.specs.Outcome.{IsRunOf}
 
--- a caller has at least its last line
-pub has_lines : (n : ℕ) (events : List Event) (lines : List SeenLine) → LinesFit 0 n events lines → 0 < length lines
-has_lines n [] [] fit = absurd fit
-has_lines n (event ∷ events) [] fit = absurd fit
-has_lines n events (line ∷ lines) fit = omega arith
+-- a caller has a line for each event, and its last one
+pub line_count : (n : ℕ) (events : List Event) (lines : List SeenLine) → LinesFit 0 n events lines
+    → length lines ≡ length events + 1
+line_count n [] [] fit = absurd fit
+line_count n [] (line ∷ []) fit = refl
+line_count n [] (line ∷ next ∷ lines) fit = absurd fit
+line_count n (event ∷ events) [] fit = absurd fit
+line_count n (event ∷ events) (line ∷ lines) fit = omega (arith, line_count (suc n) events lines fit.1)
 
 -- a script that is run has just these events
 only_one : (version cpus : ℕ) (callers : List (List Event)) (events : List Event) →

@@ -2,6 +2,8 @@
 use Rattle.std.specs.Prelude.{ℕ, ◌≡◌, ◌<◌, ◌≤◌, ◌^◌, List, [], ◌∷◌, Option, String, string_bytes, codes, decimal, length, map, sum_by}
 use Rattle.std.specs.Io.KnownBytes.{Appends, Keeps}
 use Rattle.io_edges.specs.Pieces.{AppendsPrefix}
+use Rattle.key_names.specs.declared.lines.Data.{Data}
+use Rattle.key_names.specs.declared.lines.Data.TheVariants.{Bytes}
 use Rattle.key_names.specs.SeenLine.{SeenLine, bytes_shown}
 use Rattle.key_names.specs.Spelling.{lined, spaced}
 use Rattle.key_names.specs.TranscriptGrammar.{all_lines}
@@ -30,6 +32,11 @@ abbrev pub load_line : ℕ → ℕ → ℕ → List ℕ
 load_line callers events bytes =
     lined (spaced (codes "callers" ∷ decimal callers ∷ codes "events" ∷ decimal events ∷ codes "bytes"
     ∷ decimal bytes ∷ []) ∷ [])
+
+-- how many bytes the data of a line are
+abbrev pub data_len : Data → ℕ
+data_len (Bytes start len) = len
+data_len _ = 0
 
 -- the output counts the events of the load's script, and the bytes that the lines of a lawful transcript for it show
 pub record LoadOf (start events : ℕ) (output : List ℕ) : Type 0 where

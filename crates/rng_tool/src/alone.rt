@@ -1,5 +1,5 @@
 //! The run of a script's only caller.
-ghost use Rattle.std.specs.Prelude.{◌<◌, ◌∷◌, [], length, IfOk};
+ghost use Rattle.std.specs.Prelude.{◌<◌, ◌≤◌, ◌∷◌, [], length, IfOk};
 ghost use Rattle.caller_run.specs.Kinds.{RunsAlone};
 ghost use Rattle.key_names.specs.ScriptGrammar.{WellFormed};
 ghost use Rattle.rng_tool.specs.Outcome.{IsRunOf};
@@ -25,6 +25,7 @@ pub(crate) fn lines_of<R: Wait>(
     requires alone { RunsAlone script.now }
     ensures run { IfOk result (λ lines. IsRunOf script.now (lines.lines ∷ [])) }
     ensures some { IfOk result (λ lines. 0 < length lines.lines) }
+    ensures few { IfOk result (λ lines. length lines.lines ≤ 65537) }
 {
     run_alone(rt, alloc, script.cpus(), script.events(0))
 }

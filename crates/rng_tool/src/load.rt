@@ -1,15 +1,18 @@
 //! A load of one caller: its words, its run, and the line that sums it up.
-ghost use Rattle.std.specs.Prelude.{◌≡◌, ◌<◌, ◌≤◌, ◌^◌, ◌∷◌, [], ℕ, Some, IfOk, IfSome, decimal, string_bytes};
+ghost use Rattle.std.specs.Prelude.{◌≡◌, ◌<◌, ◌≤◌, ◌^◌, ◌∷◌, [], ℕ, Some, IfOk, IfSome, decimal, length, string_bytes};
 ghost use Rattle.io_edges.specs.Faults.{Rose};
-ghost use Rattle.rng_tool.specs.LoadOutcome.{AskLoad, IsLoad, LoadEnds, LoadOf, load_line};
+ghost use Rattle.key_names.specs.SeenLine.{bytes_shown};
+ghost use Rattle.rng_tool.specs.LoadOutcome.{AskLoad, IsLoad, LoadEnds, LoadOf, data_len, load_line};
 
 use crate::alone::lines_of;
 use crate::status::Status;
 use event_script::Script;
 use event_script::numbers::number_up_to;
 use io_edges::{Failed, NoMemory, Sink, put_all};
+use key_names::Data;
 use std::alloc::Global;
 use std::sync::Wait;
+use transcript_text::CallerLines;
 
 /// The most calls that the caller of a load makes.
 const MOST_EVENTS: u32 = 1000;
@@ -77,6 +80,28 @@ fn load_line(alloc: Global, callers: u32, events: u64, bytes: u64) -> Result<Str
     format!(in alloc; "callers {callers} events {events} bytes {bytes}\n")
 }
 
+// How many bytes the data of a line are.
+fn data_len(shown: Data) -> u32
+    ensures { result ≡ data_len shown }
+{
+    match shown {
+        Data::Bytes { len, .. } => len,
+        _ => 0,
+    }
+}
+
+// How many bytes the lines show.
+fn shown_len(lines: &CallerLines) -> u64
+    requires { length lines.now.lines ≤ 65537 }
+    ensures { result ≡ length (bytes_shown lines.now.lines) }
+{
+    let mut sum = 0;
+    for line in lines.lines() {
+        sum += u64::from(data_len(line.shown));
+    }
+    sum
+}
+
 // The line of a load that was run.
 fn summary<R: Wait>(rt: &R, alloc: Global, load: Load) -> Result<String, NoMemory>
     requires { (1 ≤ load.events) × (load.events ≤ 1000) }
@@ -85,8 +110,7 @@ fn summary<R: Wait>(rt: &R, alloc: Global, load: Load) -> Result<String, NoMemor
     let script = Script::load(alloc, load.start, 1, load.events)?;
     let lines = lines_of(rt, alloc, &script)?;
     let events = script.events(0).len() as u64;
-    let bytes = lines.bytes().len() as u64;
-    load_line(alloc, 1, events, bytes)
+    load_line(alloc, 1, events, shown_len(&lines))
 }
 
 /// Runs a load, and writes the line that sums it up.

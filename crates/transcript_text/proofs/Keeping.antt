@@ -61,26 +61,23 @@ abbrev pub with_data : Line → Data → Line
 with_data line shown = record line { shown = shown }
 
 -- the lines as they are seen after one more
-pub seen_after : (kept shown : List ℕ) (start : ℕ) (lines : List Line) (line : Line) → start ≡ length kept
-    → IsKept kept lines
-    → seen_lines (kept ++ shown) (lines ++ with_data line (data_from start shown) ∷ []) ≡ seen_lines kept lines
-    ++ showing shown (seen_line [] line) ∷ []
-seen_after kept shown start lines line e old =
-    map_push (seen_line (kept ++ shown)) lines (with_data line (data_from start shown))
-    ∙ rw (seen_lines-more kept shown lines old.within, e, shown_in-data_from kept shown) refl
+pub seen_after : (kept shown : List ℕ) (lines : List Line) (line : Line) → IsKept kept lines
+    → seen_lines (kept ++ shown) (lines ++ with_data line (data_from (length kept) shown) ∷ [])
+    ≡ seen_lines kept lines ++ showing shown (seen_line [] line) ∷ []
+seen_after kept shown lines line old =
+    map_push (seen_line (kept ++ shown)) lines (with_data line (data_from (length kept) shown))
+    ∙ rw (seen_lines-more kept shown lines old.within, shown_in-data_from kept shown) refl
 
-pub kept_after : (kept shown : List ℕ) (start : ℕ) (lines : List Line) (line : Line) → start ≡ length kept
-    → IsKept kept lines
-    → LineFits (showing shown (seen_line [] line)) → IsKept (kept ++ shown)
-    (lines ++ with_data line (data_from start shown) ∷ [])
-kept_after kept shown start lines line e old fits =
-    let seen = seen_after kept shown start lines line e old in record {
-      within = AllByRecursion-push (λ l. IsWithin (length (kept ++ shown)) l.shown) lines
-          (with_data line (data_from start shown)) (all_within_more kept shown lines old.within)
-          (rw e (data_from_within kept shown));
-      fits = rw seen (AllByRecursion-push LineFits (seen_lines kept lines) (showing shown (seen_line [] line))
-          old.fits fits);
-    }
+pub kept_after : (kept shown : List ℕ) (lines : List Line) (line : Line) → IsKept kept lines
+    → LineFits (showing shown (seen_line [] line))
+    → IsKept (kept ++ shown) (lines ++ with_data line (data_from (length kept) shown) ∷ [])
+kept_after kept shown lines line old fits = record {
+  within = AllByRecursion-push (λ l. IsWithin (length (kept ++ shown)) l.shown) lines
+      (with_data line (data_from (length kept) shown)) (all_within_more kept shown lines old.within)
+      (data_from_within kept shown);
+  fits = rw (seen_after kept shown lines line old) (AllByRecursion-push LineFits (seen_lines kept lines)
+      (showing shown (seen_line [] line)) old.fits fits);
+}
 
 AllByRecursion-set : {A : Type 0} (P : A → Type 0) (xs : List A) (i : ℕ) (x : A) → AllByRecursion P xs → P x
     → AllByRecursion P (set xs i x)
@@ -89,26 +86,23 @@ AllByRecursion-set P (y ∷ xs) zero x all here = (here, all.1)
 AllByRecursion-set P (y ∷ xs) (suc i) x all here = (all.0, AllByRecursion-set P xs i x all.1 here)
 
 -- the lines as they are seen after another one stands in the place of line `number`
-pub seen_replaced : (kept shown : List ℕ) (start number : ℕ) (lines : List Line) (line : Line) → start ≡ length kept
-    → IsKept kept lines
-    → seen_lines (kept ++ shown) (set lines number (with_data line (data_from start shown)))
+pub seen_replaced : (kept shown : List ℕ) (number : ℕ) (lines : List Line) (line : Line) → IsKept kept lines
+    → seen_lines (kept ++ shown) (set lines number (with_data line (data_from (length kept) shown)))
     ≡ set (seen_lines kept lines) number (showing shown (seen_line [] line))
-seen_replaced kept shown start number lines line e old =
-    map-set (seen_line (kept ++ shown)) lines number (with_data line (data_from start shown))
-    ∙ rw (seen_lines-more kept shown lines old.within, e, shown_in-data_from kept shown) refl
+seen_replaced kept shown number lines line old =
+    map-set (seen_line (kept ++ shown)) lines number (with_data line (data_from (length kept) shown))
+    ∙ rw (seen_lines-more kept shown lines old.within, shown_in-data_from kept shown) refl
 
-pub kept_replaced : (kept shown : List ℕ) (start number : ℕ) (lines : List Line) (line : Line) → start ≡ length kept
-    → IsKept kept lines
+pub kept_replaced : (kept shown : List ℕ) (number : ℕ) (lines : List Line) (line : Line) → IsKept kept lines
     → LineFits (showing shown (seen_line [] line))
-    → IsKept (kept ++ shown) (set lines number (with_data line (data_from start shown)))
-kept_replaced kept shown start number lines line e old fits =
-    let seen = seen_replaced kept shown start number lines line e old in record {
-      within = AllByRecursion-set (λ l. IsWithin (length (kept ++ shown)) l.shown) lines number
-          (with_data line (data_from start shown)) (all_within_more kept shown lines old.within)
-          (rw e (data_from_within kept shown));
-      fits = rw seen (AllByRecursion-set LineFits (seen_lines kept lines) number
-          (showing shown (seen_line [] line)) old.fits fits);
-    }
+    → IsKept (kept ++ shown) (set lines number (with_data line (data_from (length kept) shown)))
+kept_replaced kept shown number lines line old fits = record {
+  within = AllByRecursion-set (λ l. IsWithin (length (kept ++ shown)) l.shown) lines number
+      (with_data line (data_from (length kept) shown)) (all_within_more kept shown lines old.within)
+      (data_from_within kept shown);
+  fits = rw (seen_replaced kept shown number lines line old) (AllByRecursion-set LineFits (seen_lines kept lines)
+      number (showing shown (seen_line [] line)) old.fits fits);
+}
 
 few_steps : (kept : List ℕ) (lines : List Line) → AllByRecursion LineFits (seen_lines kept lines)
     → AllByRecursion (λ line. length line.trace ≤ 20) lines

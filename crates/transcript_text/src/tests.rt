@@ -223,19 +223,32 @@ impl Sink for Pieces {
     }
 }
 
+/// A line of caller 0 without steps.
+fn plain(event: u32, word: Word, answer: Answer) -> Line
+    ensures { result ≡ record {
+      caller = 0;
+      event = event;
+      word = word;
+      answer = answer;
+      trace = [];
+      shown = Data.None;
+    } }
+{
+    Line {
+        caller: 0,
+        event,
+        word,
+        answer,
+        trace: Trace::empty(),
+        shown: Data::None,
+    }
+}
+
 fn one_read(alloc: Global, bytes: &[u8]) -> Result<Transcript, AllocError>
     requires { (0 < length bytes.now) × (length bytes.now < 2 ^ 32) }
 {
     let mut lines = CallerLines::with_room(alloc, 1, bytes.len())?;
-    let line = Line {
-        caller: 0,
-        event: 0,
-        word: Word::Read,
-        answer: Answer::Ok,
-        trace: Trace::empty(),
-        shown: Data::None,
-    };
-    lines.push_showing(line, bytes);
+    lines.push_showing(plain(0, Word::Read, Answer::Ok), bytes);
     let mut callers = Vec::new(alloc);
     callers.push(lines)?;
     Ok(Transcript::of(callers))
@@ -259,6 +272,40 @@ fn a_long_line_is_put_in_pieces_of_at_most_4096_bytes(rt: HostRuntime) -> Result
         assert!(rt; len < 1 << 21);
         assert_eq!(rt; pieces.bytes, 16 + 4 + 15 + 2 * len, "{len} bytes");
     }
+    Ok(())
+}
+
+#[test]
+fn a_line_is_filled_in_behind_a_later_one(rt: HostRuntime) -> Result<(), Fail> {
+    let mut lines = CallerLines::with_room(rt.alloc(), 3, 7)?;
+    lines.push_showing(plain(0, Word::Read, Answer::Ok), &[1, 2]);
+    lines.push(plain(1, Word::Inside, Answer::Unused));
+    lines.push_showing(plain(2, Word::Vread, Answer::Ok), &[3]);
+    lines.replace_showing(1, plain(1, Word::Inside, Answer::Ok), &[4, 5, 6, 171]);
+    assert_eq!(rt; lines.bytes(), [1, 2, 3, 4, 5, 6, 171].as_slice());
+    for (number, (start, len)) in [(0, 2), (3, 4), (2, 1)].iter().enumerate() {
+        assert_eq!(rt;
+            lines.lines().get(number).map(|line| line.shown),
+            Some(Data::Bytes {
+                start: *start,
+                len: *len
+            }),
+            "line {number}"
+        );
+    }
+    let mut callers = Vec::new(rt.alloc());
+    callers.push(lines)?;
+    let mut sink = sink(rt.alloc(), 100, 0)?;
+    assert_eq!(rt; write_all(&mut sink, &Transcript::of(callers)), Ok(()));
+    assert_eq!(rt;
+        sink.held(),
+        b"rngtranscript 1\n\
+            0.0 read ok - 0102\n\
+            0.1 inside ok - 040506ab\n\
+            0.2 vread ok - 03\n\
+            end\n"
+            .as_slice()
+    );
     Ok(())
 }
 

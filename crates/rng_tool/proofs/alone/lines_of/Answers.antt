@@ -1,9 +1,9 @@
-use Rattle.std.proofs.Common.{ℕ, ◌<◌, ◌∷◌, [], length, subst}
+use Rattle.std.proofs.Common.{ℕ, ◌<◌, ◌≤◌, ◌∷◌, [], length, subst, arith}
 use Rattle.std.proofs.lemmas.Result.{IfOk-weaker}
 use Rattle.lane_table.specs.declared.view.View.{View}
 use Rattle.caller_run.specs.Laws.{RanAlone}
 use Rattle.rng_tool.specs.Outcome.{IsRunOf}
-use Rattle.rng_tool.proofs.Runs.{has_lines, run_of, runnable}
+use Rattle.rng_tool.proofs.Runs.{line_count, run_of, runnable}
 use Rattle.rng_tool.proofs.alone.lines_of.Goals as goal
 
 pub run_alone-requires-clause-range : goal.run_alone-requires-clause-range
@@ -24,4 +24,13 @@ pub returns-clause-some : goal.returns-clause-some
 returns-clause-some g c =
     let events = c.events.result.now in
     IfOk-weaker c.run_alone.result (λ lines. (w : View) × RanAlone c.cpus.result events lines.lines w)
-    (λ lines. 0 < length lines.lines) (λ lines ran. has_lines 0 events lines.lines ran.1.fit) c.run_alone.ensures
+    (λ lines. 0 < length lines.lines) (λ lines ran. omega (arith, line_count 0 events lines.lines ran.1.fit))
+    c.run_alone.ensures
+
+pub returns-clause-few : goal.returns-clause-few
+returns-clause-few g c =
+    let events = c.events.result.now in
+    let few = (runnable c.args.script.now events c.requires.well_formed c.requires.alone c.events.ensures).few in
+    IfOk-weaker c.run_alone.result (λ lines. (w : View) × RanAlone c.cpus.result events lines.lines w)
+    (λ lines. length lines.lines ≤ 65537)
+    (λ lines ran. omega (arith, few, line_count 0 events lines.lines ran.1.fit)) c.run_alone.ensures

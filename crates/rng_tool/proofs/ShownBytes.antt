@@ -1,0 +1,39 @@
+-- How many bytes lines show, from their data.
+use Rattle.std.proofs.Common.{◌≡◌, ℕ, List, [], ◌∷◌, length, drop, refl, ap, sym, ◌∙◌, All, arith}
+use Rattle.std.specs.List.{sum_by, AllByRecursion}
+use Rattle.std.proofs.lemmas.List.{length-append, length-drop, length-take}
+use Rattle.std.proofs.lemmas.List.Elements.{recursion_from_All}
+use Rattle.std.proofs.lemmas.List.Sums.{sum_by-cons}
+use Rattle.key_names.specs.declared.lines.Data.{Data}
+use Rattle.key_names.specs.declared.lines.Data.TheVariants.{None as NoData, Bytes, Count}
+use Rattle.key_names.specs.declared.lines.Line.{Line}
+use Rattle.key_names.specs.SeenLine.{SeenLine, bytes_of, bytes_shown, shown_in, seen_lines}
+use Rattle.transcript_text.specs.Gathered.{IsWithin}
+use Rattle.rng_tool.specs.LoadOutcome.{data_len}
+
+length-shown : (kept : List ℕ) (shown : Data) → IsWithin (length kept) shown
+    → length (bytes_of (shown_in kept shown)) ≡ data_len shown
+length-shown kept NoData within = refl
+length-shown kept (Count n) within = refl
+length-shown kept (Bytes start len) within =
+    omega (arith, length-take len (drop start kept), length-drop start kept)
+
+length-shown_lines : (kept : List ℕ) (lines : List Line)
+    → AllByRecursion (λ line. IsWithin (length kept) line.shown) lines
+    → length (bytes_shown (seen_lines kept lines)) ≡ sum_by (λ line. data_len line.shown) lines
+length-shown_lines kept [] within = refl
+length-shown_lines kept (line ∷ lines) within = omega (
+  arith,
+  sum_by-cons (λ (l : Line). data_len l.shown) line lines,
+  length-append (bytes_of (shown_in kept line.shown)) (bytes_shown (seen_lines kept lines)),
+  length-shown kept line.shown within.0,
+  length-shown_lines kept lines within.1,
+)
+
+-- the lines of a caller that has these bytes
+pub sum_of_data : (kept : List ℕ) (raw : List Line) (lines : List SeenLine) → seen_lines kept raw ≡ lines
+    → All (λ line. IsWithin (length kept) line.shown) raw
+    → sum_by (λ line. data_len line.shown) raw ≡ length (bytes_shown lines)
+sum_of_data kept raw lines seen within =
+    sym (length-shown_lines kept raw (recursion_from_All (λ line. IsWithin (length kept) line.shown) raw within))
+    ∙ ap (λ (ls : List SeenLine). length (bytes_shown ls)) seen
