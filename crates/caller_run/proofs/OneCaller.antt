@@ -1,6 +1,8 @@
 -- A script with one caller: nobody is forked, the caller's order is its own calls, and it starts with the first setting.
 use Rattle.std.proofs.Common.{◌≡◌, ℕ, ◌+◌, Bool, true, false, cond, None, Some, List, [], ◌∷◌, ◌++◌, refl, sym, ap, subst, arith}
 use Rattle.std.specs.Prelude.{count_by, ◌==◌, if◌then◌else◌}
+use Rattle.std.specs.List.{AllByRecursion}
+use Rattle.std.proofs.lemmas.Bool.Decides.{nat_tests}
 use Rattle.std.proofs.lemmas.List.Sums.{sum_by-cons}
 use Rattle.key_names.specs.declared.events.Event.{Event}
 use Rattle.key_names.specs.declared.events.Event.TheVariants.{Vread, Fork, Inside}
@@ -12,26 +14,35 @@ use Rattle.key_names.specs.IsTranscript.{LinesFit, start_setting, Rises}
 use Rattle.lane_table.specs.Went.{Deal, looked, visited, stamps_in, Climbs}
 use Rattle.caller_run.specs.Doings.{Doing, deals_of, items_of}
 use Rattle.caller_run.specs.Items.{steps_of}
+use Rattle.caller_run.specs.Kinds.{ForksNobody}
 use Rattle.caller_run.proofs.CallLists.{Kept, Keeps, kept}
 
 abbrev hit : Bool → ℕ
 hit b = cond b 1 0
 
-abbrev forks : Event → Bool
-forks event = is_fork_of 0 event
-
-no_fork_first : (event : Event) (es : List Event) → count_by forks (event ∷ es) ≡ 0 →
-    (forks event ≡ false) × (count_by forks es ≡ 0)
-no_fork_first event es none = go (forks event) refl
+no_fork_first : (number : ℕ) (event : Event) (es : List Event) → count_by (is_fork_of number) (event ∷ es) ≡ 0 →
+    (is_fork_of number event ≡ false) × (count_by (is_fork_of number) es ≡ 0)
+no_fork_first number event es none = go (is_fork_of number event) refl
   where
-    whole : count_by forks (event ∷ es) ≡ hit (forks event) + count_by forks es
-    whole = sum_by-cons (λ e. hit (forks e)) event es
+    whole : count_by (is_fork_of number) (event ∷ es) ≡ hit (is_fork_of number event) + count_by (is_fork_of number) es
+    whole = sum_by-cons (λ e. hit (is_fork_of number e)) event es
 
-    go : (b : Bool) → forks event ≡ b → (forks event ≡ false) × (count_by forks es ≡ 0)
-    go true is = (let here : hit (forks event) ≡ 1 = ap hit is in absurd (omega (arith, whole)))
-    go false is = (is, (let here : hit (forks event) ≡ 0 = ap hit is in omega (arith, whole)))
+    go : (b : Bool) → is_fork_of number event ≡ b → (is_fork_of number event ≡ false) × (count_by (is_fork_of number) es ≡ 0)
+    go true is = (let here : hit (is_fork_of number event) ≡ 1 = ap hit is in absurd (omega (arith, whole)))
+    go false is = (is, (let here : hit (is_fork_of number event) ≡ 0 = ap hit is in omega (arith, whole)))
 
-not_forked : (event : Event) (line : SeenLine) (calls : List Call) → forks event ≡ false →
+-- where no number is forked, nobody is
+pub forks_nobody : (events : List Event) → ((number : ℕ) → count_by (is_fork_of number) events ≡ 0) →
+    AllByRecursion ForksNobody events
+forks_nobody [] none = tt
+forks_nobody (event ∷ es) none =
+    (go event (λ number. (no_fork_first number event es (none number)).0), forks_nobody es (λ number. (no_fork_first number event es (none number)).1))
+  where
+    go : (event : Event) → ((number : ℕ) → is_fork_of number event ≡ false) → ForksNobody event
+    go (Fork child) none = let itself : (child == child) ≡ true = grind (arith, nat_tests) in let not = none child in cc
+    go event none = tt
+
+not_forked : (event : Event) (line : SeenLine) (calls : List Call) → is_fork_of 0 event ≡ false →
     fork_point 0 calls ≡ None → fork_point 0 (alone event line ∷ calls) ≡ None
 not_forked (Fork child) line calls is none = go (child == 0) is
   where
@@ -43,23 +54,23 @@ not_forked (Fork child) line calls is none = go (child == 0) is
 not_forked event line calls is none = ap (with_call_before (alone event line)) none
 
 abbrev Unforked : Kept
-Unforked waiting events lines calls = count_by forks events ≡ 0 → fork_point 0 calls ≡ None
+Unforked waiting events lines calls = count_by (is_fork_of 0) events ≡ 0 → fork_point 0 calls ≡ None
 
 keeps_unforked : (c : ℕ) → Keeps c Unforked
 keeps_unforked c = record {
   ends = λ n line is none. refl;
   does = λ waiting n event es line lines calls is rest none.
-      let h = no_fork_first event es none in not_forked event line calls h.0 (rest h.1);
+      let h = no_fork_first 0 event es none in not_forked event line calls h.0 (rest h.1);
   reads = λ waiting n len flags es line lines calls is rest none.
-      let h = no_fork_first (Vread len flags) es none in
+      let h = no_fork_first 0 (Vread len flags) es none in
       ap (with_call_before (vread_call len flags line waiting)) (rest h.1);
-  waits = λ waiting n bound es lines calls is rest none. rest (no_fork_first (Inside bound.point bound.act) es none).1;
+  waits = λ waiting n bound es lines calls is rest none. rest (no_fork_first 0 (Inside bound.point bound.act) es none).1;
   idles = λ waiting n bound es lines calls is rest none.
-      ap (with_call_before (unbound bound)) (rest (no_fork_first (Inside bound.point bound.act) es none).1);
+      ap (with_call_before (unbound bound)) (rest (no_fork_first 0 (Inside bound.point bound.act) es none).1);
 }
 
 pub unforked : (events : List Event) (lines : List SeenLine) → LinesFit 0 0 events lines →
-    count_by forks events ≡ 0 → fork_point 0 (calls_of events lines) ≡ None
+    count_by (is_fork_of 0) events ≡ 0 → fork_point 0 (calls_of events lines) ≡ None
 unforked events lines fit none = kept 0 Unforked (keeps_unforked 0) events lines fit none
 
 module _ (calls : List Call) (none : fork_point 0 calls ≡ None) where

@@ -1,5 +1,4 @@
 pub mod Inputs
 pub mod Runs
 pub mod ShownBytes
-pub mod LoadRuns
 pub mod LoadWords

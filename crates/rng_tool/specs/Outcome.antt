@@ -1,5 +1,5 @@
 -- What a run of the program promises for each way to end.
-use Rattle.std.specs.Prelude.{ℕ, ◌≡◌, ◌⊎◌, List, [], ◌∷◌, Option, String, string_bytes, codes, map, IfSome}
+use Rattle.std.specs.Prelude.{ℕ, ◌≡◌, ◌⊎◌, List, [], ◌∷◌, Option, String, string_bytes, codes, length, map, IfSome}
 use Rattle.std.specs.Io.KnownBytes.{Appends, Consumes, IsAtEnd}
 use Rattle.io_edges.specs.Pieces.{AppendsPrefix}
 use Rattle.key_names.specs.Book.{Book, lists_of}
@@ -9,7 +9,6 @@ use Rattle.key_names.specs.Meaning.{CallMeaning}
 use Rattle.key_names.specs.SeenLine.{SeenLine}
 use Rattle.key_names.specs.ScriptGrammar.{Script, IsScript}
 use Rattle.key_names.specs.TranscriptGrammar.{transcript_text}
-use Rattle.caller_run.specs.Kinds.{RunsAlone}
 use Rattle.rng_tool.specs.Refusal.{refusal_of}
 use Rattle.rng_tool.specs.declared.status.Status.{Status}
 use Rattle.rng_tool.specs.declared.status.Status.TheVariants.{Done, No, Usage, ReadFault, WriteFault, Refused, NoMemory}
@@ -23,9 +22,12 @@ code_of WriteFault = 4
 code_of Refused = 5
 code_of NoMemory = 6
 
--- the input is none of the scripts that have a run so far: those of one caller in which no act waits for a vread
+abbrev pub HasOneCaller : Script → Type 0
+HasOneCaller script = length script.callers ≡ 1
+
+-- the input is none of the scripts that have a run so far: those of one caller
 abbrev pub HasNoRun : List ℕ → Type 0
-HasNoRun input = (script : Script) → IsScript script input → RunsAlone script → ⊥
+HasNoRun input = (script : Script) → IsScript script input → HasOneCaller script → ⊥
 
 -- the lines are a lawful transcript for a script, and its book puts no byte of a key to use twice
 pub record IsRunOf (script : Script) (lines : List (List SeenLine)) : Type 0 where
@@ -49,7 +51,7 @@ pub record IsRefusal (input output : List ℕ) : Type 0 where
 pub record CallsForRun (input output : List ℕ) : Type 0 where
   pub script : Script
   pub is_script : IsScript script input
-  pub alone : RunsAlone script
+  pub one : HasOneCaller script
   pub run : RunOf script output
 
 -- the output that an input calls for

@@ -1,8 +1,7 @@
 //! The run of a script's only caller.
 ghost use Rattle.std.specs.Prelude.{◌<◌, ◌≤◌, ◌∷◌, [], length, IfOk};
-ghost use Rattle.caller_run.specs.Kinds.{RunsAlone};
 ghost use Rattle.key_names.specs.ScriptGrammar.{WellFormed};
-ghost use Rattle.rng_tool.specs.Outcome.{IsRunOf};
+ghost use Rattle.rng_tool.specs.Outcome.{HasOneCaller, IsRunOf};
 
 use caller_run::run_alone;
 use event_script::Script;
@@ -22,7 +21,7 @@ pub(crate) fn lines_of<R: Wait>(
     script: &Script,
 ) -> Result<CallerLines, NoMemory>
     requires well_formed { WellFormed script.now }
-    requires alone { RunsAlone script.now }
+    requires one { HasOneCaller script.now }
     ensures run { IfOk result (λ lines. IsRunOf script.now (lines.lines ∷ [])) }
     ensures some { IfOk result (λ lines. 0 < length lines.lines) }
     ensures few { IfOk result (λ lines. length lines.lines ≤ 65537) }

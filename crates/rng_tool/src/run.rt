@@ -1,20 +1,18 @@
 //! The top call: words in, a script in, a transcript out.
 ghost use Rattle.std.specs.Prelude.{◌≡◌, ◌≢◌, ◌↔◌, ◌⊎◌, ℕ, [], ◌∷◌, List, IsTrue, IfOk};
 ghost use Rattle.std.specs.Io.KnownBytes.{Appends, Keeps};
-ghost use Rattle.caller_run.specs.Kinds.{RunsAlone};
 ghost use Rattle.io_edges.specs.Faults.{Rose};
 ghost use Rattle.io_edges.specs.Pieces.{AppendsPrefix};
 ghost use Rattle.key_names.specs.ScriptGrammar.{WellFormed};
 ghost use Rattle.key_names.specs.TranscriptGrammar.{transcript_text};
 ghost use Rattle.rng_tool.specs.LoadOutcome.{IsLoad, IsNoForm, LoadEnds};
-ghost use Rattle.rng_tool.specs.Outcome.{CallsFor, CallsForRun, IsRefusal, IsRun, RunOf, WasCutShort, WasRefused, WasRun};
+ghost use Rattle.rng_tool.specs.Outcome.{CallsFor, CallsForRun, HasOneCaller, IsRefusal, IsRun, RunOf, WasCutShort, WasRefused, WasRun};
 ghost use Rattle.rng_tool.specs.Refusal.{refusal_by};
 
 use crate::alone::lines_of;
 use crate::load::{load_of, run_load};
 use crate::refusal::refusal_by;
 use crate::status::Status;
-use caller_run::runs_alone;
 use event_script::{Script, ScriptError, read};
 use io_edges::{Failed, NoMemory, ReadError, Sink, Source, put_all, read_to_limit};
 use key_names::ScriptFault;
@@ -37,7 +35,7 @@ fn is_run(words: &[String]) -> bool
 
 fn transcript_of<R: Wait>(rt: &R, alloc: Global, script: &Script) -> Result<Transcript, NoMemory>
     requires well_formed { WellFormed script.now }
-    requires alone { RunsAlone script.now }
+    requires one { HasOneCaller script.now }
     ensures { IfOk result (λ t. RunOf script.now (transcript_text t)) }
 {
     let mut callers = Vec::with_capacity(alloc, 1)?;
@@ -66,7 +64,7 @@ fn refuse<K: Sink>(alloc: Global, fault: Option<ScriptFault>, sink: &mut K) -> S
 // The run of an accepted script.
 fn run_script<R: Wait, K: Sink>(rt: &R, alloc: Global, script: &Script, sink: &mut K) -> Status
     requires well_formed { WellFormed script.now }
-    requires alone { RunsAlone script.now }
+    requires one { HasOneCaller script.now }
     ensures either { (result ≡ Status.Done) ⊎ (result ≡ Status.WriteFault) ⊎ (result ≡ Status.NoMemory) }
     ensures whole { result ≡ Status.Done
         → (output : List ℕ) × RunOf script.now output × Appends (K.held sink.old) (K.held sink.new) output }
@@ -98,7 +96,7 @@ fn answer<R: Wait, K: Sink>(rt: &R, alloc: Global, input: &[u8], sink: &mut K) -
 {
     match read(alloc, input) {
         Ok(script) => {
-            if runs_alone(&script) {
+            if script.callers() == 1 {
                 run_script(rt, alloc, &script, sink)
             } else {
                 refuse(alloc, None, sink)
@@ -111,9 +109,9 @@ fn answer<R: Wait, K: Sink>(rt: &R, alloc: Global, input: &[u8], sink: &mut K) -
 
 /// Runs a command.
 ///
-/// The word `run` takes the input, read to its end, as a script of one caller in which no act waits for a `vread`; the
-/// output is its transcript. An input that is no script is answered by the line `refused LINE KIND`, its first fault, and
-/// any other script by `refused 0 0`.
+/// The word `run` takes the input, read to its end, as a script of one caller; the output is its transcript. An input
+/// that is no script is answered by the line `refused LINE KIND`, its first fault, and a script of more callers by
+/// `refused 0 0`.
 ///
 /// The words `load START 1 EVENTS` run the script of a load with one caller and so many calls, START below 2^32 and EVENTS
 /// from 1 to 1,000, in decimal without leading zeros. They read nothing. The output is the line

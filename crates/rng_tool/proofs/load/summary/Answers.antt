@@ -1,8 +1,6 @@
-use Rattle.std.proofs.Common.{sym, subst}
-use Rattle.caller_run.specs.Kinds.{RunsAlone}
-use Rattle.rng_tool.proofs.LoadRuns.{load_runs_alone}
+use Rattle.std.proofs.Common.{length, ap}
+use Rattle.key_names.specs.ScriptGrammar.{Script}
 use Rattle.rng_tool.proofs.load.summary.Goals as goal
 
-pub lines_of-requires-clause-alone : goal.lines_of-requires-clause-alone
-lines_of-requires-clause-alone g c =
-    subst RunsAlone (sym c.in_ok-script.ensures) (load_runs_alone c.args.load.start c.args.load.events)
+pub lines_of-requires-clause-one : goal.lines_of-requires-clause-one
+lines_of-requires-clause-one g c = ap (λ (s : Script). length s.callers) c.in_ok-script.ensures
