@@ -5,6 +5,7 @@ ghost use Rattle.key_names.specs.TranscriptGrammar.{StepFits};
 ghost use Rattle.key_names.specs.VreadSteps.{number_of};
 ghost use Rattle.key_names.specs.declared.events.Event.{Event};
 ghost use Rattle.key_names.specs.declared.events.Event.TheVariants.{Inside};
+ghost use Rattle.lane_table.specs.declared.lanes.Lanes.{Lanes};
 ghost use Rattle.lane_table.specs.declared.view.View.{View};
 ghost use Rattle.rng_core.specs.Acts.{all_wanted, ask_of, asks_of, outcome_of, outcomes_of};
 ghost use Rattle.rng_core.specs.InsideDid.{act_line};
@@ -15,7 +16,6 @@ use crate::caller::Caller;
 use crate::room::Room;
 use crate::said::Said;
 use key_names::{Answer, Data, Event, InsideAct, Line, Point, Trace, Word};
-use lane_table::Lanes;
 use rng_core::Bound;
 use std::mem;
 use transcript_text::CallerLines;
@@ -47,22 +47,20 @@ impl Caller {
     /// An act waits for the caller's next `vread`. Its line says that it was not done, until that `vread` tells it anew.
     pub(crate) fn wait(
         &mut self,
-        lanes: &Lanes,
         room: &mut Room,
         event: &Event,
         point: u8,
         act: InsideAct,
     )
-        requires can { (served : ℕ) × (inside : ℕ) × CanGo lanes.now self.old room.old served inside (event.now ∷ []) }
+        requires can { (t : Lanes) × (served : ℕ) × (inside : ℕ) × CanGo t self.old room.old served inside (event.now ∷ []) }
         requires is { event.now ≡ Inside point act }
-        ensures can { (served inside : ℕ) (rest : List Event)
-            → CanGo lanes.now self.old room.old served inside (event.now ∷ rest)
-            → CanGo lanes.now self.new room.new served inside rest }
+        ensures can { (t : Lanes) (served inside : ℕ) (rest : List Event)
+            → CanGo t self.old room.old served inside (event.now ∷ rest)
+            → CanGo t self.new room.new served inside rest }
         ensures gone { (v : View) (caller : ℕ) (events rest : List Event)
             → HasGone v caller events (event.now ∷ rest) self.old room.old.lines.lines (waiting_in room.old)
             → HasGone v caller events rest self.new room.new.lines.lines (waiting_in room.new) }
     {
-        let _cpus = lanes.cpus();
         let unused = Said::only(Answer::Unused);
         self.tell(&mut room.lines, Word::Inside, unused, Trace::empty(), &[]);
         let bound = Bound::of(point_of(point), act, self.set.event);

@@ -90,7 +90,7 @@ impl Caller {
             → HasGone v caller events rest self.new room.new.lines.lines (waiting_in room.new) }
     {
         match event {
-            Event::Inside { point, act } => self.wait(lanes, room, event, *point, *act),
+            Event::Inside { point, act } => self.wait(room, event, *point, *act),
             Event::Vread { flags, .. } => {
                 self.read_state(rt, lanes, room, served, inside, event, *flags);
             },

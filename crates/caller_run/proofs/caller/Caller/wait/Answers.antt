@@ -14,14 +14,14 @@ use Rattle.caller_run.proofs.Standing.{Fills, can_next}
 use Rattle.caller_run.proofs.caller.Caller.wait.Goals as goal
 
 pub returns-clause-can : goal.returns-clause-can
-returns-clause-can c served inside rest can =
+returns-clause-can c t served inside rest can =
     let lines = c.args.room.now.lines in
     let acts = c.args.room.now.acts.items in
     let left = c.push_reserved.new.self.items in
     let g = can.goes in
-    let range = subst (InRange g.range.0 c.args.lanes.now.cpus) c.requires.is g.range.1.0 in
+    let range = subst (InRange g.range.0 t.cpus) c.requires.is g.range.1.0 in
     record {
-      goes = can_next c.args.lanes.now c.args.event.now c.args.self.now c.args.self.now c.go_on.new.self lines c.tell.new.lines acts left
+      goes = can_next t c.args.event.now c.args.self.now c.args.self.now c.go_on.new.self lines c.tell.new.lines acts left
           served inside rest refl g.ready.has g.states (record {
             stands = c.go_on.ensures.stand;
             caller = c.go_on.ensures.caller;
@@ -44,7 +44,7 @@ returns-clause-gone c v caller events rest gone =
     (line_of set InsideWord [] c.only-unused.result c.empty.result) c.requires.is c.point_of.ensures c.of-bound.ensures
     c.push_reserved.ensures.items c.tell.ensures.lines
     (ap (λ (s : Said). line_of set InsideWord [] s c.empty.result) c.only-unused.ensures ∙ ap (λ (l : List Step). line_of set InsideWord [] (record { answer = Unused; shows = Nothing }) l) c.empty.ensures)
-    c.requires.can.2.goes.at (record {
+    c.requires.can.3.goes.at (record {
       stands = c.go_on.ensures.stand;
       caller = c.go_on.ensures.caller;
       event_is = c.go_on.ensures.event;
