@@ -24,7 +24,8 @@ joined line (next ∷ lines) some = refl
 
 cut_is : (left line rest : List ℕ) → parts 10 left ≡ line ∷ parts 10 rest → left ≡ line ++ 10 ∷ rest
 cut_is left line rest cut =
-    sym (join_with_byte-slice_split 10 left) ∙ ap (join_with_byte 10) cut ∙ joined line (parts 10 rest) (first_part 10 rest)
+    sym (join_with_byte-slice_split 10 left) ∙ ap (join_with_byte 10) cut
+      ∙ joined line (parts 10 rest) (first_part 10 rest)
     ∙ ap (λ (r : List ℕ). line ++ 10 ∷ r) (join_with_byte-slice_split 10 rest)
 
 first_chosen : (t : Bool) (a b c d : List (List ℕ)) (x y : List ℕ) → HasFirst (cond t (x ∷ a) (y ∷ b))
@@ -34,7 +35,8 @@ first_chosen false a b c d x y = record { first = y; others = b; is = refl }
 first_front : (lines : List (List ℕ)) → HasFirst lines → HasFirst (front_lines lines)
 first_front [] some = absurd (let e = some.is in cc)
 first_front (tail ∷ []) some = record { first = tail; others = []; is = refl }
-first_front (line ∷ next ∷ more) some = first_chosen (bytes_eq line (codes "end")) ([] ∷ []) (front_lines (next ∷ more)) [] [] line line
+first_front (line ∷ next ∷ more) some = first_chosen (bytes_eq line (codes "end")) ([] ∷ [])
+    (front_lines (next ∷ more)) [] [] line line
 
 front_on : (lines : List (List ℕ)) (line : List ℕ) → HasFirst lines → bytes_eq line (codes "end") ≡ false
     → front_lines (line ∷ lines) ≡ line ∷ front_lines lines
@@ -55,7 +57,8 @@ pub goes_past : (text left line rest : List ℕ) → HasFront text left → part
 goes_past text left line rest h cut not =
     let some = first_part 10 rest in
     let lines = ap front_lines cut ∙ front_on (parts 10 rest) line some not in
-    let left_front : front left ≡ line ++ 10 ∷ front rest = ap (join_with_byte 10) lines ∙ joined line (front_lines (parts 10 rest)) (first_front (parts 10 rest) some) in
+    let left_front : front left ≡ line ++ 10 ∷ front rest =
+      ap (join_with_byte 10) lines ∙ joined line (front_lines (parts 10 rest)) (first_front (parts 10 rest) some) in
     record {
       before = h.before ++ (line ++ 10 ∷ []);
       whole = h.whole ∙ ap (λ (x : List ℕ). h.before ++ x) (cut_is left line rest cut) ∙ regroup h.before line rest;
@@ -76,4 +79,5 @@ ends_there text left line rest h cut end =
 
 -- no line is a line end
 pub ends_nowhere : (text left : List ℕ) → HasFront text left → parts 10 left ≡ left ∷ [] → text ≡ front text
-ends_nowhere text left h cut = h.whole ∙ sym (h.front_is ∙ ap (λ (x : List ℕ). h.before ++ x) (ap (λ lines. join_with_byte 10 (front_lines lines)) cut))
+ends_nowhere text left h cut = h.whole ∙ sym (h.front_is
+    ∙ ap (λ (x : List ℕ). h.before ++ x) (ap (λ lines. join_with_byte 10 (front_lines lines)) cut))

@@ -13,14 +13,17 @@ one_more_fork child some =
     ap (λ n. map Fork (range_with_len 1 n)) next ∙ map-range_with_len_more Fork 1 (child - 1) child (omega arith)
 
 one_more_call : (start callers count caller : ℕ) →
-    load_events start callers (count + 1) caller ≡ load_events start callers count caller ++ call start caller count ∷ []
+    load_events start callers (count + 1) caller ≡ load_events start callers count caller
+      ++ call start caller count ∷ []
 one_more_call start callers count caller =
     let calls = map (call start caller) (range_with_len 0 count) in
-    ap (λ es. opening callers caller ++ On caller ∷ es) (map-range_with_len_more (call start caller) 0 count count (omega arith))
+    ap (λ es. opening callers caller ++ On caller ∷ es)
+      (map-range_with_len_more (call start caller) 0 count count (omega arith))
     ∙ sym (append_assoc (opening callers caller) (On caller ∷ calls) (call start caller count ∷ []))
 
 -- what a push makes of the events, where the event is the next call
-pub pushed_call : (start callers count caller : ℕ) (items new : List Event) (event : Event) → new ≡ items ++ event ∷ [] →
+pub pushed_call : (start callers count caller : ℕ) (items new : List Event) (event : Event) →
+    new ≡ items ++ event ∷ [] →
     items ≡ load_events start callers count caller → event ≡ call start caller count →
     new ≡ load_events start callers (count + 1) caller
 pushed_call start callers count caller items new event pushed before next =

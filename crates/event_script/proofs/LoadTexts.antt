@@ -34,7 +34,8 @@ lined_len (line ∷ lines) short =
     let here : fields_len line ≤ 95 = short.0 in
     let cut : lined (map spaced (line ∷ lines)) ≡ (spaced line ++ 10 ∷ []) ++ lined (map spaced lines) =
     flat_map-cons (λ (l : List ℕ). l ++ 10 ∷ []) (spaced line) (map spaced lines) in
-    omega (arith, spaced_len line, ap length cut, length-append (spaced line ++ 10 ∷ []) (lined (map spaced lines)), length-append (spaced line) (10 ∷ []))
+    omega (arith, spaced_len line, ap length cut, length-append (spaced line ++ 10 ∷ []) (lined (map spaced lines)),
+      length-append (spaced line) (10 ∷ []))
 
 events_short : (events : List Event) → AllByRecursion (λ e. IsShort (event_fields e)) events →
     AllByRecursion IsShort (map event_fields events)
@@ -43,7 +44,8 @@ events_short (event ∷ events) short = (short.0, events_short events short.1)
 
 length-events : (events : List Event) → length (map event_fields events) ≡ length events
 length-events [] = omega arith
-length-events (event ∷ events) = let rest : length (map event_fields events) ≡ length events = length-events events in omega arith
+length-events (event ∷ events) = let rest : length (map event_fields events) ≡ length events = length-events events in
+    omega arith
 
 blocks_short : (c : ℕ) (callers : List (List Event)) → c + length callers ≤ 64 →
     AllByRecursion (AllByRecursion (λ e. IsShort (event_fields e))) callers → AllByRecursion IsShort (blocks c callers)
@@ -59,16 +61,20 @@ length-blocks : (c : ℕ) (callers : List (List Event)) →
     length (blocks c callers) ≡ length callers + sum_by length callers
 length-blocks c [] = omega arith
 length-blocks c (events ∷ callers) =
-    let rest : length (blocks (suc c) callers) ≡ length callers + sum_by length callers = length-blocks (suc c) callers in
-    omega (arith, length-append (map event_fields events) (blocks (suc c) callers), length-events events, sum_by-cons {X = List Event} length events callers)
+    let rest : length (blocks (suc c) callers) ≡ length callers + sum_by length callers =
+      length-blocks (suc c) callers in
+    omega (arith, length-append (map event_fields events) (blocks (suc c) callers), length-events events,
+      sum_by-cons {X = List Event} length events callers)
 
 -- the text of a script with few short events is short
 pub text_len : (s : Script) → s.version ≤ 3 → s.cpus ≤ 64 → length s.callers ≤ 64 → sum_by length s.callers ≤ 65536 →
     AllByRecursion (AllByRecursion (λ e. IsShort (event_fields e))) s.callers → length (script_text s) ≤ 16777216
 text_len s version cpus few events short =
-    let one : length (decimal s.version) ≤ 2 = length-decimal-le 2 s.version (omega arith) (omega arith) (omega arith) in
+    let one : length (decimal s.version) ≤ 2 = length-decimal-le 2 s.version (omega arith) (omega arith) (omega arith)
+      in
     let two : length (decimal s.cpus) ≤ 2 = length-decimal-le 2 s.cpus (omega arith) (omega arith) (omega arith) in
-    let body = each_append IsShort (blocks 0 s.callers) ((codes "end" ∷ []) ∷ []) (blocks_short 0 s.callers (omega arith) short) (omega arith, tt) in
+    let body = each_append IsShort (blocks 0 s.callers) ((codes "end" ∷ []) ∷ [])
+      (blocks_short 0 s.callers (omega arith) short) (omega arith, tt) in
     let all : AllByRecursion IsShort (script_lines s) = (omega arith, (omega arith, body)) in
     let count = length-blocks 0 s.callers in
     omega (arith, lined_len (script_lines s) all, length-append (blocks 0 s.callers) ((codes "end" ∷ []) ∷ []))

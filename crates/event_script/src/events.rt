@@ -80,7 +80,8 @@ fn credit(rest: Option<&[u8]>) -> Result<Event, FaultKind>
 }
 
 fn irq(rest: Option<&[u8]>) -> Result<Event, FaultKind>
-    ensures { Tells (λ event. event) result (binary (number (2 ^ 64)) (number (2 ^ 64)) Event.Irq (fields_of rest.entry)) }
+    ensures { Tells (λ event. event) result (binary (number (2 ^ 64)) (number (2 ^ 64)) Event.Irq
+        (fields_of rest.entry)) }
 {
     let (first, second) = two(rest)?;
     let v1 = number(u64::MAX, first)?;
@@ -105,7 +106,8 @@ fn input(rest: Option<&[u8]>) -> Result<Event, FaultKind>
 }
 
 fn read(rest: Option<&[u8]>) -> Result<Event, FaultKind>
-    ensures { Tells (λ event. event) result (binary (number 1048577) (number (2 ^ 32)) Event.Read (fields_of rest.entry)) }
+    ensures { Tells (λ event. event) result (binary (number 1048577) (number (2 ^ 32)) Event.Read
+        (fields_of rest.entry)) }
 {
     let (first, second) = two(rest)?;
     let len = read_len(first)?;
@@ -114,7 +116,8 @@ fn read(rest: Option<&[u8]>) -> Result<Event, FaultKind>
 }
 
 fn vread(rest: Option<&[u8]>) -> Result<Event, FaultKind>
-    ensures { Tells (λ event. event) result (binary (number 1048577) (number (2 ^ 32)) Event.Vread (fields_of rest.entry)) }
+    ensures { Tells (λ event. event) result (binary (number 1048577) (number (2 ^ 32)) Event.Vread
+        (fields_of rest.entry)) }
 {
     let (first, second) = two(rest)?;
     let len = read_len(first)?;
@@ -166,7 +169,8 @@ fn known_since(first: u32, version: u32) -> Result<(), FaultKind>
 
 fn prepare(version: u32, cpus: u32, rest: Option<&[u8]>) -> Result<Event, FaultKind>
     requires { 0 < cpus }
-    ensures { Tells (λ event. event) result (since 2 version (unary (number cpus) Event.Prepare (fields_of rest.entry))) }
+    ensures { Tells (λ event. event) result (since 2 version
+        (unary (number cpus) Event.Prepare (fields_of rest.entry))) }
 {
     known_since(2, version)?;
     let cpu = number_below(cpus, one(rest)?)?;
@@ -175,7 +179,8 @@ fn prepare(version: u32, cpus: u32, rest: Option<&[u8]>) -> Result<Event, FaultK
 
 fn online(version: u32, cpus: u32, rest: Option<&[u8]>) -> Result<Event, FaultKind>
     requires { 0 < cpus }
-    ensures { Tells (λ event. event) result (since 2 version (unary (number cpus) Event.Online (fields_of rest.entry))) }
+    ensures { Tells (λ event. event) result (since 2 version (unary (number cpus) Event.Online (fields_of rest.entry)))
+        }
 {
     known_since(2, version)?;
     let cpu = number_below(cpus, one(rest)?)?;
@@ -183,7 +188,8 @@ fn online(version: u32, cpus: u32, rest: Option<&[u8]>) -> Result<Event, FaultKi
 }
 
 fn vmfork(alloc: Global, version: u32, rest: Option<&[u8]>) -> Result<Event, LineError>
-    ensures { Gives (λ event. event) result (since 2 version (binary (number (2 ^ 64)) bytes Event.Vmfork (fields_of rest.entry))) }
+    ensures { Gives (λ event. event) result (since 2 version
+        (binary (number (2 ^ 64)) bytes Event.Vmfork (fields_of rest.entry))) }
 {
     known_since(2, version)?;
     let (first, second) = two(rest)?;

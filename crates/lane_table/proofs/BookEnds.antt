@@ -16,7 +16,8 @@ use Rattle.lane_table.proofs.BookAnswers.{half_finished, lawful_lanes}
 use Rattle.lane_table.proofs.BookMarks.{MarksVisit, MarksPlace, visits_are, places_stand, all_made}
 
 -- what goes on from a later view goes on from the earlier one
-pub continues_before : (lanes : ℕ) (v w : View) (visits : ℕ → List Visit) → length w.lanes ≡ length v.lanes → Grows v w →
+pub continues_before : (lanes : ℕ) (v w : View) (visits : ℕ → List Visit) → length w.lanes ≡ length v.lanes →
+    Grows v w →
     Continues lanes w visits → Continues lanes v visits
 continues_before lanes v w visits sized grows c = record {
   long = sym sized ∙ c.long;

@@ -31,7 +31,9 @@ fold_up [] s = omega arith
 fold_up (x ∷ xs) s = let a = step_up x.entry x.got s.base in let b = fold_up xs (model_step s x) in omega arith
 
 pub generation_begun : (xs ys : List Visit) → Begins xs ys → (replay xs).base.generation ≤ (replay ys).base.generation
-generation_begun xs ys b = let e = ap (λ (l : List Visit). (replay l).base.generation) b.1 ∙ ap (λ (s : Model). s.base.generation) (fold-append model_step start_model xs b.0) in let k = fold_up b.0 (replay xs) in omega arith
+generation_begun xs ys b = let e = ap (λ (l : List Visit). (replay l).base.generation) b.1
+    ∙ ap (λ (s : Model). s.base.generation) (fold-append model_step start_model xs b.0) in let k =
+    fold_up b.0 (replay xs) in omega arith
 
 pub floor_grown : (v w : View) → 1 < length v.lanes → Grows v w → v.seen ≤ w.seen → floor v ≤ floor w
 floor_grown v w two grows seen = let g = generation_begun (known_of v 1) (known_of w 1) (grows 1 two) in omega arith
@@ -40,7 +42,8 @@ floor_grown v w two grows seen = let g = generation_begun (known_of v 1) (known_
 agrees_early : (b : BaseValue) → b.phase ≡ empty → Agrees b → early ≡ ready ↔ 1 ≤ b.generation
 agrees_early b is k = ((λ e. absurd (cc e)), (λ one. let e : empty ≡ ready = sym is ∙ k.1 one in absurd (cc e)))
 
-agrees_base : (e : BaseEntry) (root : List ℕ) (b : BaseValue) (s : BaseState) → s.phase ≡ b.phase → BaseFits s e → Agrees b → Agrees (after_entry e root b)
+agrees_base : (e : BaseEntry) (root : List ℕ) (b : BaseValue) (s : BaseState) → s.phase ≡ b.phase → BaseFits s e →
+    Agrees b → Agrees (after_entry e root b)
 agrees_base (Early (Some root)) r b s at' fits k = agrees_early b (sym at' ∙ fits) k
 agrees_base (Early None) r b s at' fits k = k
 agrees_base (Reseed root now) r b s at' fits k = ((λ e. omega arith), (λ one. refl))
@@ -56,14 +59,18 @@ agrees_base Interrupt r b s at' fits k = k
 agrees_base Stall r b s at' fits k = k
 agrees_base Unstall r b s at' fits k = k
 
-agrees_step : (e : LaneEntry) (got : Handed) (s : Model) → Fits s got e → Agrees s.base → Agrees (base_after e got s.base)
+agrees_step : (e : LaneEntry) (got : Handed) (s : Model) → Fits s got e → Agrees s.base →
+    Agrees (base_after e got s.base)
 agrees_step (OfPool e) got s fits k = k
 agrees_step (OfBase e) got s fits k = agrees_base e got.key s.base (base_state s.base) refl fits k
 agrees_step (OfCpu e) got s fits k = k
 
-agrees_from : (lanes : ℕ) (xs : List Visit) (s : Model) → LawfulFrom (MayCome lanes 1) model_step s xs → Agrees s.base → Agrees (fold model_step s xs).base
+agrees_from : (lanes : ℕ) (xs : List Visit) (s : Model) → LawfulFrom (MayCome lanes 1) model_step s xs →
+    Agrees s.base → Agrees (fold model_step s xs).base
 agrees_from lanes [] s lawful k = k
-agrees_from lanes (x ∷ xs) s lawful k = agrees_from lanes xs (model_step s x) lawful.1 (agrees_step x.entry x.got s lawful.0.fits k)
+agrees_from lanes (x ∷ xs) s lawful k = agrees_from lanes xs (model_step s x) lawful.1
+    (agrees_step x.entry x.got s lawful.0.fits k)
 
 pub agrees_lawful : (lanes : ℕ) (xs : List Visit) → LawfulLane lanes 1 xs → Agrees (replay xs).base
-agrees_lawful lanes xs lawful = agrees_from lanes xs start_model lawful ((λ e. absurd (cc e)), (λ one. absurd (omega arith)))
+agrees_lawful lanes xs lawful = agrees_from lanes xs start_model lawful
+    ((λ e. absurd (cc e)), (λ one. absurd (omega arith)))

@@ -24,8 +24,10 @@ set_twice (x ∷ xs) zero a b = refl
 set_twice (x ∷ xs) (suc i) a b = ap (λ (l : List _). x ∷ l) (set_twice xs i a b)
 
 -- the lists that are known are the same
-pub consistent_same : (v w : View) → length w.lanes ≡ length v.lanes → ((j : ℕ) → known_of w j ≡ known_of v j) → Consistent v → Consistent w
-consistent_same v w long same ok = let lists : known_of w ≡ known_of v = λ k j. same j k in subst (λ (z : ℕ × (ℕ → List Visit)). ConsistentLists z.0 z.1) (λ k. (sym long k, sym lists k)) ok
+pub consistent_same : (v w : View) → length w.lanes ≡ length v.lanes → ((j : ℕ) → known_of w j ≡ known_of v j) →
+    Consistent v → Consistent w
+consistent_same v w long same ok = let lists : known_of w ≡ known_of v = λ k j. same j k in
+    subst (λ (z : ℕ × (ℕ → List Visit)). ConsistentLists z.0 z.1) (λ k. (sym long k, sym lists k)) ok
 
 pub grows_same : (v w : View) → ((j : ℕ) → known_of w j ≡ known_of v j) → Grows v w
 grows_same v w e j low = subst (Begins (known_of v j)) (sym (e j)) (begins_refl (known_of v j))
@@ -60,7 +62,8 @@ module _ {i : ℕ} {m m' : Seated} (r : Restages i m m') (near : i < length m.0.
   to_long = ap length r.lanes ∙ length-set m.0.lanes i r.to
 
   field : {X : Type 0} (f : LaneView → X) → f r.to ≡ f (at i m.0) → (j : ℕ) → f (at j m'.0) ≡ f (at j m.0)
-  field f e j = dite (ℕ_discrete j i) (λ q. ap (λ (k : ℕ). f (at k m'.0)) q ∙ ap f to_here ∙ e ∙ ap (λ (k : ℕ). f (at k m.0)) (sym q)) (λ ne. ap f (to_there j ne))
+  field f e j = dite (ℕ_discrete j i) (λ q. ap (λ (k : ℕ). f (at k m'.0)) q ∙ ap f to_here ∙ e
+    ∙ ap (λ (k : ℕ). f (at k m.0)) (sym q)) (λ ne. ap f (to_there j ne))
 
   pub to_known : (j : ℕ) → known_of m'.0 j ≡ known_of m.0 j
   to_known = field (λ (a : LaneView). a.known) r.known
@@ -69,11 +72,14 @@ module _ {i : ℕ} {m m' : Seated} (r : Restages i m m') (near : i < length m.0.
   to_same = record { first = r.first; share = r.share; halvings = r.halvings; sized = to_long }
 
   -- the pass is still one of the table
-  pub to_pass : (t : Lanes) (p q : Pass) → IsPassOf t p → p.seat.me ≡ m → q.seat.me ≡ m' → q.seat.table_id ≡ p.seat.table_id → q.stamp ≡ p.stamp → q.caller ≡ p.caller → IsSamePass t p q
-  to_pass t p q h is is' table stamp caller = let v₀ : view p ≡ m.0 = ap (λ (z : Seated). z.0) is in let v₁ : view q ≡ m'.0 = ap (λ (z : Seated). z.0) is' in record {
+  pub to_pass : (t : Lanes) (p q : Pass) → IsPassOf t p → p.seat.me ≡ m → q.seat.me ≡ m' →
+    q.seat.table_id ≡ p.seat.table_id → q.stamp ≡ p.stamp → q.caller ≡ p.caller → IsSamePass t p q
+  to_pass t p q h is is' table stamp caller = let v₀ : view p ≡ m.0 = ap (λ (z : Seated). z.0) is in
+    let v₁ : view q ≡ m'.0 = ap (λ (z : Seated). z.0) is' in record {
     pass = record {
       table = table ∙ h.table;
-      share = (let a = h.share in let b = ap (λ (z : View). z.share) v₀ in let c = ap (λ (z : View). z.share) v₁ in let d = r.share in omega arith);
+      share = (let a = h.share in let b = ap (λ (z : View). z.share) v₀ in let c = ap (λ (z : View). z.share) v₁ in
+        let d = r.share in omega arith);
       stamp = stamp ∙ h.stamp ∙ ap (λ (z : View). z.stamp) v₀ ∙ sym r.stamp ∙ ap (λ (z : View). z.stamp) (sym v₁);
       sized = ap (λ (z : View). length z.lanes) v₁ ∙ to_long ∙ ap (λ (z : View). length z.lanes) (sym v₀) ∙ h.sized;
       first = ap (λ (z : View). z.first) v₁ ∙ r.first ∙ ap (λ (z : View). z.first) (sym v₀) ∙ h.first;
@@ -106,19 +112,28 @@ module _ {i : ℕ} {m m' : Seated} (r : Restages i m m') (near : i < length m.0.
   }
 
 abbrev pub restages_loaded : (i n : ℕ) (m : Seated) → Restages i m (loaded i n m)
-restages_loaded i n m = record { to = record (at i m.0) { loaded = n }; lanes = refl; known = refl; owed = refl; raise = refl; made = refl; places = refl; heard = refl; slots = refl; first = refl; share = refl; halvings = refl; stamp = refl; stamps = refl; seen = refl; looks = refl }
+restages_loaded i n m = record { to = record (at i m.0) { loaded = n }; lanes = refl; known = refl; owed = refl;
+    raise = refl; made = refl; places = refl; heard = refl; slots = refl; first = refl; share = refl; halvings = refl;
+    stamp = refl; stamps = refl; seen = refl; looks = refl }
 
 abbrev pub restages_found : (i n : ℕ) (m : Seated) → Restages i m (found i n m)
-restages_found i n m = record { to = record (at i m.0) { found = n }; lanes = refl; known = refl; owed = refl; raise = refl; made = refl; places = refl; heard = refl; slots = refl; first = refl; share = refl; halvings = refl; stamp = refl; stamps = refl; seen = refl; looks = refl }
+restages_found i n m = record { to = record (at i m.0) { found = n }; lanes = refl; known = refl; owed = refl;
+    raise = refl; made = refl; places = refl; heard = refl; slots = refl; first = refl; share = refl; halvings = refl;
+    stamp = refl; stamps = refl; seen = refl; looks = refl }
 
 abbrev pub restages_queued : (i t : ℕ) (m : Seated) → Restages i m (queued i t m)
-restages_queued i t m = record { to = record (at i m.0) { stage = Queued t }; lanes = refl; known = refl; owed = refl; raise = refl; made = refl; places = refl; heard = refl; slots = refl; first = refl; share = refl; halvings = refl; stamp = refl; stamps = refl; seen = refl; looks = refl }
+restages_queued i t m = record { to = record (at i m.0) { stage = Queued t }; lanes = refl; known = refl; owed = refl;
+    raise = refl; made = refl; places = refl; heard = refl; slots = refl; first = refl; share = refl; halvings = refl;
+    stamp = refl; stamps = refl; seen = refl; looks = refl }
 
 abbrev pub restages_queued_found : (i t : ℕ) (m : Seated) → Restages i m (queued_found i t m)
-restages_queued_found i t m = record { to = record (at i m.0) { stage = Queued t; found = t }; lanes = refl; known = refl; owed = refl; raise = refl; made = refl; places = refl; heard = refl; slots = refl; first = refl; share = refl; halvings = refl; stamp = refl; stamps = refl; seen = refl; looks = refl }
+restages_queued_found i t m = record { to = record (at i m.0) { stage = Queued t; found = t }; lanes = refl;
+    known = refl; owed = refl; raise = refl; made = refl; places = refl; heard = refl; slots = refl; first = refl;
+    share = refl; halvings = refl; stamp = refl; stamps = refl; seen = refl; looks = refl }
 
 -- one after the other
-pub restages_both : {i : ℕ} {m m' m'' : Seated} → i < length m.0.lanes → Restages i m m' → Restages i m' m'' → Restages i m m''
+pub restages_both : {i : ℕ} {m m' m'' : Seated} → i < length m.0.lanes → Restages i m m' → Restages i m' m'' →
+    Restages i m m''
 restages_both {i} {m} {m'} {m''} near r q = let here = to_here r near in record {
   to = q.to;
   lanes = q.lanes ∙ ap (λ (l : List LaneView). set l i q.to) r.lanes ∙ set_twice m.0.lanes i r.to q.to;

@@ -111,7 +111,8 @@ module _ (ticket serving : ℕ) (owner : ℕ → ℕ) (home : Home) (log : List 
   Stands (Queued t) = (serving ≤ t) × (t < ticket) × (owner t ≡ j)
   Stands (Holding t) = (t ≡ serving) × (t < ticket) × (owner t ≡ j) × (known ≡ log) × (home ≡ some none)
 
-pub record PassOk (ticket serving : ℕ) (owner : ℕ → ℕ) (home : Home) (log : List Visit) (j : ℕ) (a : LaneView) : Type 0 where
+pub record PassOk (ticket serving : ℕ) (owner : ℕ → ℕ) (home : Home) (log : List Visit) (j : ℕ) (a : LaneView) : Type 0
+    where
   pub begins : Begins a.known log
   pub heard : AllBegin a.heard log
   pub stands : Stands ticket serving owner home log j a.known a.stage
@@ -135,7 +136,8 @@ once_below place n = if nat_lt place n then 1 else 0
 abbrev pub KnownWhole : List LaneView → List Visit → Type 0
 KnownWhole col log = (j : ℕ) × (a : LaneView) × (get_elem? col j ≡ some a) × (a.known ≡ log)
 
-pub record LaneOk (lane first ticket serving : ℕ) (home : Home) (col : List LaneView) (log : List Visit) (owner : ℕ → ℕ) : Type 0 where
+pub record LaneOk (lane first ticket serving : ℕ) (home : Home) (col : List LaneView) (log : List Visit)
+    (owner : ℕ → ℕ) : Type 0 where
   -- each ticket from the one that is served on is one pass's
   pub ordered : serving ≤ ticket
   pub counted : serving + sum_by (λ a. has_ticket a.stage) col ≡ ticket
@@ -216,7 +218,8 @@ pub record WorldRule (first : ℕ) (s : St) : Type 0 where
   pub pending : AllPending (length s.homes) logs s.views
   pub generation : slice_index_or s.words 0 0 ≡ raises (logs 1) + sum_by (λ a. a.raised) (column 1 s.views)
   pub small : slice_index_or s.words 0 0 < 2 ^ 63
-  pub seen : (j : ℕ) (v : View) → get_elem? s.views j ≡ some v → (v.seen ≤ slice_index_or s.words 0 0) × RaisedOk (at 1 v)
+  pub seen : (j : ℕ) (v : View) → get_elem? s.views j ≡ some v →
+    (v.seen ≤ slice_index_or s.words 0 0) × RaisedOk (at 1 v)
   pub top : ℕ
   pub views : (j : ℕ) (v : View) → get_elem? s.views j ≡ some v → ViewOk first (length s.homes) top v
   pub whole : sum_by (weight top) s.views ≡ 2 ^ top

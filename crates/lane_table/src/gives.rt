@@ -41,17 +41,22 @@ impl Lanes {
         _entry: E,
     )
         requires pass { IsPassOf self.now pass.old }
-        requires lane { (lane < count_of self.now) × ((at lane (view pass.old)).stage ≡ Holding ticket) × (ticket < 2 ^ 62) }
+        requires lane { (lane < count_of self.now) × ((at lane (view pass.old)).stage ≡ Holding ticket)
+            × (ticket < 2 ^ 62) }
         requires out { slots pass.old ≡ (lane, None) ∷ rest (slots pass.old) }
         requires visit { N.visit ≡ visit_by _who content.stamp (E.entry _entry) }
         requires above { last_stamp (view pass.old).first (known_of (view pass.old) lane) < content.stamp }
         requires later { (view pass.old).stamp < content.stamp }
         requires kind { IsOf lane (E.entry _entry) }
-        requires fits { Fits (replay (known_of (view pass.old) lane)) (handed lane (E.entry _entry) (view pass.old)) (E.entry _entry) }
+        requires fits { Fits (replay (known_of (view pass.old) lane)) (handed lane (E.entry _entry) (view pass.old))
+            (E.entry _entry) }
         requires names { MayName lane (E.entry _entry) (view pass.old) }
-        requires replays { Replays lane (view pass.old).first (known_of (view pass.old) lane ++ filled lane (visit_by _who content.stamp (E.entry _entry)) (view pass.old) ∷ []) content }
+        requires replays { Replays lane (view pass.old).first
+            (known_of (view pass.old) lane ++ filled lane (visit_by _who content.stamp (E.entry _entry))
+            (view pass.old) ∷ []) content }
         ensures pass { IsSamePass self.now pass.old pass.new }
-        ensures seat { pass.new.seat.me ≡ (after lane (filled lane (visit_by _who content.stamp (E.entry _entry)) (view pass.old)) (view pass.old), rest (slots pass.old)) }
+        ensures seat { pass.new.seat.me ≡ (after lane (filled lane (visit_by _who content.stamp (E.entry _entry))
+            (view pass.old)) (view pass.old), rest (slots pass.old)) }
         ensures consistent { Consistent (view pass.new) }
     {
         let stamp = content.stamp;
@@ -73,7 +78,8 @@ impl Lanes {
         ensures lane { index_of result.lane ≡ held.turn.lane }
         ensures place { result.place ≡ held.turn.place }
         ensures stamp { result.stamp ≡ max pass.old.stamp held.turn.stamp + 1 }
-        ensures added { Added held.turn.lane (filled held.turn.lane (visit_by who result.stamp (E.entry entry)) (view pass.old)) pass.old.seat.me pass.new.seat.me }
+        ensures added { Added held.turn.lane (filled held.turn.lane (visit_by who result.stamp (E.entry entry))
+            (view pass.old)) pass.old.seat.me pass.new.seat.me }
     {
         let Held { turn, state } = held;
         let Turn {

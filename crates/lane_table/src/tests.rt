@@ -40,8 +40,10 @@ fn forked(lanes: &Lanes, pass: &mut Pass) -> Pass
     requires has { Has lanes.now 0 [] pass.old }
     ensures has { Has lanes.now 0 [] pass.new }
     ensures child { Has lanes.now 1 [] result }
-    ensures share { ((view pass.new).share ≡ (view pass.old).share) × ((view pass.new).halvings ≡ (view pass.old).halvings + 1) }
-    ensures shares { ((view result).share ≡ (view pass.old).share) × ((view result).halvings ≡ (view pass.old).halvings + 1) }
+    ensures share { ((view pass.new).share ≡ (view pass.old).share)
+        × ((view pass.new).halvings ≡ (view pass.old).halvings + 1) }
+    ensures shares { ((view result).share ≡ (view pass.old).share)
+        × ((view result).halvings ≡ (view pass.old).halvings + 1) }
     ensures stamp { pass.new.stamp ≡ pass.old.stamp }
 {
     lanes.split(pass, 1)
@@ -61,7 +63,8 @@ fn place_of(lanes: &Lanes, pass: &mut Pass, lane: LaneId) -> Result<u64, TakeFau
     requires has { Has lanes.now 1 [] pass.old }
     requires lane { index_of lane < count_of lanes.now }
     ensures has { Has lanes.now 1 [] pass.new }
-    ensures share { ((view pass.new).share ≡ (view pass.old).share) × ((view pass.new).halvings ≡ (view pass.old).halvings) }
+    ensures share { ((view pass.new).share ≡ (view pass.old).share)
+        × ((view pass.new).halvings ≡ (view pass.old).halvings) }
 {
     match lanes.try_take(pass, lane) {
         Err(fault) => Err(fault),
@@ -85,8 +88,10 @@ fn beside<R: Wait>(
     requires cpus { lanes.now.cpus ≡ 2 }
     ensures has { Has lanes.now 0 [] pass.new }
     ensures other { Has lanes.now 1 [] other.new }
-    ensures share { ((view pass.new).share ≡ (view pass.old).share) × ((view pass.new).halvings ≡ (view pass.old).halvings) }
-    ensures shares { ((view other.new).share ≡ (view other.old).share) × ((view other.new).halvings ≡ (view other.old).halvings) }
+    ensures share { ((view pass.new).share ≡ (view pass.old).share)
+        × ((view pass.new).halvings ≡ (view pass.old).halvings) }
+    ensures shares { ((view other.new).share ≡ (view other.old).share)
+        × ((view other.new).halvings ≡ (view other.old).halvings) }
 {
     let held = lanes.take(rt, pass, LaneId::Cpu(0));
     let same = place_of(lanes, other, LaneId::Cpu(0));
@@ -99,7 +104,8 @@ fn beside<R: Wait>(
 fn mix(held: &mut Held)
     requires { (i : ℕ) × (s : Model) × (2 ≤ i) × ValueStands i held.old.state s }
     ensures turn { held.new.turn ≡ held.old.turn }
-    ensures made { (i : ℕ) (s : Model) (got : Handed) → 2 ≤ i → ValueStands i held.old.state s → ValueStands i held.new.state (made_of s (Cpu (Irq 1 2 0)) got) }
+    ensures made { (i : ℕ) (s : Model) (got : Handed) → 2 ≤ i → ValueStands i held.old.state s
+        → ValueStands i held.new.state (made_of s (Cpu (Irq 1 2 0)) got) }
 {
     match held.state_mut() {
         LaneState::Cpu(lane) => {
@@ -113,7 +119,8 @@ fn mix(held: &mut Held)
 fn irq<R: Wait>(rt: &R, lanes: &Lanes, pass: &mut Pass, caller: u32, event: u32)
     requires has { Has lanes.now caller [] pass.old }
     ensures has { Has lanes.now caller [] pass.new }
-    ensures share { ((view pass.new).share ≡ (view pass.old).share) × ((view pass.new).halvings ≡ (view pass.old).halvings) }
+    ensures share { ((view pass.new).share ≡ (view pass.old).share)
+        × ((view pass.new).halvings ≡ (view pass.old).halvings) }
 {
     if pass.stamp() >= NEVER {
         wait_for_ever(rt);

@@ -68,7 +68,8 @@ impl Lanes {
     // Gives back a lane whose value was not touched.
     pub(crate) fn leave(&self, pass: &mut Pass, lane: usize, ticket: u64, content: Content)
         requires pass { IsPassOf self.now pass.old }
-        requires lane { (lane < count_of self.now) × ((at lane (view pass.old)).stage ≡ Holding ticket) × (ticket < 2 ^ 62) }
+        requires lane { (lane < count_of self.now) × ((at lane (view pass.old)).stage ≡ Holding ticket)
+            × (ticket < 2 ^ 62) }
         requires out { slots pass.old ≡ (lane, None) ∷ rest (slots pass.old) }
         requires free { OwesNothing lane (view pass.old) }
         requires replays { Replays lane (view pass.old).first (known_of (view pass.old) lane) content }

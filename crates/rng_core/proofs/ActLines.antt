@@ -14,7 +14,8 @@ use Rattle.rng_core.proofs.Doing.{did_map, did_nothing}
 use Rattle.rng_core.proofs.Hosting.{none_left}
 
 -- an act without bytes shows none
-no_bytes : (result : Result (Unit {0}) Errno) (out : List ℕ) → length out ≡ 0 → bytes_or_none (given result out) ≡ no_data
+no_bytes : (result : Result (Unit {0}) Errno) (out : List ℕ) → length out ≡ 0 →
+    bytes_or_none (given result out) ≡ no_data
 no_bytes (Ok x) out none = ap bytes_or_none (none_left out none)
 no_bytes (Err errno) out none = refl
 
@@ -27,9 +28,11 @@ pub read_done : (set : Setting) (n len : ℕ) (result : Result (Unit {0}) Errno)
     Did (Fulfils (setting_of set) (Read len 0) (result_answer result) (bytes_or_none (given result out))) set l m →
     Did (λ deeds. ActMeans (setting_of set) (Vread n) (done_line deeds result out)) set l m
 read_done set n len result out l m same k = did_map set l m (λ deeds h. (h.form, h.answers, h.shows))
-    (subst (λ (z : ℕ). Did (Fulfils (setting_of set) (Read z 0) (result_answer result) (bytes_or_none (given result out))) set l m) same k)
+    (subst (λ (z : ℕ). Did (Fulfils (setting_of set) (Read z 0) (result_answer result)
+      (bytes_or_none (given result out))) set l m) same k)
 
 pub reseed_done : (set : Setting) (result : Result (Unit {0}) Errno) (out : List ℕ) (l m : Moment) → length out ≡ 0 →
     Did (Fulfils (setting_of set) ReseedEvent (result_answer result) no_data) set l m →
     Did (λ deeds. ActMeans (setting_of set) Reseed (done_line deeds result out)) set l m
-reseed_done set result out l m none k = did_map set l m (λ deeds h. (h.form, h.answers, no_bytes result out none ∙ h.shows)) k
+reseed_done set result out l m none k = did_map set l m
+    (λ deeds h. (h.form, h.answers, no_bytes result out none ∙ h.shows)) k

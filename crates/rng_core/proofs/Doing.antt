@@ -37,28 +37,37 @@ use Rattle.rng_core.proofs.TellLemmas.{told_then, told_idly}
 use Rattle.rng_core.proofs.Finding.{found_pool, found_base, found_cpu}
 
 -- what was seen of the generation does not fall
-pub did_floor : {P : (ℕ → List Visit) → List Deed → Type 0} (set : Setting) (m n : Moment) → DidIn P set m n → floor m.view ≤ floor n.view
+pub did_floor : {P : (ℕ → List Visit) → List Deed → Type 0} (set : Setting) (m n : Moment) → DidIn P set m n →
+    floor m.view ≤ floor n.view
 did_floor set m n k = sees_up n.view (floor m.view) (floor n.view) k.deals k.told.went.sees
 
-pub did_in_map : {P Q : (ℕ → List Visit) → List Deed → Type 0} (set : Setting) (m n : Moment) → ((visits : ℕ → List Visit) (deeds : List Deed) → P visits deeds → Q visits deeds) → DidIn P set m n → DidIn Q set m n
-did_in_map set m n f k = record { deals = k.deals; told = k.told; stands = λ lanes visits callers c. f visits _ (k.stands lanes visits callers c) }
+pub did_in_map : {P Q : (ℕ → List Visit) → List Deed → Type 0} (set : Setting) (m n : Moment) →
+    ((visits : ℕ → List Visit) (deeds : List Deed) → P visits deeds → Q visits deeds) → DidIn P set m n →
+    DidIn Q set m n
+did_in_map set m n f k = record { deals = k.deals; told = k.told;
+    stands = λ lanes visits callers c. f visits _ (k.stands lanes visits callers c) }
 
-pub did_map : {P Q : List Deed → Type 0} (set : Setting) (m n : Moment) → ((deeds : List Deed) → P deeds → Q deeds) → Did P set m n → Did Q set m n
+pub did_map : {P Q : List Deed → Type 0} (set : Setting) (m n : Moment) → ((deeds : List Deed) → P deeds → Q deeds) →
+    Did P set m n → Did Q set m n
 did_map set m n f k = did_in_map set m n (λ visits. f) k
 
 -- the form alone
-pub formed : {F : List Deed → Type 0} {bytes : List ℕ} (set : Setting) (m n : Moment) → Did (Serving F bytes) set m n → Did F set m n
+pub formed : {F : List Deed → Type 0} {bytes : List ℕ} (set : Setting) (m n : Moment) → Did (Serving F bytes) set m n →
+    Did F set m n
 formed set m n k = did_map set m n (λ deeds h. h.form) k
 
-pub served_of : (set : Setting) (m n : Moment) (lane place : ℕ) (s : Model) (e : LaneEntry) (got : Handed) → Visited set m n lane place s e got → Served set m n lane place e (serving e s got)
+pub served_of : (set : Setting) (m n : Moment) (lane place : ℕ) (s : Model) (e : LaneEntry) (got : Handed) →
+    Visited set m n lane place s e got → Served set m n lane place e (serving e s got)
 served_of set m n lane place s e got x = record { model = s; got = got; visited = x; serves = refl }
 
 -- behind what no step tells
-pub did_after : {P : (ℕ → List Visit) → List Deed → Type 0} (set : Setting) (l m n : Moment) → Told set l m [] → DidIn P set m n → DidIn P set l n
+pub did_after : {P : (ℕ → List Visit) → List Deed → Type 0} (set : Setting) (l m n : Moment) → Told set l m [] →
+    DidIn P set m n → DidIn P set l n
 did_after set l m n a k = record { deals = k.deals; told = told_then set l m n [] k.deals a k.told; stands = k.stands }
 
 -- behind a look
-pub did_looked : {P : ℕ → List Deed → Type 0} (set : Setting) (l m n : Moment) (g : ℕ) → Told set l m (went.looked g ∷ []) → Did (P g) set m n → Did (forms.Looked P) set l n
+pub did_looked : {P : ℕ → List Deed → Type 0} (set : Setting) (l m n : Moment) (g : ℕ) →
+    Told set l m (went.looked g ∷ []) → Did (P g) set m n → Did (forms.Looked P) set l n
 did_looked set l m n g a k = record {
   deals = went.looked g ∷ k.deals;
   told = told_then set l m n (went.looked g ∷ []) k.deals a k.told;
@@ -69,49 +78,63 @@ served_behind_look : (g : ℕ) (deeds : List Deed) → served_bytes (looked g �
 served_behind_look g [] = refl
 served_behind_look g (d ∷ deeds) = refl
 
-pub serving_looked : {P : ℕ → List Deed → Type 0} {bytes : List ℕ} (set : Setting) (l m n : Moment) (g : ℕ) → Told set l m (went.looked g ∷ []) → Did (Serving (P g) bytes) set m n → Did (Serving (forms.Looked P) bytes) set l n
+pub serving_looked : {P : ℕ → List Deed → Type 0} {bytes : List ℕ} (set : Setting) (l m n : Moment) (g : ℕ) →
+    Told set l m (went.looked g ∷ []) → Did (Serving (P g) bytes) set m n → Did (Serving (forms.Looked P) bytes) set l n
 serving_looked set l m n g a k = record {
   deals = went.looked g ∷ k.deals;
   told = told_then set l m n (went.looked g ∷ []) k.deals a k.told;
-  stands = λ lanes visits callers c. let h = k.stands lanes visits callers c in record { form = (g, _, refl, h.form); bytes_are = h.bytes_are ∙ sym (served_behind_look g (deeds_of (book_lists lanes visits callers) (map step_of k.deals))) };
+  stands = λ lanes visits callers c. let h = k.stands lanes visits callers c in
+    record { form = (g, _, refl, h.form); bytes_are = h.bytes_are
+    ∙ sym (served_behind_look g (deeds_of (book_lists lanes visits callers) (map step_of k.deals))) };
 }
 
 -- one visit of the pool, the base or a CPU
-pub did_pool : (set : Setting) (m n : Moment) (place : ℕ) (s : Model) (e : PoolEntry) (got : Handed) → Visited set m n 0 place s (Pool e) got → Did (PoolOnly e) set m n
+pub did_pool : (set : Setting) (m n : Moment) (place : ℕ) (s : Model) (e : PoolEntry) (got : Handed) →
+    Visited set m n 0 place s (Pool e) got → Did (PoolOnly e) set m n
 did_pool set m n place s e got x = record {
   deals = visited x.mark (Pool e) ∷ [];
   told = x.told;
-  stands = λ lanes visits callers c. let f = found_pool lanes visits callers set m n place s got c e x in record { pool = f.visit; deeds_are = ap (λ (d : Deed). d ∷ []) f.deed_is; is = f.is };
+  stands = λ lanes visits callers c. let f = found_pool lanes visits callers set m n place s got c e x in
+    record { pool = f.visit; deeds_are = ap (λ (d : Deed). d ∷ []) f.deed_is; is = f.is };
 }
 
-pub did_base : (set : Setting) (m n : Moment) (place : ℕ) (e : BaseEntry) (bytes : List ℕ) → Served set m n 1 place (Base e) bytes → Did (Serving (BaseOnly e) bytes) set m n
+pub did_base : (set : Setting) (m n : Moment) (place : ℕ) (e : BaseEntry) (bytes : List ℕ) →
+    Served set m n 1 place (Base e) bytes → Did (Serving (BaseOnly e) bytes) set m n
 did_base set m n place e bytes x = record {
   deals = visited x.visited.mark (Base e) ∷ [];
   told = x.visited.told;
-  stands = λ lanes visits callers c. let f = found_base lanes visits callers set m n place x.model x.got c e x.visited in record {
+  stands = λ lanes visits callers c. let f = found_base lanes visits callers set m n place x.model x.got c e x.visited
+    in record {
     form = record { base = f.visit; deeds_are = ap (λ (d : Deed). d ∷ []) f.deed_is; is = f.is };
     bytes_are = x.serves ∙ sym f.serves ∙ ap deed_bytes (sym f.deed_is);
   };
 }
 
-pub did_cpu : (set : Setting) (m n : Moment) (cpu place : ℕ) (e : CpuEntry) (bytes : List ℕ) → IsIntOfBatch e → Served set m n (cpu + 2) place (Cpu e) bytes → Did (Serving (CpuOnly cpu e) bytes) set m n
+pub did_cpu : (set : Setting) (m n : Moment) (cpu place : ℕ) (e : CpuEntry) (bytes : List ℕ) → IsIntOfBatch e →
+    Served set m n (cpu + 2) place (Cpu e) bytes → Did (Serving (CpuOnly cpu e) bytes) set m n
 did_cpu set m n cpu place e bytes fits x = record {
   deals = visited x.visited.mark (Cpu e) ∷ [];
   told = x.visited.told;
-  stands = λ lanes visits callers c. let f = found_cpu lanes visits callers set m n place x.model x.got c cpu e x.visited fits in record {
+  stands = λ lanes visits callers c. let f = found_cpu lanes visits callers set m n place x.model x.got c cpu e
+    x.visited fits in record {
     form = record { visit = f.visit; deeds_are = ap (λ (d : Deed). d ∷ []) f.deed_is; on = f.on; is = f.is };
     bytes_are = x.serves ∙ sym f.serves ∙ ap deed_bytes (sym f.deed_is);
   };
 }
 
 -- a root, and a visit of the base that names it
-pub did_rooted : (set : Setting) (l m n : Moment) (root base : ℕ) (s : Model) (got : Handed) (entry : ℕ → BaseEntry) (bytes : List ℕ) → Visited set l m 0 root s (Pool (Extract set.hw base)) got → Served set m n 1 base (Base (entry root)) bytes
+pub did_rooted : (set : Setting) (l m n : Moment) (root base : ℕ) (s : Model) (got : Handed) (entry : ℕ → BaseEntry)
+    (bytes : List ℕ) → Visited set l m 0 root s (Pool (Extract set.hw base)) got →
+    Served set m n 1 base (Base (entry root)) bytes
     → Did (Serving (Rooted (setting_of set) entry) bytes) set l n
 did_rooted set l m n root base s got entry bytes x y = record {
   deals = visited x.mark (Pool (Extract set.hw base)) ∷ visited y.visited.mark (Base (entry root)) ∷ [];
-  told = told_then set l m n (visited x.mark (Pool (Extract set.hw base)) ∷ []) (visited y.visited.mark (Base (entry root)) ∷ []) x.told y.visited.told;
+  told = told_then set l m n (visited x.mark (Pool (Extract set.hw base)) ∷ [])
+    (visited y.visited.mark (Base (entry root)) ∷ []) x.told y.visited.told;
   stands = λ lanes visits callers c.
-      let f = found_pool lanes visits callers set l m root s got (continues_before lanes _ _ visits y.visited.told.went.same.sized y.visited.told.went.grows c) (Extract set.hw base) x in
+      let f = found_pool lanes visits callers set l m root s got
+        (continues_before lanes _ _ visits y.visited.told.went.same.sized y.visited.told.went.grows c)
+        (Extract set.hw base) x in
       let g = found_base lanes visits callers set m n base y.model y.got c (entry root) y.visited in record {
         form = record {
           pool = f.visit;
@@ -125,26 +148,38 @@ did_rooted set l m n root base s got entry bytes x y = record {
 }
 
 -- a read from a CPU, behind its look
-pub did_plain_read : (set : Setting) (l m n : Moment) (g place : ℕ) (taken : Taken) (bytes : List ℕ) → Told set l m (went.looked g ∷ []) → Served set m n (set.cpu + 2) place (Cpu (Read g None taken)) bytes
+pub did_plain_read : (set : Setting) (l m n : Moment) (g place : ℕ) (taken : Taken) (bytes : List ℕ) →
+    Told set l m (went.looked g ∷ []) → Served set m n (set.cpu + 2) place (Cpu (Read g None taken)) bytes
     → Did (Serving (PlainRead (setting_of set) taken) bytes) set l n
 did_plain_read set l m n g place taken bytes a x = record {
   deals = went.looked g ∷ visited x.visited.mark (Cpu (Read g None taken)) ∷ [];
-  told = told_then set l m n (went.looked g ∷ []) (visited x.visited.mark (Cpu (Read g None taken)) ∷ []) a x.visited.told;
-  stands = λ lanes visits callers c. let f = found_cpu lanes visits callers set m n place x.model x.got c set.cpu (Read g None taken) x.visited tt in record {
+  told = told_then set l m n (went.looked g ∷ []) (visited x.visited.mark (Cpu (Read g None taken)) ∷ []) a
+    x.visited.told;
+  stands = λ lanes visits callers c. let f = found_cpu lanes visits callers set m n place x.model x.got c set.cpu
+    (Read g None taken) x.visited tt in record {
     form = record { look = g; cpu = f.visit; deeds_are = (λ i. looked g ∷ f.deed_is i ∷ []); on = f.on; reads = f.is };
     bytes_are = x.serves ∙ sym f.serves ∙ ap deed_bytes (sym f.deed_is);
   };
 }
 
-pub did_refilled_read : (set : Setting) (k l m n : Moment) (g base place : ℕ) (s : Model) (got : Handed) (taken : Taken) (bytes : List ℕ) → Told set k l (went.looked g ∷ []) → Visited set l m 1 base s (Base (Refill set.cpu place)) got
-    → Served set m n (set.cpu + 2) place (Cpu (Read g (Some base) taken)) bytes → Did (Serving (RefilledRead (setting_of set) taken) bytes) set k n
+pub did_refilled_read : (set : Setting) (k l m n : Moment) (g base place : ℕ) (s : Model) (got : Handed)
+    (taken : Taken) (bytes : List ℕ) → Told set k l (went.looked g ∷ []) →
+    Visited set l m 1 base s (Base (Refill set.cpu place)) got
+    → Served set m n (set.cpu + 2) place (Cpu (Read g (Some base) taken)) bytes →
+      Did (Serving (RefilledRead (setting_of set) taken) bytes) set k n
 did_refilled_read set k l m n g base place s got taken bytes a x y = record {
-  deals = went.looked g ∷ visited x.mark (Base (Refill set.cpu place)) ∷ visited y.visited.mark (Cpu (Read g (Some base) taken)) ∷ [];
-  told = told_then set k l n (went.looked g ∷ []) (visited x.mark (Base (Refill set.cpu place)) ∷ visited y.visited.mark (Cpu (Read g (Some base) taken)) ∷ []) a
-      (told_then set l m n (visited x.mark (Base (Refill set.cpu place)) ∷ []) (visited y.visited.mark (Cpu (Read g (Some base) taken)) ∷ []) x.told y.visited.told);
+  deals = went.looked g ∷ visited x.mark (Base (Refill set.cpu place)) ∷ visited y.visited.mark
+    (Cpu (Read g (Some base) taken)) ∷ [];
+  told = told_then set k l n (went.looked g ∷ [])
+    (visited x.mark (Base (Refill set.cpu place)) ∷ visited y.visited.mark (Cpu (Read g (Some base) taken)) ∷ []) a
+      (told_then set l m n (visited x.mark (Base (Refill set.cpu place)) ∷ [])
+        (visited y.visited.mark (Cpu (Read g (Some base) taken)) ∷ []) x.told y.visited.told);
   stands = λ lanes visits callers c.
-      let f = found_base lanes visits callers set l m base s got (continues_before lanes _ _ visits y.visited.told.went.same.sized y.visited.told.went.grows c) (Refill set.cpu place) x in
-      let h = found_cpu lanes visits callers set m n place y.model y.got c set.cpu (Read g (Some base) taken) y.visited tt in record {
+      let f = found_base lanes visits callers set l m base s got
+        (continues_before lanes _ _ visits y.visited.told.went.same.sized y.visited.told.went.grows c)
+        (Refill set.cpu place) x in
+      let h = found_cpu lanes visits callers set m n place y.model y.got c set.cpu (Read g (Some base) taken) y.visited
+        tt in record {
         form = record {
           look = g;
           base = f.visit;
@@ -162,41 +197,51 @@ did_refilled_read set k l m n g base place s got taken bytes a x y = record {
 pub did_nothing : {P : List Deed → Type 0} (set : Setting) (m : Moment) → 1 < length m.view.lanes → P [] → Did P set m m
 did_nothing set m two p = record {
   deals = [];
-  told = told_idly set m m refl (went_idly set.caller set.event (length m.steps) m.view m.view (record { first = refl; share = refl; halvings = refl; sized = refl })
-      (λ lane low. ([], sym (append-nil (known_of m.view lane)))) refl refl refl two (omega arith) (λ lane low. record { made = refl; places = refl; heard = refl }));
+  told = told_idly set m m refl (went_idly set.caller set.event (length m.steps) m.view m.view
+    (record { first = refl; share = refl; halvings = refl; sized = refl })
+      (λ lane low. ([], sym (append-nil (known_of m.view lane)))) refl refl refl two (omega arith)
+        (λ lane low. record { made = refl; places = refl; heard = refl }));
   stands = λ lanes visits callers c. p;
 }
 
 -- a look alone
-pub did_look : (set : Setting) (l m : Moment) (g : ℕ) → Told set l m (went.looked g ∷ []) → Did (λ (deeds : List Deed). deeds ≡ looked g ∷ []) set l m
+pub did_look : (set : Setting) (l m : Moment) (g : ℕ) → Told set l m (went.looked g ∷ []) →
+    Did (λ (deeds : List Deed). deeds ≡ looked g ∷ []) set l m
 did_look set l m g a = record { deals = went.looked g ∷ []; told = a; stands = λ lanes visits callers c. refl }
 
 -- a visit of the pool that credits bits, and what they cross
-pub did_credit : (set : Setting) (l m n : Moment) (place : ℕ) (s : Model) (e : PoolEntry) (got : Handed) (crossed : Crossing) → Visited set l m 0 place s (Pool e) got → crossed ≡ crossing s.pool.bits (pool_step s.pool e).bits
+pub did_credit : (set : Setting) (l m n : Moment) (place : ℕ) (s : Model) (e : PoolEntry) (got : Handed)
+    (crossed : Crossing) → Visited set l m 0 place s (Pool e) got →
+    crossed ≡ crossing s.pool.bits (pool_step s.pool e).bits
     → Did (Cross (setting_of set) crossed) set m n → Did (CreditForm (setting_of set) e) set l n
 did_credit set l m n place s e got crossed x is k = record {
   deals = visited x.mark (Pool e) ∷ k.deals;
   told = told_then set l m n (visited x.mark (Pool e) ∷ []) k.deals x.told k.told;
   stands = λ lanes visits callers c.
-      let f = found_pool lanes visits callers set l m place s got (continues_before lanes _ _ visits k.told.went.same.sized k.told.went.grows c) e x in
+      let f = found_pool lanes visits callers set l m place s got
+        (continues_before lanes _ _ visits k.told.went.same.sized k.told.went.grows c) e x in
       let rest = deeds_of (book_lists lanes visits callers) (map step_of k.deals) in record {
         pool = f.visit;
         rest = rest;
         deeds_are = ap (λ (d : Deed). d ∷ rest) f.deed_is;
         credits = f.is;
-        crosses = subst (λ (z : Crossing). Cross (setting_of set) z rest) (is ∙ (λ i. crossing (sym f.before i).bits (sym f.after i).bits)) (k.stands lanes visits callers c);
+        crosses = subst (λ (z : Crossing). Cross (setting_of set) z rest)
+          (is ∙ (λ i. crossing (sym f.before i).bits (sym f.after i).bits)) (k.stands lanes visits callers c);
       };
 }
 
 -- the bits that a visit reads
-pub did_bits : (set : Setting) (m n : Moment) (place b : ℕ) (s : Model) (got : Handed) → Visited set m n 0 place s (Pool Bits) got → b ≡ s.pool.bits → Did (Fulfils (setting_of set) BitsEvent Done (count b)) set m n
+pub did_bits : (set : Setting) (m n : Moment) (place b : ℕ) (s : Model) (got : Handed) →
+    Visited set m n 0 place s (Pool Bits) got → b ≡ s.pool.bits →
+    Did (Fulfils (setting_of set) BitsEvent Done (count b)) set m n
 did_bits set m n place b s got x is = record {
   deals = visited x.mark (Pool Bits) ∷ [];
   told = x.told;
   stands = λ lanes visits callers c. let f = found_pool lanes visits callers set m n place s got c Bits x in record {
     form = record { pool = f.visit; deeds_are = ap (λ (d : Deed). d ∷ []) f.deed_is; is = f.is };
     answers = refl;
-    shows = ap count (is ∙ ap (λ (z : PoolState). z.bits) (sym f.before)) ∙ ap (λ (d : Deed). bits_read (d ∷ [])) (sym f.deed_is);
+    shows = ap count (is ∙ ap (λ (z : PoolState). z.bits) (sym f.before))
+      ∙ ap (λ (d : Deed). bits_read (d ∷ [])) (sym f.deed_is);
   };
 }
 
@@ -208,10 +253,13 @@ pub record After (P Q : List Deed → Type 0) (deeds : List Deed) : Type 0 where
   pub before : P first
   pub behind : Q rest
 
-pub deeds_then : (book : Lists) (xs ys : List Deal) → deeds_of book (map step_of (xs ++ ys)) ≡ deeds_of book (map step_of xs) ++ deeds_of book (map step_of ys)
-deeds_then book xs ys = ap (deeds_of book) (map-append step_of xs ys) ∙ map-append (deed_of book) (map step_of xs) (map step_of ys)
+pub deeds_then : (book : Lists) (xs ys : List Deal) →
+    deeds_of book (map step_of (xs ++ ys)) ≡ deeds_of book (map step_of xs) ++ deeds_of book (map step_of ys)
+deeds_then book xs ys = ap (deeds_of book) (map-append step_of xs ys)
+    ∙ map-append (deed_of book) (map step_of xs) (map step_of ys)
 
-pub did_in_then : {P Q : (ℕ → List Visit) → List Deed → Type 0} (set : Setting) (l m n : Moment) → DidIn P set l m → DidIn Q set m n → DidIn (λ visits. After (P visits) (Q visits)) set l n
+pub did_in_then : {P Q : (ℕ → List Visit) → List Deed → Type 0} (set : Setting) (l m n : Moment) → DidIn P set l m →
+    DidIn Q set m n → DidIn (λ visits. After (P visits) (Q visits)) set l n
 did_in_then set l m n a b = record {
   deals = a.deals ++ b.deals;
   told = told_then set l m n a.deals b.deals a.told b.told;
@@ -219,12 +267,14 @@ did_in_then set l m n a b = record {
     first = deeds_of book (map step_of a.deals);
     rest = deeds_of book (map step_of b.deals);
     deeds_are = deeds_then book a.deals b.deals;
-    before = a.stands lanes visits callers (continues_before lanes _ _ visits b.told.went.same.sized b.told.went.grows c);
+    before = a.stands lanes visits callers (continues_before lanes _ _ visits b.told.went.same.sized b.told.went.grows
+      c);
     behind = b.stands lanes visits callers c;
   };
 }
 
-pub did_then : {P Q : List Deed → Type 0} (set : Setting) (l m n : Moment) → Did P set l m → Did Q set m n → Did (After P Q) set l n
+pub did_then : {P Q : List Deed → Type 0} (set : Setting) (l m n : Moment) → Did P set l m → Did Q set m n →
+    Did (After P Q) set l n
 did_then set l m n a b = did_in_then set l m n a b
 
 -- behind a look that found g
@@ -233,9 +283,11 @@ pub record Behind (g : ℕ) (P : List Deed → Type 0) (deeds : List Deed) : Typ
   pub deeds_are : deeds ≡ looked g ∷ rest
   pub holds : P rest
 
-pub did_behind : {P : List Deed → Type 0} (set : Setting) (l m n : Moment) (g : ℕ) → Told set l m (went.looked g ∷ []) → Did P set m n → Did (Behind g P) set l n
+pub did_behind : {P : List Deed → Type 0} (set : Setting) (l m n : Moment) (g : ℕ) →
+    Told set l m (went.looked g ∷ []) → Did P set m n → Did (Behind g P) set l n
 did_behind set l m n g a k = record {
   deals = went.looked g ∷ k.deals;
   told = told_then set l m n (went.looked g ∷ []) k.deals a k.told;
-  stands = λ lanes visits callers c. record { rest = deeds_of (book_lists lanes visits callers) (map step_of k.deals); deeds_are = refl; holds = k.stands lanes visits callers c };
+  stands = λ lanes visits callers c. record { rest = deeds_of (book_lists lanes visits callers) (map step_of k.deals);
+    deeds_are = refl; holds = k.stands lanes visits callers c };
 }

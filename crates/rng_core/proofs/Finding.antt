@@ -55,14 +55,19 @@ record InList (xs : List Visit) (place : ℕ) (s : Model) (e : LaneEntry) (got :
   pub was_handed : visit.got ≡ got
   pub before : replay (take place xs) ≡ s
 
-in_list : (lanes : ℕ) (v : View) (visits : ℕ → List Visit) (mark : Mark) (lane : ℕ) (s : Model) (e : LaneEntry) (got : Handed) → index_of mark.lane ≡ lane → Met v mark s e got → Continues lanes v visits → InList (visits lane) mark.place s e got
+in_list : (lanes : ℕ) (v : View) (visits : ℕ → List Visit) (mark : Mark) (lane : ℕ) (s : Model) (e : LaneEntry)
+    (got : Handed) → index_of mark.lane ≡ lane → Met v mark s e got → Continues lanes v visits →
+    InList (visits lane) mark.place s e got
 in_list lanes v visits mark lane s e got on m k = subst (λ (l : ℕ). InList (visits l) mark.place s e got) on (
-    let l : ℕ = index_of mark.lane in let b = k.begins l (let n = m.near in let f = k.long in omega arith) in let low = at_below (known_of v l) mark.place m.visit m.there in record {
+    let l : ℕ = index_of mark.lane in let b = k.begins l (let n = m.near in let f = k.long in omega arith) in let low =
+      at_below (known_of v l) mark.place m.visit m.there in record {
       visit = m.visit;
-      there = ap (λ (xs : List Visit). slice_get xs mark.place) b.1 ∙ stands_at (known_of v l ++ b.0) mark.place m.visit (at_longer (known_of v l) b.0 mark.place m.visit m.there);
+      there = ap (λ (xs : List Visit). slice_get xs mark.place) b.1
+        ∙ stands_at (known_of v l ++ b.0) mark.place m.visit (at_longer (known_of v l) b.0 mark.place m.visit m.there);
       is = m.is;
       was_handed = m.was_handed;
-      before = ap (λ (xs : List Visit). replay (take mark.place xs)) b.1 ∙ ap replay (take-append-le mark.place (known_of v l) b.0 (omega arith)) ∙ m.before;
+      before = ap (λ (xs : List Visit). replay (take mark.place xs)) b.1
+        ∙ ap replay (take-append-le mark.place (known_of v l) b.0 (omega arith)) ∙ m.before;
     })
 
 pub record FoundPool (deed : Deed) (place : ℕ) (s : PoolState) (e : PoolEntry) : Type 0 where
@@ -80,7 +85,8 @@ pub record FoundBase (deed : Deed) (place : ℕ) (s : Model) (e : BaseEntry) (go
   pub is : visit.entry ≡ e
   pub serves : visit.serves ≡ base_serving s.base got e
 
-pub record FoundCpu (visits : ℕ → List Visit) (deed : Deed) (c place : ℕ) (s : Model) (e : CpuEntry) (got : Handed) : Type 0 where
+pub record FoundCpu (visits : ℕ → List Visit) (deed : Deed) (c place : ℕ) (s : Model) (e : CpuEntry)
+    (got : Handed) : Type 0 where
   pub visit : CpuVisit
   pub deed_is : deed ≡ at_cpu visit
   pub on : visit.cpu ≡ c
@@ -89,12 +95,15 @@ pub record FoundCpu (visits : ℕ → List Visit) (deed : Deed) (c place : ℕ) 
   pub is : visit.entry ≡ e
   pub serves : visit.serves ≡ cpu_serving s.cpu got e
 
-module _ (lanes : ℕ) (visits : ℕ → List Visit) (callers : List (List (List VEntry))) (set : Setting) (m n : Moment) (place : ℕ) (s : Model) (got : Handed) (k : Continues lanes n.view visits) where
+module _ (lanes : ℕ) (visits : ℕ → List Visit) (callers : List (List (List VEntry))) (set : Setting) (m n : Moment)
+    (place : ℕ) (s : Model) (got : Handed) (k : Continues lanes n.view visits) where
   abbrev book : Lists
   book = book_lists lanes visits callers
 
-  pub found_pool : (e : PoolEntry) (x : Visited set m n 0 place s (Pool e) got) → FoundPool (deed_of book (Marked x.mark)) place s.pool e
-  found_pool e x = let h = in_list lanes n.view visits x.mark 0 s (Pool e) got x.lane_is x.met k in let d = pool_deed lanes visits callers k.closed x.mark.place h.visit e h.there h.is in record {
+  pub found_pool : (e : PoolEntry) (x : Visited set m n 0 place s (Pool e) got) →
+    FoundPool (deed_of book (Marked x.mark)) place s.pool e
+  found_pool e x = let h = in_list lanes n.view visits x.mark 0 s (Pool e) got x.lane_is x.met k in let d =
+    pool_deed lanes visits callers k.closed x.mark.place h.visit e h.there h.is in record {
     visit = pool_visit book x.mark.place e;
     deed_is = ap (λ (l : LaneId). deed_at book l x.mark.place) (lane_pool x.mark.lane x.lane_is) ∙ d.deed;
     at = x.place_is;
@@ -103,8 +112,10 @@ module _ (lanes : ℕ) (visits : ℕ → List Visit) (callers : List (List (List
     after = d.after ∙ ap (λ (z : Model). pool_step z.pool e) h.before;
   }
 
-  pub found_base : (e : BaseEntry) (x : Visited set m n 1 place s (Base e) got) → FoundBase (deed_of book (Marked x.mark)) place s e got
-  found_base e x = let h = in_list lanes n.view visits x.mark 1 s (Base e) got x.lane_is x.met k in let d = base_deed lanes visits callers k.closed x.mark.place h.visit e h.there h.is in record {
+  pub found_base : (e : BaseEntry) (x : Visited set m n 1 place s (Base e) got) →
+    FoundBase (deed_of book (Marked x.mark)) place s e got
+  found_base e x = let h = in_list lanes n.view visits x.mark 1 s (Base e) got x.lane_is x.met k in let d =
+    base_deed lanes visits callers k.closed x.mark.place h.visit e h.there h.is in record {
     visit = base_visit book x.mark.place e;
     deed_is = ap (λ (l : LaneId). deed_at book l x.mark.place) (lane_base x.mark.lane x.lane_is) ∙ d.deed;
     at = x.place_is;
@@ -112,9 +123,11 @@ module _ (lanes : ℕ) (visits : ℕ → List Visit) (callers : List (List (List
     serves = d.serves ∙ (λ i. base_serving (h.before i).base (h.was_handed i) e);
   }
 
-  pub found_cpu : (c : ℕ) (e : CpuEntry) (x : Visited set m n (c + 2) place s (Cpu e) got) → IsIntOfBatch e → FoundCpu visits (deed_of book (Marked x.mark)) c place s e got
+  pub found_cpu : (c : ℕ) (e : CpuEntry) (x : Visited set m n (c + 2) place s (Cpu e) got) → IsIntOfBatch e →
+    FoundCpu visits (deed_of book (Marked x.mark)) c place s e got
   found_cpu c e x fits = let h = in_list lanes n.view visits x.mark (c + 2) s (Cpu e) got x.lane_is x.met k in
-      let d = cpu_deed lanes visits callers k.closed c x.mark.place h.visit e (let a = x.met.near in let b = x.lane_is in let f = k.long in omega arith) h.there h.is fits in record {
+      let d = cpu_deed lanes visits callers k.closed c x.mark.place h.visit e
+        (let a = x.met.near in let b = x.lane_is in let f = k.long in omega arith) h.there h.is fits in record {
         visit = cpu_visit book c x.mark.place e;
         deed_is = ap (λ (l : LaneId). deed_at book l x.mark.place) (lane_cpu x.mark.lane c x.lane_is) ∙ d.deed;
         on = refl;

@@ -16,33 +16,46 @@ use Rattle.rng_core.specs.Did.{Fulfils, Serving}
 match_some : (P Q : Type 0) (n : ℕ) → 0 < n → Q → MatchBool (n == 0) P Q
 match_some P Q n h q = subst (λ (b : Bool). MatchBool b P Q) (sym (ne_eqb n 0 (λ e. omega arith))) q
 
-pub kernel_none : (set : Setting) (buf : List ℕ) → length buf ≡ 0 → Fulfils set (Kread (length buf)) Done (bytes_or_none buf) []
+pub kernel_none : (set : Setting) (buf : List ℕ) → length buf ≡ 0 →
+    Fulfils set (Kread (length buf)) Done (bytes_or_none buf) []
 kernel_none set [] e = record { form = refl; answers = refl; shows = refl }
 kernel_none set (b ∷ bs) e = absurd (omega arith)
 
-pub user_none : (set : Setting) (buf : List ℕ) → length buf ≡ 0 → Fulfils set (Uread (length buf)) Done (bytes_or_none buf) []
+pub user_none : (set : Setting) (buf : List ℕ) → length buf ≡ 0 →
+    Fulfils set (Uread (length buf)) Done (bytes_or_none buf) []
 user_none set [] e = record { form = refl; answers = refl; shows = refl }
 user_none set (b ∷ bs) e = absurd (omega arith)
 
-pub kernel_some : (set : Setting) (n m : ℕ) (bytes : List ℕ) (deeds : List Deed) → m ≡ n → 0 < n → Serving (Looked (ReadForm set (Kernel m))) bytes deeds → Fulfils set (Kread n) Done (bytes_or_none bytes) deeds
-kernel_some set n m bytes deeds e some h = record { form = match_some _ _ n some (subst (λ (k : ℕ). Looked (ReadForm set (Kernel k)) deeds) e h.form); answers = refl; shows = ap bytes_or_none h.bytes_are }
+pub kernel_some : (set : Setting) (n m : ℕ) (bytes : List ℕ) (deeds : List Deed) → m ≡ n → 0 < n →
+    Serving (Looked (ReadForm set (Kernel m))) bytes deeds → Fulfils set (Kread n) Done (bytes_or_none bytes) deeds
+kernel_some set n m bytes deeds e some h = record { form = match_some _ _ n some
+    (subst (λ (k : ℕ). Looked (ReadForm set (Kernel k)) deeds) e h.form); answers = refl;
+    shows = ap bytes_or_none h.bytes_are }
 
-pub user_some : (set : Setting) (n m : ℕ) (bytes : List ℕ) (deeds : List Deed) → m ≡ n → 0 < n → Serving (Looked (ReadForm set (User m))) bytes deeds → Fulfils set (Uread n) Done (bytes_or_none bytes) deeds
-user_some set n m bytes deeds e some h = record { form = match_some _ _ n some (subst (λ (k : ℕ). Looked (ReadForm set (User k)) deeds) e h.form); answers = refl; shows = ap bytes_or_none h.bytes_are }
+pub user_some : (set : Setting) (n m : ℕ) (bytes : List ℕ) (deeds : List Deed) → m ≡ n → 0 < n →
+    Serving (Looked (ReadForm set (User m))) bytes deeds → Fulfils set (Uread n) Done (bytes_or_none bytes) deeds
+user_some set n m bytes deeds e some h = record { form = match_some _ _ n some
+    (subst (λ (k : ℕ). Looked (ReadForm set (User k)) deeds) e h.form); answers = refl;
+    shows = ap bytes_or_none h.bytes_are }
 
-pub reseed_unready : (set : Setting) (g : ℕ) (deeds : List Deed) → g ≡ 0 → deeds ≡ looked g ∷ [] → Fulfils set Reseed NoData no_data deeds
-reseed_unready set zero deeds z e = record { form = (zero, [], e, inl (refl, refl)); answers = ap (answer_of Reseed) (sym e); shows = refl }
+pub reseed_unready : (set : Setting) (g : ℕ) (deeds : List Deed) → g ≡ 0 → deeds ≡ looked g ∷ [] →
+    Fulfils set Reseed NoData no_data deeds
+reseed_unready set zero deeds z e = record { form = (zero, [], e, inl (refl, refl));
+    answers = ap (answer_of Reseed) (sym e); shows = refl }
 reseed_unready set (suc g) deeds z e = absurd (omega arith)
 
-pub reseed_ready : (set : Setting) (g : ℕ) (deeds rest : List Deed) → 1 ≤ g → deeds ≡ looked g ∷ rest → Rooted set (λ (r : ℕ). Reseeded r set.now) rest → Fulfils set Reseed Done no_data deeds
+pub reseed_ready : (set : Setting) (g : ℕ) (deeds rest : List Deed) → 1 ≤ g → deeds ≡ looked g ∷ rest →
+    Rooted set (λ (r : ℕ). Reseeded r set.now) rest → Fulfils set Reseed Done no_data deeds
 reseed_ready set g deeds rest one e h = record {
   form = (g, rest, e, inr (one, h));
   answers = ap (λ (b : Bool). cond b NoData Done) (sym (ne_eqb g 0 (λ z. omega arith))) ∙ ap (answer_of Reseed) (sym e);
   shows = refl;
 }
 
-pub tick_idle : (set : Setting) (deeds : List Deed) → BaseOnly (Ticked set.now None) deeds → Fulfils set Tick Idle no_data deeds
+pub tick_idle : (set : Setting) (deeds : List Deed) → BaseOnly (Ticked set.now None) deeds →
+    Fulfils set Tick Idle no_data deeds
 tick_idle set deeds h = record { form = inl h; answers = ap (answer_of Tick) (sym h.deeds_are); shows = refl }
 
-pub tick_fired : (set : Setting) (deeds : List Deed) → Rooted set (λ (r : ℕ). Ticked set.now (Some r)) deeds → Fulfils set Tick Fired no_data deeds
+pub tick_fired : (set : Setting) (deeds : List Deed) → Rooted set (λ (r : ℕ). Ticked set.now (Some r)) deeds →
+    Fulfils set Tick Fired no_data deeds
 tick_fired set deeds h = record { form = inr h; answers = ap (answer_of Tick) (sym h.deeds_are); shows = refl }

@@ -85,41 +85,56 @@ visit_of (deal ∷ []) = place_in deal
 visit_of (deal ∷ next ∷ deals) = visit_of (next ∷ deals)
 
 -- it is that of the deeds, in all lists that go on
-module _ (lanes : ℕ) (v : View) (visits : ℕ → List Visit) (callers : List (List (List VEntry))) (k : Continues lanes v visits) where
+module _ (lanes : ℕ) (v : View) (visits : ℕ → List Visit) (callers : List (List (List VEntry)))
+    (k : Continues lanes v visits) where
   abbrev book : Lists
   book = book_lists lanes visits callers
 
-  no_place : {E : Type 0} (deed : E → Deed) → ((e : E) → place_of (deed e) ≡ None) → (o : Option E) → place_of (deed_or deed o) ≡ None
+  no_place : {E : Type 0} (deed : E → Deed) → ((e : E) → place_of (deed e) ≡ None) → (o : Option E) →
+    place_of (deed_or deed o) ≡ None
   no_place deed none None = refl
   no_place deed none (Some e) = none e
 
-  some_place : {E : Type 0} (deed : E → Deed) (place : CpuPlace) → ((e : E) → place_of (deed e) ≡ Some place) → (o : Option E) (e : E) → o ≡ Some e → place_of (deed_or deed o) ≡ Some place
+  some_place : {E : Type 0} (deed : E → Deed) (place : CpuPlace) → ((e : E) → place_of (deed e) ≡ Some place) →
+    (o : Option E) (e : E) → o ≡ Some e → place_of (deed_or deed o) ≡ Some place
   some_place deed place is None e there = absurd (cc there)
   some_place deed place is (Some x) e there = is x
 
-  cpu_there : (c place : ℕ) (visit : Visit) → c + 2 < length v.lanes → slice_get (known_of v (c + 2)) place ≡ Some visit → slice_get (visits (c + 2)) place ≡ Some visit → place_of (deed_at book (CpuLaneId c) place) ≡ Some (record { cpu = c; place = place })
+  cpu_there : (c place : ℕ) (visit : Visit) → c + 2 < length v.lanes →
+    slice_get (known_of v (c + 2)) place ≡ Some visit → slice_get (visits (c + 2)) place ≡ Some visit →
+    place_of (deed_at book (CpuLaneId c) place) ≡ Some (record { cpu = c; place = place })
   cpu_there c place visit near known there =
-      let lane : CpuLane lanes c book (visits (c + 2)) = cpu_lane_of lanes visits callers k.closed c (let f = k.long in omega arith) in
+      let lane : CpuLane lanes c book (visits (c + 2)) =
+        cpu_lane_of lanes visits callers k.closed c (let f = k.long in omega arith) in
       let at = lane_at (cpu_kind c) lanes (visits (c + 2)) lane.lawful place visit there in
-      some_place (λ e. at_cpu (cpu_visit book c place e)) (record { cpu = c; place = place }) (λ e. refl) (slice_get (cpu_list book c) place) at.entry (ap (λ es. slice_get es place) lane.listed ∙ at.stands)
+      some_place (λ e. at_cpu (cpu_visit book c place e)) (record { cpu = c; place = place }) (λ e. refl)
+        (slice_get (cpu_list book c) place) at.entry (ap (λ es. slice_get es place) lane.listed ∙ at.stands)
 
-  mark_place : (l : LaneId) (place : ℕ) (visit : Visit) → index_of l < length v.lanes → get_elem? (known_of v (index_of l)) place ≡ some visit → place_of (deed_at book l place) ≡ cpu_place l place
-  mark_place PoolLane place visit near there = no_place (λ e. at_pool (pool_visit book place e)) (λ e. refl) (slice_get book.pool place)
-  mark_place BaseLane place visit near there = no_place (λ e. at_base (base_visit book place e)) (λ e. refl) (slice_get book.base place)
+  mark_place : (l : LaneId) (place : ℕ) (visit : Visit) → index_of l < length v.lanes →
+    get_elem? (known_of v (index_of l)) place ≡ some visit → place_of (deed_at book l place) ≡ cpu_place l place
+  mark_place PoolLane place visit near there = no_place (λ e. at_pool (pool_visit book place e)) (λ e. refl)
+    (slice_get book.pool place)
+  mark_place BaseLane place visit near there = no_place (λ e. at_base (base_visit book place e)) (λ e. refl)
+    (slice_get book.base place)
   mark_place (CpuLaneId c) place visit near there =
       let b = k.begins (c + 2) (let f = k.long in omega arith) in
       cpu_there c place visit near (stands_at (known_of v (c + 2)) place visit there)
-      (ap (λ (xs : List Visit). slice_get xs place) b.1 ∙ stands_at (known_of v (c + 2) ++ b.0) place visit (at_longer (known_of v (c + 2)) b.0 place visit there))
+      (ap (λ (xs : List Visit). slice_get xs place) b.1
+        ∙ stands_at (known_of v (c + 2) ++ b.0) place visit (at_longer (known_of v (c + 2)) b.0 place visit there))
 
-  deal_place : (caller event n : ℕ) (deal : Deal) → AllStand v caller event n (deal ∷ []) → place_of (deed_of book (step_of deal)) ≡ place_in deal
+  deal_place : (caller event n : ℕ) (deal : Deal) → AllStand v caller event n (deal ∷ []) →
+    place_of (deed_of book (step_of deal)) ≡ place_in deal
   deal_place caller event n (looked g) stand = refl
-  deal_place caller event n (visited mark e) stand = mark_place mark.lane mark.place stand.0.visit stand.0.near stand.0.there
+  deal_place caller event n (visited mark e) stand =
+    mark_place mark.lane mark.place stand.0.visit stand.0.near stand.0.there
 
-  pub last_found : (caller event n : ℕ) (deals : List Deal) → AllStand v caller event n deals → last_place (deeds_of book (map step_of deals)) ≡ visit_of deals
+  pub last_found : (caller event n : ℕ) (deals : List Deal) → AllStand v caller event n deals →
+    last_place (deeds_of book (map step_of deals)) ≡ visit_of deals
   last_found caller event n [] stand = refl
   last_found caller event n (deal ∷ []) stand = deal_place caller event n deal stand
   last_found caller event n (looked g ∷ next ∷ deals) stand = last_found caller event (suc n) (next ∷ deals) stand
-  last_found caller event n (visited mark e ∷ next ∷ deals) stand = last_found caller event (suc n) (next ∷ deals) stand.1
+  last_found caller event n (visited mark e ∷ next ∷ deals) stand =
+    last_found caller event (suc n) (next ∷ deals) stand.1
 
 shown_bytes : (xs : List ℕ) → bytes_of (bytes_or_none xs) ≡ xs
 shown_bytes [] = refl
@@ -133,7 +148,8 @@ abbrev pub answer_by : Result (Unit {0}) Errno → List ℕ → Option CpuPlace 
 answer_by (Ok x) bytes visit = read bytes visit
 answer_by (Err errno) bytes visit = failed errno
 
-pub is_answer : (result : Result (Unit {0}) Errno) (bytes : List ℕ) (visit : Option CpuPlace) → IsAnswer (answer_by result bytes visit) result bytes
+pub is_answer : (result : Result (Unit {0}) Errno) (bytes : List ℕ) (visit : Option CpuPlace) →
+    IsAnswer (answer_by result bytes visit) result bytes
 is_answer (Ok x) bytes visit = (refl, refl)
 is_answer (Err errno) bytes visit = refl
 
@@ -143,23 +159,35 @@ errno_is Again = refl
 errno_is Invalid = refl
 errno_is Interrupted = refl
 
-answered_behind : (flags : ℕ) (result : Result (Unit {0}) Errno) (bytes : List ℕ) (visit : Option CpuPlace) (deeds : List Deed) → result_answer result ≡ system_answer flags deeds → bytes_or_none (given result bytes) ≡ bytes_or_none (served_bytes deeds) → visit ≡ last_place deeds
+answered_behind : (flags : ℕ) (result : Result (Unit {0}) Errno) (bytes : List ℕ) (visit : Option CpuPlace)
+    (deeds : List Deed) → result_answer result ≡ system_answer flags deeds →
+    bytes_or_none (given result bytes) ≡ bytes_or_none (served_bytes deeds) → visit ≡ last_place deeds
     → answer_by result bytes visit ≡ answer_behind flags deeds
-answered_behind flags (Ok x) bytes visit deeds a s v = (λ i. read (same_bytes bytes (served_bytes deeds) s i) (v i)) ∙ ap (λ (w : Answer). answer_with (errno_of w) deeds) a
-answered_behind flags (Err errno) bytes visit deeds a s v = ap (λ (o : Option Errno). answer_with o deeds) (sym (errno_is errno)) ∙ ap (λ (w : Answer). answer_with (errno_of w) deeds) a
+answered_behind flags (Ok x) bytes visit deeds a s v =
+    (λ i. read (same_bytes bytes (served_bytes deeds) s i) (v i))
+    ∙ ap (λ (w : Answer). answer_with (errno_of w) deeds) a
+answered_behind flags (Err errno) bytes visit deeds a s v =
+    ap (λ (o : Option Errno). answer_with o deeds) (sym (errno_is errno))
+    ∙ ap (λ (w : Answer). answer_with (errno_of w) deeds) a
 
 -- a read that was made is a system call with its answer
-pub system_called : (set : Setting) (n flags : ℕ) (result : Result (Unit {0}) Errno) (bytes : List ℕ) (l m : Moment) (k : Did (Fulfils (setting_of set) (Read n flags) (result_answer result) (bytes_or_none (given result bytes))) set l m)
+pub system_called : (set : Setting) (n flags : ℕ) (result : Result (Unit {0}) Errno) (bytes : List ℕ) (l m : Moment)
+    (k : Did (Fulfils (setting_of set) (Read n flags) (result_answer result) (bytes_or_none (given result bytes))) set
+    l m)
     → Did (SystemCall (setting_of set) n flags (answer_by result bytes (visit_of k.deals))) set l m
 system_called set n flags result bytes l m k = record {
   deals = k.deals;
   told = k.told;
   stands = λ lanes visits callers c. let h = k.stands lanes visits callers c in record {
     form = h.form;
-    answers = answered_behind flags result bytes (visit_of k.deals) (deeds_of (book_lists lanes visits callers) (map step_of k.deals)) h.answers h.shows (sym (last_found lanes m.view visits callers c set.caller set.event (length l.steps) k.deals k.told.went.stand));
+    answers = answered_behind flags result bytes (visit_of k.deals)
+      (deeds_of (book_lists lanes visits callers) (map step_of k.deals)) h.answers h.shows
+      (sym (last_found lanes m.view visits callers c set.caller set.event (length l.steps) k.deals k.told.went.stand));
   };
 }
 
-pub has_again : (t t' : Lanes) (set set' : Setting) (p : Pass) → t' ≡ t → set' ≡ set → IsFree t' set'.caller p → Has t set.caller [] p
+pub has_again : (t t' : Lanes) (set set' : Setting) (p : Pass) → t' ≡ t → set' ≡ set → IsFree t' set'.caller p →
+    Has t set.caller [] p
 has_again t t' set set' p same_table same_set k =
-    free_has t set.caller p (subst (λ (z : Lanes). IsFree z set.caller p) same_table (subst (λ (z : Setting). IsFree t' z.caller p) same_set k))
+    free_has t set.caller p (subst (λ (z : Lanes). IsFree z set.caller p) same_table
+      (subst (λ (z : Setting). IsFree t' z.caller p) same_set k))

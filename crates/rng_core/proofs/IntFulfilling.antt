@@ -31,7 +31,8 @@ use Rattle.rng_core.proofs.Finding.{found_base, found_cpu}
 use Rattle.rng_core.proofs.Doing.{did_map, did_behind, did_then, did_cpu, serving_looked}
 
 -- whether a batch has to be filled is read from its last fill
-pub wants_of : (look width : ℕ) (f : Option Fill) (bytes : List ℕ) → wants look width (batch_of width f bytes) ≡ must_fill look width f
+pub wants_of : (look width : ℕ) (f : Option Fill) (bytes : List ℕ) →
+    wants look width (batch_of width f bytes) ≡ must_fill look width f
 wants_of look width None bytes = wants-start look width
 wants_of look width (Some fill) bytes = refl
 
@@ -42,25 +43,35 @@ some_of width (inr (inl e)) = subst (λ (w : ℕ). 0 < 96 / w) (sym e) (omega ar
 some_of width (inr (inr (inl e))) = subst (λ (w : ℕ). 0 < 96 / w) (sym e) (omega arith)
 some_of width (inr (inr (inr e))) = subst (λ (w : ℕ). 0 < 96 / w) (sym e) (omega arith)
 
-pub filled_bytes : (width look : ℕ) (key : List ℕ) → 0 < 96 / width → next_bytes width (filled (keystream key 32 96) look) ≡ batched_int key width 0
-filled_bytes width look key some = let fill : Fill = record { key = None; place = 0; count = 0; look = look } in next_bytes-batched_int width key fill (filled (keystream key 32 96) look) (IsBatchOf-filled width key fill refl) some
+pub filled_bytes : (width look : ℕ) (key : List ℕ) → 0 < 96 / width →
+    next_bytes width (filled (keystream key 32 96) look) ≡ batched_int key width 0
+filled_bytes width look key some = let fill : Fill = record { key = None; place = 0; count = 0; look = look } in
+    next_bytes-batched_int width key fill (filled (keystream key 32 96) look) (IsBatchOf-filled width key fill refl)
+    some
 
 -- an integer leaves the batches of the other widths
-pub other_width : (w width look : ℕ) (refill : Option ℕ) (filled : Bool) (got : Handed) (c : CpuModel) → w ≢ width → batch_at w c ≡ batch_at w (cpu_entered (Int look refill width filled) got c)
+pub other_width : (w width look : ℕ) (refill : Option ℕ) (filled : Bool) (got : Handed) (c : CpuModel) → w ≢ width →
+    batch_at w c ≡ batch_at w (cpu_entered (Int look refill width filled) got c)
 other_width w width look refill true got c ne = rw (ne_eqb w width ne) refl
 other_width w width look refill false got c ne = rw (ne_eqb w width ne) refl
 
-pub generator_is : (key : List ℕ) (generation : ℕ) (got : Handed) → got.key ≡ key → got.generation ≡ generation → ◌≡◌ {A = CpuValue} (record { key = key; generation = generation }) (generator_of got)
+pub generator_is : (key : List ℕ) (generation : ℕ) (got : Handed) → got.key ≡ key → got.generation ≡ generation →
+    ◌≡◌ {A = CpuValue} (record { key = key; generation = generation }) (generator_of got)
 generator_is key generation got ek eg = λ i. record { key = sym ek i; generation = sym eg i }
 
 -- the forms
-pub did_batch : (set : Setting) (l m n : Moment) (g place width : ℕ) (fills : Bool) (bytes : List ℕ) → FitsBatch width → Told set l m (went.looked g ∷ []) → Served set m n (set.cpu + 2) place (Cpu (Int g None width fills)) bytes
+pub did_batch : (set : Setting) (l m n : Moment) (g place width : ℕ) (fills : Bool) (bytes : List ℕ) →
+    FitsBatch width → Told set l m (went.looked g ∷ []) →
+    Served set m n (set.cpu + 2) place (Cpu (Int g None width fills)) bytes
     → Did (Serving (BatchForm (setting_of set) width) bytes) set l n
 did_batch set l m n g place width fills bytes fits a x =
     did_map set l n (λ deeds h. let f = h.form.3 in record {
-      form = record { look = h.form.0; cpu = f.visit; filled = fills; deeds_are = h.form.2 ∙ ap (λ (rest : List Deed). looked h.form.0 ∷ rest) f.deeds_are; on = f.on; serves = f.is };
+      form = record { look = h.form.0; cpu = f.visit; filled = fills;
+        deeds_are = h.form.2 ∙ ap (λ (rest : List Deed). looked h.form.0 ∷ rest) f.deeds_are; on = f.on;
+        serves = f.is };
       bytes_are = h.bytes_are;
-    }) (serving_looked {P = λ (look : ℕ). CpuOnly set.cpu (Int look None width fills)} set l m n g a (did_cpu set m n set.cpu place (Int g None width fills) bytes fits x))
+    }) (serving_looked {P = λ (look : ℕ). CpuOnly set.cpu (Int look None width fills)} set l m n g a
+      (did_cpu set m n set.cpu place (Int g None width fills) bytes fits x))
 
 -- an entry of the base, and one of a CPU, at a place
 record BaseAt (place : ℕ) (entry : BaseEntry) (deeds : List Deed) : Type 0 where
@@ -77,18 +88,22 @@ record CpuAt (cpu place : ℕ) (entry : CpuEntry) (bytes : List ℕ) (deeds : Li
   is : visit.entry ≡ entry
   serves : bytes ≡ visit.serves
 
-did_base_at : (set : Setting) (m n : Moment) (place : ℕ) (s : Model) (e : BaseEntry) (got : Handed) → Visited set m n 1 place s (Base e) got → Did (BaseAt place e) set m n
+did_base_at : (set : Setting) (m n : Moment) (place : ℕ) (s : Model) (e : BaseEntry) (got : Handed) →
+    Visited set m n 1 place s (Base e) got → Did (BaseAt place e) set m n
 did_base_at set m n place s e got x = record {
   deals = visited x.mark (Base e) ∷ [];
   told = x.told;
-  stands = λ lanes visits callers c. let f = found_base lanes visits callers set m n place s got c e x in record { visit = f.visit; deeds_are = ap (λ (d : Deed). d ∷ []) f.deed_is; at = f.at; is = f.is };
+  stands = λ lanes visits callers c. let f = found_base lanes visits callers set m n place s got c e x in
+    record { visit = f.visit; deeds_are = ap (λ (d : Deed). d ∷ []) f.deed_is; at = f.at; is = f.is };
 }
 
-did_cpu_at : (set : Setting) (m n : Moment) (cpu place : ℕ) (e : CpuEntry) (bytes : List ℕ) → IsIntOfBatch e → Served set m n (cpu + 2) place (Cpu e) bytes → Did (CpuAt cpu place e bytes) set m n
+did_cpu_at : (set : Setting) (m n : Moment) (cpu place : ℕ) (e : CpuEntry) (bytes : List ℕ) → IsIntOfBatch e →
+    Served set m n (cpu + 2) place (Cpu e) bytes → Did (CpuAt cpu place e bytes) set m n
 did_cpu_at set m n cpu place e bytes fits x = record {
   deals = visited x.visited.mark (Cpu e) ∷ [];
   told = x.visited.told;
-  stands = λ lanes visits callers c. let f = found_cpu lanes visits callers set m n place x.model x.got c cpu e x.visited fits in record {
+  stands = λ lanes visits callers c. let f = found_cpu lanes visits callers set m n place x.model x.got c cpu e
+    x.visited fits in record {
     visit = f.visit;
     deeds_are = ap (λ (d : Deed). d ∷ []) f.deed_is;
     on = f.on;
@@ -98,11 +113,16 @@ did_cpu_at set m n cpu place e bytes fits x = record {
   };
 }
 
-pub did_refilled_batch : (set : Setting) (k l m n : Moment) (g base place width : ℕ) (s : Model) (got : Handed) (bytes : List ℕ) → FitsBatch width → Told set k l (went.looked g ∷ []) → Visited set l m 1 base s (Base (Refill set.cpu place)) got
-    → Served set m n (set.cpu + 2) place (Cpu (Int g (Some base) width true)) bytes → Did (Serving (RefilledBatch (setting_of set) width) bytes) set k n
+pub did_refilled_batch : (set : Setting) (k l m n : Moment) (g base place width : ℕ) (s : Model) (got : Handed)
+    (bytes : List ℕ) → FitsBatch width → Told set k l (went.looked g ∷ []) →
+    Visited set l m 1 base s (Base (Refill set.cpu place)) got
+    → Served set m n (set.cpu + 2) place (Cpu (Int g (Some base) width true)) bytes →
+      Did (Serving (RefilledBatch (setting_of set) width) bytes) set k n
 did_refilled_batch set k l m n g base place width s got bytes fits a x y =
     did_map set k n (λ deeds h. let b = h.holds.before in let v = h.holds.behind in
-    let is : deeds ≡ looked g ∷ at_base b.visit ∷ at_cpu v.visit ∷ [] = h.deeds_are ∙ ap (λ (rest : List Deed). looked g ∷ rest) (h.holds.deeds_are ∙ (λ i. b.deeds_are i ++ v.deeds_are i)) in record {
+    let is : deeds ≡ looked g ∷ at_base b.visit ∷ at_cpu v.visit ∷ [] =
+      h.deeds_are ∙ ap (λ (rest : List Deed). looked g ∷ rest)
+      (h.holds.deeds_are ∙ (λ i. b.deeds_are i ++ v.deeds_are i)) in record {
       form = record {
         look = g;
         base = b.visit;
@@ -113,7 +133,8 @@ did_refilled_batch set k l m n g base place width s got bytes fits a x y =
         serves = v.is ∙ ap (λ (p : ℕ). Int g (Some p) width true) (sym b.at);
       };
       bytes_are = v.serves ∙ ap served_bytes (sym is);
-    }) (did_behind set k l n g a (did_then set l m n (did_base_at set l m base s (Refill set.cpu place) got x) (did_cpu_at set m n set.cpu place (Int g (Some base) width true) bytes fits y)))
+    }) (did_behind set k l n g a (did_then set l m n (did_base_at set l m base s (Refill set.cpu place) got x)
+      (did_cpu_at set m n set.cpu place (Int g (Some base) width true) bytes fits y)))
 
 pub fits_batch : (width : ℕ) → IsWidth width → FitsBatch width
 fits_batch width (inl e) = record { some = omega arith; within = omega arith }
@@ -122,15 +143,27 @@ fits_batch width (inr (inr (inl e))) = record { some = omega arith; within = ome
 fits_batch width (inr (inr (inr e))) = record { some = omega arith; within = omega arith }
 
 -- behind the look of the call
-pub int_unready : (set : FormSetting) (width g : ℕ) (rest : List Deed) → g ≡ 0 → ReadForm set (Kernel width) g rest → IntForm set width g rest
-int_unready set width g rest zero h = ⊎_elim (λ (d : (g ≡ 0) × DrawForm set (Kernel width) rest). inl (zero, inl d.1)) (λ (r : CpuReadForm set (Kernel width) rest). inl (zero, inr r)) h
+pub int_unready : (set : FormSetting) (width g : ℕ) (rest : List Deed) → g ≡ 0 → ReadForm set (Kernel width) g rest →
+    IntForm set width g rest
+int_unready set width g rest zero h = ⊎_elim (λ (d : (g ≡ 0) × DrawForm set (Kernel width) rest). inl (zero, inl d.1))
+    (λ (r : CpuReadForm set (Kernel width) rest). inl (zero, inr r)) h
 
-at_width : (set : FormSetting) (bytes : List ℕ) (deeds : List Deed) (width v : ℕ) → width ≡ v → (Serving (Looked (IntForm set v)) bytes deeds → Fulfils set (int_event v) Done (bytes_or_none bytes) deeds)
+at_width : (set : FormSetting) (bytes : List ℕ) (deeds : List Deed) (width v : ℕ) → width ≡ v →
+    (Serving (Looked (IntForm set v)) bytes deeds → Fulfils set (int_event v) Done (bytes_or_none bytes) deeds)
     → Serving (Looked (IntForm set width)) bytes deeds → Fulfils set (int_event width) Done (bytes_or_none bytes) deeds
-at_width set bytes deeds width v e k = subst (λ (w : ℕ). Serving (Looked (IntForm set w)) bytes deeds → Fulfils set (int_event w) Done (bytes_or_none bytes) deeds) (sym e) k
+at_width set bytes deeds width v e k = subst (λ (w : ℕ). Serving (Looked (IntForm set w)) bytes deeds →
+    Fulfils set (int_event w) Done (bytes_or_none bytes) deeds) (sym e) k
 
-pub int_fulfils : (set : FormSetting) (width : ℕ) (bytes : List ℕ) (deeds : List Deed) → IsWidth width → Serving (Looked (IntForm set width)) bytes deeds → Fulfils set (int_event width) Done (bytes_or_none bytes) deeds
-int_fulfils set width bytes deeds (inl e) h = at_width set bytes deeds width 1 e (λ k. record { form = k.form; answers = refl; shows = ap bytes_or_none k.bytes_are }) h
-int_fulfils set width bytes deeds (inr (inl e)) h = at_width set bytes deeds width 2 e (λ k. record { form = k.form; answers = refl; shows = ap bytes_or_none k.bytes_are }) h
-int_fulfils set width bytes deeds (inr (inr (inl e))) h = at_width set bytes deeds width 4 e (λ k. record { form = k.form; answers = refl; shows = ap bytes_or_none k.bytes_are }) h
-int_fulfils set width bytes deeds (inr (inr (inr e))) h = at_width set bytes deeds width 8 e (λ k. record { form = k.form; answers = refl; shows = ap bytes_or_none k.bytes_are }) h
+pub int_fulfils : (set : FormSetting) (width : ℕ) (bytes : List ℕ) (deeds : List Deed) → IsWidth width →
+    Serving (Looked (IntForm set width)) bytes deeds → Fulfils set (int_event width) Done (bytes_or_none bytes) deeds
+int_fulfils set width bytes deeds (inl e) h = at_width set bytes deeds width 1 e
+    (λ k. record { form = k.form; answers = refl; shows = ap bytes_or_none k.bytes_are }) h
+int_fulfils set width bytes deeds (inr (inl e)) h =
+    at_width set bytes deeds width 2 e (λ k. record { form = k.form; answers = refl;
+    shows = ap bytes_or_none k.bytes_are }) h
+int_fulfils set width bytes deeds (inr (inr (inl e))) h =
+    at_width set bytes deeds width 4 e (λ k. record { form = k.form; answers = refl;
+    shows = ap bytes_or_none k.bytes_are }) h
+int_fulfils set width bytes deeds (inr (inr (inr e))) h =
+    at_width set bytes deeds width 8 e (λ k. record { form = k.form; answers = refl;
+    shows = ap bytes_or_none k.bytes_are }) h

@@ -36,12 +36,14 @@ use Rattle.rng_core.proofs.Hosting.{none_left, published_more}
 
 -- Looks
 
-looks_below : (deeds : List Deed) → {E : Type 0} (d : E → Deed) → ((e : E) → looks_of (d e ∷ deeds) ≡ looks_of deeds) → (o : Option E) → looks_of (deed_or d o ∷ deeds) ≡ looks_of deeds
+looks_below : (deeds : List Deed) → {E : Type 0} (d : E → Deed) → ((e : E) → looks_of (d e ∷ deeds) ≡ looks_of deeds) →
+    (o : Option E) → looks_of (deed_or d o ∷ deeds) ≡ looks_of deeds
 looks_below deeds d same None = refl
 looks_below deeds d same (Some e) = same e
 
 -- a visit is no look
-visit_looks : (lists : Lists) (l : LaneId) (place : ℕ) (deeds : List Deed) → looks_of (deed_at lists l place ∷ deeds) ≡ looks_of deeds
+visit_looks : (lists : Lists) (l : LaneId) (place : ℕ) (deeds : List Deed) →
+    looks_of (deed_at lists l place ∷ deeds) ≡ looks_of deeds
 visit_looks lists PoolLane place deeds = looks_below deeds (λ e. at_pool (pool_visit lists place e)) (λ e. refl) _
 visit_looks lists BaseLane place deeds = looks_below deeds (λ e. at_base (base_visit lists place e)) (λ e. refl) _
 visit_looks lists (CpuLane c) place deeds = looks_below deeds (λ e. at_cpu (cpu_visit lists c place e)) (λ e. refl) _
@@ -49,16 +51,19 @@ visit_looks lists (CpuLane c) place deeds = looks_below deeds (λ e. at_cpu (cpu
 pub same_looks : (lists : Lists) (deals : List Deal) → looks_of (deeds_of lists (map step_of deals)) ≡ looks_in deals
 same_looks lists [] = refl
 same_looks lists (looked g ∷ deals) = ap (λ (l : List ℕ). g ∷ l) (same_looks lists deals)
-same_looks lists (visited mark e ∷ deals) = visit_looks lists mark.lane mark.place (deeds_of lists (map step_of deals)) ∙ same_looks lists deals
+same_looks lists (visited mark e ∷ deals) = visit_looks lists mark.lane mark.place (deeds_of lists (map step_of deals))
+    ∙ same_looks lists deals
 
 pub never_fall : (low : ℕ) (looks : List ℕ) (high : ℕ) → Risen low looks high → NeverFall looks
 never_fall low [] high h = tt
 never_fall low (a ∷ []) high h = tt
 never_fall low (a ∷ b ∷ rest) high h = (h.1.0, never_fall a (b ∷ rest) high h.1)
 
-told_rise : (lists : Lists) (set : Setting) (l m : Moment) (deals : List Deal) → Told set l m deals → Risen (floor l.view) (looks_of (deeds_of lists (map step_of deals))) (floor m.view)
+told_rise : (lists : Lists) (set : Setting) (l m : Moment) (deals : List Deal) → Told set l m deals →
+    Risen (floor l.view) (looks_of (deeds_of lists (map step_of deals))) (floor m.view)
 told_rise lists set l m deals told =
-    subst (λ (looks : List ℕ). Risen (floor l.view) looks (floor m.view)) (sym (same_looks lists deals)) (sees_risen m.view (floor l.view) (floor m.view) deals told.went.sees)
+    subst (λ (looks : List ℕ). Risen (floor l.view) looks (floor m.view)) (sym (same_looks lists deals))
+      (sees_risen m.view (floor l.view) (floor m.view) deals told.went.sees)
 
 -- A batch that did not serve does not serve later either
 
@@ -67,9 +72,11 @@ nothing_and true = refl
 nothing_and false = refl
 
 other_generation : (g n : ℕ) (s : VgetrandomState) → (g == s.generation) ≡ false → serves_locally g s n ≡ false
-other_generation g n s e = ap (λ (b : Bool). not (g == 0) && (b && (not s.in_use && has_left s n))) e ∙ nothing_and (not (g == 0))
+other_generation g n s e = ap (λ (b : Bool). not (g == 0) && (b && (not s.in_use && has_left s n))) e
+    ∙ nothing_and (not (g == 0))
 
-refused_later : (a b n : ℕ) (s : VgetrandomState) → s.generation ≤ a → a ≤ b → serves_locally a s n ≡ false → serves_locally b s n ≡ false
+refused_later : (a b n : ℕ) (s : VgetrandomState) → s.generation ≤ a → a ≤ b → serves_locally a s n ≡ false →
+    serves_locally b s n ≡ false
 refused_later a b n s low less refuses = dite (ℕ_discrete b s.generation)
     (λ e. subst (λ (z : ℕ). serves_locally z s n ≡ false) (let f : a ≡ b = omega arith in f) refuses)
     (λ ne. other_generation b n s (ne_eqb b s.generation ne))
@@ -88,20 +95,28 @@ answered result = result_answer (done_of result)
 abbrev pub showing : Result VEnd Errno → List ℕ → Shown
 showing result buf = bytes_or_none (given (done_of result) buf)
 
-pub ending_is : (n : ℕ) (ending : Ending) (result : Result VEnd Errno) (buf : List ℕ) → length buf ≡ n → (ending ≡ no_bytes → n ≡ 0) → EndsAs ending result buf → (answered result ≡ ending_answer ending) × (showing result buf ≡ ending_shown ending)
-ending_is n no_bytes result buf long none e = let empty = none_left buf (long ∙ none refl) in (ap answered e, (λ i. showing (e i) (empty i)))
+pub ending_is : (n : ℕ) (ending : Ending) (result : Result VEnd Errno) (buf : List ℕ) → length buf ≡ n →
+    (ending ≡ no_bytes → n ≡ 0) → EndsAs ending result buf →
+    (answered result ≡ ending_answer ending) × (showing result buf ≡ ending_shown ending)
+ending_is n no_bytes result buf long none e = let empty = none_left buf (long ∙ none refl) in
+    (ap answered e, (λ i. showing (e i) (empty i)))
 ending_is n (by_batch bytes) result buf long none e = (ap answered e.0, (λ i. showing (e.0 i) (e.1 i)))
 ending_is n (by_system (read bytes visit)) result buf long none e = (ap answered e.0, (λ i. showing (e.0 i) (e.1 i)))
-ending_is n (by_system (failed errno)) result buf long none e = (ap answered e ∙ same_errno errno, ap (λ (r : Result VEnd Errno). showing r buf) e)
+ending_is n (by_system (failed errno)) result buf long none e =
+    (ap answered e ∙ same_errno errno, ap (λ (r : Result VEnd Errno). showing r buf) e)
 
 -- Reads
 
 pub glanced_nothing : (v : View) → Glanced v v
-glanced_nothing v = record { same = record { first = refl; share = refl; halvings = refl; sized = refl }; lanes = refl; stamp = refl; floors = omega arith }
+glanced_nothing v = record { same = record { first = refl; share = refl; halvings = refl; sized = refl }; lanes = refl;
+    stamp = refl; floors = omega arith }
 
 -- out of the batch
-module _ (n flags : ℕ) (s t : VgetrandomState) (out : List ℕ) (set : Setting) (l m : Moment) (k : LocallyServed n flags s t out set l m) where
-  local_line : (before : CallerState) → current_state before ≡ s → ByLocalCopy n [] (vread_meaning (deed.looked k.found ∷ []) (result_answer {T = Unit {0}} (Ok tt)) (bytes_or_none out) (copy_entries s 0 n) before t)
+module _ (n flags : ℕ) (s t : VgetrandomState) (out : List ℕ) (set : Setting) (l m : Moment)
+    (k : LocallyServed n flags s t out set l m) where
+  local_line : (before : CallerState) → current_state before ≡ s →
+    ByLocalCopy n [] (vread_meaning (deed.looked k.found ∷ []) (result_answer {T = Unit {0}} (Ok tt))
+    (bytes_or_none out) (copy_entries s 0 n) before t)
   local_line before is = record {
     no_more = refl;
     answer = refl;
@@ -126,7 +141,8 @@ module _ (n flags : ℕ) (s t : VgetrandomState) (out : List ℕ) (set : Setting
           [],
           refl,
           match_true _ _ (serves_locally (published_by k.found) (current_state before) n)
-              (ap (λ (z : VgetrandomState). serves_locally (published_by k.found) z n) state_is ∙ k.serves) (local_line before state_is),
+              (ap (λ (z : VgetrandomState). serves_locally (published_by k.found) z n) state_is ∙ k.serves)
+                (local_line before state_is),
         );
       };
     };
@@ -138,9 +154,13 @@ good_flags false true e = absurd (cc e)
 good_flags x false e = refl
 
 -- by a call
-module _ (n flags : ℕ) (s t : VgetrandomState) (answer : Answer) (shown : Shown) (set : Setting) (l m o : Moment) (low : s.generation ≤ published_by (floor l.view))
-    (left : tries_local n flags [] ≡ true → Refused n s l.view m.view) (k : Called n flags s t answer shown set m o) where
-  module _ (deeds : List Deed) (shows : Shows (setting_of set) k.steps deeds) (rise : Risen (floor m.view) (looks_of deeds) (floor o.view)) (before : CallerState) (set_is : before.setting ≡ setting_of set) (state_is : current_state before ≡ s) where
+module _ (n flags : ℕ) (s t : VgetrandomState) (answer : Answer) (shown : Shown) (set : Setting) (l m o : Moment)
+    (low : s.generation ≤ published_by (floor l.view))
+    (left : tries_local n flags [] ≡ true → Refused n s l.view m.view) (k : Called n flags s t answer shown set m o)
+      where
+  module _ (deeds : List Deed) (shows : Shows (setting_of set) k.steps deeds)
+    (rise : Risen (floor m.view) (looks_of deeds) (floor o.view)) (before : CallerState)
+    (set_is : before.setting ≡ setting_of set) (state_is : current_state before ≡ s) where
     abbrev meant : CallMeaning
     meant = vread_meaning deeds answer shown k.outcome.entries before t
 
@@ -159,7 +179,8 @@ module _ (n flags : ℕ) (s t : VgetrandomState) (answer : Answer) (shown : Show
     }
 
     -- the call begins with a look, which is no earlier than the one that found that the batch cannot serve
-    behind_look : (refused : Refused n s l.view m.view) → FromLook n flags s k.steps k.outcome → Looked (LocalOrCall n flags [] meant) deeds
+    behind_look : (refused : Refused n s l.view m.view) → FromLook n flags s k.steps k.outcome →
+      Looked (LocalOrCall n flags [] meant) deeds
     behind_look refused from =
         let shown = subst (λ (z : List HostStep). Shows (setting_of set) z deeds) from.steps_are shows in
         let rises = subst (λ (z : List Deed). Risen (floor m.view) (looks_of z) (floor o.view)) shown.2 rise in
@@ -169,21 +190,27 @@ module _ (n flags : ℕ) (s t : VgetrandomState) (answer : Answer) (shown : Show
           shown.1,
           shown.2,
           match_false _ _ (serves_locally (published_by shown.0) (current_state before) n)
-              (ap (λ (z : VgetrandomState). serves_locally (published_by shown.0) z n) state_is ∙ refused_later (published_by refused.found) (published_by shown.0) n s (omega arith) b refused.refuses) by_call,
+              (ap (λ (z : VgetrandomState). serves_locally (published_by shown.0) z n) state_is
+                ∙ refused_later (published_by refused.found) (published_by shown.0) n s (omega arith) b
+                refused.refuses) by_call,
         )
 
-    ways : (b : Bool) → tries_local n flags [] ≡ b → MatchBool b (Looked (LocalOrCall n flags [] meant) deeds) (ByVgetrandom n flags [] meant)
+    ways : (b : Bool) → tries_local n flags [] ≡ b →
+      MatchBool b (Looked (LocalOrCall n flags [] meant) deeds) (ByVgetrandom n flags [] meant)
     ways false e = by_call
-    ways true e = behind_look (left e) (subst (λ (b : Bool). MatchBool b (BySystem n flags s k.steps k.outcome) (FromLook n flags s k.steps k.outcome)) (good_flags (not (n == 0)) (is_bad flags) e) k.is_call)
+    ways true e = behind_look (left e) (subst (λ (b : Bool). MatchBool b (BySystem n flags s k.steps k.outcome)
+      (FromLook n flags s k.steps k.outcome)) (good_flags (not (n == 0)) (is_bad flags) e) k.is_call)
 
     line : VreadMeans n flags [] meant
-    line = record { looks = never_fall (floor m.view) (looks_of deeds) (floor o.view) rise; ways = ways (tries_local n flags []) refl }
+    line = record { looks = never_fall (floor m.view) (looks_of deeds) (floor o.view) rise;
+      ways = ways (tries_local n flags []) refl }
 
   called_did : Did (VreadLine (setting_of set) n flags s t answer shown k.outcome.entries) set m o
   called_did = record {
     deals = k.did.deals;
     told = k.did.told;
-    stands = λ lanes visits callers c. λ before set_is state_is. line (deeds_of (book_lists lanes visits callers) (map step_of k.did.deals)) (k.did.stands lanes visits callers c)
+    stands = λ lanes visits callers c. λ before set_is state_is. line
+      (deeds_of (book_lists lanes visits callers) (map step_of k.did.deals)) (k.did.stands lanes visits callers c)
         (told_rise (book_lists lanes visits callers) set m o k.did.deals k.did.told) before set_is state_is;
   }
 
@@ -192,13 +219,17 @@ module _ (n flags : ℕ) (s t : VgetrandomState) (answer : Answer) (shown : Show
     looked = m.view;
     glanced = glanced;
     entries = k.outcome.entries;
-    did = subst (λ (z : List Step). Did (VreadLine (setting_of set) n flags s t answer shown k.outcome.entries) set (record { view = m.view; steps = z }) o) same called_did;
+    did = subst (λ (z : List Step). Did (VreadLine (setting_of set) n flags s t answer shown k.outcome.entries) set
+      (record { view = m.view; steps = z }) o) same called_did;
   }
 
 -- where the batch did not serve and nothing was done
-pub left_read : (n n' flags : ℕ) (s s' t : VgetrandomState) (answer : Answer) (shown : Shown) (set : Setting) (l m o : Moment) → s.generation ≤ published_by (floor l.view) → n' ≡ n →
-    LeftToSystem n flags s s' l m → Called n' flags s' t answer shown set m o → VreadDid n flags s t answer shown set l o
+pub left_read : (n n' flags : ℕ) (s s' t : VgetrandomState) (answer : Answer) (shown : Shown) (set : Setting)
+    (l m o : Moment) → s.generation ≤ published_by (floor l.view) → n' ≡ n →
+    LeftToSystem n flags s s' l m → Called n' flags s' t answer shown set m o →
+      VreadDid n flags s t answer shown set l o
 left_read n n' flags s s' t answer shown set l m o low same left k =
     called_read n flags s t answer shown set l m o low left.refused
-    (subst (λ (z : VgetrandomState). Called n flags z t answer shown set m o) left.state (subst (λ (z : ℕ). Called z flags s' t answer shown set m o) same k))
+    (subst (λ (z : VgetrandomState). Called n flags z t answer shown set m o) left.state
+      (subst (λ (z : ℕ). Called z flags s' t answer shown set m o) same k))
     left.glanced left.steps

@@ -31,21 +31,30 @@ length_map [] = refl
 length_map (x ∷ xs) = let e = length_map xs in omega arith
 
 -- one after another
-pub trace_then : (l m n : Moment) (xs ys : List Deal) → m.steps ≡ l.steps ++ map step_of xs → n.steps ≡ m.steps ++ map step_of ys → n.steps ≡ l.steps ++ map step_of (xs ++ ys)
-trace_then l m n xs ys a b = b ∙ ap (λ (s : List Step). s ++ map step_of ys) a ∙ append_assoc l.steps (map step_of xs) (map step_of ys) ∙ ap (λ (s : List Step). l.steps ++ s) (sym (map-append step_of xs ys))
+pub trace_then : (l m n : Moment) (xs ys : List Deal) → m.steps ≡ l.steps ++ map step_of xs →
+    n.steps ≡ m.steps ++ map step_of ys → n.steps ≡ l.steps ++ map step_of (xs ++ ys)
+trace_then l m n xs ys a b = b ∙ ap (λ (s : List Step). s ++ map step_of ys) a
+    ∙ append_assoc l.steps (map step_of xs) (map step_of ys)
+    ∙ ap (λ (s : List Step). l.steps ++ s) (sym (map-append step_of xs ys))
 
-pub fits_then : (xs ys : List Deal) → AllByRecursion StepFits (map step_of xs) → AllByRecursion StepFits (map step_of ys) → AllByRecursion StepFits (map step_of (xs ++ ys))
-fits_then xs ys a b = subst (AllByRecursion StepFits) (sym (map-append step_of xs ys)) (each_append StepFits (map step_of xs) (map step_of ys) a b)
+pub fits_then : (xs ys : List Deal) → AllByRecursion StepFits (map step_of xs) →
+    AllByRecursion StepFits (map step_of ys) → AllByRecursion StepFits (map step_of (xs ++ ys))
+fits_then xs ys a b = subst (AllByRecursion StepFits) (sym (map-append step_of xs ys))
+    (each_append StepFits (map step_of xs) (map step_of ys) a b)
 
-pub told_then : (set : Setting) (l m n : Moment) (xs ys : List Deal) → Told set l m xs → Told set m n ys → Told set l n (xs ++ ys)
+pub told_then : (set : Setting) (l m n : Moment) (xs ys : List Deal) → Told set l m xs → Told set m n ys →
+    Told set l n (xs ++ ys)
 told_then set l m n xs ys a b = record {
   trace = trace_then l m n xs ys a.trace b.trace;
-  went = went_then set.caller set.event (length l.steps) (length m.steps) l.view m.view n.view xs ys (ap length a.trace ∙ (let e = length_map xs in omega (arith, length-append l.steps (map step_of xs)))) a.went b.went;
+  went = went_then set.caller set.event (length l.steps) (length m.steps) l.view m.view n.view xs ys
+    (ap length a.trace ∙ (let e = length_map xs in omega (arith, length-append l.steps (map step_of xs)))) a.went
+    b.went;
   fits = fits_then xs ys a.fits b.fits;
 }
 
 -- no step
-pub told_idly : (set : Setting) (m n : Moment) → n.steps ≡ m.steps → Went set.caller set.event (length m.steps) m.view n.view [] → Told set m n []
+pub told_idly : (set : Setting) (m n : Moment) → n.steps ≡ m.steps →
+    Went set.caller set.event (length m.steps) m.view n.view [] → Told set m n []
 told_idly set m n same went = record { trace = same ∙ sym (append-nil m.steps); went = went; fits = tt }
 
 lane_fits : (lane : LaneId) → index_of lane < 2 ^ 32 → LaneFits lane
@@ -54,7 +63,8 @@ lane_fits BaseLane low = tt
 lane_fits (CpuLane c) low = omega arith
 
 -- the mark of a visit, whose lane was held with these numbers
-pub mark_fits : (mark : Mark) (lane place stamp own : ℕ) → index_of mark.lane ≡ lane → lane < 258 → mark.place ≡ place → place ≤ stamp → stamp < 2 ^ 62 → own ≤ 2 ^ 62 → mark.stamp ≡ max own stamp + 1 → MarkFits mark
+pub mark_fits : (mark : Mark) (lane place stamp own : ℕ) → index_of mark.lane ≡ lane → lane < 258 →
+    mark.place ≡ place → place ≤ stamp → stamp < 2 ^ 62 → own ≤ 2 ^ 62 → mark.stamp ≡ max own stamp + 1 → MarkFits mark
 mark_fits mark lane place stamp own on near there low early late is = record {
   lane = lane_fits mark.lane (omega arith);
   place = omega arith;
@@ -62,43 +72,66 @@ mark_fits mark lane place stamp own on near there low early late is = record {
 }
 
 -- a visit that was put
-pub visited_by_put : (set : Setting) (m m' : Seated) (told told' : List Step) (mark : Mark) (who : Who) (e : LaneEntry) (lane : ℕ) → index_of mark.lane ≡ lane → mark.place ≡ length (known_of m.0 lane) → lane < length m.0.lanes → 1 < length m.0.lanes → who ≡ maker set.caller set.event (length told)
-    → told' ≡ told ++ Marked mark ∷ [] → MarkFits mark → Added lane (filled lane (visit_by who mark.stamp e) m.0) m m' → Visited set (record { view = m.0; steps = told }) (record { view = m'.0; steps = told' }) lane mark.place (replay (known_of m.0 lane)) e (handed lane e m.0)
+pub visited_by_put : (set : Setting) (m m' : Seated) (told told' : List Step) (mark : Mark) (who : Who) (e : LaneEntry)
+    (lane : ℕ) → index_of mark.lane ≡ lane → mark.place ≡ length (known_of m.0 lane) → lane < length m.0.lanes →
+    1 < length m.0.lanes → who ≡ maker set.caller set.event (length told)
+    → told' ≡ told ++ Marked mark ∷ [] → MarkFits mark →
+      Added lane (filled lane (visit_by who mark.stamp e) m.0) m m' →
+      Visited set (record { view = m.0; steps = told }) (record { view = m'.0; steps = told' }) lane mark.place
+      (replay (known_of m.0 lane)) e (handed lane e m.0)
 visited_by_put set m m' told told' mark who e lane on there near two by trace fits k = record {
   mark = mark;
   lane_is = on;
   place_is = refl;
   told = record {
     trace = trace;
-    went = subst (λ (l : ℕ). mark.place ≡ length (known_of m.0 l) → l < length m.0.lanes → Added l (filled l (visit_by who mark.stamp e) m.0) m m' → Went set.caller set.event (length told) m.0 m'.0 (visited mark e ∷ [])) on
-        (λ t n a. went_put set.caller set.event (length told) m m' two (filled (index_of mark.lane) (visit_by who mark.stamp e) m.0) mark e n t refl by refl a) there near k;
+    went = subst (λ (l : ℕ). mark.place ≡ length (known_of m.0 l) → l < length m.0.lanes →
+      Added l (filled l (visit_by who mark.stamp e) m.0) m m' →
+      Went set.caller set.event (length told) m.0 m'.0 (visited mark e ∷ [])) on
+        (λ t n a. went_put set.caller set.event (length told) m m' two
+          (filled (index_of mark.lane) (visit_by who mark.stamp e) m.0) mark e n t refl by refl a) there near k;
     fits = (fits, tt);
   };
   met = record {
     near = (let s = k.same.sized in omega arith);
     visit = filled lane (visit_by who mark.stamp e) m.0;
-    there = ap (λ (l : ℕ). get_elem? (known_of m'.0 l) mark.place) on ∙ ap (λ (a : LaneView). get_elem? a.known mark.place) k.here ∙ at_last (known_of m.0 lane) (filled lane (visit_by who mark.stamp e) m.0) mark.place (sym there);
+    there = ap (λ (l : ℕ). get_elem? (known_of m'.0 l) mark.place) on
+      ∙ ap (λ (a : LaneView). get_elem? a.known mark.place) k.here
+      ∙ at_last (known_of m.0 lane) (filled lane (visit_by who mark.stamp e) m.0) mark.place (sym there);
     is = refl;
     was_handed = refl;
-    before = ap (λ (l : ℕ). replay (take mark.place (known_of m'.0 l))) on ∙ ap (λ (a : LaneView). replay (take mark.place a.known)) k.here
-        ∙ ap (λ (p : ℕ). replay (take p (known_of m.0 lane ++ filled lane (visit_by who mark.stamp e) m.0 ∷ []))) there ∙ ap replay (take-append_seam (known_of m.0 lane) (filled lane (visit_by who mark.stamp e) m.0 ∷ []));
+    before = ap (λ (l : ℕ). replay (take mark.place (known_of m'.0 l))) on
+      ∙ ap (λ (a : LaneView). replay (take mark.place a.known)) k.here
+        ∙ ap (λ (p : ℕ). replay (take p (known_of m.0 lane ++ filled lane (visit_by who mark.stamp e) m.0 ∷ []))) there
+          ∙ ap replay (take-append_seam (known_of m.0 lane) (filled lane (visit_by who mark.stamp e) m.0 ∷ []));
   };
 }
 
 -- a visit behind what no step tells
-pub visited_after : (set : Setting) (l m n : Moment) (lane place : ℕ) (s : Model) (e : LaneEntry) (got : Handed) → Told set l m [] → Visited set m n lane place s e got → Visited set l n lane place s e got
-visited_after set l m n lane place s e got a b = record { mark = b.mark; lane_is = b.lane_is; place_is = b.place_is; told = told_then set l m n [] (visited b.mark e ∷ []) a b.told; met = b.met }
+pub visited_after : (set : Setting) (l m n : Moment) (lane place : ℕ) (s : Model) (e : LaneEntry) (got : Handed) →
+    Told set l m [] → Visited set m n lane place s e got → Visited set l n lane place s e got
+visited_after set l m n lane place s e got a b =
+    record { mark = b.mark; lane_is = b.lane_is; place_is = b.place_is;
+    told = told_then set l m n [] (visited b.mark e ∷ []) a b.told; met = b.met }
 
-pub visited_is : (set : Setting) (m n : Moment) (lane place : ℕ) (s : Model) (e e' : LaneEntry) (got : Handed) → e ≡ e' → Visited set m n lane place s e got → Visited set m n lane place s e' got
+pub visited_is : (set : Setting) (m n : Moment) (lane place : ℕ) (s : Model) (e e' : LaneEntry) (got : Handed) →
+    e ≡ e' → Visited set m n lane place s e got → Visited set m n lane place s e' got
 visited_is set m n lane place s e e' got is k = subst (λ (z : LaneEntry). Visited set m n lane place s z got) is k
 
 -- a visit of the lane that was held
-pub visited_at : (set : Setting) (m m' : Seated) (told told' : List Step) (mark : Mark) (who : Who) (e : LaneEntry) (held lane : ℕ) → held ≡ lane → index_of mark.lane ≡ held → mark.place ≡ length (known_of m.0 held) → held < length m.0.lanes → 1 < length m.0.lanes
-    → who ≡ maker set.caller set.event (length told) → told' ≡ told ++ Marked mark ∷ [] → MarkFits mark → Added held (filled held (visit_by who mark.stamp e) m.0) m m'
-    → Visited set (record { view = m.0; steps = told }) (record { view = m'.0; steps = told' }) lane mark.place (replay (known_of m.0 lane)) e (handed lane e m.0)
+pub visited_at : (set : Setting) (m m' : Seated) (told told' : List Step) (mark : Mark) (who : Who) (e : LaneEntry)
+    (held lane : ℕ) → held ≡ lane → index_of mark.lane ≡ held → mark.place ≡ length (known_of m.0 held) →
+    held < length m.0.lanes → 1 < length m.0.lanes
+    → who ≡ maker set.caller set.event (length told) → told' ≡ told ++ Marked mark ∷ [] → MarkFits mark →
+      Added held (filled held (visit_by who mark.stamp e) m.0) m m'
+    → Visited set (record { view = m.0; steps = told }) (record { view = m'.0; steps = told' }) lane mark.place
+      (replay (known_of m.0 lane)) e (handed lane e m.0)
 visited_at set m m' told told' mark who e held lane same on there near two by trace fits k =
-    subst (λ (l : ℕ). Visited set (record { view = m.0; steps = told }) (record { view = m'.0; steps = told' }) l mark.place (replay (known_of m.0 l)) e (handed l e m.0)) same (visited_by_put set m m' told told' mark who e held on there near two by trace fits k)
+    subst (λ (l : ℕ). Visited set (record { view = m.0; steps = told }) (record { view = m'.0; steps = told' }) l
+      mark.place (replay (known_of m.0 l)) e (handed l e m.0)) same
+      (visited_by_put set m m' told told' mark who e held on there near two by trace fits k)
 
 -- by the place as it was taken
-pub visited_place : (set : Setting) (m n : Moment) (lane p q : ℕ) (s : Model) (e : LaneEntry) (got : Handed) → p ≡ q → Visited set m n lane p s e got → Visited set m n lane q s e got
+pub visited_place : (set : Setting) (m n : Moment) (lane p q : ℕ) (s : Model) (e : LaneEntry) (got : Handed) → p ≡ q →
+    Visited set m n lane p s e got → Visited set m n lane q s e got
 visited_place set m n lane p q s e got is k = subst (λ (z : ℕ). Visited set m n lane z s e got) is k

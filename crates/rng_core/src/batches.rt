@@ -26,9 +26,12 @@ fn serve_next<const W: usize>(batch: &mut Batch<W>, out: &mut [u8])
 fn serve_from<const W: usize>(cpu: &mut Cpu, batch: &mut Batch<W>, look: u64, out: &mut [u8])
     requires width { IsWidth W }
     requires out { length out.old ≡ W }
-    ensures cpu { (c : CpuModel) (got : Handed) (filled : Bool) → cpu.old ≡ c.cpu → batch.old ≡ batch_at W c → filled ≡ must_fill look W (c.fills W) → cpu.new ≡ (cpu_entered (Int look None W filled) got c).cpu }
-    ensures batch { (c : CpuModel) (got : Handed) (filled : Bool) → cpu.old ≡ c.cpu → batch.old ≡ batch_at W c → filled ≡ must_fill look W (c.fills W) → batch.new ≡ batch_at W (cpu_entered (Int look None W filled) got c) }
-    ensures bytes { (c : CpuModel) (got : Handed) (filled : Bool) → cpu.old ≡ c.cpu → batch.old ≡ batch_at W c → filled ≡ must_fill look W (c.fills W) → out.new ≡ cpu_serving c got (Int look None W filled) }
+    ensures cpu { (c : CpuModel) (got : Handed) (filled : Bool) → cpu.old ≡ c.cpu → batch.old ≡ batch_at W c
+        → filled ≡ must_fill look W (c.fills W) → cpu.new ≡ (cpu_entered (Int look None W filled) got c).cpu }
+    ensures batch { (c : CpuModel) (got : Handed) (filled : Bool) → cpu.old ≡ c.cpu → batch.old ≡ batch_at W c
+        → filled ≡ must_fill look W (c.fills W) → batch.new ≡ batch_at W (cpu_entered (Int look None W filled) got c) }
+    ensures bytes { (c : CpuModel) (got : Handed) (filled : Bool) → cpu.old ≡ c.cpu → batch.old ≡ batch_at W c
+        → filled ≡ must_fill look W (c.fills W) → out.new ≡ cpu_serving c got (Int look None W filled) }
 {
     if !batch.wants(look) {
         serve_next(batch, out);
@@ -57,8 +60,12 @@ pub(crate) fn wants(lane: &CpuLane, width: usize, look: u64) -> bool
 /// Serves an integer at generation `look` out of the batch of its width (`get_random_u8` to `get_random_u64`).
 pub(crate) fn serve(lane: &mut CpuLane, look: u64, out: &mut [u8])
     requires { IsWidth (length out.old) }
-    ensures made { (c : CpuModel) (got : Handed) (filled : Bool) → CpuLaneStands lane.old c → filled ≡ must_fill look (length out.old) (c.fills (length out.old)) → CpuLaneStands lane.new (cpu_entered (Int look None (length out.old) filled) got c) }
-    ensures bytes { (c : CpuModel) (got : Handed) (filled : Bool) → CpuLaneStands lane.old c → filled ≡ must_fill look (length out.old) (c.fills (length out.old)) → out.new ≡ cpu_serving c got (Int look None (length out.old) filled) }
+    ensures made { (c : CpuModel) (got : Handed) (filled : Bool) → CpuLaneStands lane.old c
+        → filled ≡ must_fill look (length out.old) (c.fills (length out.old))
+        → CpuLaneStands lane.new (cpu_entered (Int look None (length out.old) filled) got c) }
+    ensures bytes { (c : CpuModel) (got : Handed) (filled : Bool) → CpuLaneStands lane.old c
+        → filled ≡ must_fill look (length out.old) (c.fills (length out.old))
+        → out.new ≡ cpu_serving c got (Int look None (length out.old) filled) }
 {
     match out.len() {
         1 => serve_from(&mut lane.cpu, &mut lane.b8, look, out),

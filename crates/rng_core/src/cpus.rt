@@ -27,7 +27,8 @@ pub fn prepare<R: Wait>(
     requires cpu { cpu < lanes.now.cpus }
     requires room { length trace.old < 20 }
     ensures has { Has lanes.now set.entry.now.caller [] pass.new }
-    ensures did { Did (Fulfils (setting_of set.entry.now) (PrepareEvent cpu) Done no_data) set.entry.now (moment pass.old trace.old) (moment pass.new trace.new) }
+    ensures did { Did (Fulfils (setting_of set.entry.now) (PrepareEvent cpu) Done no_data) set.entry.now
+        (moment pass.old trace.old) (moment pass.new trace.new) }
 {
     let mut held = enter(rt, lanes, pass, trace, set, LaneId::Cpu(cpu));
     cpu_values::prepare(held.state_mut());
@@ -55,7 +56,8 @@ pub fn online<R: Wait>(
     requires cpu { cpu < lanes.now.cpus }
     requires room { length trace.old < 20 }
     ensures has { Has lanes.now set.entry.now.caller [] pass.new }
-    ensures did { Did (Fulfils (setting_of set.entry.now) (OnlineEvent cpu) Done no_data) set.entry.now (moment pass.old trace.old) (moment pass.new trace.new) }
+    ensures did { Did (Fulfils (setting_of set.entry.now) (OnlineEvent cpu) Done no_data) set.entry.now
+        (moment pass.old trace.old) (moment pass.new trace.new) }
 {
     let mut held = enter(rt, lanes, pass, trace, set, LaneId::Cpu(cpu));
     cpu_values::online(held.state_mut());

@@ -27,7 +27,8 @@ fn tell<R: Wait>(
     requires has { Has lanes.now set.now.caller [] pass.old }
     requires room { length trace.old < 20 }
     ensures has { Has lanes.now set.entry.now.caller [] pass.new }
-    ensures did { Did (Fulfils (setting_of set.entry.now) (Fork child) Done no_data) set.entry.now (moment pass.old trace.old) (moment pass.new trace.new) }
+    ensures did { Did (Fulfils (setting_of set.entry.now) (Fork child) Done no_data) set.entry.now
+        (moment pass.old trace.old) (moment pass.new trace.new) }
 {
     let mut base = enter(rt, lanes, pass, trace, set, LaneId::Base);
     lane_values::up(base.state_mut());

@@ -39,13 +39,15 @@ fn serve(
     requires value { ValueStands (set.now.cpu + 2) cpu.state (model pass.old (set.now.cpu + 2)) }
     requires known { 1 ≤ look }
     requires not_back { (model pass.old (set.now.cpu + 2)).cpu.cpu.generation ≤ look }
-    requires fills { filled ≡ must_fill look (length out.old) ((model pass.old (set.now.cpu + 2)).cpu.fills (length out.old)) }
+    requires fills { filled ≡ must_fill look (length out.old)
+        ((model pass.old (set.now.cpu + 2)).cpu.fills (length out.old)) }
     requires fresh { (filled ≡ false) ⊎ (look ≡ (model pass.old (set.now.cpu + 2)).cpu.cpu.generation) }
     requires width { IsWidth (length out.old) }
     requires room { length trace.old < 20 }
     requires early { pass.old.stamp < 2 ^ 62 }
     ensures has { Has lanes.now set.entry.now.caller [] pass.new }
-    ensures served { Served set.entry.now (moment pass.old trace.old) (moment pass.new trace.new) (set.entry.now.cpu + 2) cpu.turn.place (OfCpu (Int look None (length out.old) filled)) out.new }
+    ensures served { Served set.entry.now (moment pass.old trace.old) (moment pass.new trace.new)
+        (set.entry.now.cpu + 2) cpu.turn.place (OfCpu (Int look None (length out.old) filled)) out.new }
 {
     let width = out.len() as u8;
     cpu_values::serve(cpu.state_mut(), look, out);
@@ -72,17 +74,20 @@ fn serve_refilled(
     requires has { Has lanes.now set.now.caller (hand cpu.turn (Some base.now.place) 0 ∷ []) pass.old }
     requires lane { cpu.turn.lane ≡ set.now.cpu + 2 }
     requires value { ValueStands (set.now.cpu + 2) cpu.state (model pass.old (set.now.cpu + 2)) }
-    requires handed { got_of (Some base.now.place) (known_of (view pass.old) 1) ≡ handing base.now.key base.now.generation }
+    requires handed { got_of (Some base.now.place) (known_of (view pass.old) 1) ≡ handing base.now.key
+        base.now.generation }
     requires known { 1 ≤ look }
     requires not_back { (model pass.old (set.now.cpu + 2)).cpu.cpu.generation ≤ look }
     requires stale { look ≢ (model pass.old (set.now.cpu + 2)).cpu.cpu.generation }
-    requires fills { must_fill look (length out.old) ((model pass.old (set.now.cpu + 2)).cpu.fills (length out.old)) ≡ true }
+    requires fills { must_fill look (length out.old)
+        ((model pass.old (set.now.cpu + 2)).cpu.fills (length out.old)) ≡ true }
     requires reached { look ≤ base.now.generation }
     requires width { IsWidth (length out.old) }
     requires room { length trace.old < 20 }
     requires early { pass.old.stamp ≤ 2 ^ 62 }
     ensures has { Has lanes.now set.entry.now.caller [] pass.new }
-    ensures served { Served set.entry.now (moment pass.old trace.old) (moment pass.new trace.new) (set.entry.now.cpu + 2) cpu.turn.place (OfCpu (Int look (Some base.now.place) (length out.old) true)) out.new }
+    ensures served { Served set.entry.now (moment pass.old trace.old) (moment pass.new trace.new)
+        (set.entry.now.cpu + 2) cpu.turn.place (OfCpu (Int look (Some base.now.place) (length out.old) true)) out.new }
 {
     let width = out.len() as u8;
     cpu_values::serve_refilled(cpu.state_mut(), base.key, base.generation, look, out);
@@ -110,7 +115,8 @@ fn serve_batched<R: Wait>(
     requires width { IsWidth (length out.old) }
     requires room { length trace.old < 18 }
     ensures has { Has lanes.now set.entry.now.caller [] pass.new }
-    ensures did { Did (Serving (BatchedForm (setting_of set.entry.now) (length out.old)) out.new) set.entry.now (moment pass.old trace.old) (moment pass.new trace.new) }
+    ensures did { Did (Serving (BatchedForm (setting_of set.entry.now) (length out.old)) out.new) set.entry.now
+        (moment pass.old trace.old) (moment pass.new trace.new) }
 {
     let cpu = enter(rt, lanes, pass, trace, set, LaneId::Cpu(set.cpu));
     let look = look_holding(lanes, pass, trace, set, &cpu);
@@ -141,7 +147,8 @@ pub fn int<R: Wait>(
     requires width { IsWidth (length out.old) }
     requires room { length trace.old < 17 }
     ensures has { Has lanes.now set.entry.now.caller [] pass.new }
-    ensures did { Did (Fulfils (setting_of set.entry.now) (int_event (length out.old)) Done (bytes_or_none out.new)) set.entry.now (moment pass.old trace.old) (moment pass.new trace.new) }
+    ensures did { Did (Fulfils (setting_of set.entry.now) (int_event (length out.old)) Done (bytes_or_none out.new))
+        set.entry.now (moment pass.old trace.old) (moment pass.new trace.new) }
 {
     let found = look(lanes, pass, trace, set);
     if found == 0 {

@@ -25,7 +25,9 @@ fn dump<R: Wait>(rt: &R, lanes: &Lanes, pass: &mut Pass, trace: &mut Trace, set:
     requires moment { set.now.now < 2 ^ 40 }
     requires room { length trace.old < 17 }
     ensures has { Has lanes.now set.entry.now.caller [] pass.new }
-    ensures did { DidIn (DumpStands (setting_of set.entry.now) (length (known_of (view pass.old) (set.entry.now.cpu + 2)))) set.entry.now (moment pass.old trace.old) (moment pass.new trace.new) }
+    ensures did { DidIn (DumpStands (setting_of set.entry.now)
+        (length (known_of (view pass.old) (set.entry.now.cpu + 2)))) set.entry.now (moment pass.old trace.old)
+        (moment pass.new trace.new) }
 {
     let mut cpu = enter(rt, lanes, pass, trace, set, LaneId::Cpu(set.cpu));
     let dump = cpu_values::dump(cpu.state_mut(), set.now);
@@ -56,7 +58,8 @@ pub fn irq<R: Wait>(
     requires moment { set.now.now < 2 ^ 40 }
     requires room { length trace.old < 16 }
     ensures has { Has lanes.now set.entry.now.caller [] pass.new }
-    ensures did { DidIn (Sampled (Fulfils (setting_of set.entry.now) (IrqEvent v1 v2) Done no_data)) set.entry.now (moment pass.old trace.old) (moment pass.new trace.new) }
+    ensures did { DidIn (Sampled (Fulfils (setting_of set.entry.now) (IrqEvent v1 v2) Done no_data)) set.entry.now
+        (moment pass.old trace.old) (moment pass.new trace.new) }
 {
     let mut cpu = enter(rt, lanes, pass, trace, set, LaneId::Cpu(set.cpu));
     let due = cpu_values::sample(cpu.state_mut(), v1, v2, set.now);

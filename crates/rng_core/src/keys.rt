@@ -42,7 +42,8 @@ pub(crate) fn extract<R: Wait>(
     ensures seen { (view pass.new).seen ≡ (view pass.old).seen }
     ensures early { pass.new.stamp ≤ 2 ^ 62 }
     ensures room { length trace.new ≡ length trace.old + 1 }
-    ensures visited { (s : Model) × Visited set.entry.now (moment pass.old trace.old) (moment pass.new trace.new) 0 result.place s (OfPool (Extract set.entry.now.hw base.now.turn.place)) nothing }
+    ensures visited { (s : Model) × Visited set.entry.now (moment pass.old trace.old) (moment pass.new trace.new) 0
+        result.place s (OfPool (Extract set.entry.now.hw base.now.turn.place)) nothing }
 {
     let mut pool = enter_under(rt, lanes, pass, trace, set, base, LaneId::Pool);
     let key = lane_values::extract(pool.state_mut(), &set.hw);
@@ -81,7 +82,8 @@ pub(crate) fn refill<R: Wait>(
     ensures fresh { (view pass.old).seen ≤ result.generation }
     ensures early { pass.new.stamp ≤ 2 ^ 62 }
     ensures room { length trace.new ≡ length trace.old + 1 }
-    ensures visited { (s : Model) × Visited set.entry.now (moment pass.old trace.old) (moment pass.new trace.new) 1 result.place s (OfBase (Refill set.entry.now.cpu cpu.now.turn.place)) nothing }
+    ensures visited { (s : Model) × Visited set.entry.now (moment pass.old trace.old) (moment pass.new trace.new) 1
+        result.place s (OfBase (Refill set.entry.now.cpu cpu.now.turn.place)) nothing }
 {
     let mut base = enter_under(rt, lanes, pass, trace, set, cpu, LaneId::Base);
     let generation = lane_values::base_generation(base.state());

@@ -27,7 +27,8 @@ const READY_BITS: u32 = 256;
 /// Mixes bytes into the pool.
 pub(crate) fn mix(state: &mut LaneState, text: &[u8])
     requires { (s : Model) × ValueStands 0 state.old s }
-    ensures { (s : Model) → ValueStands 0 state.old s → ValueStands 0 state.new (made_of s (OfPool (Mix text.now 0)) nothing) }
+    ensures { (s : Model) → ValueStands 0 state.old s
+        → ValueStands 0 state.new (made_of s (OfPool (Mix text.now 0)) nothing) }
 {
     match state {
         LaneState::Pool(lane) => lane.pool.mix(text),
@@ -38,8 +39,10 @@ pub(crate) fn mix(state: &mut LaneState, text: &[u8])
 /// Mixes bytes into the pool, and credits bits for them.
 pub(crate) fn mix_and_credit(state: &mut LaneState, text: &[u8], bits: u32) -> Crossing
     requires { (s : Model) × ValueStands 0 state.old s }
-    ensures made { (s : Model) → ValueStands 0 state.old s → ValueStands 0 state.new (made_of s (OfPool (Mix text.now bits)) nothing) }
-    ensures crossed { (s : Model) → ValueStands 0 state.old s → crossing_of result ≡ crossing s.pool.bits (pool_step s.pool (Mix text.now bits)).bits }
+    ensures made { (s : Model) → ValueStands 0 state.old s
+        → ValueStands 0 state.new (made_of s (OfPool (Mix text.now bits)) nothing) }
+    ensures crossed { (s : Model) → ValueStands 0 state.old s
+        → crossing_of result ≡ crossing s.pool.bits (pool_step s.pool (Mix text.now bits)).bits }
 {
     match state {
         LaneState::Pool(lane) => {
@@ -53,7 +56,8 @@ pub(crate) fn mix_and_credit(state: &mut LaneState, text: &[u8], bits: u32) -> C
 /// A root of the pool.
 pub(crate) fn extract(state: &mut LaneState, hw: &[u8; 32]) -> [u8; 32]
     requires { (s : Model) × ValueStands 0 state.old s }
-    ensures made { (s : Model) (place : ℕ) → ValueStands 0 state.old s → ValueStands 0 state.new (made_of s (OfPool (Extract hw.now place)) nothing) }
+    ensures made { (s : Model) (place : ℕ) → ValueStands 0 state.old s
+        → ValueStands 0 state.new (made_of s (OfPool (Extract hw.now place)) nothing) }
     ensures root { (s : Model) → ValueStands 0 state.old s → result ≡ root_of_extraction s.pool hw.now }
 {
     match state {
@@ -120,7 +124,8 @@ pub(crate) fn is_due(state: &LaneState, now: u64) -> bool
 /// One more caller runs.
 pub(crate) fn up(state: &mut LaneState)
     requires { (s : Model) × ValueStands 1 state.old s }
-    ensures { (s : Model) → ValueStands 1 state.old s → ValueStands 1 state.new (record s { base = record s.base { running = one_more s.base.running } }) }
+    ensures { (s : Model) → ValueStands 1 state.old s
+        → ValueStands 1 state.new (record s { base = record s.base { running = one_more s.base.running } }) }
 {
     match state {
         LaneState::Base(lane) => lane.base.up(),
@@ -131,7 +136,8 @@ pub(crate) fn up(state: &mut LaneState)
 /// One caller less runs.
 pub(crate) fn down(state: &mut LaneState)
     requires { (s : Model) × ValueStands 1 state.old s }
-    ensures { (s : Model) → ValueStands 1 state.old s → ValueStands 1 state.new (record s { base = record s.base { running = one_less s.base.running } }) }
+    ensures { (s : Model) → ValueStands 1 state.old s
+        → ValueStands 1 state.new (record s { base = record s.base { running = one_less s.base.running } }) }
 {
     match state {
         LaneState::Base(lane) => lane.base.down(),
@@ -142,7 +148,8 @@ pub(crate) fn down(state: &mut LaneState)
 /// Installs a root early.
 pub(crate) fn install_early(state: &mut LaneState, root: [u8; 32])
     requires { (s : Model) × ValueStands 1 state.old s × (s.base.phase ≡ empty) }
-    ensures { (s : Model) (got : Handed) (place : ℕ) → got.key ≡ root → ValueStands 1 state.old s → ValueStands 1 state.new (made_of s (OfBase (EarlyEntry (Some place))) got) }
+    ensures { (s : Model) (got : Handed) (place : ℕ) → got.key ≡ root → ValueStands 1 state.old s
+        → ValueStands 1 state.new (made_of s (OfBase (EarlyEntry (Some place))) got) }
 {
     match state {
         LaneState::Base(lane) => lane.base.install_early(root),
@@ -154,7 +161,8 @@ pub(crate) fn install_early(state: &mut LaneState, root: [u8; 32])
 pub(crate) fn install(state: &mut LaneState, root: [u8; 32], now: u64)
     requires stands { (s : Model) × ValueStands 1 state.old s × (s.base.generation < 2 ^ 63) }
     requires now { now < 2 ^ 40 }
-    ensures { (s : Model) (got : Handed) (place : ℕ) → got.key ≡ root → ValueStands 1 state.old s → ValueStands 1 state.new (made_of s (OfBase (Reseed place now)) got) }
+    ensures { (s : Model) (got : Handed) (place : ℕ) → got.key ≡ root → ValueStands 1 state.old s
+        → ValueStands 1 state.new (made_of s (OfBase (Reseed place now)) got) }
 {
     match state {
         LaneState::Base(lane) => lane.base.install(root, now),
@@ -166,7 +174,8 @@ pub(crate) fn install(state: &mut LaneState, root: [u8; 32], now: u64)
 pub(crate) fn fire(state: &mut LaneState, root: [u8; 32], now: u64)
     requires stands { (s : Model) × ValueStands 1 state.old s × (s.base.generation < 2 ^ 63) × IsDue s.base.timer now }
     requires now { now < 2 ^ 40 }
-    ensures { (s : Model) (got : Handed) (place : ℕ) → got.key ≡ root → ValueStands 1 state.old s → ValueStands 1 state.new (made_of s (OfBase (Tick now (Some place))) got) }
+    ensures { (s : Model) (got : Handed) (place : ℕ) → got.key ≡ root → ValueStands 1 state.old s
+        → ValueStands 1 state.new (made_of s (OfBase (Tick now (Some place))) got) }
 {
     match state {
         LaneState::Base(lane) => lane.base.fire(root, now),
@@ -178,7 +187,8 @@ pub(crate) fn fire(state: &mut LaneState, root: [u8; 32], now: u64)
 pub(crate) fn draw(state: &mut LaneState, buf: &mut [u8], taken: Taken)
     requires stands { (s : Model) × ValueStands 1 state.old s }
     requires count { taken_count taken ≡ length buf.old }
-    ensures made { (s : Model) (got : Handed) → ValueStands 1 state.old s → ValueStands 1 state.new (made_of s (OfBase (Draw None taken)) got) }
+    ensures made { (s : Model) (got : Handed) → ValueStands 1 state.old s
+        → ValueStands 1 state.new (made_of s (OfBase (Draw None taken)) got) }
     ensures bytes { (s : Model) → ValueStands 1 state.old s → buf.new ≡ taken_bytes s.base.key taken }
 {
     match state {
@@ -194,7 +204,8 @@ pub(crate) fn draw(state: &mut LaneState, buf: &mut [u8], taken: Taken)
 pub(crate) fn draw_rooted(state: &mut LaneState, root: [u8; 32], buf: &mut [u8], taken: Taken)
     requires stands { (s : Model) × ValueStands 1 state.old s × (s.base.phase ≡ empty) }
     requires count { taken_count taken ≡ length buf.old }
-    ensures made { (s : Model) (got : Handed) (place : ℕ) → got.key ≡ root → ValueStands 1 state.old s → ValueStands 1 state.new (made_of s (OfBase (Draw (Some place) taken)) got) }
+    ensures made { (s : Model) (got : Handed) (place : ℕ) → got.key ≡ root → ValueStands 1 state.old s
+        → ValueStands 1 state.new (made_of s (OfBase (Draw (Some place) taken)) got) }
     ensures bytes { buf.new ≡ taken_bytes root taken }
 {
     match state {
@@ -212,7 +223,8 @@ pub(crate) fn draw_rooted(state: &mut LaneState, root: [u8; 32], buf: &mut [u8],
 /// The key of a CPU that is refilled.
 pub(crate) fn hand_over(state: &mut LaneState) -> [u8; 32]
     requires { (s : Model) × ValueStands 1 state.old s }
-    ensures made { (s : Model) (got : Handed) (cpu place : ℕ) → ValueStands 1 state.old s → ValueStands 1 state.new (made_of s (OfBase (Refill cpu place)) got) }
+    ensures made { (s : Model) (got : Handed) (cpu place : ℕ) → ValueStands 1 state.old s
+        → ValueStands 1 state.new (made_of s (OfBase (Refill cpu place)) got) }
     ensures key { (s : Model) → ValueStands 1 state.old s → result ≡ keystream s.base.key 32 32 }
 {
     match state {
@@ -224,7 +236,8 @@ pub(crate) fn hand_over(state: &mut LaneState) -> [u8; 32]
 /// Mixes a device's word and bytes into the pool.
 pub(crate) fn mix_device(state: &mut LaneState, word: u64, text: &[u8])
     requires { (s : Model) × ValueStands 0 state.old s }
-    ensures { (s : Model) → ValueStands 0 state.old s → ValueStands 0 state.new (made_of s (OfPool (Mix (to_le_bytes w64 word ++ text.now) 0)) nothing) }
+    ensures { (s : Model) → ValueStands 0 state.old s
+        → ValueStands 0 state.new (made_of s (OfPool (Mix (to_le_bytes w64 word ++ text.now) 0)) nothing) }
 {
     match state {
         LaneState::Pool(lane) => {
@@ -238,8 +251,10 @@ pub(crate) fn mix_device(state: &mut LaneState, word: u64, text: &[u8])
 // An input event in the pool and its timer.
 fn mix_sample(lane: &mut PoolLane, word: u64, kind: u16, code: u16, value: u8, now: u64) -> Crossing
     requires { now < 2 ^ 40 }
-    ensures made { (s : PoolState) → PoolLaneStands lane.old s → PoolLaneStands lane.new (pool_step s (InputEntry word kind code value now)) }
-    ensures crossed { (s : PoolState) → PoolLaneStands lane.old s → crossing_of result ≡ crossing s.bits (pool_step s (InputEntry word kind code value now)).bits }
+    ensures made { (s : PoolState) → PoolLaneStands lane.old s
+        → PoolLaneStands lane.new (pool_step s (InputEntry word kind code value now)) }
+    ensures crossed { (s : PoolState) → PoolLaneStands lane.old s
+        → crossing_of result ≡ crossing s.bits (pool_step s (InputEntry word kind code value now)).bits }
 {
     if !lane.timer.fresh(value) {
         return Crossing::None;
@@ -263,8 +278,10 @@ pub(crate) fn mix_input(
 ) -> Crossing
     requires stands { (s : Model) × ValueStands 0 state.old s }
     requires moment { now < 2 ^ 40 }
-    ensures made { (s : Model) → ValueStands 0 state.old s → ValueStands 0 state.new (made_of s (OfPool (InputEntry word kind code value now)) nothing) }
-    ensures crossed { (s : Model) → ValueStands 0 state.old s → crossing_of result ≡ crossing s.pool.bits (pool_step s.pool (InputEntry word kind code value now)).bits }
+    ensures made { (s : Model) → ValueStands 0 state.old s
+        → ValueStands 0 state.new (made_of s (OfPool (InputEntry word kind code value now)) nothing) }
+    ensures crossed { (s : Model) → ValueStands 0 state.old s
+        → crossing_of result ≡ crossing s.pool.bits (pool_step s.pool (InputEntry word kind code value now)).bits }
 {
     match state {
         LaneState::Pool(lane) => mix_sample(lane, word, kind, code, value, now),

@@ -45,7 +45,8 @@ fn draw_rooted<R: Wait>(
     requires room { length trace.old < 19 }
     ensures has { Has lanes.now set.entry.now.caller [] pass.new }
     ensures room { length trace.new ≡ length trace.old + 2 }
-    ensures did { Did (Serving (DrawForm (setting_of set.entry.now) taken) buf.new) set.entry.now (moment pass.old trace.old) (moment pass.new trace.new) }
+    ensures did { Did (Serving (DrawForm (setting_of set.entry.now) taken) buf.new) set.entry.now
+        (moment pass.old trace.old) (moment pass.new trace.new) }
 {
     let root = extract(rt, lanes, pass, trace, set, &base);
     lane_values::draw_rooted(base.state_mut(), root.key, buf, taken);
@@ -75,7 +76,8 @@ fn draw_early(
     requires early { pass.old.stamp < 2 ^ 62 }
     ensures has { Has lanes.now set.entry.now.caller [] pass.new }
     ensures room { length trace.new ≡ length trace.old + 1 }
-    ensures did { Did (Serving (DrawForm (setting_of set.entry.now) taken) buf.new) set.entry.now (moment pass.old trace.old) (moment pass.new trace.new) }
+    ensures did { Did (Serving (DrawForm (setting_of set.entry.now) taken) buf.new) set.entry.now
+        (moment pass.old trace.old) (moment pass.new trace.new) }
 {
     lane_values::draw(base.state_mut(), buf, taken);
     leave(
@@ -111,7 +113,8 @@ fn read_fresh(
     requires early { pass.old.stamp < 2 ^ 62 }
     ensures has { Has lanes.now set.entry.now.caller [] pass.new }
     ensures room { length trace.new ≡ length trace.old + 1 }
-    ensures served { Served set.entry.now (moment pass.old trace.old) (moment pass.new trace.new) (set.entry.now.cpu + 2) cpu.turn.place (OfCpu (Read look None taken)) buf.new }
+    ensures served { Served set.entry.now (moment pass.old trace.old) (moment pass.new trace.new)
+        (set.entry.now.cpu + 2) cpu.turn.place (OfCpu (Read look None taken)) buf.new }
 {
     cpu_values::read(cpu.state_mut(), buf, taken);
     let entry = CpuEntry::Read {
@@ -137,7 +140,8 @@ fn read_refilled(
     requires has { Has lanes.now set.now.caller (hand cpu.turn (Some base.now.place) 0 ∷ []) pass.old }
     requires lane { cpu.turn.lane ≡ set.now.cpu + 2 }
     requires value { ValueStands (set.now.cpu + 2) cpu.state (model pass.old (set.now.cpu + 2)) }
-    requires handed { got_of (Some base.now.place) (known_of (view pass.old) 1) ≡ handing base.now.key base.now.generation }
+    requires handed { got_of (Some base.now.place) (known_of (view pass.old) 1) ≡ handing base.now.key
+        base.now.generation }
     requires known { 1 ≤ look }
     requires not_back { (model pass.old (set.now.cpu + 2)).cpu.cpu.generation ≤ look }
     requires stale { look ≢ (model pass.old (set.now.cpu + 2)).cpu.cpu.generation }
@@ -148,7 +152,8 @@ fn read_refilled(
     requires early { pass.old.stamp ≤ 2 ^ 62 }
     ensures has { Has lanes.now set.entry.now.caller [] pass.new }
     ensures room { length trace.new ≡ length trace.old + 1 }
-    ensures served { Served set.entry.now (moment pass.old trace.old) (moment pass.new trace.new) (set.entry.now.cpu + 2) cpu.turn.place (OfCpu (Read look (Some base.now.place) taken)) buf.new }
+    ensures served { Served set.entry.now (moment pass.old trace.old) (moment pass.new trace.new)
+        (set.entry.now.cpu + 2) cpu.turn.place (OfCpu (Read look (Some base.now.place) taken)) buf.new }
 {
     cpu_values::read_refilled(cpu.state_mut(), base.key, base.generation, buf, taken);
     let entry = CpuEntry::Read {
@@ -177,7 +182,8 @@ pub(crate) fn read_cpu<R: Wait>(
     requires room { length trace.old < 18 }
     ensures has { Has lanes.now set.entry.now.caller [] pass.new }
     ensures room { length trace.new ≤ length trace.old + 3 }
-    ensures did { Did (Serving (CpuReadForm (setting_of set.entry.now) taken) buf.new) set.entry.now (moment pass.old trace.old) (moment pass.new trace.new) }
+    ensures did { Did (Serving (CpuReadForm (setting_of set.entry.now) taken) buf.new) set.entry.now
+        (moment pass.old trace.old) (moment pass.new trace.new) }
 {
     let cpu = enter(rt, lanes, pass, trace, set, LaneId::Cpu(set.cpu));
     let look = look_holding(lanes, pass, trace, set, &cpu);
@@ -209,7 +215,8 @@ fn draw<R: Wait>(
     requires early { pass.old.stamp < 2 ^ 62 }
     ensures has { Has lanes.now set.entry.now.caller [] pass.new }
     ensures room { length trace.new ≤ length trace.old + 2 }
-    ensures did { Did (Serving (DrawForm (setting_of set.entry.now) taken) buf.new) set.entry.now (moment pass.old trace.old) (moment pass.new trace.new) }
+    ensures did { Did (Serving (DrawForm (setting_of set.entry.now) taken) buf.new) set.entry.now
+        (moment pass.old trace.old) (moment pass.new trace.new) }
 {
     match lane_values::phase(base.state()) {
         Phase::Empty => draw_rooted(rt, lanes, pass, trace, set, base, buf, taken),
@@ -237,7 +244,8 @@ pub(crate) fn read_behind<R: Wait>(
     requires room { length trace.old < 18 }
     ensures has { Has lanes.now set.entry.now.caller [] pass.new }
     ensures room { length trace.new ≤ length trace.old + 3 }
-    ensures did { Did (Serving (ReadForm (setting_of set.entry.now) taken look) buf.new) set.entry.now (moment pass.old trace.old) (moment pass.new trace.new) }
+    ensures did { Did (Serving (ReadForm (setting_of set.entry.now) taken look) buf.new) set.entry.now
+        (moment pass.old trace.old) (moment pass.new trace.new) }
 {
     if look != 0 {
         read_cpu(rt, lanes, pass, trace, set, buf, taken);
@@ -266,7 +274,8 @@ pub fn kernel_read<R: Wait>(
     requires short { length buf.old ≤ 2 ^ 20 }
     requires room { length trace.old < 17 }
     ensures has { Has lanes.now set.entry.now.caller [] pass.new }
-    ensures did { Did (Fulfils (setting_of set.entry.now) (Kread (length buf.old)) Done (bytes_or_none buf.new)) set.entry.now (moment pass.old trace.old) (moment pass.new trace.new) }
+    ensures did { Did (Fulfils (setting_of set.entry.now) (Kread (length buf.old)) Done (bytes_or_none buf.new))
+        set.entry.now (moment pass.old trace.old) (moment pass.new trace.new) }
 {
     if buf.is_empty() {
         return;
@@ -290,7 +299,8 @@ pub fn urandom_file<R: Wait>(
     requires short { length buf.old ≤ 2 ^ 20 }
     requires room { length trace.old < 17 }
     ensures has { Has lanes.now set.entry.now.caller [] pass.new }
-    ensures did { Did (Fulfils (setting_of set.entry.now) (Uread (length buf.old)) Done (bytes_or_none buf.new)) set.entry.now (moment pass.old trace.old) (moment pass.new trace.new) }
+    ensures did { Did (Fulfils (setting_of set.entry.now) (Uread (length buf.old)) Done (bytes_or_none buf.new))
+        set.entry.now (moment pass.old trace.old) (moment pass.new trace.new) }
 {
     if buf.is_empty() {
         return;

@@ -36,7 +36,8 @@ pub(crate) fn reseed_base<R: Wait>(
     requires moment { set.now.now < 2 ^ 40 }
     requires room { length trace.old < 19 }
     ensures has { Has lanes.now set.entry.now.caller [] pass.new }
-    ensures did { Did (Rooted (setting_of set.entry.now) (λ r. Reseed r set.entry.now.now)) set.entry.now (moment pass.old trace.old) (moment pass.new trace.new) }
+    ensures did { Did (Rooted (setting_of set.entry.now) (λ r. Reseed r set.entry.now.now)) set.entry.now
+        (moment pass.old trace.old) (moment pass.new trace.new) }
 {
     let mut base = enter(rt, lanes, pass, trace, set, LaneId::Base);
     let root = extract(rt, lanes, pass, trace, set, &base);
@@ -66,7 +67,8 @@ pub fn reseed<R: Wait>(
     requires moment { set.now.now < 2 ^ 40 }
     requires room { length trace.old < 18 }
     ensures has { Has lanes.now set.entry.now.caller [] pass.new }
-    ensures did { Did (Fulfils (setting_of set.entry.now) ReseedEvent (result_answer result) no_data) set.entry.now (moment pass.old trace.old) (moment pass.new trace.new) }
+    ensures did { Did (Fulfils (setting_of set.entry.now) ReseedEvent (result_answer result) no_data) set.entry.now
+        (moment pass.old trace.old) (moment pass.new trace.new) }
 {
     if look(lanes, pass, trace, set) == 0 {
         return Err(Errno::NoData);
@@ -93,7 +95,8 @@ fn fire<R: Wait>(
     requires moment { set.now.now < 2 ^ 40 }
     requires room { length trace.old < 19 }
     ensures has { Has lanes.now set.entry.now.caller [] pass.new }
-    ensures did { Did (Rooted (setting_of set.entry.now) (λ r. TickEntry set.entry.now.now (Some r))) set.entry.now (moment pass.old trace.old) (moment pass.new trace.new) }
+    ensures did { Did (Rooted (setting_of set.entry.now) (λ r. TickEntry set.entry.now.now (Some r))) set.entry.now
+        (moment pass.old trace.old) (moment pass.new trace.new) }
 {
     let root = extract(rt, lanes, pass, trace, set, &base);
     let generation = lane_values::base_generation(base.state()) + 1;
@@ -118,7 +121,8 @@ pub fn tick<R: Wait>(
     requires moment { set.now.now < 2 ^ 40 }
     requires room { length trace.old < 19 }
     ensures has { Has lanes.now set.entry.now.caller [] pass.new }
-    ensures did { Did (Fulfils (setting_of set.entry.now) TickEvent (tick_result result) no_data) set.entry.now (moment pass.old trace.old) (moment pass.new trace.new) }
+    ensures did { Did (Fulfils (setting_of set.entry.now) TickEvent (tick_result result) no_data) set.entry.now
+        (moment pass.old trace.old) (moment pass.new trace.new) }
 {
     let base = enter(rt, lanes, pass, trace, set, LaneId::Base);
     if lane_values::is_due(base.state(), set.now) {
@@ -148,7 +152,8 @@ fn seed_early<R: Wait>(
     requires unseeded { (model pass.old 1).base.phase ≡ empty }
     requires room { length trace.old < 19 }
     ensures has { Has lanes.now set.entry.now.caller [] pass.new }
-    ensures did { Did (Rooted (setting_of set.entry.now) (λ r. EarlyEntry (Some r))) set.entry.now (moment pass.old trace.old) (moment pass.new trace.new) }
+    ensures did { Did (Rooted (setting_of set.entry.now) (λ r. EarlyEntry (Some r))) set.entry.now
+        (moment pass.old trace.old) (moment pass.new trace.new) }
 {
     let root = extract(rt, lanes, pass, trace, set, &base);
     lane_values::install_early(base.state_mut(), root.key);
@@ -163,7 +168,8 @@ fn cross_early<R: Wait>(rt: &R, lanes: &Lanes, pass: &mut Pass, trace: &mut Trac
     requires has { Has lanes.now set.now.caller [] pass.old }
     requires room { length trace.old < 19 }
     ensures has { Has lanes.now set.entry.now.caller [] pass.new }
-    ensures did { Did (Cross (setting_of set.entry.now) early) set.entry.now (moment pass.old trace.old) (moment pass.new trace.new) }
+    ensures did { Did (Cross (setting_of set.entry.now) early) set.entry.now (moment pass.old trace.old)
+        (moment pass.new trace.new) }
 {
     let base = enter(rt, lanes, pass, trace, set, LaneId::Base);
     if lane_values::phase(base.state()) == Phase::Empty {
@@ -194,7 +200,8 @@ pub(crate) fn cross<R: Wait>(
     requires moment { set.now.now < 2 ^ 40 }
     requires room { length trace.old < 19 }
     ensures has { Has lanes.now set.entry.now.caller [] pass.new }
-    ensures did { Did (Cross (setting_of set.entry.now) (crossing_of crossing)) set.entry.now (moment pass.old trace.old) (moment pass.new trace.new) }
+    ensures did { Did (Cross (setting_of set.entry.now) (crossing_of crossing)) set.entry.now
+        (moment pass.old trace.old) (moment pass.new trace.new) }
 {
     match crossing {
         Crossing::None => {}

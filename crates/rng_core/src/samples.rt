@@ -28,7 +28,8 @@ pub fn mix<R: Wait>(
     requires has { Has lanes.now set.now.caller [] pass.old }
     requires room { length trace.old < 20 }
     ensures has { Has lanes.now set.entry.now.caller [] pass.new }
-    ensures did { Did (Fulfils (setting_of set.entry.now) (WriteEvent text.now) Done no_data) set.entry.now (moment pass.old trace.old) (moment pass.new trace.new) }
+    ensures did { Did (Fulfils (setting_of set.entry.now) (WriteEvent text.now) Done no_data) set.entry.now
+        (moment pass.old trace.old) (moment pass.new trace.new) }
 {
     let mut pool = enter(rt, lanes, pass, trace, set, LaneId::Pool);
     lane_values::mix(pool.state_mut(), text);
@@ -50,7 +51,8 @@ pub fn device<R: Wait>(
     requires room { length trace.old < 20 }
     ensures has { Has lanes.now set.entry.now.caller [] pass.new }
     ensures room { length trace.new ≡ length trace.old + 1 }
-    ensures did { Did (Fulfils (setting_of set.entry.now) (DeviceEvent word text.now) Done no_data) set.entry.now (moment pass.old trace.old) (moment pass.new trace.new) }
+    ensures did { Did (Fulfils (setting_of set.entry.now) (DeviceEvent word text.now) Done no_data) set.entry.now
+        (moment pass.old trace.old) (moment pass.new trace.new) }
 {
     let mut pool = enter(rt, lanes, pass, trace, set, LaneId::Pool);
     lane_values::mix_device(pool.state_mut(), word, text);
@@ -72,7 +74,8 @@ pub fn add<R: Wait>(
     requires moment { set.now.now < 2 ^ 40 }
     requires room { length trace.old < 18 }
     ensures has { Has lanes.now set.entry.now.caller [] pass.new }
-    ensures did { Did (Fulfils (setting_of set.entry.now) (AddEvent text.now bits) Done no_data) set.entry.now (moment pass.old trace.old) (moment pass.new trace.new) }
+    ensures did { Did (Fulfils (setting_of set.entry.now) (AddEvent text.now bits) Done no_data) set.entry.now
+        (moment pass.old trace.old) (moment pass.new trace.new) }
 {
     let mut pool = enter(rt, lanes, pass, trace, set, LaneId::Pool);
     let crossing = lane_values::mix_and_credit(pool.state_mut(), text, bits);
@@ -98,7 +101,8 @@ pub fn input<R: Wait>(
     requires moment { set.now.now < 2 ^ 40 }
     requires room { length trace.old < 18 }
     ensures has { Has lanes.now set.entry.now.caller [] pass.new }
-    ensures did { Did (Fulfils (setting_of set.entry.now) (InputEvent word kind code value) Done no_data) set.entry.now (moment pass.old trace.old) (moment pass.new trace.new) }
+    ensures did { Did (Fulfils (setting_of set.entry.now) (InputEvent word kind code value) Done no_data) set.entry.now
+        (moment pass.old trace.old) (moment pass.new trace.new) }
 {
     let mut pool = enter(rt, lanes, pass, trace, set, LaneId::Pool);
     let crossing = lane_values::mix_input(pool.state_mut(), word, kind, code, value, set.now);
@@ -124,7 +128,8 @@ pub fn bits<R: Wait>(
     requires has { Has lanes.now set.now.caller [] pass.old }
     requires room { length trace.old < 20 }
     ensures has { Has lanes.now set.entry.now.caller [] pass.new }
-    ensures did { Did (Fulfils (setting_of set.entry.now) BitsEvent Done (count result)) set.entry.now (moment pass.old trace.old) (moment pass.new trace.new) }
+    ensures did { Did (Fulfils (setting_of set.entry.now) BitsEvent Done (count result)) set.entry.now
+        (moment pass.old trace.old) (moment pass.new trace.new) }
 {
     let pool = enter(rt, lanes, pass, trace, set, LaneId::Pool);
     let bits = lane_values::bits(pool.state());
@@ -146,7 +151,8 @@ pub fn vmfork<R: Wait>(
     requires moment { set.now.now < 2 ^ 40 }
     requires room { length trace.old < 16 }
     ensures has { Has lanes.now set.entry.now.caller [] pass.new }
-    ensures did { Did (Fulfils (setting_of set.entry.now) (VmforkEvent word text.now) Done no_data) set.entry.now (moment pass.old trace.old) (moment pass.new trace.new) }
+    ensures did { Did (Fulfils (setting_of set.entry.now) (VmforkEvent word text.now) Done no_data) set.entry.now
+        (moment pass.old trace.old) (moment pass.new trace.new) }
 {
     device(rt, lanes, pass, trace, set, word, text);
     let _ = reseed(rt, lanes, pass, trace, set);

@@ -46,7 +46,8 @@ fn resume(lanes: &Lanes, pass: &mut Pass, trace: &mut Trace, set: &Setting, mut 
     ensures has { Has lanes.now set.entry.now.caller [] pass.new }
     ensures ready { 1 ≤ floor (view pass.new) }
     ensures room { length trace.new ≡ length trace.old + 1 }
-    ensures did { Did (Serving (BaseOnly Resume) []) set.entry.now (moment pass.old trace.old) (moment pass.new trace.new) }
+    ensures did { Did (Serving (BaseOnly Resume) []) set.entry.now (moment pass.old trace.old)
+        (moment pass.new trace.new) }
 {
     lane_values::up(base.state_mut());
     leave(
@@ -71,7 +72,8 @@ fn interrupt(lanes: &Lanes, pass: &mut Pass, trace: &mut Trace, set: &Setting, m
     requires early { pass.old.stamp < 2 ^ 62 }
     ensures has { Has lanes.now set.entry.now.caller [] pass.new }
     ensures room { length trace.new ≡ length trace.old + 1 }
-    ensures did { Did (Serving (BaseOnly Interrupt) []) set.entry.now (moment pass.old trace.old) (moment pass.new trace.new) }
+    ensures did { Did (Serving (BaseOnly Interrupt) []) set.entry.now (moment pass.old trace.old)
+        (moment pass.new trace.new) }
 {
     lane_values::up(base.state_mut());
     leave(
@@ -96,7 +98,8 @@ fn wait_ready<R: Wait>(
     requires has { Has lanes.now set.now.caller [] pass.old }
     requires room { length trace.old < 20 }
     ensures has { Has lanes.now set.entry.now.caller [] pass.new }
-    ensures waited { Waits result set.entry.now (moment pass.old trace.old) (moment pass.new trace.new) (floor (view pass.new)) }
+    ensures waited { Waits result set.entry.now (moment pass.old trace.old) (moment pass.new trace.new)
+        (floor (view pass.new)) }
     ensures room { length trace.new ≡ length trace.old + 1 }
 {
     for _ in rt.forever() {
@@ -149,7 +152,8 @@ pub fn getrandom<R: Wait>(
     ensures has { Has lanes.now set.entry.now.caller [] pass.new }
     ensures room { length trace.new + waiting (view pass.new) ≤ length trace.old + 4 + waiting (view pass.old) }
     ensures begins { is_bad flags ≡ false → BeginsWithLook trace.old trace.new }
-    ensures did { Did (Fulfils (setting_of set.entry.now) (Read (length buf.old) flags) (result_answer result) (bytes_or_none (given result buf.new))) set.entry.now (moment pass.old trace.old) (moment pass.new trace.new) }
+    ensures did { Did (Fulfils (setting_of set.entry.now) (Read (length buf.old) flags) (result_answer result)
+        (bytes_or_none (given result buf.new))) set.entry.now (moment pass.old trace.old) (moment pass.new trace.new) }
 {
     if are_bad(flags) {
         return Err(Errno::Invalid);
@@ -206,7 +210,9 @@ pub fn random_file<R: Wait>(
     requires short { length buf.old ≤ 2 ^ 20 }
     requires room { length trace.old < 15 }
     ensures has { Has lanes.now set.entry.now.caller [] pass.new }
-    ensures did { Did (Fulfils (setting_of set.entry.now) (Dread (length buf.old) (if nonblock then 1 else 0)) (result_answer result) (bytes_or_none (given result buf.new))) set.entry.now (moment pass.old trace.old) (moment pass.new trace.new) }
+    ensures did { Did (Fulfils (setting_of set.entry.now) (Dread (length buf.old) (if nonblock then 1 else 0))
+        (result_answer result) (bytes_or_none (given result buf.new))) set.entry.now (moment pass.old trace.old)
+        (moment pass.new trace.new) }
 {
     let flags = file_flags(nonblock);
     getrandom(rt, lanes, pass, trace, set, buf, flags)

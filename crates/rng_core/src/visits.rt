@@ -54,7 +54,8 @@ pub(crate) fn enter_under<R: Wait>(
     requires has { Has lanes.now set.now.caller (hand outer.now.turn None 0 ∷ []) pass.old }
     requires lane { index_of lane < count_of lanes.now }
     requires other { index_of lane ≢ outer.now.turn.lane }
-    ensures has { Has lanes.now set.entry.now.caller (hand result.turn None 0 ∷ hand outer.now.turn None 0 ∷ []) pass.new }
+    ensures has { Has lanes.now set.entry.now.caller (hand result.turn None 0 ∷ hand outer.now.turn None 0 ∷ [])
+        pass.new }
     ensures lane { result.turn.lane ≡ index_of lane }
     ensures value { ValueStands (index_of lane) result.state (model pass.new (index_of lane)) }
     ensures seen { (view pass.new).seen ≡ (view pass.old).seen }
@@ -180,19 +181,25 @@ pub(crate) fn leave<E: Entry>(
     lane: LaneId,
     entry: E,
 ) -> u64
-    requires has { Has lanes.now set.now.caller (hand held.turn (behind_of (E.entry entry)) (raise_of (E.entry entry)) ∷ []) pass.old }
+    requires has { Has lanes.now set.now.caller (hand held.turn (behind_of (E.entry entry)) (raise_of (E.entry entry))
+        ∷ []) pass.old }
     requires lane { held.turn.lane ≡ index_of lane }
     requires kind { IsOf (index_of lane) (E.entry entry) }
     requires names { ahead_of (E.entry entry) ≡ None }
-    requires makes { ValueStands (index_of lane) held.state (made_of (model pass.old (index_of lane)) (E.entry entry) (handed (index_of lane) (E.entry entry) (view pass.old))) }
-    requires fits { Fits (model pass.old (index_of lane)) (handed (index_of lane) (E.entry entry) (view pass.old)) (E.entry entry) }
+    requires makes { ValueStands (index_of lane) held.state
+        (made_of (model pass.old (index_of lane)) (E.entry entry)
+        (handed (index_of lane) (E.entry entry) (view pass.old))) }
+    requires fits { Fits (model pass.old (index_of lane)) (handed (index_of lane) (E.entry entry) (view pass.old))
+        (E.entry entry) }
     requires room { length trace.old < 20 }
     requires early { pass.old.stamp ≤ 2 ^ 62 }
     ensures has { Has lanes.now set.entry.now.caller [] pass.new }
     ensures place { result ≡ held.turn.place }
     ensures seen { (view pass.new).seen ≡ (view pass.old).seen }
     ensures room { length trace.new ≡ length trace.old + 1 }
-    ensures visited { Visited set.entry.now (moment pass.old trace.old) (moment pass.new trace.new) (index_of lane) held.turn.place (model pass.old (index_of lane)) (E.entry entry) (handed (index_of lane) (E.entry entry) (view pass.old)) }
+    ensures visited { Visited set.entry.now (moment pass.old trace.old) (moment pass.new trace.new) (index_of lane)
+        held.turn.place (model pass.old (index_of lane)) (E.entry entry)
+        (handed (index_of lane) (E.entry entry) (view pass.old)) }
 {
     let _lane = lane;
     let who = maker(trace, set);
@@ -212,23 +219,30 @@ pub(crate) fn leave_naming<E: Entry>(
     lane: LaneId,
     entry: E,
 ) -> u64
-    requires has { Has lanes.now set.now.caller (hand held.turn (behind_of (E.entry entry)) (raise_of (E.entry entry)) ∷ hand outer.now.turn None 0 ∷ []) pass.old }
+    requires has { Has lanes.now set.now.caller (hand held.turn (behind_of (E.entry entry)) (raise_of (E.entry entry))
+        ∷ hand outer.now.turn None 0 ∷ []) pass.old }
     requires lane { held.turn.lane ≡ index_of lane }
     requires kind { IsOf (index_of lane) (E.entry entry) }
     requires names { ahead_of (E.entry entry) ≡ Some (outer.now.turn.lane, outer.now.turn.place) }
     requires parent { parent outer.now.turn.lane ≡ index_of lane }
-    requires makes { ValueStands (index_of lane) held.state (made_of (model pass.old (index_of lane)) (E.entry entry) (handed (index_of lane) (E.entry entry) (view pass.old))) }
-    requires fits { Fits (model pass.old (index_of lane)) (handed (index_of lane) (E.entry entry) (view pass.old)) (E.entry entry) }
+    requires makes { ValueStands (index_of lane) held.state
+        (made_of (model pass.old (index_of lane)) (E.entry entry)
+        (handed (index_of lane) (E.entry entry) (view pass.old))) }
+    requires fits { Fits (model pass.old (index_of lane)) (handed (index_of lane) (E.entry entry) (view pass.old))
+        (E.entry entry) }
     requires room { length trace.old < 20 }
     requires early { pass.old.stamp < 2 ^ 62 }
     ensures has { Has lanes.now set.entry.now.caller (hand outer.now.turn (Some result) 0 ∷ []) pass.new }
     ensures place { result ≡ held.turn.place }
     ensures kept { model pass.new outer.now.turn.lane ≡ model pass.old outer.now.turn.lane }
-    ensures hands_on { got_of (Some result) (known_of (view pass.new) (index_of lane)) ≡ gave_of (model pass.old (index_of lane)) (E.entry entry) (handed (index_of lane) (E.entry entry) (view pass.old)) }
+    ensures hands_on { got_of (Some result) (known_of (view pass.new) (index_of lane)) ≡ gave_of
+        (model pass.old (index_of lane)) (E.entry entry) (handed (index_of lane) (E.entry entry) (view pass.old)) }
     ensures seen { (view pass.new).seen ≡ (view pass.old).seen }
     ensures early { pass.new.stamp ≤ 2 ^ 62 }
     ensures room { length trace.new ≡ length trace.old + 1 }
-    ensures visited { Visited set.entry.now (moment pass.old trace.old) (moment pass.new trace.new) (index_of lane) result (model pass.old (index_of lane)) (E.entry entry) (handed (index_of lane) (E.entry entry) (view pass.old)) }
+    ensures visited { Visited set.entry.now (moment pass.old trace.old) (moment pass.new trace.new) (index_of lane)
+        result (model pass.old (index_of lane)) (E.entry entry)
+        (handed (index_of lane) (E.entry entry) (view pass.old)) }
 {
     let _outer = outer.place();
     let _lane = lane;

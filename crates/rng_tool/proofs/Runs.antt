@@ -71,10 +71,12 @@ none_between : (number : ℕ) → let times : ℕ = (if nat_lt 0 number && nat_l
 none_between number = grind (arith, nat_tests)
 
 none_forked : (events : List Event) (number : ℕ) →
-    times_forked (events ∷ []) number ≡ (if nat_lt 0 number && nat_lt number 1 then 1 else 0) → count_by (is_fork_of number) events ≡ 0
+    times_forked (events ∷ []) number ≡ (if nat_lt 0 number && nat_lt number 1 then 1 else 0) →
+      count_by (is_fork_of number) events ≡ 0
 none_forked events number times = sym (sum_one (count_by (is_fork_of number)) events) ∙ times ∙ none_between number
 
-pub runnable : (script : Script) (events : List Event) → WellFormed script → HasOneCaller script → slice_get script.callers 0 ≡ Some events →
+pub runnable : (script : Script) (events : List Event) → WellFormed script → HasOneCaller script →
+    slice_get script.callers 0 ≡ Some events →
     Runnable script events
 runnable script events ok one is =
     let same : script ≡ one_caller script.version script.cpus events =

@@ -47,7 +47,8 @@ pub record LoadOf (start events : ℕ) (output : List ℕ) : Type 0 where
 
 -- how a load ends, and what the sink then holds
 abbrev pub LoadEnds : ℕ → ℕ → Status → Option (List ℕ) → Option (List ℕ) → Type 0
-LoadEnds start events Done held held_after = (output : List ℕ) × LoadOf start events output × Appends held held_after output
+LoadEnds start events Done held held_after = (output : List ℕ) × LoadOf start events output
+    × Appends held held_after output
 LoadEnds start events WriteFault held held_after =
     (output : List ℕ) × LoadOf start events output × AppendsPrefix held held_after output
 LoadEnds start events NoMemory held held_after = Keeps held held_after

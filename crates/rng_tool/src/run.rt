@@ -84,7 +84,8 @@ fn run_script<R: Wait, K: Sink>(rt: &R, alloc: Global, script: &Script, sink: &m
 
 // What an input calls for.
 fn answer<R: Wait, K: Sink>(rt: &R, alloc: Global, input: &[u8], sink: &mut K) -> Status
-    ensures either { (result ≡ Status.Done) ⊎ (result ≡ Status.Refused) ⊎ (result ≡ Status.WriteFault) ⊎ (result ≡ Status.NoMemory) }
+    ensures either { (result ≡ Status.Done) ⊎ (result ≡ Status.Refused) ⊎ (result ≡ Status.WriteFault) ⊎
+        (result ≡ Status.NoMemory) }
     ensures done { result ≡ Status.Done → (output : List ℕ) × CallsForRun input.now output
         × Appends (K.held sink.old) (K.held sink.new) output }
     ensures refused { result ≡ Status.Refused → (output : List ℕ) × IsRefusal input.now output

@@ -28,7 +28,8 @@ const WHO: Who = Who {
 // The root of an extraction of the pool.
 fn extract(state: &mut LaneState) -> [u8; 32]
     requires { (s : Model) × ValueStands 0 state.old s }
-    ensures made { (s : Model) (place : ℕ) → ValueStands 0 state.old s → ValueStands 0 state.new (made_of s (Pool (Extract HARDWARE place)) nothing) }
+    ensures made { (s : Model) (place : ℕ) → ValueStands 0 state.old s
+        → ValueStands 0 state.new (made_of s (Pool (Extract HARDWARE place)) nothing) }
     ensures root { (s : Model) → ValueStands 0 state.old s → result ≡ root_of_extraction s.pool HARDWARE }
 {
     match state {
@@ -40,7 +41,8 @@ fn extract(state: &mut LaneState) -> [u8; 32]
 // A root is installed in the base. The result is the new generation.
 fn install(state: &mut LaneState, root: [u8; 32]) -> u64
     requires { (s : Model) × ValueStands 1 state.old s × (s.base.generation < 2 ^ 62) }
-    ensures made { (s : Model) (place : ℕ) (got : Handed) → got.key ≡ root → ValueStands 1 state.old s → ValueStands 1 state.new (made_of s (Base (Reseed place 1000)) got) }
+    ensures made { (s : Model) (place : ℕ) (got : Handed) → got.key ≡ root → ValueStands 1 state.old s
+        → ValueStands 1 state.new (made_of s (Base (Reseed place 1000)) got) }
     ensures generation { (s : Model) → ValueStands 1 state.old s → result ≡ s.base.generation + 1 }
 {
     match state {
@@ -56,11 +58,13 @@ fn install(state: &mut LaneState, root: [u8; 32]) -> u64
 fn put_pool(lanes: &Lanes, pass: &mut Pass, base: &Held, pool: Held) -> Mark
     requires has { Has lanes.now 0 (hand pool.turn None 0 ∷ hand base.now.turn None 0 ∷ []) pass.old }
     requires at { (pool.turn.lane ≡ 0) × (base.now.turn.lane ≡ 1) }
-    requires makes { ValueStands 0 pool.state (made_of (model pass.old 0) (Pool (Extract HARDWARE base.now.turn.place)) nothing) }
+    requires makes { ValueStands 0 pool.state (made_of (model pass.old 0) (Pool (Extract HARDWARE base.now.turn.place))
+        nothing) }
     requires early { pass.old.stamp < 2 ^ 62 }
     ensures has { Has lanes.now 0 (hand base.now.turn (Some result.place) 0 ∷ []) pass.new }
     ensures kept { model pass.new 1 ≡ model pass.old 1 }
-    ensures root { (got_of (Some result.place) (known_of (view pass.new) 0)).key ≡ root_of_extraction (model pass.old 0).pool HARDWARE }
+    ensures root { (got_of (Some result.place) (known_of (view pass.new) 0)).key ≡ root_of_extraction
+        (model pass.old 0).pool HARDWARE }
     ensures same { SameView (view pass.old) (view pass.new) }
     ensures early { pass.new.stamp ≤ 2 ^ 62 }
 {
@@ -78,7 +82,8 @@ fn rooted<R: Wait>(rt: &R, lanes: &Lanes, pass: &mut Pass, base: &Held) -> ([u8;
     ensures has { Has lanes.now 0 (hand base.now.turn (Some result.1.place) 0 ∷ []) pass.new }
     ensures kept { model pass.new 1 ≡ model pass.old 1 }
     ensures root { (got_of (Some result.1.place) (known_of (view pass.new) 0)).key ≡ result.0 }
-    ensures share { ((view pass.new).share ≡ (view pass.old).share) × ((view pass.new).halvings ≡ (view pass.old).halvings) }
+    ensures share { ((view pass.new).share ≡ (view pass.old).share)
+        × ((view pass.new).halvings ≡ (view pass.old).halvings) }
     ensures early { pass.new.stamp ≤ 2 ^ 62 }
 {
     let mut pool = lanes.take(rt, pass, LaneId::Pool);
@@ -96,7 +101,8 @@ fn raise(lanes: &Lanes, pass: &mut Pass, base: &Held, root: u64, generation: u64
     ensures has { Has lanes.now 0 (hand base.now.turn (Some root) 1 ∷ []) pass.new }
     ensures kept { model pass.new 1 ≡ model pass.old 1 }
     ensures behind { known_of (view pass.new) 0 ≡ known_of (view pass.old) 0 }
-    ensures share { ((view pass.new).share ≡ (view pass.old).share) × ((view pass.new).halvings ≡ (view pass.old).halvings) }
+    ensures share { ((view pass.new).share ≡ (view pass.old).share)
+        × ((view pass.new).halvings ≡ (view pass.old).halvings) }
     ensures early { pass.new.stamp ≡ pass.old.stamp }
 {
     let _root = root;
@@ -107,10 +113,12 @@ fn raise(lanes: &Lanes, pass: &mut Pass, base: &Held, root: u64, generation: u64
 fn put_base(lanes: &Lanes, pass: &mut Pass, base: Held, root: u64) -> Mark
     requires has { Has lanes.now 0 (hand base.turn (Some root) 1 ∷ []) pass.old }
     requires at { base.turn.lane ≡ 1 }
-    requires makes { ValueStands 1 base.state (made_of (model pass.old 1) (Base (Reseed root 1000)) (got_of (Some root) (known_of (view pass.old) 0))) }
+    requires makes { ValueStands 1 base.state (made_of (model pass.old 1) (Base (Reseed root 1000))
+        (got_of (Some root) (known_of (view pass.old) 0))) }
     requires early { pass.old.stamp ≤ 2 ^ 62 }
     ensures has { Has lanes.now 0 [] pass.new }
-    ensures share { ((view pass.new).share ≡ (view pass.old).share) × ((view pass.new).halvings ≡ (view pass.old).halvings) }
+    ensures share { ((view pass.new).share ≡ (view pass.old).share)
+        × ((view pass.new).halvings ≡ (view pass.old).halvings) }
 {
     lanes.put(pass, base, WHO, BaseEntry::Reseed { root, now: NOW })
 }
@@ -131,8 +139,10 @@ pub(super) fn reseed<R: Wait>(rt: &R, lanes: &Lanes, pass: &mut Pass, other: &mu
     requires other { Has lanes.now 1 [] other.old }
     ensures has { Has lanes.now 0 [] pass.new }
     ensures other { Has lanes.now 1 [] other.new }
-    ensures share { ((view pass.new).share ≡ (view pass.old).share) × ((view pass.new).halvings ≡ (view pass.old).halvings) }
-    ensures shares { ((view other.new).share ≡ (view other.old).share) × ((view other.new).halvings ≡ (view other.old).halvings) }
+    ensures share { ((view pass.new).share ≡ (view pass.old).share)
+        × ((view pass.new).halvings ≡ (view pass.old).halvings) }
+    ensures shares { ((view other.new).share ≡ (view other.old).share)
+        × ((view other.new).halvings ≡ (view other.old).halvings) }
 {
     let mut base = lanes.take(rt, pass, LaneId::Base);
     let (root, extracted) = rooted(rt, lanes, pass, &base);

@@ -20,7 +20,8 @@ returns-in-Ok-check_end c =
     let next = rw c.if-not-more.true at c.in-Ok.ensures.next in
     let kept = OnFalse_at c.if-not-more.true c.in-Ok.ensures.kept in
     sym c.loop-both.invariant.same
-    ∙ ends d c.loop-both.number c.loop-both.left.now c.in-Ok.both.1.now next c.in-Ok.ensures.rest c.in-Ok-check_end.ensures
+    ∙ ends d c.loop-both.number c.loop-both.left.now c.in-Ok.both.1.now next c.in-Ok.ensures.rest
+      c.in-Ok-check_end.ensures
     ∙ ap (λ (x : Draft). Ok (script_of_draft x)) (sym kept)
 
 pub returns-in-Err-check_end : goal.returns-in-Err-check_end
@@ -28,7 +29,8 @@ returns-in-Err-check_end c =
     let d = draft_as c.loop-both.draft in
     let next = rw c.if-not-more.true at c.in-Ok.ensures.next in
     sym c.loop-both.invariant.same
-    ∙ ends_early d c.loop-both.number c.loop-both.left.now c.in-Ok.both.1.now _ next c.in-Ok.ensures.rest (c.in-Err-check_end.ensures (c.loop-both.number + 1))
+    ∙ ends_early d c.loop-both.number c.loop-both.left.now c.in-Ok.both.1.now _ next c.in-Ok.ensures.rest
+      (c.in-Err-check_end.ensures (c.loop-both.number + 1))
     ∙ ap (λ (f : ScriptFault). Err f) (sym c.fault.ensures)
 
 pub loop-both-preserved : goal.loop-both-preserved
@@ -38,7 +40,8 @@ loop-both-preserved c =
     let shorter = c.in-Ok.ensures.shorter in
     let small = c.loop-both.invariant.small in
     record {
-      same = sym (goes_on d (draft_as c.read_line.new.draft) c.loop-both.number c.loop-both.left.now c.in-Ok.both.1.now next c.in-Ok.ensures.rest)
+      same = sym (goes_on d (draft_as c.read_line.new.draft) c.loop-both.number c.loop-both.left.now c.in-Ok.both.1.now
+        next c.in-Ok.ensures.rest)
           ∙ c.loop-both.invariant.same;
       some = rw c.in-Ok.ensures.same c.loop-both.invariant.some;
       few = rw c.in-Ok.ensures.same c.loop-both.invariant.few;

@@ -8,7 +8,8 @@ returns-in-Wipe-clause-did g c = rw c.in-Wipe.is (wipe_done c.args.set.now _ c.a
     (rw c.in-Wipe.is at c.requires.fits))
 
 pub returns-in-Vread-clause-did : goal.returns-in-Vread-clause-did
-returns-in-Vread-clause-did g c = rw c.in-Vread.is (read_done c.args.set.now c.in-Vread.field-0 (length c.args.out.now) c.getrandom.result c.getrandom.new.buf _ _
+returns-in-Vread-clause-did g c = rw c.in-Vread.is
+    (read_done c.args.set.now c.in-Vread.field-0 (length c.args.out.now) c.getrandom.result c.getrandom.new.buf _ _
     (rw c.in-Vread.is at c.requires.fits) c.getrandom.ensures.did)
 
 pub returns-in-Reseed-clause-did : goal.returns-in-Reseed-clause-did

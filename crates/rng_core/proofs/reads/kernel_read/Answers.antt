@@ -5,8 +5,12 @@ use Rattle.rng_core.proofs.Fulfilling.{kernel_some, kernel_none}
 use Rattle.rng_core.proofs.reads.kernel_read.Goals as goal
 
 pub returns-then-is_empty-clause-did : goal.returns-then-is_empty-clause-did
-returns-then-is_empty-clause-did g c = did_nothing _ _ (let a = c.requires.has.pass.sized in let b = c.args.lanes.now.few in omega arith) (kernel_none _ c.args.buf.now (search rules))
+returns-then-is_empty-clause-did g c = did_nothing _ _
+    (let a = c.requires.has.pass.sized in let b = c.args.lanes.now.few in omega arith)
+    (kernel_none _ c.args.buf.now (search rules))
 
 pub returns-clause-did : goal.returns-clause-did
-returns-clause-did g c = let some : 0 < length c.args.buf.now = search rules in did_map _ _ _ (λ deeds h. kernel_some (setting_of c.args.set.now) (length c.args.buf.now) (length c.args.buf.now) c.read_behind.new.buf deeds refl some h)
+returns-clause-did g c = let some : 0 < length c.args.buf.now = search rules in
+    did_map _ _ _ (λ deeds h. kernel_some (setting_of c.args.set.now) (length c.args.buf.now) (length c.args.buf.now)
+    c.read_behind.new.buf deeds refl some h)
     (serving_looked _ _ _ _ c.look-found.result c.look-found.ensures.told c.read_behind.ensures.did)

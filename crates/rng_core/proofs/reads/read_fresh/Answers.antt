@@ -4,4 +4,5 @@ use Rattle.lane_table.proofs.Lent.{lent}
 use Rattle.rng_core.proofs.reads.read_fresh.Goals as goal
 
 pub leave-requires-clause-makes : goal.leave-requires-clause-makes
-leave-requires-clause-makes c = c.read.ensures.made _ _ nothing c.args.look (omega arith) (lent _ _ _ _ c.state_mut.ensures.value c.requires.value)
+leave-requires-clause-makes c = c.read.ensures.made _ _ nothing c.args.look (omega arith)
+    (lent _ _ _ _ c.state_mut.ensures.value c.requires.value)

@@ -8,8 +8,10 @@ pub leave-requires-clause-makes : goal.leave-requires-clause-makes
 leave-requires-clause-makes g c = c.down.ensures _ (lent _ _ _ _ c.state_mut.ensures.value c.enter-base.ensures.value)
 
 pub returns-clause-did : goal.returns-clause-did
-returns-clause-did g c = did_after _ _ _ _ c.enter-base.ensures.told (formed _ _ _ (did_base _ _ _ _ _ _ (served_of _ _ _ _ _ _ _ _ c.leave.ensures.visited)))
+returns-clause-did g c = did_after _ _ _ _ c.enter-base.ensures.told
+    (formed _ _ _ (did_base _ _ _ _ _ _ (served_of _ _ _ _ _ _ _ _ c.leave.ensures.visited)))
 
 pub returns-clause-reached : goal.returns-clause-reached
 returns-clause-reached g c = let seen = c.leave.ensures.seen in let fresh = c.enter-base.ensures.fresh refl in
-    let rises = generation_begun _ _ (c.leave.ensures.visited.told.went.grows 1 (let a = c.enter-base.ensures.has.pass.sized in omega arith)) in omega arith
+    let rises = generation_begun _ _ (c.leave.ensures.visited.told.went.grows 1
+      (let a = c.enter-base.ensures.has.pass.sized in omega arith)) in omega arith

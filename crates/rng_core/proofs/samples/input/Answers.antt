@@ -4,8 +4,12 @@ use Rattle.rng_core.proofs.Doing.{did_map, did_after, did_credit}
 use Rattle.rng_core.proofs.samples.input.Goals as goal
 
 pub leave-requires-clause-makes : goal.leave-requires-clause-makes
-leave-requires-clause-makes g c = c.mix_input-crossing.ensures.made _ (lent _ _ _ _ c.state_mut.ensures.value c.enter-pool.ensures.value)
+leave-requires-clause-makes g c = c.mix_input-crossing.ensures.made _
+    (lent _ _ _ _ c.state_mut.ensures.value c.enter-pool.ensures.value)
 
 pub returns-clause-did : goal.returns-clause-did
-returns-clause-did g c = did_map _ _ _ (λ deeds h. record { form = h; answers = refl; shows = refl }) (did_after _ _ _ _ c.enter-pool.ensures.told
-    (did_credit _ _ _ _ _ _ _ _ _ c.leave.ensures.visited (c.mix_input-crossing.ensures.crossed _ (lent _ _ _ _ c.state_mut.ensures.value c.enter-pool.ensures.value)) c.cross.ensures.did))
+returns-clause-did g c = did_map _ _ _ (λ deeds h. record { form = h; answers = refl; shows = refl })
+    (did_after _ _ _ _ c.enter-pool.ensures.told
+    (did_credit _ _ _ _ _ _ _ _ _ c.leave.ensures.visited
+      (c.mix_input-crossing.ensures.crossed _ (lent _ _ _ _ c.state_mut.ensures.value c.enter-pool.ensures.value))
+      c.cross.ensures.did))

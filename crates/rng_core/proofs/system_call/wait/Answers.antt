@@ -6,4 +6,5 @@ pub leave-requires-clause-makes : goal.leave-requires-clause-makes
 leave-requires-clause-makes g c = c.down.ensures _ (lent _ _ _ _ c.state_mut.ensures.value c.enter-base.ensures.value)
 
 pub returns-clause-did : goal.returns-clause-did
-returns-clause-did g c = did_after _ _ _ _ c.enter-base.ensures.told (formed _ _ _ (did_base _ _ _ _ _ _ (served_of _ _ _ _ _ _ _ _ c.leave.ensures.visited)))
+returns-clause-did g c = did_after _ _ _ _ c.enter-base.ensures.told
+    (formed _ _ _ (did_base _ _ _ _ _ _ (served_of _ _ _ _ _ _ _ _ c.leave.ensures.visited)))

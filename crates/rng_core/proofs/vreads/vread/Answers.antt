@@ -4,13 +4,17 @@ use Rattle.rng_core.proofs.Readings.{served_read, left_read}
 use Rattle.rng_core.proofs.vreads.vread.Goals as goal
 
 pub returns-in-Served-clause-did : goal.returns-in-Served-clause-did
-returns-in-Served-clause-did g c = served_read (length c.args.buf.now) c.args.flags c.args.st.now c.vread_local.new.st c.vread_local.new.buf c.args.set.now _ _
+returns-in-Served-clause-did g c = served_read (length c.args.buf.now) c.args.flags c.args.st.now c.vread_local.new.st
+    c.vread_local.new.buf c.args.set.now _ _
     (rw c.in-Served.is at c.vread_local.ensures.read)
 
 pub returns-in-NeedsSystem-clause-did : goal.returns-in-NeedsSystem-clause-did
 returns-in-NeedsSystem-clause-did g c = search (
   rules,
-  left_read (length c.args.buf.now) (length c.vread_local.new.buf) c.args.flags c.args.st.now c.vread_local.new.st c.call_host.new.st _ _ c.args.set.now
-      (moment c.args.pass.now c.args.trace.now) (moment c.vread_local.new.pass c.vread_local.new.trace) (moment c.call_host.new.host.pass.now c.call_host.new.host.trace.now)
-      c.requires.current (omega (arith, c.vread_local.auto.buf)) (rw c.in-NeedsSystem.is at c.vread_local.ensures.read) (c.call_host.ensures.called (omega arith)),
+  left_read (length c.args.buf.now) (length c.vread_local.new.buf) c.args.flags c.args.st.now c.vread_local.new.st
+    c.call_host.new.st _ _ c.args.set.now
+      (moment c.args.pass.now c.args.trace.now) (moment c.vread_local.new.pass c.vread_local.new.trace)
+        (moment c.call_host.new.host.pass.now c.call_host.new.host.trace.now)
+      c.requires.current (omega (arith, c.vread_local.auto.buf)) (rw c.in-NeedsSystem.is at c.vread_local.ensures.read)
+        (c.call_host.ensures.called (omega arith)),
 )

@@ -9,17 +9,21 @@ use Rattle.rng_tool.proofs.alone.lines_of.Goals as goal
 pub run_alone-requires-clause-range : goal.run_alone-requires-clause-range
 run_alone-requires-clause-range g c = (
   c.args.script.now.version,
-  rw c.cpus.ensures (runnable c.args.script.now c.events.result.now c.requires.well_formed c.requires.one c.events.ensures).range,
+  rw c.cpus.ensures (runnable c.args.script.now c.events.result.now c.requires.well_formed c.requires.one
+    c.events.ensures).range,
 )
 
 pub run_alone-requires-clause-few : goal.run_alone-requires-clause-few
-run_alone-requires-clause-few g c = (runnable c.args.script.now c.events.result.now c.requires.well_formed c.requires.one c.events.ensures).few
+run_alone-requires-clause-few g c = (runnable c.args.script.now c.events.result.now c.requires.well_formed
+    c.requires.one c.events.ensures).few
 
 pub run_alone-requires-clause-alone : goal.run_alone-requires-clause-alone
-run_alone-requires-clause-alone g c = (runnable c.args.script.now c.events.result.now c.requires.well_formed c.requires.one c.events.ensures).alone
+run_alone-requires-clause-alone g c = (runnable c.args.script.now c.events.result.now c.requires.well_formed
+    c.requires.one c.events.ensures).alone
 
 pub run_alone-requires-clause-acts : goal.run_alone-requires-clause-acts
-run_alone-requires-clause-acts g c = (runnable c.args.script.now c.events.result.now c.requires.well_formed c.requires.one c.events.ensures).acts
+run_alone-requires-clause-acts g c = (runnable c.args.script.now c.events.result.now c.requires.well_formed
+    c.requires.one c.events.ensures).acts
 
 pub returns-clause-run : goal.returns-clause-run
 returns-clause-run g c =

@@ -9,7 +9,8 @@ returns-in_default-clause-only c n spelt low high =
 pub returns-then-number-from-clause-only : goal.returns-then-number-from-clause-only
 returns-then-number-from-clause-only c n spelt low high =
     let same : c.in-Some.number ≡ n =
-    cc (number_read c.args.most n c.args.word.now (omega arith) spelt high, c.in-Some.ensures.value) in absurd (omega arith)
+    cc (number_read c.args.most n c.args.word.now (omega arith) spelt high, c.in-Some.ensures.value) in
+      absurd (omega arith)
 
 pub returns-clause-only : goal.returns-clause-only
 returns-clause-only c n spelt low high =

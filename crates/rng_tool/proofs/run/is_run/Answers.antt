@@ -5,19 +5,22 @@ use Rattle.std.proofs.lemmas.Slice.Eq.{bytes_eq-Decides}
 use Rattle.rng_tool.proofs.run.is_run.Goals as goal
 
 -- a list of one word has just that word
-one : {A : Type 0} (words : List (String A)) (word : String A) → 1 ≤ length words → length words < 2 → word ≡ slice_index_or words 0 word →
+one : {A : Type 0} (words : List (String A)) (word : String A) → 1 ≤ length words → length words < 2 →
+    word ≡ slice_index_or words 0 word →
     map string_bytes words ≡ string_bytes word ∷ []
 one [] word some few is = absurd (omega arith)
 one (w ∷ []) word some few is = ap (λ v. string_bytes v ∷ []) (sym is)
 one (w ∷ v ∷ words) word some few is = absurd (omega arith)
 
 -- the words are the one form just where the test of the word says so
-both : (text bytes : List ℕ) (answer : Bool) (all : List (List ℕ)) → text ≡ bytes → all ≡ bytes ∷ [] → answer ≡ bytes_eq text (codes "run") →
+both : (text bytes : List ℕ) (answer : Bool) (all : List (List ℕ)) → text ≡ bytes → all ≡ bytes ∷ [] →
+    answer ≡ bytes_eq text (codes "run") →
     (IsTrue answer → all ≡ codes "run" ∷ []) × (all ≡ codes "run" ∷ [] → IsTrue answer)
 both text bytes answer all is words test =
     let decides = bytes_eq-Decides text (codes "run") in (
       λ yes. words ∙ ap (λ t. t ∷ []) (sym is ∙ decides.0 (sym test ∙ yes)),
-      λ run. (let same : bytes ≡ codes "run" = (let both : bytes ∷ [] ≡ codes "run" ∷ [] = sym words ∙ run in cc) in test ∙ decides.1 (is ∙ same)),
+      λ run. (let same : bytes ≡ codes "run" = (let both : bytes ∷ [] ≡ codes "run" ∷ [] = sym words ∙ run in cc) in
+        test ∙ decides.1 (is ∙ same)),
     )
 
 pub returns-in-len1 : goal.returns-in-len1

@@ -8,9 +8,11 @@ returns-clause-done g c words done = was_run _ _ _ _ c.in-Ok.input.items _ c.der
     (c.answer.ensures.done done)
 
 pub returns-clause-refused : goal.returns-clause-refused
-returns-clause-refused g c refused = was_refused _ _ _ _ c.in-Ok.input.items _ c.deref.ensures.value c.in-Ok.ensures.taken
+returns-clause-refused g c refused = was_refused _ _ _ _ c.in-Ok.input.items _ c.deref.ensures.value
+    c.in-Ok.ensures.taken
     c.in-Ok.ensures.bytes (c.answer.ensures.refused refused)
 
 pub returns-clause-cut_short : goal.returns-clause-cut_short
-returns-clause-cut_short g c words cut = was_cut_short _ _ _ _ c.in-Ok.input.items _ c.deref.ensures.value c.in-Ok.ensures.taken
+returns-clause-cut_short g c words cut = was_cut_short _ _ _ _ c.in-Ok.input.items _ c.deref.ensures.value
+    c.in-Ok.ensures.taken
     c.in-Ok.ensures.bytes (c.answer.ensures.prefix cut)

@@ -3,4 +3,5 @@ use Rattle.lane_table.proofs.Starting.{starts_with}
 use Rattle.lane_table.proofs.lanes.Lanes.start.Goals as goal
 
 pub new-requires : goal.new-requires
-new-requires c = starts_with c.args.first _ (omega arith) c.as_slice.result.now c.in_ok-slots.slots.items (search rules) c.in_ok-slots.ensures
+new-requires c = starts_with c.args.first _ (omega arith) c.as_slice.result.now c.in_ok-slots.slots.items
+    (search rules) c.in_ok-slots.ensures
