@@ -85,24 +85,22 @@ AllByRecursion-set P [] i x all here = tt
 AllByRecursion-set P (y ∷ xs) zero x all here = (here, all.1)
 AllByRecursion-set P (y ∷ xs) (suc i) x all here = (all.0, AllByRecursion-set P xs i x all.1 here)
 
--- the lines as they are seen after another one stands in the place of line `number`
-pub seen_replaced : (kept shown : List ℕ) (number : ℕ) (lines : List Line) (line : Line) → IsKept kept lines
-    → seen_lines (kept ++ shown) (set lines number (with_data line (data_from (length kept) shown)))
-    ≡ set (seen_lines kept lines) number (showing shown (seen_line [] line))
-seen_replaced kept shown number lines line old =
-    map-set (seen_line (kept ++ shown)) lines number (with_data line (data_from (length kept) shown))
-    ∙ rw (seen_lines-more kept shown lines old.within, shown_in-data_from kept shown) refl
+-- another line stands in the place of line `number`, and names what was kept for it
+module _ (kept shown after : List ℕ) (named : Data) (number : ℕ) (lines : List Line) (line : Line)
+    (longer : after ≡ kept ++ shown) (there : named ≡ data_from (length kept) shown) (old : IsKept kept lines) where
+  pub seen_replaced : seen_lines after (set lines number (with_data line named))
+      ≡ set (seen_lines kept lines) number (showing shown (seen_line [] line))
+  seen_replaced = map-set (seen_line after) lines number (with_data line named)
+      ∙ rw (longer, there, seen_lines-more kept shown lines old.within, shown_in-data_from kept shown) refl
 
-pub kept_replaced : (kept shown : List ℕ) (number : ℕ) (lines : List Line) (line : Line) → IsKept kept lines
-    → LineFits (showing shown (seen_line [] line))
-    → IsKept (kept ++ shown) (set lines number (with_data line (data_from (length kept) shown)))
-kept_replaced kept shown number lines line old fits = record {
-  within = AllByRecursion-set (λ l. IsWithin (length (kept ++ shown)) l.shown) lines number
-      (with_data line (data_from (length kept) shown)) (all_within_more kept shown lines old.within)
-      (data_from_within kept shown);
-  fits = rw (seen_replaced kept shown number lines line old) (AllByRecursion-set LineFits (seen_lines kept lines)
-      number (showing shown (seen_line [] line)) old.fits fits);
-}
+  pub kept_replaced : LineFits (showing shown (seen_line [] line)) → IsKept after (set lines number (with_data line named))
+  kept_replaced fits = record {
+    within = rw (longer, there) (AllByRecursion-set (λ l. IsWithin (length (kept ++ shown)) l.shown) lines number
+        (with_data line (data_from (length kept) shown)) (all_within_more kept shown lines old.within)
+        (data_from_within kept shown));
+    fits = rw seen_replaced (AllByRecursion-set LineFits (seen_lines kept lines) number
+        (showing shown (seen_line [] line)) old.fits fits);
+  }
 
 few_steps : (kept : List ℕ) (lines : List Line) → AllByRecursion LineFits (seen_lines kept lines)
     → AllByRecursion (λ line. length line.trace ≤ 20) lines
