@@ -3,7 +3,6 @@ use Rattle.std.proofs.Common.{◌≡◌, ℕ, suc, ◌+◌, ◌<◌, ◌≤◌, 
 use Rattle.std.specs.Prelude.{slice_index_or}
 use Rattle.std.proofs.lemmas.List.{drop_all}
 use Rattle.key_names.specs.declared.events.Event.{Event}
-use Rattle.key_names.specs.SeenLine.{SeenLine}
 use Rattle.lane_table.specs.declared.lanes.Lanes.{Lanes}
 use Rattle.lane_table.specs.declared.view.View.{View}
 use Rattle.caller_run.specs.declared.caller.Caller.{Caller}

@@ -1,50 +1,15 @@
 -- What a loop over a caller's events keeps of its calls, with one event more of each kind.
-use Rattle.std.proofs.Common.{◌≡◌, ℕ, zero, suc, ◌+◌, ◌<◌, true, false, List, [], ◌∷◌, ◌++◌, length, refl, sym, ap, ◌∙◌, subst, arith, append_assoc, length-append}
-use Rattle.std.specs.Prelude.{if◌then◌else◌, slice_set}
-use Rattle.std.specs.List.{AllByRecursion}
-use Rattle.std.proofs.lemmas.List.{set-append_left, length-set}
-use Rattle.std.proofs.Math.Seq.{set-append_seam}
+use Rattle.std.proofs.Common.{◌≡◌, ℕ, zero, suc, ◌<◌, true, false, List, [], ◌∷◌, ◌++◌, length, refl, sym, ap, ◌∙◌, arith, append_assoc, length-append}
+use Rattle.std.specs.Prelude.{if◌then◌else◌}
 use Rattle.key_names.specs.declared.events.Event.{Event}
 use Rattle.key_names.specs.declared.events.Event.TheVariants.{Vread, Inside}
 use Rattle.key_names.specs.SeenLine.{SeenLine}
 use Rattle.key_names.specs.Calls.{Call, alone, vread_call, unbound, ending, BoundAct, has_vread, calls_from, calls_of}
 use Rattle.key_names.specs.VreadSteps.{number_of}
-use Rattle.key_names.proofs.Each.{each_more, each_weaker}
+use Rattle.key_names.proofs.Each.{each_more}
 use Rattle.rng_core.specs.Acts.{Ask}
 use Rattle.caller_run.specs.Waiting.{told_anew, bound_by, all_bound, IsAlone, CallsSoFar}
-
--- lines that are told anew
-
-abbrev pub AreTold : ℕ → List Ask → Type 0
-AreTold count asks = AllByRecursion (λ a. a.event < count) asks
-
-pub anew_long : (lines : List SeenLine) (asks : List Ask) (acts : List SeenLine) → length (told_anew lines asks acts) ≡ length lines
-anew_long lines [] acts = refl
-anew_long lines (a ∷ asks) [] = refl
-anew_long lines (a ∷ asks) (l ∷ acts) = anew_long (slice_set lines a.event l) asks acts ∙ length-set lines a.event l
-
--- with lines behind them
-pub anew_front : (lines more : List SeenLine) (asks : List Ask) (acts : List SeenLine) → AreTold (length lines) asks →
-    told_anew (lines ++ more) asks acts ≡ told_anew lines asks acts ++ more
-anew_front lines more [] acts told = refl
-anew_front lines more (a ∷ asks) [] told = refl
-anew_front lines more (a ∷ asks) (l ∷ acts) told =
-    ap (λ (ls : List SeenLine). told_anew ls asks acts) (set-append_left lines more a.event l told.0)
-    ∙ anew_front (slice_set lines a.event l) more asks acts
-    (subst (λ (n : ℕ). AreTold n asks) (sym (length-set lines a.event l)) told.1)
-
--- the last of them is the last act's
-anew_last : (lines : List SeenLine) (idle line : SeenLine) (asks : List Ask) (x : Ask) (acts : List SeenLine) → x.event ≡ length lines →
-    AreTold (length lines) asks → length acts ≡ length asks →
-    told_anew (lines ++ idle ∷ []) (asks ++ x ∷ []) (acts ++ line ∷ []) ≡ told_anew lines asks acts ++ line ∷ []
-anew_last lines idle line [] x [] at told many =
-    ap (λ (i : ℕ). slice_set (lines ++ idle ∷ []) i line) at ∙ set-append_seam lines idle [] line
-anew_last lines idle line [] x (l ∷ acts) at told many = absurd (omega arith)
-anew_last lines idle line (a ∷ asks) x [] at told many = absurd (omega arith)
-anew_last lines idle line (a ∷ asks) x (l ∷ acts) at told many =
-    ap (λ (ls : List SeenLine). told_anew ls (asks ++ x ∷ []) (acts ++ line ∷ [])) (set-append_left lines (idle ∷ []) a.event l told.0)
-    ∙ anew_last (slice_set lines a.event l) idle line asks x acts (at ∙ sym (length-set lines a.event l))
-    (subst (λ (n : ℕ). AreTold n asks) (sym (length-set lines a.event l)) told.1) (omega arith)
+use Rattle.caller_run.proofs.ToldAnew.{told_more, anew_front, anew_last}
 
 bound_more : (asks : List Ask) (acts : List SeenLine) (x : Ask) (line : SeenLine) → length acts ≡ length asks →
     all_bound (asks ++ x ∷ []) (acts ++ line ∷ []) ≡ all_bound asks acts ++ bound_by x line ∷ []
@@ -89,13 +54,6 @@ alone_follows event is es = refl
 
 one_call : (calls : List Call) (call : Call) (rest : List Call) → calls ++ call ∷ rest ≡ (calls ++ call ∷ []) ++ rest
 one_call calls call rest = sym (append_assoc calls (call ∷ []) rest)
-
--- one line more leaves those of the acts
-pub told_more : (lines : List SeenLine) (line : SeenLine) (asks : List Ask) → AreTold (length lines) asks →
-    AreTold (length (lines ++ line ∷ [])) asks
-told_more lines line asks told =
-    each_weaker (λ (a : Ask). a.event < length lines) (λ a. a.event < length (lines ++ line ∷ [])) asks
-    (λ a low. omega (arith, length-append lines (line ∷ []))) told
 
 -- at the start
 pub so_far_nothing : (events : List Event) → CallsSoFar events events [] [] []

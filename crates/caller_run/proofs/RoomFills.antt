@@ -1,5 +1,5 @@
 -- How a caller's lines and the acts that wait go on by an event of each kind.
-use Rattle.std.proofs.Common.{◌≡◌, ℕ, false, Ok, ◌+◌, ◌*◌, ◌<◌, ◌≤◌, List, [], ◌∷◌, ◌++◌, length, map, refl, sym, ap, ◌∙◌, subst, arith, length-append}
+use Rattle.std.proofs.Common.{◌≡◌, ℕ, false, Ok, ◌+◌, ◌*◌, ◌<◌, ◌≤◌, List, [], ◌∷◌, ◌++◌, length, refl, sym, ap, ◌∙◌, subst, arith, length-append}
 use Rattle.std.specs.List.{AllByRecursion}
 use Rattle.std.proofs.lemmas.List.{map-append}
 use Rattle.key_names.specs.declared.events.Event.{Event}
@@ -7,6 +7,7 @@ use Rattle.key_names.specs.declared.events.Event.TheVariants.{Inside, Vread}
 use Rattle.key_names.specs.declared.events.InsideAct.{InsideAct}
 use Rattle.key_names.specs.declared.events.InsideAct.TheVariants.{Wipe, Vread as ReadAct, Reseed}
 use Rattle.key_names.specs.declared.point.Point.{Point}
+use Rattle.std.proofs.Common.{false, Ok}
 use Rattle.key_names.specs.ScriptGrammar.{ActInRange, acts_after}
 use Rattle.key_names.specs.SeenLine.{SeenLine}
 use Rattle.key_names.proofs.Each.{each_more}
@@ -16,8 +17,19 @@ use Rattle.rng_core.specs.InsideDid.{IsFresh}
 use Rattle.caller_run.specs.Kinds.{IsCall}
 use Rattle.caller_run.specs.Says.{most_shown}
 use Rattle.transcript_text.specs.Gathered.{Gathered}
-use Rattle.caller_run.proofs.LoopCalls.{AreTold, told_more}
-use Rattle.caller_run.proofs.Standing.{Fills}
+use Rattle.key_names.specs.VreadSteps.{number_of}
+use Rattle.caller_run.specs.Standing.{read_inside}
+use Rattle.caller_run.proofs.ToldAnew.{AreTold, told_more}
+
+-- how lines and the acts that wait go on by an event
+pub record Fills (event : Event) (before after : Gathered) (acts left : List Bound) : Type 0 where
+  pub lines : length after.lines ≡ length before.lines + 1
+  pub line_room : after.line_room + 1 ≡ before.line_room
+  pub byte_room : before.byte_room + all_wanted (asks_of left) ≤ after.byte_room + (most_shown event + all_wanted (asks_of acts))
+  pub wanted : all_wanted (asks_of left) ≤ read_inside event + all_wanted (asks_of acts)
+  pub many : length left ≡ acts_after (length acts) event
+  pub fresh : AllByRecursion IsFresh left
+  pub told : AreTold (length after.lines) (asks_of left)
 
 -- an act shows at most what it reads
 shown_inside : (point : ℕ) (act : InsideAct) → most_shown (Inside point act) ≡ wants act
@@ -35,18 +47,13 @@ waits_same n (Inside point act) is = absurd is
 waits_same n event is = refl
 
 -- an act as a caller binds it
-pub act_is_fresh : (b : Bound) (point : Point) (act : InsideAct) (event : ℕ) →
-    b ≡ record { point = point; act = act; event = event; done = false; answer = Ok tt; trace = [] } → ActInRange act → IsFresh b
-act_is_fresh b point act event is range = record {
-  short = (let e = ap (λ (x : Bound). wants x.act) is in let s = short act range in omega arith);
-  idle = ap (λ (x : Bound). x.done) is;
-  empty = ap (λ (x : Bound). x.trace) is;
-}
-  where
-    short : (act : InsideAct) → ActInRange act → wants act ≤ 1048576
-    short Wipe range = omega arith
-    short (ReadAct len) range = range
-    short Reseed range = omega arith
+abbrev pub new_bound : Point → InsideAct → ℕ → Bound
+new_bound point act event = record { point = point; act = act; event = event; done = false; answer = Ok tt; trace = [] }
+
+short : (act : InsideAct) → ActInRange act → wants act ≤ 1048576
+short Wipe range = omega arith
+short (ReadAct len) range = range
+short Reseed range = omega arith
 
 -- acts that were not done yet want no more than a vread gives each of them
 pub wanted_few : (bounds : List Bound) → AllByRecursion IsFresh bounds → all_wanted (asks_of bounds) ≤ 1048576 * length bounds
@@ -72,22 +79,23 @@ module _ (before after : Gathered) (line : SeenLine) (lines : after.lines ≡ be
   }
 
   -- an act that waits
-  pub fills_act : (point : ℕ) (act : InsideAct) (acts left : List Bound) (b : Bound) → before.byte_room ≤ after.byte_room →
-      left ≡ acts ++ b ∷ [] → b.act ≡ act → IsFresh b → b.event ≡ length before.lines → AllByRecursion IsFresh acts →
-      AreTold (length before.lines) (asks_of acts) → Fills (Inside point act) before after acts left
-  fills_act point act acts left b bytes items is new at fresh told =
-      let asks : asks_of left ≡ asks_of acts ++ ask_of b ∷ [] = ap asks_of items ∙ map-append ask_of acts (b ∷ []) in
-      let more : all_wanted (asks_of left) ≡ all_wanted (asks_of acts) + wants act =
-      ap all_wanted asks ∙ wanted_more (asks_of acts) (ask_of b) ∙ ap (λ (a : InsideAct). all_wanted (asks_of acts) + wants a) is in
-      let shown = shown_inside point act in
+  pub fills_act : (point : Point) (act : InsideAct) (event : ℕ) (acts : List Bound) → before.byte_room ≤ after.byte_room → ActInRange act →
+      event ≡ length before.lines → AllByRecursion IsFresh acts → AreTold (length before.lines) (asks_of acts) →
+      Fills (Inside (number_of point) act) before after acts (acts ++ new_bound point act event ∷ [])
+  fills_act point act event acts bytes range at fresh told =
+      let b = new_bound point act event in
+      let asks : asks_of (acts ++ b ∷ []) ≡ asks_of acts ++ ask_of b ∷ [] = map-append ask_of acts (b ∷ []) in
+      let more : all_wanted (asks_of (acts ++ b ∷ [])) ≡ all_wanted (asks_of acts) + wants act =
+      ap all_wanted asks ∙ wanted_more (asks_of acts) (ask_of b) in
+      let shown = shown_inside (number_of point) act in
       record {
         lines = one_line;
         line_room = line_room;
         byte_room = omega arith;
         wanted = omega arith;
-        many = ap length items ∙ length-append acts (b ∷ []);
-        fresh = subst (AllByRecursion IsFresh) (sym items) (each_more IsFresh acts b fresh new);
-        told = subst (λ (ls : List SeenLine). AreTold (length ls) (asks_of left)) (sym lines)
+        many = length-append acts (b ∷ []);
+        fresh = each_more IsFresh acts b fresh (record { short = short act range; idle = refl; empty = refl });
+        told = subst (λ (ls : List SeenLine). AreTold (length ls) (asks_of (acts ++ b ∷ []))) (sym lines)
             (subst (AreTold (length (before.lines ++ line ∷ []))) (sym asks)
             (each_more (λ (a : Ask). a.event < length (before.lines ++ line ∷ [])) (asks_of acts) (ask_of b)
             (told_more before.lines line (asks_of acts) told) (omega (arith, length-append before.lines (line ∷ [])))));

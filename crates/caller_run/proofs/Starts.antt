@@ -28,7 +28,7 @@ use Rattle.caller_run.specs.Kinds.{ForksNobody}
 use Rattle.caller_run.specs.Says.{most_shown}
 use Rattle.caller_run.specs.Standing.{read_inside, CanGo, HasGone, HasEnded}
 use Rattle.caller_run.proofs.Going.{StillGoes}
-use Rattle.caller_run.proofs.Standing.{gone_nothing}
+use Rattle.caller_run.proofs.HasGone.{gone_nothing}
 use Rattle.caller_run.proofs.Seeing.{seen_start}
 
 -- a pass with empty hands stands at no lane

@@ -1,6 +1,6 @@
 -- The acts that wait for a caller's next vread: the line of each says that it was not done, until that vread tells it
 -- anew.
-use Rattle.std.specs.Prelude.{◌≡◌, ℕ, ◌<◌, false, ⊤, List, [], ◌∷◌, ◌++◌, length, slice_set}
+use Rattle.std.specs.Prelude.{◌≡◌, ◌<◌, false, ⊤, List, [], ◌∷◌, ◌++◌, length, slice_set}
 use Rattle.std.specs.List.{AllByRecursion}
 use Rattle.key_names.specs.declared.events.Event.{Event}
 use Rattle.key_names.specs.declared.events.Event.TheVariants.{Vread, Inside}

@@ -6,7 +6,7 @@ use Rattle.lane_table.specs.Calls.{Ended, plan_of, view}
 use Rattle.caller_run.specs.Says.{most_shown}
 use Rattle.caller_run.specs.Standing.{CanGo}
 use Rattle.caller_run.proofs.Going.{still_next, can_here, all_gone}
-use Rattle.caller_run.proofs.Standing.{first_can}
+use Rattle.caller_run.proofs.CanGo.{first_can}
 use Rattle.caller_run.proofs.Starts.{still_start, new_view, idle, whole_share, ran_alone}
 use Rattle.caller_run.proofs.alone.run_alone.Goals as goal
 

@@ -7,7 +7,7 @@ use Rattle.rng_core.specs.Told.{moment}
 use Rattle.caller_run.specs.Says.{shown_by}
 use Rattle.caller_run.specs.Standing.{waiting_in, HasEnded}
 use Rattle.caller_run.specs.declared.said.Said.{Said}
-use Rattle.caller_run.proofs.Standing.{gone_all}
+use Rattle.caller_run.proofs.HasGone.{gone_all}
 use Rattle.caller_run.proofs.caller.Caller.finish.Goals as goal
 
 pub returns-clause-ended : goal.returns-clause-ended

@@ -1,10 +1,10 @@
-use Rattle.std.proofs.Common.{List, rules, subst, sym}
+use Rattle.std.proofs.Common.{rules, subst, sym}
 use Rattle.std.specs.List.{AllByRecursion}
 use Rattle.key_names.specs.SeenLine.{bytes_or_none}
 use Rattle.key_names.specs.TranscriptGrammar.{StepFits, ShownFits}
 use Rattle.key_names.specs.declared.lines.Line.{Line}
 use Rattle.caller_run.specs.Says.{ShowsFit}
-use Rattle.caller_run.proofs.LineFits.{bytes_fit}
+use Rattle.caller_run.proofs.BytesFit.{bytes_fit}
 use Rattle.caller_run.proofs.caller.Caller.tell.Goals as goal
 
 pub push_showing-requires-clause-fits : goal.push_showing-requires-clause-fits

@@ -1,4 +1,4 @@
-use Rattle.std.proofs.Common.{◌≡◌, List, [], refl, length, get_or, ◌<◌, ◌∙◌, sym, arith}
+use Rattle.std.proofs.Common.{◌≡◌, [], refl, length, get_or, ◌<◌, sym, arith}
 use Rattle.std.proofs.lemmas.Bool.{eqb-true}
 use Rattle.key_names.specs.Meaning.{current_state}
 use Rattle.lane_table.specs.Calls.{view}

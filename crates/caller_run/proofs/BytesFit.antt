@@ -1,4 +1,4 @@
--- What stands on a line that shows bytes.
+-- Bytes that a line shows fit it.
 use Rattle.std.proofs.Common.{◌≡◌, ℕ, List, [], ◌∷◌, Fits, w8, arith}
 use Rattle.std.specs.Prelude.{slice_index}
 use Rattle.key_names.specs.declared.events.Word.{Word}
