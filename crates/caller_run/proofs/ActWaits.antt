@@ -50,8 +50,7 @@ get_seam : (lines : List SeenLine) (line : SeenLine) → slice_get (lines ++ lin
 get_seam [] line = refl
 get_seam (l ∷ lines) line = get_seam lines line
 
-module _ (event : Event) (c e : Caller) (before after : Gathered) (acts left : List Bound) (k : Keeps event c e before after acts left)
-    (at : c.set.event ≡ length before.lines) where
+module _ {event : Event} {c e : Caller} {before after : Gathered} {acts left : List Bound} (k : Keeps event c e before after acts left) where
   abbrev line : SeenLine
   line = record { caller = c.set.caller; event = c.set.event; word = InsideWord; answer = Unused; steps = []; shown = no_data }
 
@@ -61,16 +60,16 @@ module _ (event : Event) (c e : Caller) (before after : Gathered) (acts left : L
   abbrev x : Ask
   x = ask_of (new_bound k.point k.act c.set.event)
 
-  pub can_keep : (t : Lanes) (m inside : ℕ) (rest : List Event) → CanGoWith t c before acts m inside (event ∷ rest) →
+  pub can_keep : {t : Lanes} {m inside : ℕ} {rest : List Event} → CanGoWith t c before acts m inside (event ∷ rest) →
       CanGoWith t e after left m inside rest
-  can_keep t m inside rest g =
+  can_keep {t = t} g =
       let range = subst (InRange g.range.0 t.cpus) k.event_is g.range.1.0 in
-      can_next t event c c e before after acts left m inside rest refl g.ready.has g.states k.on
+      can_next c refl g.ready.has g.states k.on
       (subst (λ (y : Event). Fills y before after acts left) (sym k.event_is)
       (subst (Fills (Inside (number_of k.point) k.act) before after acts) (sym k.kept)
-      (fills_act before after line k.lines k.line_room k.point k.act c.set.event acts k.byte_room range.2 at g.fresh g.told))) g
+      (fills_act before after line k.lines k.line_room k.point k.act c.set.event acts k.byte_room range.2 g.at g.fresh g.told))) g
 
-  module _ (v : View) (caller : ℕ) (events rest : List Event)
+  module _ (at : c.set.event ≡ length before.lines) (v : View) (caller : ℕ) (events rest : List Event)
       (g : HasGone v caller events (Inside (number_of k.point) k.act ∷ rest) c before.lines asks)
       (on : GoesOn (Inside (number_of k.point) k.act) c e) where
     line_is : LineIs caller c.set.event InsideWord line
@@ -105,11 +104,11 @@ module _ (event : Event) (c e : Caller) (before after : Gathered) (acts left : L
     gone_either true has = gone_waits has
     gone_either false none = gone_idle none
 
-  pub gone_keep : (v : View) (caller : ℕ) (events rest : List Event) → HasGone v caller events (event ∷ rest) c before.lines asks →
+  pub gone_keep : c.set.event ≡ length before.lines → (v : View) (caller : ℕ) (events rest : List Event) → HasGone v caller events (event ∷ rest) c before.lines asks →
       HasGone v caller events rest e after.lines (asks_of left)
-  gone_keep v caller events rest g =
+  gone_keep at v caller events rest g =
       subst (λ (ls : List SeenLine). HasGone v caller events rest e ls (asks_of left)) (sym k.lines)
       (subst (HasGone v caller events rest e (before.lines ++ line ∷ []))
       (sym (ap asks_of k.kept ∙ map-append ask_of acts (new_bound k.point k.act c.set.event ∷ [])))
-      (gone_either v caller events rest (subst (λ (y : Event). HasGone v caller events (y ∷ rest) c before.lines asks) k.event_is g)
+      (gone_either at v caller events rest (subst (λ (y : Event). HasGone v caller events (y ∷ rest) c before.lines asks) k.event_is g)
       (subst (λ (y : Event). GoesOn y c e) k.event_is k.on) (has_vread rest) refl))

@@ -74,7 +74,9 @@ first_can t c room served inside event rest can = let g = can.goes in record {
   act_room = can.act_room;
 }
 
-module _ (t : Lanes) (event : Event) (c d e : Caller) (before after : Gathered) (acts left : List Bound) (served inside : ℕ) (rest : List Event) where
+-- an event is made and the lines go on: c is the caller before it, d behind its call, and e where it goes on
+module _ {t : Lanes} {event : Event} {c e : Caller} {before after : Gathered} {acts left : List Bound} {served inside : ℕ} {rest : List Event}
+    (d : Caller) where
   pub can_next : d.set ≡ c.set → Has t d.set.caller [] d.pass → StatesStand d → GoesOn event d e → Fills event before after acts left →
       CanGoWith t c before acts served inside (event ∷ rest) → CanGoWith t e after left served inside rest
   can_next set has states on fills g =

@@ -88,20 +88,22 @@ module _ {v : View} {caller : ℕ} {events rest : List Event} {event : Event} {c
   own_line said served steps =
       record { caller = ap (λ (s : Setting). s.caller) set ∙ g.own; event = ap (λ (s : Setting). s.event) set; word_is = refl }
 
-  -- its call was one of the core
-  pub gone_call : (t : Lanes) (said : Said) (served : List ℕ) (steps : List Step) → IsCall event → Called t event c d said served steps →
+-- an event whose call was one of the core
+module _ {v : View} {caller : ℕ} {events rest : List Event} {event : Event} {t : Lanes} {c d e : Caller} {lines : List SeenLine} {asks : List Ask}
+    {said : Said} {served : List ℕ} {steps : List Step} (is : IsCall event) (k : Called t event c d said served steps) (on : GoesOn event d e) where
+  pub gone_call : HasGone v caller events (event ∷ rest) c lines asks →
       HasGone v caller events rest e (lines ++ line_of d.set (event_word event) served said steps ∷ []) asks
-  gone_call t said served steps is k =
+  gone_call g =
       let line : SeenLine = line_of d.set (event_word event) served said steps in
-      gone_by (alone event line) (lines ++ line ∷ []) asks g.waiting
+      gone_by d g k.set on (alone event line) (lines ++ line ∷ []) asks g.waiting
       (subst (λ (s : Setting). CallDone c.set.caller (view c.pass) (view d.pass) (stand c) (state_after (stand d) event)
-      (alone event (line_of s (event_word event) served said steps))) (sym set)
+      (alone event (line_of s (event_word event) served said steps))) (sym k.set)
       (subst (λ (s : CallerState). CallDone c.set.caller (view c.pass) (view d.pass) (stand c) (state_after s event)
-      (alone event (line_of c.set (event_word event) served said steps))) (sym (same_stand t event c d said served steps k))
+      (alone event (line_of c.set (event_word event) served said steps))) (sym (same_stand k))
       (core_done c.set (view c.pass) (view d.pass) (stand c) event (event_word event) said.answer (shown_by served said.shows) steps refl k.does)))
       (λ has. g.waits (alone_follows event (call_alone event is) rest ∙ has))
       (so_far_alone events rest lines g.waiting g.calls event line (call_alone event is) g.so_far)
-      (fit_more caller c.set.event events event rest lines line (own_line said served steps) g.fit)
+      (fit_more caller c.set.event events event rest lines line (own_line d g k.set on said served steps) g.fit)
       (idle_more caller lines line asks g.idle)
 
 -- the end

@@ -66,9 +66,9 @@ module _ (before after : Gathered) (line : SeenLine) (lines : after.lines ≡ be
   one_line = ap length lines ∙ length-append before.lines (line ∷ [])
 
   -- a call of the core
-  pub fills_call : (event : Event) (acts : List Bound) → IsCall event → before.byte_room ≤ after.byte_room + most_shown event →
+  pub fills_call : {event : Event} {acts : List Bound} → IsCall event → before.byte_room ≤ after.byte_room + most_shown event →
       AllByRecursion IsFresh acts → AreTold (length before.lines) (asks_of acts) → Fills event before after acts acts
-  fills_call event acts is bytes fresh told = record {
+  fills_call {event = event} {acts = acts} is bytes fresh told = record {
     lines = one_line;
     line_room = line_room;
     byte_room = omega arith;
@@ -102,10 +102,10 @@ module _ (before after : Gathered) (line : SeenLine) (lines : after.lines ≡ be
       }
 
 -- a vread, behind which no act waits
-pub fills_read : (before after : Gathered) (n flags : ℕ) (acts left : List Bound) → length after.lines ≡ length before.lines + 1 →
+pub fills_read : {before after : Gathered} {n flags : ℕ} {acts left : List Bound} → length after.lines ≡ length before.lines + 1 →
     after.line_room + 1 ≡ before.line_room → before.byte_room ≤ after.byte_room + (n + all_wanted (asks_of acts)) → left ≡ [] →
     Fills (Vread n flags) before after acts left
-fills_read before after n flags acts left lines line_room bytes none =
+fills_read {after = after} {left = left} lines line_room bytes none =
     let wanted : all_wanted (asks_of left) ≡ 0 = ap (λ (l : List Bound). all_wanted (asks_of l)) none in
     record {
       lines = lines;

@@ -83,7 +83,7 @@ pub record Kept (t : Lanes) (event : Event) (c d : Caller) (said : Said) : Type 
   pub states : StatesStand c → StatesStand d
   pub shows : ShowsFit (event_word event) said.shows
 
-module _ (t : Lanes) (event : Event) (c d : Caller) (said : Said) (served : List ℕ) (steps : List Step) where
+module _ {t : Lanes} {event : Event} {c d : Caller} {said : Said} {served : List ℕ} {steps : List Step} where
   pub same_stand : Called t event c d said served steps → stand d ≡ stand c
   same_stand k = (λ i. caller_at (setting_of (k.set i)) (k.states i))
 
@@ -96,9 +96,9 @@ module _ (t : Lanes) (event : Event) (c d : Caller) (said : Said) (served : List
     shows = k.shows;
   }
 
-pub read_kept : (t : Lanes) (n flags : ℕ) (c d : Caller) (said : Said) (served : List ℕ) (steps : List Step) (asks : List Ask)
-    (zs : List ActOutcome) → StateRead t n flags c d said served steps asks zs → Kept t (Vread n flags) c d said
-read_kept t n flags c d said served steps asks zs k = record {
+pub read_kept : {t : Lanes} {n flags : ℕ} {c d : Caller} {said : Said} {served : List ℕ} {steps : List Step} {asks : List Ask}
+    {zs : List ActOutcome} → StateRead t n flags c d said served steps asks zs → Kept t (Vread n flags) c d said
+read_kept {t = t} {c = c} {d = d} {said = said} k = record {
   has = k.has;
   set = k.set;
   states = λ s. subst (Seen (floor (view d.pass))) (sym k.stands)

@@ -45,7 +45,7 @@ pub record HasRead (t : Lanes) (event : Event) (c d e : Caller) (before after : 
   pub byte_room : before.byte_room ≤ after.byte_room + (len + all_wanted (asks_of acts))
   pub none : left ≡ []
 
-module _ (t : Lanes) (event : Event) (c d e : Caller) (before after : Gathered) (acts left : List Bound)
+module _ {t : Lanes} {event : Event} {c d e : Caller} {before after : Gathered} {acts left : List Bound}
     (k : HasRead t event c d e before after acts left) where
   abbrev asks : List Ask
   asks = asks_of acts
@@ -56,15 +56,15 @@ module _ (t : Lanes) (event : Event) (c d e : Caller) (before after : Gathered) 
   abbrev told : List SeenLine
   told = act_lines d.set asks k.zs
 
-  pub can_read : (m inside : ℕ) (rest : List Event) → CanGoWith t c before acts m inside (event ∷ rest) →
+  pub can_read : {m inside : ℕ} {rest : List Event} → CanGoWith t c before acts m inside (event ∷ rest) →
       CanGoWith t e after left m inside rest
-  can_read m inside rest g =
-      let kept = read_kept t k.len k.flags c d k.said k.served k.steps asks k.zs k.read in
+  can_read g =
+      let kept = read_kept k.read in
       let long = ap length k.lines ∙ length-append (told_anew before.lines asks told) (line ∷ []) in
       let anew = anew_long before.lines asks told in
-      can_next t event c d e before after acts left m inside rest kept.set kept.has (kept.states g.states) k.on
+      can_next d kept.set kept.has (kept.states g.states) k.on
       (subst (λ (x : Event). Fills x before after acts left) (sym k.event_is)
-      (fills_read before after k.len k.flags acts left (omega arith) k.line_room k.byte_room k.none)) g
+      (fills_read (omega arith) k.line_room k.byte_room k.none)) g
 
   pub gone_read : (v : View) (caller : ℕ) (events rest : List Event) → HasGone v caller events (event ∷ rest) c before.lines asks →
       HasGone v caller events rest e after.lines (asks_of left)

@@ -79,9 +79,9 @@ has_read g c =
 
 pub returns-clause-can : goal.returns-clause-can
 returns-clause-can g c rest can = record {
-  goes = can_read _ _ _ _ _ _ _ _ _ (has_read g c) _ _ rest can.goes;
+  goes = can_read (has_read g c) can.goes;
   act_room = (let e = returns-clause-act_room g c in let b = can.act_room in omega arith);
 }
 
 pub returns-clause-gone : goal.returns-clause-gone
-returns-clause-gone g c = gone_read _ _ _ _ _ _ _ _ _ (has_read g c)
+returns-clause-gone g c = gone_read (has_read g c)

@@ -26,9 +26,9 @@ kept c =
 
 pub returns-clause-can : goal.returns-clause-can
 returns-clause-can c t served inside rest can = record {
-  goes = can_keep _ _ _ _ _ _ _ (kept c) can.goes.at _ _ _ _ can.goes;
+  goes = can_keep (kept c) can.goes;
   act_room = (let a = c.push_reserved.ensures.capacity in let b = can.act_room in omega arith);
 }
 
 pub returns-clause-gone : goal.returns-clause-gone
-returns-clause-gone c = gone_keep _ _ _ _ _ _ _ (kept c) c.requires.can.3.goes.at
+returns-clause-gone c = gone_keep (kept c) c.requires.can.3.goes.at
