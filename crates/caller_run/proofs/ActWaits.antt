@@ -41,7 +41,8 @@ pub record Keeps (event : Event) (c e : Caller) (before after : Gathered) (acts 
   pub act : InsideAct
   pub event_is : event ≡ Inside (number_of point) act
   pub on : GoesOn event c e
-  pub lines : after.lines ≡ before.lines ++ record { caller = c.set.caller; event = c.set.event; word = InsideWord; answer = Unused; steps = []; shown = no_data } ∷ []
+  pub lines : after.lines ≡ before.lines ++ record { caller = c.set.caller; event = c.set.event; word = InsideWord;
+    answer = Unused; steps = []; shown = no_data } ∷ []
   pub line_room : after.line_room + 1 ≡ before.line_room
   pub byte_room : before.byte_room ≤ after.byte_room
   pub kept : left ≡ acts ++ new_bound point act c.set.event ∷ []
@@ -50,9 +51,11 @@ get_seam : (lines : List SeenLine) (line : SeenLine) → slice_get (lines ++ lin
 get_seam [] line = refl
 get_seam (l ∷ lines) line = get_seam lines line
 
-module _ {event : Event} {c e : Caller} {before after : Gathered} {acts left : List Bound} (k : Keeps event c e before after acts left) where
+module _ {event : Event} {c e : Caller} {before after : Gathered} {acts left : List Bound}
+    (k : Keeps event c e before after acts left) where
   abbrev line : SeenLine
-  line = record { caller = c.set.caller; event = c.set.event; word = InsideWord; answer = Unused; steps = []; shown = no_data }
+  line = record { caller = c.set.caller; event = c.set.event; word = InsideWord; answer = Unused; steps = [];
+    shown = no_data }
 
   abbrev asks : List Ask
   asks = asks_of acts
@@ -67,7 +70,8 @@ module _ {event : Event} {c e : Caller} {before after : Gathered} {acts left : L
       can_next c refl g.ready.has g.states k.on
       (subst (λ (y : Event). Fills y before after acts left) (sym k.event_is)
       (subst (Fills (Inside (number_of k.point) k.act) before after acts) (sym k.kept)
-      (fills_act before after line k.lines k.line_room k.point k.act c.set.event acts k.byte_room range.2 g.at g.fresh g.told))) g
+      (fills_act before after line k.lines k.line_room k.point k.act c.set.event acts k.byte_room range.2 g.at g.fresh
+        g.told))) g
 
   module _ (at : c.set.event ≡ length before.lines) (v : View) (caller : ℕ) (events rest : List Event)
       (g : HasGone v caller events (Inside (number_of k.point) k.act ∷ rest) c before.lines asks)
@@ -76,7 +80,8 @@ module _ {event : Event} {c e : Caller} {before after : Gathered} {acts left : L
     line_is = record { caller = g.own; event = refl; word_is = refl }
 
     idle : AllByRecursion (HasLine caller (before.lines ++ line ∷ [])) (asks ++ x ∷ [])
-    idle = each_more (HasLine caller (before.lines ++ line ∷ [])) asks x (idle_more caller before.lines line asks g.idle) (record {
+    idle = each_more (HasLine caller (before.lines ++ line ∷ [])) asks x
+      (idle_more caller before.lines line asks g.idle) (record {
       line = line;
       there = ap (slice_get (before.lines ++ line ∷ [])) at ∙ get_seam before.lines line;
       is = line_is;
@@ -100,15 +105,18 @@ module _ {event : Event} {c e : Caller} {before after : Gathered} {acts left : L
         (λ _. ap (λ (w : List Ask). w ++ x ∷ []) (g.waits has))
         (so_far_waits events rest before.lines g.waiting g.calls x line has at g.so_far) fit idle
 
-    gone_either : (b : Bool) → has_vread rest ≡ b → HasGone v caller events rest e (before.lines ++ line ∷ []) (asks ++ x ∷ [])
+    gone_either : (b : Bool) → has_vread rest ≡ b →
+      HasGone v caller events rest e (before.lines ++ line ∷ []) (asks ++ x ∷ [])
     gone_either true has = gone_waits has
     gone_either false none = gone_idle none
 
-  pub gone_keep : c.set.event ≡ length before.lines → (v : View) (caller : ℕ) (events rest : List Event) → HasGone v caller events (event ∷ rest) c before.lines asks →
+  pub gone_keep : c.set.event ≡ length before.lines → (v : View) (caller : ℕ) (events rest : List Event) →
+    HasGone v caller events (event ∷ rest) c before.lines asks →
       HasGone v caller events rest e after.lines (asks_of left)
   gone_keep at v caller events rest g =
       subst (λ (ls : List SeenLine). HasGone v caller events rest e ls (asks_of left)) (sym k.lines)
       (subst (HasGone v caller events rest e (before.lines ++ line ∷ []))
       (sym (ap asks_of k.kept ∙ map-append ask_of acts (new_bound k.point k.act c.set.event ∷ [])))
-      (gone_either at v caller events rest (subst (λ (y : Event). HasGone v caller events (y ∷ rest) c before.lines asks) k.event_is g)
+      (gone_either at v caller events rest (subst (λ (y : Event). HasGone v caller events (y ∷ rest) c before.lines
+        asks) k.event_is g)
       (subst (λ (y : Event). GoesOn y c e) k.event_is k.on) (has_vread rest) refl))

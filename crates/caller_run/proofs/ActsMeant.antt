@@ -33,9 +33,11 @@ use Rattle.caller_run.proofs.ActDoings.{IsUndone}
 use Rattle.caller_run.proofs.QuietForms.{sys, form_samples}
 
 -- acts as they are handed to a call were not done
-pub fresh_undone : (bounds : List Bound) (out : List ℕ) → AllByRecursion IsFresh bounds → AllByRecursion IsUndone (outcomes_of bounds out)
+pub fresh_undone : (bounds : List Bound) (out : List ℕ) → AllByRecursion IsFresh bounds →
+    AllByRecursion IsUndone (outcomes_of bounds out)
 fresh_undone [] out all = tt
-fresh_undone (b ∷ bounds) out all = (record { idle = all.0.idle; empty = all.0.empty }, fresh_undone bounds (drop (wants b.act) out) all.1)
+fresh_undone (b ∷ bounds) out all = (record { idle = all.0.idle; empty = all.0.empty },
+    fresh_undone bounds (drop (wants b.act) out) all.1)
 
 pub outcomes_long : (bounds : List Bound) (out : List ℕ) → length (outcomes_of bounds out) ≡ length (asks_of bounds)
 outcomes_long [] out = refl
@@ -85,11 +87,13 @@ module _ (set : Setting) (w : View) where
     act_deeds a z m = go z.done m.idle
       where
         go : (b : Bool) → (b ≡ false → z.steps ≡ []) →
-            deeds_of lists z.steps ≡ (if b then done_line (deeds_of lists z.steps) z.answer z.bytes else unused_line).deeds
+            deeds_of lists z.steps ≡ (if b then done_line (deeds_of lists z.steps) z.answer z.bytes else
+              unused_line).deeds
         go true idle = refl
         go false idle = ap (deeds_of lists) (idle refl)
 
-    pub act_answer : (a : Ask) (z : ActOutcome) → Meant set w a z → (act_line set a z).answer ≡ (outcome_line lists z).answer
+    pub act_answer : (a : Ask) (z : ActOutcome) → Meant set w a z →
+      (act_line set a z).answer ≡ (outcome_line lists z).answer
     act_answer a z m = go z.done
       where
         go : (b : Bool) → (if b then result_answer z.answer else Unused)
@@ -97,7 +101,8 @@ module _ (set : Setting) (w : View) where
         go true = refl
         go false = refl
 
-    pub act_shown : (a : Ask) (z : ActOutcome) → Meant set w a z → (act_line set a z).shown ≡ (outcome_line lists z).shown
+    pub act_shown : (a : Ask) (z : ActOutcome) → Meant set w a z →
+      (act_line set a z).shown ≡ (outcome_line lists z).shown
     act_shown a z m = go z.done
       where
         go : (b : Bool) → (if b then bytes_or_none (given z.answer z.bytes) else no_data)

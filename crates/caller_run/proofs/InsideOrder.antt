@@ -28,7 +28,8 @@ no_late items acts e f =
     no_steps cut.0 cut.1 (items_at_point acts 3) (items_at_point acts 4) front e f
     ∙ ap (λ (l : List Item). front ++ l) (sym (rekey_whole (drop 2 items)))
 
-pub no_acts : (items : List Item) (acts : List BoundAct) → ((p : ℕ) → items_at_point acts p ≡ []) → vread_items items acts ≡ items
+pub no_acts : (items : List Item) (acts : List BoundAct) → ((p : ℕ) → items_at_point acts p ≡ []) →
+    vread_items items acts ≡ items
 no_acts items acts none =
     no_late items acts (none 3) (none 4)
     ∙ (λ i. (take 2 items ++ none 1 i ++ none 2 i) ++ drop 2 items)
@@ -74,7 +75,8 @@ module _ (set : Setting) (asks : List Ask) where
     pub cut : AreParts (cut_rekey (rekey ++ rest)) rekey rest
         ⊎ ((items_at set asks t 3 ≡ []) × (items_at set asks t 4 ≡ []))
 
-  module _ (s t : Spot) (new : (p : ℕ) → Untouched p asks s.outcomes) (empty : s.moment.steps ≡ []) (c : Course s t) where
+  module _ (s t : Spot) (new : (p : ℕ) → Untouched p asks s.outcomes) (empty : s.moment.steps ≡ []) (c : Course s t)
+    where
     abbrev acts : List BoundAct
     acts = bound_acts set asks t.outcomes
 
@@ -94,7 +96,8 @@ module _ (set : Setting) (asks : List Ask) where
         subst (Part set.caller (view_at u) (view_at v)) (sym after.items) (k.part (before.untouched (new p)))
 
     to_started : (q : ℕ) → (1 == q) ≡ false → Kept q s c.started
-    to_started q a = kept_then q s c.looked c.started (kept_own q s c.looked _ c.looks) (kept_at q 1 c.looked c.started a c.start)
+    to_started q a = kept_then q s c.looked c.started (kept_own q s c.looked _ c.looks)
+      (kept_at q 1 c.looked c.started a c.start)
 
     to_keyed : (q : ℕ) → (1 == q) ≡ false → (2 == q) ≡ false → Kept q s c.keyed
     to_keyed q a b =
@@ -124,7 +127,8 @@ module _ (set : Setting) (asks : List Ask) where
 
     all : Part set.caller (view_at s) (view_at t) (behind_write ++ c.rekey ++ here 3 ++ here 4 ++ c.rest)
     all =
-        let one = at_last 1 c.looked c.started c.start (kept_own 1 s c.looked _ c.looks) (from_started 1 refl refl refl) in
+        let one = at_last 1 c.looked c.started c.start (kept_own 1 s c.looked _ c.looks)
+          (from_started 1 refl refl refl) in
         let two = at_last 2 c.started c.written c.write (to_started 2 refl) (from_written 2 refl refl) in
         let three = at_last 3 c.keyed c.served c.serve (to_keyed 3 refl refl) (from_served 3 refl) in
         let four = at_last 4 c.served c.ended c.end (to_served 4 refl refl refl) (from_ended 4) in
@@ -142,7 +146,8 @@ module _ (set : Setting) (asks : List Ask) where
         go : AreParts (cut_rekey (c.rekey ++ c.rest)) c.rekey c.rest ⊎ ((here 3 ≡ []) × (here 4 ≡ [])) →
             behind_write ++ c.rekey ++ here 3 ++ here 4 ++ c.rest
             ≡ vread_items (c.first ∷ c.second ∷ c.rekey ++ c.rest) acts
-        go (inl parts) = ap (λ (cut : List Item × List Item). behind_write ++ cut.0 ++ here 3 ++ here 4 ++ cut.1) (sym parts)
+        go (inl parts) = ap (λ (cut : List Item × List Item). behind_write ++ cut.0 ++ here 3 ++ here 4 ++ cut.1)
+          (sym parts)
         go (inr none) =
             no_steps c.rekey c.rest (here 3) (here 4) behind_write none.0 none.1
             ∙ sym (no_late (c.first ∷ c.second ∷ c.rekey ++ c.rest) acts none.0 none.1)

@@ -7,7 +7,7 @@ use Rattle.key_names.specs.declared.events.Event.{Event}
 use Rattle.key_names.specs.declared.events.Event.TheVariants.{Vread, Drop, State}
 use Rattle.key_names.specs.declared.names.Step.{Step}
 use Rattle.key_names.specs.Calls as calls
-use Rattle.key_names.specs.Meaning.{CallerState, caller_start, state_after, with_state}
+use Rattle.key_names.specs.Meaning.{CallerState, caller_start, caller_after, with_state}
 use Rattle.key_names.specs.ScriptGrammar.{InRange, event_word}
 use Rattle.key_names.specs.VgetrandomState.{VgetrandomState, wiped_state}
 use Rattle.key_names.specs.VreadSteps.{published_by}
@@ -56,22 +56,27 @@ pub seen_up : (a b : ℕ) (s : CallerState) → a ≤ b → Seen a s → Seen b 
 seen_up a b s le k = record {
   many = k.many;
   current = k.current;
-  published = each_weaker (λ (st : VgetrandomState). st.generation ≤ published_by a) (λ st. st.generation ≤ published_by b) s.states
+  published = each_weaker (λ (st : VgetrandomState). st.generation ≤ published_by a)
+    (λ st. st.generation ≤ published_by b) s.states
       (λ st low. let up = published_up a b le in omega arith) k.published;
 }
 
 -- the current state is this one now
-pub seen_with : (found : ℕ) (s : CallerState) (st : VgetrandomState) → st.generation ≤ published_by found → Seen found s → Seen found (with_state s st)
+pub seen_with : (found : ℕ) (s : CallerState) (st : VgetrandomState) → st.generation ≤ published_by found →
+    Seen found s → Seen found (with_state s st)
 seen_with found s st low k = record {
   many = length-set s.states s.current st ∙ k.many;
   current = k.current;
-  published = each_set (λ (t : VgetrandomState). t.generation ≤ published_by found) s.states s.current st k.published low;
+  published = each_set (λ (t : VgetrandomState). t.generation ≤ published_by found) s.states s.current st k.published
+    low;
 }
 
 -- behind an event by itself
-pub seen_after : (version cpus found : ℕ) (s : CallerState) (event : Event) → InRange version cpus event → Seen found s → Seen found (state_after s event)
+pub seen_after : (version cpus found : ℕ) (s : CallerState) (event : Event) → InRange version cpus event →
+    Seen found s → Seen found (caller_after s event)
 seen_after version cpus found s Drop range k = seen_with found s wiped_state (omega arith) k
-seen_after version cpus found s (State number) range k = record { many = k.many; current = range.1; published = k.published }
+seen_after version cpus found s (State number) range k =
+    record { many = k.many; current = range.1; published = k.published }
 seen_after version cpus found s event range k = record { many = k.many; current = k.current; published = k.published }
 
 -- a call of any event
@@ -92,11 +97,13 @@ module _ {t : Lanes} {event : Event} {c d : Caller} {said : Said} {served : List
     has = k.has;
     set = k.set;
     states = λ s. subst (Seen (floor (view d.pass))) (sym (same_stand k))
-        (seen_up (floor (view c.pass)) (floor (view d.pass)) (stand c) (did_floor c.set (moment c.pass []) (moment d.pass steps) k.does) s);
+        (seen_up (floor (view c.pass)) (floor (view d.pass)) (stand c)
+          (did_floor c.set (moment c.pass []) (moment d.pass steps) k.does) s);
     shows = k.shows;
   }
 
-pub read_kept : {t : Lanes} {n flags : ℕ} {c d : Caller} {said : Said} {served : List ℕ} {steps : List Step} {asks : List Ask}
+pub read_kept : {t : Lanes} {n flags : ℕ} {c d : Caller} {said : Said} {served : List ℕ} {steps : List Step}
+    {asks : List Ask}
     {zs : List ActOutcome} → StateRead t n flags c d said served steps asks zs → Kept t (Vread n flags) c d said
 read_kept {t = t} {c = c} {d = d} {said = said} k = record {
   has = k.has;

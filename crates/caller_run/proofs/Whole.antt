@@ -60,12 +60,14 @@ deed_same lanes w callers (CpuLane c) place = refl
 deeds_same : (lanes : ℕ) (w : View) (callers : StateLists) (steps : List Step) →
     deeds_of (book_lists lanes (known_of w) []) steps ≡ deeds_of (book_lists lanes (known_of w) callers) steps
 deeds_same lanes w callers [] = refl
-deeds_same lanes w callers (Look g ∷ steps) = ap (λ (l : List Deed). deed_of (book_lists lanes (known_of w) []) (Look g) ∷ l)
+deeds_same lanes w callers (Look g ∷ steps) = ap
+    (λ (l : List Deed). deed_of (book_lists lanes (known_of w) []) (Look g) ∷ l)
     (deeds_same lanes w callers steps)
 deeds_same lanes w callers (Marked mark ∷ steps) =
     (λ i. deed_same lanes w callers mark.lane mark.place i ∷ deeds_same lanes w callers steps i)
 
-module _ (P Q : SeenLine → LineMeaning → Type 0) (weaker : (line : SeenLine) (m : LineMeaning) → P line m → Q line m) where
+module _ (P Q : SeenLine → LineMeaning → Type 0) (weaker : (line : SeenLine) (m : LineMeaning) → P line m → Q line m)
+    where
   acts_weaker : (acts : List BoundAct) (ms : List LineMeaning) → EachAct P acts ms → EachAct Q acts ms
   acts_weaker [] [] all = tt
   acts_weaker [] (m ∷ ms) all = absurd all
@@ -153,7 +155,8 @@ module _ (version cpus : ℕ) (events : List Event) (lines : List SeenLine) (w :
   own : AllByRecursion (IsOfCaller 0) lines
   own = fit_own 0 0 events lines r.fit
 
-  each_visits : AllByRecursion (λ item. AllByRecursion (MarksVisit lanes (known_of w)) (mark_of 0 item)) (lines_items lines)
+  each_visits : AllByRecursion (λ item. AllByRecursion (MarksVisit lanes (known_of w)) (mark_of 0 item))
+    (lines_items lines)
   each_visits =
       calls_each _ 0 events lines r.fit r.done.points
       (subst (AllByRecursion _) r.done.order (items_visit 0 w doings r.done.ran.stood))
@@ -190,7 +193,8 @@ module _ (version cpus : ℕ) (events : List Event) (lines : List SeenLine) (w :
       (marks_visits 0 w doings r.done.ran.stood callers low ended places made lines own same each_visits)
       (marks_places 0 w doings r.done.ran.stood callers low ended places made lines own same each_visits)
       (marks_many 0 w doings r.done.ran.stood callers low ended places made lines own same each_visits)
-      (calls_lines (λ line. SamplesStand (fast_in (known_of w)) (deeds_of (lists_of book) line.steps)) 0 events lines r.fit
+      (calls_lines (λ line. SamplesStand (fast_in (known_of w)) (deeds_of (lists_of book) line.steps)) 0 events lines
+        r.fit
       (r.done.samples lanes (known_of w) callers continues))
 
   forms : FormsStand (one_caller version cpus events) (lines ∷ []) book (meant.meanings ∷ [])

@@ -52,7 +52,8 @@ impl Caller {
         point: u8,
         act: InsideAct,
     )
-        requires can { (t : Lanes) × (served : ℕ) × (inside : ℕ) × CanGo t self.old room.old served inside (event.now ∷ []) }
+        requires can { (t : Lanes) × (served : ℕ) × (inside : ℕ)
+            × CanGo t self.old room.old served inside (event.now ∷ []) }
         requires is { event.now ≡ Inside point act }
         ensures can { (t : Lanes) (served inside : ℕ) (rest : List Event)
             → CanGo t self.old room.old served inside (event.now ∷ rest)

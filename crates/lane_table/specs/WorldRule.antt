@@ -111,8 +111,8 @@ module _ (ticket serving : ℕ) (owner : ℕ → ℕ) (home : Home) (log : List 
   Stands (Queued t) = (serving ≤ t) × (t < ticket) × (owner t ≡ j)
   Stands (Holding t) = (t ≡ serving) × (t < ticket) × (owner t ≡ j) × (known ≡ log) × (home ≡ some none)
 
-pub record PassOk (ticket serving : ℕ) (owner : ℕ → ℕ) (home : Home) (log : List Visit) (j : ℕ) (a : LaneView) : Type 0
-    where
+pub record PassOk (ticket serving : ℕ) (owner : ℕ → ℕ) (home : Home) (log : List Visit) (j : ℕ) (a : LaneView)
+    : Type 0 where
   pub begins : Begins a.known log
   pub heard : AllBegin a.heard log
   pub stands : Stands ticket serving owner home log j a.known a.stage

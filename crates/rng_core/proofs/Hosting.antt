@@ -14,7 +14,7 @@ use Rattle.key_names.specs.declared.events.Event.TheVariants.{Read}
 use Rattle.key_names.specs.Deeds.{Deed, deed_or, deed_at, deed_of, deeds_of, at_pool, at_base, at_cpu, pool_visit, base_visit, cpu_visit}
 use Rattle.key_names.specs.Book.{Lists, cpu_list}
 use Rattle.key_names.specs.Answers.{system_answer, served_bytes}
-use Rattle.key_names.specs.SeenLine.{bytes_or_none, bytes_of}
+use Rattle.key_names.specs.SeenLine.{bytes_or_none, bytes_in}
 use Rattle.key_names.specs.Vgetrandom.{CpuPlace, SystemAnswer, read, failed}
 use Rattle.key_names.specs.VreadSteps.{published_by, place_of, last_place, errno_of, answer_with, answer_behind}
 use Rattle.lane_table.specs.declared.view.Visit.{Visit}
@@ -136,12 +136,12 @@ module _ (lanes : ℕ) (v : View) (visits : ℕ → List Visit) (callers : List 
   last_found caller event n (visited mark e ∷ next ∷ deals) stand =
     last_found caller event (suc n) (next ∷ deals) stand.1
 
-shown_bytes : (xs : List ℕ) → bytes_of (bytes_or_none xs) ≡ xs
+shown_bytes : (xs : List ℕ) → bytes_in (bytes_or_none xs) ≡ xs
 shown_bytes [] = refl
 shown_bytes (x ∷ xs) = refl
 
 same_bytes : (xs ys : List ℕ) → bytes_or_none xs ≡ bytes_or_none ys → xs ≡ ys
-same_bytes xs ys e = sym (shown_bytes xs) ∙ ap bytes_of e ∙ shown_bytes ys
+same_bytes xs ys e = sym (shown_bytes xs) ∙ ap bytes_in e ∙ shown_bytes ys
 
 -- what was answered, by what was returned
 abbrev pub answer_by : Result (Unit {0}) Errno → List ℕ → Option CpuPlace → SystemAnswer

@@ -1,7 +1,7 @@
 -- An input event in the pool and its timer.
 use Rattle.std.proofs.Common.{◌≡◌, ◌≢◌, ℕ, ◌<◌, ◌≤◌, List, sym, ap, ◌∙◌, subst, arith}
 use Rattle.key_names.specs.declared.entries.PoolEntry.TheVariants.{Input}
-use Rattle.key_names.specs.InputTimer.{InputTimer, timer_after, timer_bits}
+use Rattle.key_names.specs.InputTimer.{InputTimer, input_timer_after, timer_bits}
 use Rattle.key_names.specs.PoolList.{PoolState, crossing, credit, pool_step}
 use Rattle.input_pool.specs.PoolStands.{PoolParts, PoolStands}
 use Rattle.input_pool.proofs.Callers.{mixed, mixed_and_credited, input_bytes, credit-none, crossing-mix, PoolStands-timed, PoolStands-untimed, pool_step-timed, pool_step-untimed}
@@ -51,7 +51,7 @@ module _ (s : PoolState) (word kind code value now : ℕ) (before between : Pool
     worth' : bits ≡ timer_bits s.timer now
     worth' = worth ∙ ap (λ (t : InputTimer). timer_bits t now) timer_is
 
-    pub timed : next ≡ record kept { timer = timer_after kept.timer now } →
+    pub timed : next ≡ record kept { timer = input_timer_after kept.timer now } →
       InputStands after next (pool_step s (Input word kind code value now))
     timed times = let e = pool_step-timed s word kind code value now differs room' in record {
       pool = PoolStands-timed after s word kind code value now differs room'
@@ -59,7 +59,7 @@ module _ (s : PoolState) (word kind code value now : ℕ) (before between : Pool
         (subst (λ (t : List ℕ). PoolStands after (mixed_and_credited s t bits)) m.bytes credits));
       value = ap (λ (k : LastInput). k.value) times ∙ ap (λ (k : LastInput). k.value) m.keeps
         ∙ sym (ap (λ (z : PoolState). z.value) e);
-      timer = ap (λ (k : LastInput). k.timer) times ∙ ap (λ (t : InputTimer). timer_after t now) timer_is
+      timer = ap (λ (k : LastInput). k.timer) times ∙ ap (λ (t : InputTimer). input_timer_after t now) timer_is
         ∙ sym (ap (λ (z : PoolState). z.timer) e);
     }
 
