@@ -107,11 +107,12 @@ module _ {v : View} {caller : ℕ} {events rest : List Event} {event : Event} {t
       (idle_more caller lines line asks g.idle)
 
 -- the end
-pub gone_all : (v : View) (caller : ℕ) (events : List Event) (c d : Caller) (lines : List SeenLine) (asks : List Ask) (served : List ℕ) (said : Said)
-    (steps : List Step) → d.set ≡ c.set → said.answer ≡ Done → (line_of d.set EndWord served said steps).shown ≡ no_data →
+pub gone_all : {v : View} {caller : ℕ} {events : List Event} {c : Caller} {lines : List SeenLine} {asks : List Ask}
+    (d : Caller) (served : List ℕ) (said : Said) (steps : List Step) → d.set ≡ c.set → said.answer ≡ Done →
+    (line_of d.set EndWord served said steps).shown ≡ no_data →
     Did (BaseOnly End) c.set (moment c.pass []) (moment d.pass steps) → HasGone v caller events [] c lines asks →
     HasEnded v caller events d (lines ++ line_of d.set EndWord served said steps ∷ [])
-gone_all v caller events c d lines asks served said steps set answer shown did g =
+gone_all {v = v} {caller = caller} {events = events} {c = c} {lines = lines} d served said steps set answer shown did g =
     let line : SeenLine = line_of d.set EndWord served said steps in
     let same : line ≡ record { caller = c.set.caller; event = c.set.event; word = EndWord; answer = Done; steps = steps; shown = no_data } =
     (λ i. record { caller = (set i).caller; event = (set i).event; word = EndWord; answer = answer i; steps = steps; shown = shown i }) in

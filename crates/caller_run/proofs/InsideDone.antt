@@ -24,10 +24,11 @@ use Rattle.rng_core.specs.InsideDid.{bound_acts, inside_meaning, InsideDid}
 use Rattle.rng_core.specs.SampleDeeds.{SamplesStand, fast_in}
 use Rattle.rng_core.proofs.ActRuns.{AllMeant}
 use Rattle.rng_core.proofs.Acting.{acted_meant}
+use Rattle.rng_core.proofs.InsideCalls.{IsUndone, undone_meant}
 use Rattle.caller_run.specs.Done.{CallDone}
 use Rattle.caller_run.specs.Items.{line_items, vread_items}
-use Rattle.caller_run.proofs.ActDoings.{IsUndone, all_untouched}
-use Rattle.caller_run.proofs.ActsMeant.{undone_meant, points_fit, each_act, act_deeds, act_answer, act_shown, acts_samples}
+use Rattle.caller_run.proofs.ActDoings.{all_untouched}
+use Rattle.caller_run.proofs.ActsMeant.{points_fit, each_act, act_deeds, act_answer, act_shown, acts_samples}
 use Rattle.caller_run.proofs.InsideCourse.{inside_part}
 use Rattle.caller_run.proofs.PartItems.{Part}
 use Rattle.caller_run.proofs.VreadDone.{vread_quiet}

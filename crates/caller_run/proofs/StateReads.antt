@@ -1,5 +1,5 @@
 -- Reads out of a caller's current vgetrandom state, as its loop over the events sees them.
-use Rattle.std.proofs.Common.{Option, ◌≤◌, ◌≡◌, ℕ, zero, suc, ◌<◌, List, [], ◌∷◌, ◌++◌, length, map, get_or, sym, ap, ◌∙◌, subst, refl, arith}
+use Rattle.std.proofs.Common.{Option, ◌≤◌, ◌≡◌, ℕ, ◌<◌, List, [], ◌++◌, length, map, get_or, sym, ap, ◌∙◌, subst, refl}
 use Rattle.std.specs.Prelude.{Result, slice_get, unwrap_or}
 use Rattle.std.specs.List.{AllByRecursion}
 use Rattle.key_names.specs.declared.errno.Errno.{Errno}
@@ -19,9 +19,9 @@ use Rattle.key_names.specs.Meaning.{CallerState}
 use Rattle.key_names.specs.VreadSteps.{published_by}
 use Rattle.std.proofs.lemmas.Option.{slice_get-get_or}
 use Rattle.rng_core.specs.Acts.{ActOutcome}
+use Rattle.rng_core.proofs.InsideCalls.{fresh_undone, outcomes_long}
 use Rattle.caller_run.specs.Calling.{StateRead}
 use Rattle.caller_run.specs.Says.{IsNoCount}
-use Rattle.lane_table.specs.declared.lanes.Pass.{Pass}
 use Rattle.rng_core.specs.declared.acts.Bound.{Bound}
 use Rattle.rng_core.specs.declared.attempt.Attempt.TheVariants.{Before}
 use Rattle.rng_core.specs.Acting.{act_stand, InsideRan}
@@ -36,7 +36,6 @@ use Rattle.caller_run.specs.Done.{CallDone}
 use Rattle.caller_run.specs.Says.{shown_by, line_of}
 use Rattle.caller_run.specs.declared.caller.Caller.{Caller}
 use Rattle.caller_run.specs.declared.said.Said.{Said}
-use Rattle.caller_run.proofs.ActsMeant.{fresh_undone, outcomes_long}
 use Rattle.caller_run.proofs.InsideDone.{inside_done}
 use Rattle.caller_run.proofs.VreadDone.{vread_done}
 
