@@ -62,7 +62,8 @@ module _ {v : View} {caller : ℕ} {events rest : List Event} {event : Event} {c
     own = on.caller ∙ ap (λ (s : Setting). s.caller) set ∙ g.own;
     calls = calls;
     done = subst (λ (s : CallerState). CallsDone caller v (view e.pass) (caller_start first_setting) s calls) (sym on.stand)
-        (subst (λ (p : Pass). CallsDone caller v (view p) (caller_start first_setting) (state_after (stand d) event) calls) (sym on.pass) done);
+        (subst (λ (p : Pass). CallsDone caller v (view p) (caller_start first_setting) (state_after (stand d) event) calls)
+        (sym on.pass) done);
     waiting = waiting;
     waits = waits;
     so_far = so_far;
@@ -79,8 +80,9 @@ module _ {v : View} {caller : ℕ} {events rest : List Event} {event : Event} {c
       AllByRecursion (HasLine caller after) left → HasGone v caller events rest e after left
   gone_by call after left waiting done =
       gone_on (g.calls ++ call ∷ []) after left waiting
-      (calls_done_then caller v (view c.pass) (view d.pass) (caller_start first_setting) (stand c) (state_after (stand d) event) g.calls call
-      g.done (subst (λ (n : ℕ). CallDone n (view c.pass) (view d.pass) (stand c) (state_after (stand d) event) call) g.own done))
+      (calls_done_then caller v (view c.pass) (view d.pass) (caller_start first_setting) (stand c) (state_after (stand d) event)
+      g.calls call g.done
+      (subst (λ (n : ℕ). CallDone n (view c.pass) (view d.pass) (stand c) (state_after (stand d) event) call) g.own done))
 
   -- the line of its call is the event's
   pub own_line : (said : Said) (served : List ℕ) (steps : List Step) →
@@ -89,8 +91,9 @@ module _ {v : View} {caller : ℕ} {events rest : List Event} {event : Event} {c
       record { caller = ap (λ (s : Setting). s.caller) set ∙ g.own; event = ap (λ (s : Setting). s.event) set; word_is = refl }
 
 -- an event whose call was one of the core
-module _ {v : View} {caller : ℕ} {events rest : List Event} {event : Event} {t : Lanes} {c d e : Caller} {lines : List SeenLine} {asks : List Ask}
-    {said : Said} {served : List ℕ} {steps : List Step} (is : IsCall event) (k : Called t event c d said served steps) (on : GoesOn event d e) where
+module _ {v : View} {caller : ℕ} {events rest : List Event} {event : Event} {t : Lanes} {c d e : Caller} {lines : List SeenLine}
+    {asks : List Ask} {said : Said} {served : List ℕ} {steps : List Step} (is : IsCall event) (k : Called t event c d said served steps)
+    (on : GoesOn event d e) where
   pub gone_call : HasGone v caller events (event ∷ rest) c lines asks →
       HasGone v caller events rest e (lines ++ line_of d.set (event_word event) served said steps ∷ []) asks
   gone_call g =
@@ -100,7 +103,8 @@ module _ {v : View} {caller : ℕ} {events rest : List Event} {event : Event} {t
       (alone event (line_of s (event_word event) served said steps))) (sym k.set)
       (subst (λ (s : CallerState). CallDone c.set.caller (view c.pass) (view d.pass) (stand c) (state_after s event)
       (alone event (line_of c.set (event_word event) served said steps))) (sym (same_stand k))
-      (core_done c.set (view c.pass) (view d.pass) (stand c) event (event_word event) said.answer (shown_by served said.shows) steps refl k.does)))
+      (core_done c.set (view c.pass) (view d.pass) (stand c) event (event_word event) said.answer
+      (shown_by served said.shows) steps refl k.does)))
       (λ has. g.waits (alone_follows event (call_alone event is) rest ∙ has))
       (so_far_alone events rest lines g.waiting g.calls event line (call_alone event is) g.so_far)
       (fit_more caller c.set.event events event rest lines line (own_line d g k.set on said served steps) g.fit)
@@ -125,14 +129,16 @@ gone_all {v = v} {caller = caller} {events = events} {c = c} {lines = lines} d s
       reached = stand c;
       done = subst (CallsDone caller v (view d.pass) (caller_start first_setting) (stand c))
           (sym (so_far_end events lines g.waiting g.calls line g.so_far))
-          (calls_done_then caller v (view c.pass) (view d.pass) (caller_start first_setting) (stand c) (stand c) g.calls (ending line) g.done
+          (calls_done_then caller v (view c.pass) (view d.pass) (caller_start first_setting) (stand c) (stand c) g.calls
+          (ending line) g.done
           (subst (λ (n : ℕ). CallDone n (view c.pass) (view d.pass) (stand c) (stand c) (ending line)) g.own
           (subst (λ (l : SeenLine). CallDone c.set.caller (view c.pass) (view d.pass) (stand c) (stand c) (ending l)) (sym same)
           (end_done c.set (view c.pass) (view d.pass) (stand c) EndWord steps did))));
     }
 
 -- the start
-pub gone_nothing : (caller : ℕ) (events : List Event) (c : Caller) → c.set.caller ≡ caller → c.set.event ≡ 0 → stand c ≡ caller_start first_setting →
+pub gone_nothing : (caller : ℕ) (events : List Event) (c : Caller) → c.set.caller ≡ caller → c.set.event ≡ 0 →
+    stand c ≡ caller_start first_setting →
     HasGone (view c.pass) caller events events c [] []
 gone_nothing caller events c own none_yet stands = record {
   own = own;

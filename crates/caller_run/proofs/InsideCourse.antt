@@ -210,8 +210,10 @@ module _ (set : Setting) (asks : List Ask) where
               items_at set asks t q ≡ []
           none q a b items own =
               let all = kept_then set asks q s started t
-              (kept_then set asks q s looked started (kept_own set asks q s looked _ k.looks) (kept_at set asks q 1 looked started a k.start))
-              (kept_then set asks q started written t (kept_at set asks q 2 started written b write) (kept_own set asks q written t items own)) in
+              (kept_then set asks q s looked started (kept_own set asks q s looked _ k.looks)
+              (kept_at set asks q 1 looked started a k.start))
+              (kept_then set asks q started written t (kept_at set asks q 2 started written b write)
+              (kept_own set asks q written t items own)) in
               untouched_items set q asks t.outcomes (all.untouched (new q))
 
     by_writing : (steps : List HostStep) → Writes steps → DoesAll acting (at set asks First started) steps (at set asks last t) →

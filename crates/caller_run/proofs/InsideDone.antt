@@ -37,7 +37,8 @@ use Rattle.caller_run.proofs.VreadDone.{vread_quiet}
 module _ (set : Setting) (v w : View) (s : CallerState) (n flags : ℕ) (t : VgetrandomState) (answer : Answer) (shown : Shown)
     (word : Word) (steps : List Step) (asks : List Ask) (xs zs : List ActOutcome) (same : s.setting ≡ setting_of set)
     (fresh : AllByRecursion IsUndone xs) (long : length xs ≡ length asks) (two : 1 < length v.lanes)
-    (did : InsideDid n flags (current_state s) t answer shown set (record { view = v; steps = [] }) (record { view = w; steps = steps }) asks zs)
+    (did : InsideDid n flags (current_state s) t answer shown set (record { view = v; steps = [] })
+    (record { view = w; steps = steps }) asks zs)
     (ran : InsideRan n flags (current_state s) t
     (act_stand (record { set = set; moment = record { view = v; steps = [] } }) Before asks xs)
     (λ last. act_stand (record { set = set; moment = record { view = w; steps = steps } }) last asks zs)) where
@@ -85,7 +86,8 @@ module _ (set : Setting) (v w : View) (s : CallerState) (n flags : ℕ) (t : Vge
       shown = (refl, each_act set w lists _ (act_shown set w lists) asks zs meant);
     };
     samples = λ lanes visits callers c. let lists = book_lists lanes visits callers in
-        each_append (λ (l : SeenLine). SamplesStand (fast_in visits) (deeds_of lists l.steps)) (map (λ (b : BoundAct). b.line) acts) (line ∷ [])
+        each_append (λ (l : SeenLine). SamplesStand (fast_in visits) (deeds_of lists l.steps)) (map (λ (b : BoundAct). b.line) acts)
+        (line ∷ [])
         (acts_samples set w lanes visits callers c asks zs meant)
         (inl (vread_quiet (fast_in visits) n flags acts (meaning_by lists) (means lanes visits callers c)), tt);
   }

@@ -61,7 +61,8 @@ seen_up a b s le k = record {
 }
 
 -- the current state is this one now
-pub seen_with : (found : ℕ) (s : CallerState) (st : VgetrandomState) → st.generation ≤ published_by found → Seen found s → Seen found (with_state s st)
+pub seen_with : (found : ℕ) (s : CallerState) (st : VgetrandomState) → st.generation ≤ published_by found → Seen found s →
+    Seen found (with_state s st)
 seen_with found s st low k = record {
   many = length-set s.states s.current st ∙ k.many;
   current = k.current;
@@ -69,7 +70,8 @@ seen_with found s st low k = record {
 }
 
 -- behind an event by itself
-pub seen_after : (version cpus found : ℕ) (s : CallerState) (event : Event) → InRange version cpus event → Seen found s → Seen found (state_after s event)
+pub seen_after : (version cpus found : ℕ) (s : CallerState) (event : Event) → InRange version cpus event → Seen found s →
+    Seen found (state_after s event)
 seen_after version cpus found s Drop range k = seen_with found s wiped_state (omega arith) k
 seen_after version cpus found s (State number) range k = record { many = k.many; current = range.1; published = k.published }
 seen_after version cpus found s event range k = record { many = k.many; current = k.current; published = k.published }

@@ -69,7 +69,8 @@ module _ {t : Lanes} {c d : Caller} {said : Said} {served : List ℕ} {before : 
       (subst (λ (a : Answer). P st a (shown_by served said.shows) before) (sym b.answers)
       (subst (λ (x : Shown). P st (result_answer ended) x before) (sym b.shows) here)))
 
-  steps_fit : {steps : List Step} (deals : List Deal) → steps ≡ before ++ map step_of deals → AllByRecursion StepFits (map step_of deals) → AllByRecursion StepFits steps
+  steps_fit : {steps : List Step} (deals : List Deal) → steps ≡ before ++ map step_of deals →
+      AllByRecursion StepFits (map step_of deals) → AllByRecursion StepFits steps
   steps_fit deals trace fits = subst (AllByRecursion StepFits) (sym (trace ∙ ap (λ (l : List Step). l ++ map step_of deals) b.new)) fits
 
   module _ {n flags : ℕ} {steps : List Step} where
@@ -95,7 +96,8 @@ module _ {t : Lanes} {c d : Caller} {said : Said} {served : List ℕ} {before : 
 
     -- with no act inside
     pub read_alone : (acts : List Bound) (out : List ℕ) → acts ≡ [] →
-        VreadDid n flags st left (result_answer ended) (bytes_or_none (given ended served)) c.set (moment c.pass before) (moment d.pass steps) →
+        VreadDid n flags st left (result_answer ended) (bytes_or_none (given ended served)) c.set (moment c.pass before)
+        (moment d.pass steps) →
         StateRead t n flags c d said served steps (asks_of acts) (outcomes_of acts out)
     read_alone acts out none did =
         subst (λ (bs : List Bound). StateRead t n flags c d said served steps (asks_of bs) (outcomes_of bs out)) (sym none)
@@ -107,7 +109,8 @@ module _ {t : Lanes} {c d : Caller} {said : Said} {served : List ℕ} {before : 
     -- with these acts inside, which then were those
     pub read_inside : (acts after : List Bound) (out out_after : List ℕ) → AllByRecursion IsFresh acts → 1 < length (view c.pass).lanes →
         asks_of after ≡ asks_of acts →
-        InsideDid n flags st left (result_answer ended) (bytes_or_none (given ended served)) c.set (moment c.pass before) (moment d.pass steps)
+        InsideDid n flags st left (result_answer ended) (bytes_or_none (given ended served)) c.set (moment c.pass before)
+        (moment d.pass steps)
         (asks_of acts) (outcomes_of after out_after) →
         InsideRan n flags st left (act_stand (core.stand c.set c.pass before) Before (asks_of acts) (outcomes_of acts out))
         (λ last. act_stand (core.stand c.set d.pass steps) last (asks_of after) (outcomes_of after out_after)) →
@@ -115,11 +118,13 @@ module _ {t : Lanes} {c d : Caller} {said : Said} {served : List ℕ} {before : 
     read_inside acts after out out_after fresh two asks did ran =
         let zs = outcomes_of after out_after in
         read_by (asks_of acts) zs
-        (inside_done c.set (view c.pass) (view d.pass) (stand c) n flags left said.answer (shown_by served said.shows) VreadWord steps (asks_of acts)
+        (inside_done c.set (view c.pass) (view d.pass) (stand c) n flags left said.answer (shown_by served said.shows) VreadWord steps
+        (asks_of acts)
         (outcomes_of acts out) zs refl (fresh_undone acts out fresh) (outcomes_long acts out) two
         (told_by (λ s a x l. InsideDid n flags s left a x c.set (moment c.pass l) (moment d.pass steps) (asks_of acts) zs) did)
         (told_by (λ s a x l. InsideRan n flags s left (act_stand (core.stand c.set c.pass l) Before (asks_of acts) (outcomes_of acts out))
         (λ last. act_stand (core.stand c.set d.pass steps) last (asks_of acts) zs))
-        (subst (λ (l : List Ask). InsideRan n flags st left (act_stand (core.stand c.set c.pass before) Before (asks_of acts) (outcomes_of acts out))
+        (subst (λ (l : List Ask). InsideRan n flags st left
+        (act_stand (core.stand c.set c.pass before) Before (asks_of acts) (outcomes_of acts out))
         (λ last. act_stand (core.stand c.set d.pass steps) last l zs)) asks ran)))
         (outcomes_long after out_after ∙ ap length asks) (steps_fit did.deals did.trace did.fits) did.acts_fit

@@ -127,7 +127,8 @@ module _ (caller : ℕ) where
         (fit_set has.line line (own ∙ sym has.is.caller) (sym has.is.event) (sym has.is.word_is) caller 0 events (lines ++ more) a.event
         (front_stays lines more a.event has.line has.there).entry fit))
 
-pub lines_long : (set : Setting) (asks : List Ask) (zs : List ActOutcome) → length zs ≡ length asks → length (act_lines set asks zs) ≡ length asks
+pub lines_long : (set : Setting) (asks : List Ask) (zs : List ActOutcome) → length zs ≡ length asks →
+    length (act_lines set asks zs) ≡ length asks
 lines_long set [] zs long = refl
 lines_long set (a ∷ asks) [] long = absurd (omega arith)
 lines_long set (a ∷ asks) (z ∷ zs) long = let e = lines_long set asks zs (omega arith) in omega arith

@@ -35,16 +35,18 @@ use Rattle.caller_run.proofs.QuietForms.{sys}
 
 -- a look that no step tells
 pub ran_glanced : (caller : ℕ) (v w : View) → Glanced v w → Ran caller v w []
-ran_glanced caller v w k = let same : (lane : ℕ) → at lane w ≡ at lane v = λ lane. ap (λ (l : List LaneView). get_or l lane blank) k.lanes in record {
-  same = k.same;
-  grows = λ lane low. ([], ap (λ (a : LaneView). a.known) (same lane) ∙ sym (append-nil (known_of v lane)));
-  places = λ lane low. ap (λ (a : LaneView). a.places) (same lane) ∙ sym (append-nil (at lane v).places);
-  made = λ lane low. let e = ap (λ (a : LaneView). a.made) (same lane) in omega arith;
-  heard = λ lane low. ap (λ (a : LaneView). a.heard) (same lane);
-  climbs = sym k.stamp;
-  sees = k.floors;
-  stood = tt;
-}
+ran_glanced caller v w k =
+    let same : (lane : ℕ) → at lane w ≡ at lane v = λ lane. ap (λ (l : List LaneView). get_or l lane blank) k.lanes in
+    record {
+      same = k.same;
+      grows = λ lane low. ([], ap (λ (a : LaneView). a.known) (same lane) ∙ sym (append-nil (known_of v lane)));
+      places = λ lane low. ap (λ (a : LaneView). a.places) (same lane) ∙ sym (append-nil (at lane v).places);
+      made = λ lane low. let e = ap (λ (a : LaneView). a.made) (same lane) in omega arith;
+      heard = λ lane low. ap (λ (a : LaneView). a.heard) (same lane);
+      climbs = sym k.stamp;
+      sees = k.floors;
+      stood = tt;
+    }
 
 -- no step of a read makes a dump due or dumps
 module _ (fast : ℕ → ℕ → FastPool) where
@@ -66,7 +68,8 @@ module _ (fast : ℕ → ℕ → FastPool) where
     by_call_quiet : ByVgetrandom n flags acts m → Quiet m.own.deeds
     by_call_quiet k = shows_quiet m.before.setting k.steps m.own.deeds k.shows
 
-    behind_look : (look : ℕ) (rest : List Deed) → m.own.deeds ≡ looked look ∷ rest → LocalOrCall n flags acts m look rest → Quiet m.own.deeds
+    behind_look : (look : ℕ) (rest : List Deed) → m.own.deeds ≡ looked look ∷ rest → LocalOrCall n flags acts m look rest →
+        Quiet m.own.deeds
     behind_look look rest is k = go (serves_locally (published_by look) (current_state m.before) n) k
       where
         go : (b : Bool) → MatchBool b (ByLocalCopy n rest m) (ByVgetrandom n flags acts m) → Quiet m.own.deeds
@@ -101,7 +104,8 @@ module _ (set : Setting) (v w : View) (s : CallerState) (n flags : ℕ) (t : Vge
     meant = λ lanes visits callers c. record {
       meaning = meaning_by (deeds_of (book_lists lanes visits callers) steps);
       before = refl;
-      means = subst (λ (l : List Step). VreadMeans n flags [] (meaning_by (deeds_of (book_lists lanes visits callers) l))) (sym k.did.told.trace)
+      means = subst (λ (l : List Step). VreadMeans n flags [] (meaning_by (deeds_of (book_lists lanes visits callers) l)))
+          (sym k.did.told.trace)
           (k.did.stands lanes visits callers c s same refl);
       after = refl;
       deeds = (refl, tt);
@@ -109,8 +113,10 @@ module _ (set : Setting) (v w : View) (s : CallerState) (n flags : ℕ) (t : Vge
       shown = (refl, tt);
     };
     samples = λ lanes visits callers c. (
-      inl (subst (λ (l : List Step). AllByRecursion (IsQuiet (fast_in visits)) (deeds_of (book_lists lanes visits callers) l)) (sym k.did.told.trace)
-          (vread_quiet (fast_in visits) n flags [] (meaning_by (deeds_of (book_lists lanes visits callers) (map step_of k.did.deals))) (k.did.stands lanes visits callers c s same refl))),
+      inl (subst (λ (l : List Step). AllByRecursion (IsQuiet (fast_in visits)) (deeds_of (book_lists lanes visits callers) l))
+          (sym k.did.told.trace)
+          (vread_quiet (fast_in visits) n flags [] (meaning_by (deeds_of (book_lists lanes visits callers) (map step_of k.did.deals)))
+          (k.did.stands lanes visits callers c s same refl))),
       tt,
     );
   }

@@ -82,28 +82,36 @@ undone_meant set v (a ∷ asks) (x ∷ xs) all long = (
 
 -- What the acts mean
 
-all_fit : (set : Setting) (w : View) (asks : List Ask) (zs : List ActOutcome) → AllMeant set w asks zs → AllByRecursion (λ z. AllByRecursion StepFits z.steps) zs
+all_fit : (set : Setting) (w : View) (asks : List Ask) (zs : List ActOutcome) → AllMeant set w asks zs →
+    AllByRecursion (λ z. AllByRecursion StepFits z.steps) zs
 all_fit set w [] [] all = tt
 all_fit set w [] (z ∷ zs) all = absurd all
 all_fit set w (a ∷ asks) [] all = absurd all
 all_fit set w (a ∷ asks) (z ∷ zs) all = (all.0.fits, all_fit set w asks zs all.1)
 
-wiped_is : (set : Setting) (w : View) (point : Point) (asks : List Ask) (zs : List ActOutcome) → AllMeant set w asks zs → is_wiped (bound_acts set asks zs) point ≡ wipes_at asks point
+wiped_is : (set : Setting) (w : View) (point : Point) (asks : List Ask) (zs : List ActOutcome) → AllMeant set w asks zs →
+    is_wiped (bound_acts set asks zs) point ≡ wipes_at asks point
 wiped_is set w point [] [] all = refl
 wiped_is set w point [] (z ∷ zs) all = absurd all
 wiped_is set w point (a ∷ asks) [] all = absurd all
-wiped_is set w point (a ∷ asks) (z ∷ zs) all = ap (λ (b : Bool). (number_of a.point == number_of point && is_wipe a.act) || b) (wiped_is set w point asks zs all.1)
+wiped_is set w point (a ∷ asks) (z ∷ zs) all = ap (λ (b : Bool). (number_of a.point == number_of point && is_wipe a.act) || b)
+    (wiped_is set w point asks zs all.1)
 
-module _ (set : Setting) (w : View) (lanes : ℕ) (visits : ℕ → List Visit) (callers : StateLists) (c : Continues lanes w visits) (points : List PointReached) where
+module _ (set : Setting) (w : View) (lanes : ℕ) (visits : ℕ → List Visit) (callers : StateLists) (c : Continues lanes w visits)
+    (points : List PointReached) where
   abbrev lists : Lists
   lists = book_lists lanes visits callers
 
-  one_means : (a : Ask) (z : ActOutcome) (done : z.done ≡ true → ActMeans (setting_of set) a.act (done_line (deeds_of lists z.steps) z.answer z.bytes)) (b : Bool) → z.done ≡ b →
+  one_means : (a : Ask) (z : ActOutcome)
+      (done : z.done ≡ true → ActMeans (setting_of set) a.act (done_line (deeds_of lists z.steps) z.answer z.bytes)) (b : Bool) →
+      z.done ≡ b →
       MatchBool b (ActMeans (setting_of set) a.act (outcome_line lists z)) (outcome_line lists z ≡ unused_line)
-  one_means a z done true e = subst (ActMeans (setting_of set) a.act) (sym (ap (λ (d : Bool). if d then done_line (deeds_of lists z.steps) z.answer z.bytes else unused_line) e)) (done e)
+  one_means a z done true e = subst (ActMeans (setting_of set) a.act)
+      (sym (ap (λ (d : Bool). if d then done_line (deeds_of lists z.steps) z.answer z.bytes else unused_line) e)) (done e)
   one_means a z done false e = ap (λ (d : Bool). if d then done_line (deeds_of lists z.steps) z.answer z.bytes else unused_line) e
 
-  acts_mean : (asks : List Ask) (xs zs : List ActOutcome) → AllByRecursion IsUndone xs → AllDone (first_points points) asks xs zs → AllMeant set w asks zs →
+  acts_mean : (asks : List Ask) (xs zs : List ActOutcome) → AllByRecursion IsUndone xs → AllDone (first_points points) asks xs zs →
+      AllMeant set w asks zs →
       ActsMean (setting_of set) (is_reached points) (bound_acts set asks zs) (map (outcome_line lists) zs)
   acts_mean [] [] [] idle done all = tt
   acts_mean [] [] (z ∷ zs) idle done all = absurd all
@@ -111,18 +119,22 @@ module _ (set : Setting) (w : View) (lanes : ℕ) (visits : ℕ → List Visit) 
   acts_mean (a ∷ asks) [] zs idle done all = absurd done
   acts_mean (a ∷ asks) (x ∷ xs) [] idle done all = absurd all
   acts_mean (a ∷ asks) (x ∷ xs) (z ∷ zs) idle done all = (
-    one_means a z (λ e. all.0.done e lanes visits callers c) (came (first_points points) a) (done.0 ∙ ap (λ (b : Bool). b || came (first_points points) a) idle.0.idle),
+    one_means a z (λ e. all.0.done e lanes visits callers c) (came (first_points points) a)
+        (done.0 ∙ ap (λ (b : Bool). b || came (first_points points) a) idle.0.idle),
     acts_mean asks xs zs idle.1 done.1 all.1,
   )
 
-no_local : (n flags : ℕ) (set : Setting) (w : View) (asks : List Ask) (zs : List ActOutcome) → 0 < length asks → AllMeant set w asks zs → tries_local n flags (bound_acts set asks zs) ≡ false
+no_local : (n flags : ℕ) (set : Setting) (w : View) (asks : List Ask) (zs : List ActOutcome) → 0 < length asks → AllMeant set w asks zs →
+    tries_local n flags (bound_acts set asks zs) ≡ false
 no_local n flags set w [] zs some all = absurd (omega arith)
 no_local n flags set w (a ∷ asks) [] some all = absurd all
 no_local n flags set w (a ∷ asks) (z ∷ zs) some all =
-    ap (λ (b : Bool). b && (not (n == 0) && not (is_bad flags))) (ne_eqb (length (bound_acts set (a ∷ asks) (z ∷ zs))) 0 (λ e. absurd (omega arith)))
+    ap (λ (b : Bool). b && (not (n == 0) && not (is_bad flags)))
+    (ne_eqb (length (bound_acts set (a ∷ asks) (z ∷ zs))) 0 (λ e. absurd (omega arith)))
 
 -- a call on the host over the lanes, h being where it began
-module _ {R : Type 0} {h last : LaneHost R} {finish : Finish} (n flags : ℕ) (s : VgetrandomState) (runs : Runs hosting (IsCall n flags s) h last finish) where
+module _ {R : Type 0} {h last : LaneHost R} {finish : Finish} (n flags : ℕ) (s : VgetrandomState)
+    (runs : Runs hosting (IsCall n flags s) h last finish) where
   abbrev from : ActStand
   from = standing h
 
@@ -142,26 +154,31 @@ module _ {R : Type 0} {h last : LaneHost R} {finish : Finish} (n flags : ℕ) (s
   same_asks = acted_asks runs.steps from to does
 
   -- each step is one of the caller itself
-  pub inside_ran : InsideRan n flags s finish.state from (λ attempt. act_stand (stand h.set.now last.pass.now last.trace.now) attempt (asks_of last.acts.now) (outcomes_of last.acts.now last.out.now))
+  pub inside_ran : InsideRan n flags s finish.state from (λ attempt. act_stand (stand h.set.now last.pass.now last.trace.now) attempt
+      (asks_of last.acts.now) (outcomes_of last.acts.now last.out.now))
   inside_ran = record {
     steps = runs.steps;
     outcome = runs.outcome;
     is_call = runs.relates;
     state = runs.state;
     last = last.attempt;
-    does = subst (λ (z : Setting). DoesAll acting from runs.steps (act_stand (stand z last.pass.now last.trace.now) last.attempt (asks_of last.acts.now) (outcomes_of last.acts.now last.out.now))) same_set does;
+    does = subst (λ (z : Setting). DoesAll acting from runs.steps
+        (act_stand (stand z last.pass.now last.trace.now) last.attempt (asks_of last.acts.now)
+        (outcomes_of last.acts.now last.out.now))) same_set does;
   }
 
   module _ (low : s.generation ≤ published_by (floor (view h.pass.now))) where
     ended : EndsWell (published_by (floor (view last.pass.now))) n runs.outcome
     ended =
         let more = published_more (floor (view h.pass.now)) (floor (view last.pass.now)) (acted_onward runs.steps from to does).floors in
-        call_ends (published_by (floor (view last.pass.now))) n flags s runs.steps runs.outcome (omega arith) (acted_up_to runs.steps from to does) runs.relates
+        call_ends (published_by (floor (view last.pass.now))) n flags s runs.steps runs.outcome (omega arith)
+        (acted_up_to runs.steps from to does) runs.relates
 
     pub still_current : finish.state.generation ≤ published_by (floor (view last.pass.now))
     still_current = let a = ended.low in let e = ap (λ (z : VgetrandomState). z.generation) runs.state in omega arith
 
-    module _ (two : 1 < length (view h.pass.now).lanes) (fresh : AllByRecursion IsFresh h.acts.now) (before_all : h.attempt ≡ Before) (long : length finish.buf ≡ n) where
+    module _ (two : 1 < length (view h.pass.now).lanes) (fresh : AllByRecursion IsFresh h.acts.now) (before_all : h.attempt ≡ Before)
+        (long : length finish.buf ≡ n) where
       abbrev set : Setting
       set = h.set.now
 
@@ -184,8 +201,10 @@ module _ {R : Type 0} {h last : LaneHost R} {finish : Finish} (n flags : ℕ) (s
 
       wipes : WipesStand (bound_acts set asks zs) (points_of runs.steps)
       wipes = let k = acted_wipes runs.steps asks Before from to refl before_all does in record {
-        first = each_weaker (λ (reached : PointReached). reached.wiped ≡ wipes_at asks reached.point) (λ (reached : PointReached). reached.wiped ≡ is_wiped (bound_acts set asks zs) reached.point)
-            (first_points (points_of runs.steps)) (λ reached e. e ∙ sym (wiped_is set (view last.pass.now) reached.point asks zs meant)) k.0;
+        first = each_weaker (λ (reached : PointReached). reached.wiped ≡ wipes_at asks reached.point)
+            (λ (reached : PointReached). reached.wiped ≡ is_wiped (bound_acts set asks zs) reached.point)
+            (first_points (points_of runs.steps))
+            (λ reached e. e ∙ sym (wiped_is set (view last.pass.now) reached.point asks zs meant)) k.0;
         second = k.1;
       }
 
@@ -210,7 +229,8 @@ module _ {R : Type 0} {h last : LaneHost R} {finish : Finish} (n flags : ℕ) (s
         did = record { deals = own.deals; told = own.alone none; stands = own.stands };
       }
 
-      module _ (lanes : ℕ) (visits : ℕ → List Visit) (callers : StateLists) (c : Continues lanes (view last.pass.now) visits) (before : CallerState) (set_is : before.setting ≡ setting_of set) (state_is : current_state before ≡ s) where
+      module _ (lanes : ℕ) (visits : ℕ → List Visit) (callers : StateLists) (c : Continues lanes (view last.pass.now) visits)
+          (before : CallerState) (set_is : before.setting ≡ setting_of set) (state_is : current_state before ≡ s) where
         abbrev book : Lists
         book = book_lists lanes visits callers
 
@@ -227,8 +247,10 @@ module _ {R : Type 0} {h last : LaneHost R} {finish : Finish} (n flags : ℕ) (s
           is_call = subst (λ (z : VgetrandomState). IsCall n flags z runs.steps runs.outcome) (sym state_is) runs.relates;
           shows = subst (λ z. Shows z runs.steps deeds) (sym set_is) (own.stands lanes visits callers c);
           wipes = wipes;
-          inside = subst (λ z. ActsMean z (is_reached (points_of runs.steps)) (bound_acts set asks zs) (map (outcome_line book) zs)) (sym set_is)
-              (acts_mean set (view last.pass.now) lanes visits callers c (points_of runs.steps) asks (outcomes_of h.acts.now h.out.now) zs (fresh_undone h.acts.now h.out.now fresh) done meant);
+          inside = subst (λ z. ActsMean z (is_reached (points_of runs.steps)) (bound_acts set asks zs) (map (outcome_line book) zs))
+              (sym set_is)
+              (acts_mean set (view last.pass.now) lanes visits callers c (points_of runs.steps) asks
+              (outcomes_of h.acts.now h.out.now) zs (fresh_undone h.acts.now h.out.now fresh) done meant);
           answer = ends.0;
           shown = ends.1;
           entries = refl;
@@ -237,7 +259,8 @@ module _ {R : Type 0} {h last : LaneHost R} {finish : Finish} (n flags : ℕ) (s
 
         line : 0 < length h.acts.now → VreadMeans n flags (bound_acts set asks zs) meaning
         line some = record {
-          looks = subst NeverFall (sym (same_looks book own.deals)) (never_fall (floor (view h.pass.now)) (looks_in own.deals) (floor (view last.pass.now)) own.rises);
+          looks = subst NeverFall (sym (same_looks book own.deals))
+              (never_fall (floor (view h.pass.now)) (looks_in own.deals) (floor (view last.pass.now)) own.rises);
           ways = match_false _ _ (tries_local n flags (bound_acts set asks zs))
               (no_local n flags set (view last.pass.now) asks zs (let e = length-map h.acts.now ask_of in omega arith) meant) by_call;
         }

@@ -16,5 +16,6 @@ returns-clause-ended g c v caller events gone =
     subst (HasEnded v caller events _) (sym c.tell.ensures.lines)
     (gone_all _ [] c.only-done.result end.trace refl (ap (λ (s : Said). s.answer) c.only-done.ensures)
     (ap (λ (s : Said). shown_by [] s.shows) c.only-done.ensures)
-    (subst (λ (l : List Step). Did (BaseOnly End) self.set (moment self.pass l) (moment end.pass end.trace)) c.empty-trace.ensures c.end.ensures.did)
+    (subst (λ (l : List Step). Did (BaseOnly End) self.set (moment self.pass l) (moment end.pass end.trace))
+    c.empty-trace.ensures c.end.ensures.did)
     gone)
