@@ -10,13 +10,9 @@ use Rattle.lane_table.specs.declared.view.View.{View}
 use Rattle.rng_core.specs.declared.setting.Setting.{Setting}
 use Rattle.rng_core.specs.Acts.{Ask, ActOutcome, ActRan, ActsAt}
 use Rattle.rng_core.specs.InsideDid.{act_line, bound_acts}
+use Rattle.rng_core.proofs.InsideCalls.{IsUndone}
 use Rattle.caller_run.specs.Items.{Item, items_from, line_items, items_at_point}
 use Rattle.caller_run.proofs.PartItems.{Part, part_nothing, part_then, part_went}
-
--- an act that was not done
-pub record IsUndone (x : ActOutcome) : Type 0 where
-  pub idle : x.done ≡ false
-  pub empty : x.steps ≡ []
 
 -- no act at this point was done
 abbrev pub Untouched : ℕ → List Ask → List ActOutcome → Type 0

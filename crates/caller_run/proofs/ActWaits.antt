@@ -34,6 +34,11 @@ use Rattle.caller_run.proofs.CanGo.{GoesOn}
 use Rattle.caller_run.proofs.ToldAnew.{idle_more}
 use Rattle.caller_run.proofs.HasGone.{gone_by, fit_more}
 
+-- what c tells of an act that is not done
+abbrev pub idle_line : Caller → SeenLine
+idle_line c = record { caller = c.set.caller; event = c.set.event; word = InsideWord; answer = Unused; steps = [];
+    shown = no_data }
+
 -- c keeps an act for its next vread at this event, and e goes on: these are the lines, of which the last tells that the act
 -- was not done, and the acts that wait, before it and behind it
 pub record Keeps (event : Event) (c e : Caller) (before after : Gathered) (acts left : List Bound) : Type 0 where
@@ -41,8 +46,7 @@ pub record Keeps (event : Event) (c e : Caller) (before after : Gathered) (acts 
   pub act : InsideAct
   pub event_is : event ≡ Inside (number_of point) act
   pub on : GoesOn event c e
-  pub lines : after.lines ≡ before.lines ++ record { caller = c.set.caller; event = c.set.event; word = InsideWord;
-    answer = Unused; steps = []; shown = no_data } ∷ []
+  pub lines : after.lines ≡ before.lines ++ idle_line c ∷ []
   pub line_room : after.line_room + 1 ≡ before.line_room
   pub byte_room : before.byte_room ≤ after.byte_room
   pub kept : left ≡ acts ++ new_bound point act c.set.event ∷ []
@@ -54,8 +58,7 @@ get_seam (l ∷ lines) line = get_seam lines line
 module _ {event : Event} {c e : Caller} {before after : Gathered} {acts left : List Bound}
     (k : Keeps event c e before after acts left) where
   abbrev line : SeenLine
-  line = record { caller = c.set.caller; event = c.set.event; word = InsideWord; answer = Unused; steps = [];
-    shown = no_data }
+  line = idle_line c
 
   abbrev asks : List Ask
   asks = asks_of acts
@@ -111,7 +114,7 @@ module _ {event : Event} {c e : Caller} {before after : Gathered} {acts left : L
     gone_either false none = gone_idle none
 
   pub gone_keep : c.set.event ≡ length before.lines → (v : View) (caller : ℕ) (events rest : List Event) →
-    HasGone v caller events (event ∷ rest) c before.lines asks →
+      HasGone v caller events (event ∷ rest) c before.lines asks →
       HasGone v caller events rest e after.lines (asks_of left)
   gone_keep at v caller events rest g =
       subst (λ (ls : List SeenLine). HasGone v caller events rest e ls (asks_of left)) (sym k.lines)

@@ -53,9 +53,9 @@ GoesOn event d e = record {
   pass : e.pass ≡ d.pass;
 }
 
-pub first_can : (t : Lanes) (c : Caller) (room : Room) (served inside : ℕ) (event : Event) (rest : List Event) →
+pub first_can : {t : Lanes} {c : Caller} {room : Room} {served inside : ℕ} {event : Event} {rest : List Event} →
     CanGo t c room served inside (event ∷ rest) → CanGo t c room served inside (event ∷ [])
-first_can t c room served inside event rest can = let g = can.goes in record {
+first_can {event = event} {rest = rest} can = let g = can.goes in record {
   goes = record {
     ready = g.ready;
     states = g.states;
@@ -77,8 +77,8 @@ first_can t c room served inside event rest can = let g = can.goes in record {
 
 -- an event is made and the lines go on: c is the caller before it, d behind its call, and e where it goes on
 module _ {t : Lanes} {event : Event} {c e : Caller} {before after : Gathered} {acts left : List Bound}
-    {served inside : ℕ} {rest : List Event}
-    (d : Caller) where
+    {served inside : ℕ}
+    {rest : List Event} (d : Caller) where
   pub can_next : d.set ≡ c.set → Has t d.set.caller [] d.pass → StatesStand d → GoesOn event d e →
     Fills event before after acts left →
       CanGoWith t c before acts served inside (event ∷ rest) → CanGoWith t e after left served inside rest

@@ -18,10 +18,10 @@ pub record StillGoes (t : Lanes) (v : View) (caller : ℕ) (events : List Event)
   pub can : CanGo t c room served inside (drop i events)
   pub gone : HasGoneIn v caller events (drop i events) c room
 
-module _ (t : Lanes) (v : View) (caller : ℕ) (events : List Event) (i : ℕ) (event : Event) (c : Caller) (room : Room)
-    (served inside : ℕ)
+module _ {t : Lanes} {v : View} {caller : ℕ} {events : List Event} {i : ℕ} {event : Event} {c : Caller} {room : Room}
+    {served inside : ℕ}
     (low : i < length events) (is : event ≡ slice_index_or events i event)
-      (still : StillGoes t v caller events i c room served inside) where
+    (still : StillGoes t v caller events i c room served inside) where
   behind : drop i events ≡ event ∷ drop (i + 1) events
   behind = rw add-one (drop-cons events i event low ∙ ap (λ (e : Event). e ∷ drop (suc i) events) (sym is))
 
@@ -38,11 +38,12 @@ module _ (t : Lanes) (v : View) (caller : ℕ) (events : List Event) (i : ℕ) (
       (subst (λ (l : List Event). HasGoneIn v caller events l c room) behind still.gone);
   }
 
-pub all_gone : (t : Lanes) (v : View) (caller : ℕ) (events : List Event) (i : ℕ) (c : Caller) (room : Room)
-    (served inside : ℕ) → length events ≤ i →
-    StillGoes t v caller events i c room served inside →
+pub all_gone : {t : Lanes} {v : View} {caller : ℕ} {events : List Event} {i : ℕ} {c : Caller} {room : Room}
+    {served inside : ℕ} →
+    length events ≤ i → StillGoes t v caller events i c room served inside →
       CanGo t c room served inside [] × HasGoneIn v caller events [] c room
-all_gone t v caller events i c room served inside past still = (
+all_gone {t = t} {v = v} {caller = caller} {events = events} {i = i} {c = c} {room = room} {served = served}
+    {inside = inside} past still = (
   subst (CanGo t c room served inside) (drop_all i events past) still.can,
   subst (λ (l : List Event). HasGoneIn v caller events l c room) (drop_all i events past) still.gone,
 )

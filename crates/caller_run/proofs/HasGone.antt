@@ -68,7 +68,8 @@ module _ {v : View} {caller : ℕ} {events rest : List Event} {event : Event} {c
     done = subst (λ (s : CallerState). CallsDone caller v (view e.pass) (caller_start first_setting) s calls)
       (sym on.stand)
         (subst (λ (p : Pass). CallsDone caller v (view p) (caller_start first_setting) (caller_after (stand d) event)
-          calls) (sym on.pass) done);
+          calls)
+        (sym on.pass) done);
     waiting = waiting;
     waits = waits;
     so_far = so_far;
@@ -89,9 +90,10 @@ module _ {v : View} {caller : ℕ} {events rest : List Event} {event : Event} {c
   gone_by call after left waiting done =
       gone_on (g.calls ++ call ∷ []) after left waiting
       (calls_done_then caller v (view c.pass) (view d.pass) (caller_start first_setting) (stand c)
-        (caller_after (stand d) event) g.calls call
-      g.done (subst (λ (n : ℕ). CallDone n (view c.pass) (view d.pass) (stand c) (caller_after (stand d) event) call)
-        g.own done))
+        (caller_after (stand d) event)
+      g.calls call g.done
+      (subst (λ (n : ℕ). CallDone n (view c.pass) (view d.pass) (stand c) (caller_after (stand d) event) call) g.own
+        done))
 
   -- the line of its call is the event's
   pub own_line : (said : Said) (served : List ℕ) (steps : List Step) →
@@ -102,9 +104,10 @@ module _ {v : View} {caller : ℕ} {events rest : List Event} {event : Event} {c
 
 -- an event whose call was one of the core
 module _ {v : View} {caller : ℕ} {events rest : List Event} {event : Event} {t : Lanes} {c d e : Caller}
-    {lines : List SeenLine} {asks : List Ask}
-    {said : Said} {served : List ℕ} {steps : List Step} (is : IsCall event) (k : Called t event c d said served steps)
-      (on : GoesOn event d e) where
+    {lines : List SeenLine}
+    {asks : List Ask} {said : Said} {served : List ℕ} {steps : List Step} (is : IsCall event)
+      (k : Called t event c d said served steps)
+    (on : GoesOn event d e) where
   pub gone_call : HasGone v caller events (event ∷ rest) c lines asks →
       HasGone v caller events rest e (lines ++ line_of d.set (event_word event) served said steps ∷ []) asks
   gone_call g =
@@ -116,20 +119,20 @@ module _ {v : View} {caller : ℕ} {events rest : List Event} {event : Event} {t
       (subst (λ (s : CallerState). CallDone c.set.caller (view c.pass) (view d.pass) (stand c) (caller_after s event)
       (alone event (line_of c.set (event_word event) served said steps))) (sym (same_stand k))
       (core_done c.set (view c.pass) (view d.pass) (stand c) event (event_word event) said.answer
-        (shown_by served said.shows) steps refl k.does)))
+      (shown_by served said.shows) steps refl k.does)))
       (λ has. g.waits (alone_follows event (call_alone event is) rest ∙ has))
       (so_far_alone events rest lines g.waiting g.calls event line (call_alone event is) g.so_far)
       (fit_more caller c.set.event events event rest lines line (own_line d g k.set on said served steps) g.fit)
       (idle_more caller lines line asks g.idle)
 
 -- the end
-pub gone_all : (v : View) (caller : ℕ) (events : List Event) (c d : Caller) (lines : List SeenLine) (asks : List Ask)
-    (served : List ℕ) (said : Said)
-    (steps : List Step) → d.set ≡ c.set → said.answer ≡ Done →
-      (line_of d.set EndWord served said steps).shown ≡ no_data →
+pub gone_all : {v : View} {caller : ℕ} {events : List Event} {c : Caller} {lines : List SeenLine} {asks : List Ask}
+    (d : Caller) (served : List ℕ) (said : Said) (steps : List Step) → d.set ≡ c.set → said.answer ≡ Done →
+    (line_of d.set EndWord served said steps).shown ≡ no_data →
     Did (BaseOnly End) c.set (moment c.pass []) (moment d.pass steps) → HasGone v caller events [] c lines asks →
     HasEnded v caller events d (lines ++ line_of d.set EndWord served said steps ∷ [])
-gone_all v caller events c d lines asks served said steps set answer shown did g =
+gone_all {v = v} {caller = caller} {events = events} {c = c} {lines = lines} d served said steps set answer shown did
+    g =
     let line : SeenLine = line_of d.set EndWord served said steps in
     let same : line ≡ record { caller = c.set.caller; event = c.set.event; word = EndWord; answer = Done;
       steps = steps; shown = no_data } =
@@ -144,8 +147,8 @@ gone_all v caller events c d lines asks served said steps set answer shown did g
       reached = stand c;
       done = subst (CallsDone caller v (view d.pass) (caller_start first_setting) (stand c))
           (sym (so_far_end events lines g.waiting g.calls line g.so_far))
-          (calls_done_then caller v (view c.pass) (view d.pass) (caller_start first_setting) (stand c) (stand c)
-            g.calls (ending line) g.done
+          (calls_done_then caller v (view c.pass) (view d.pass) (caller_start first_setting) (stand c) (stand c) g.calls
+          (ending line) g.done
           (subst (λ (n : ℕ). CallDone n (view c.pass) (view d.pass) (stand c) (stand c) (ending line)) g.own
           (subst (λ (l : SeenLine). CallDone c.set.caller (view c.pass) (view d.pass) (stand c) (stand c) (ending l))
             (sym same)

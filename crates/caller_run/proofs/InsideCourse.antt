@@ -224,9 +224,9 @@ module _ (set : Setting) (asks : List Ask) where
           none q a b items own =
               let all = kept_then set asks q s started t
               (kept_then set asks q s looked started (kept_own set asks q s looked _ k.looks)
-                (kept_at set asks q 1 looked started a k.start))
+              (kept_at set asks q 1 looked started a k.start))
               (kept_then set asks q started written t (kept_at set asks q 2 started written b write)
-                (kept_own set asks q written t items own)) in
+              (kept_own set asks q written t items own)) in
               untouched_items set q asks t.outcomes (all.untouched (new q))
 
     by_writing : (steps : List HostStep) → Writes steps →

@@ -24,10 +24,11 @@ use Rattle.rng_core.specs.InsideDid.{bound_acts, inside_meaning, InsideDid}
 use Rattle.rng_core.specs.SampleDeeds.{SamplesStand, fast_in}
 use Rattle.rng_core.proofs.ActRuns.{AllMeant}
 use Rattle.rng_core.proofs.Acting.{acted_meant}
+use Rattle.rng_core.proofs.InsideCalls.{IsUndone, undone_meant}
 use Rattle.caller_run.specs.Done.{CallDone}
 use Rattle.caller_run.specs.Items.{line_items, vread_items}
-use Rattle.caller_run.proofs.ActDoings.{IsUndone, all_untouched}
-use Rattle.caller_run.proofs.ActsMeant.{undone_meant, points_fit, each_act, act_deeds, act_answer, act_shown, acts_samples}
+use Rattle.caller_run.proofs.ActDoings.{all_untouched}
+use Rattle.caller_run.proofs.ActsMeant.{points_fit, each_act, act_deeds, act_answer, act_shown, acts_samples}
 use Rattle.caller_run.proofs.InsideCourse.{inside_part}
 use Rattle.caller_run.proofs.PartItems.{Part}
 use Rattle.caller_run.proofs.VreadDone.{vread_quiet}
@@ -38,7 +39,7 @@ module _ (set : Setting) (v w : View) (s : CallerState) (n flags : ℕ) (t : Vge
     (word : Word) (steps : List Step) (asks : List Ask) (xs zs : List ActOutcome) (same : s.setting ≡ setting_of set)
     (fresh : AllByRecursion IsUndone xs) (long : length xs ≡ length asks) (two : 1 < length v.lanes)
     (did : InsideDid n flags (current_state s) t answer shown set (record { view = v; steps = [] })
-      (record { view = w; steps = steps }) asks zs)
+    (record { view = w; steps = steps }) asks zs)
     (ran : InsideRan n flags (current_state s) t
     (act_stand (record { set = set; moment = record { view = v; steps = [] } }) Before asks xs)
     (λ last. act_stand (record { set = set; moment = record { view = w; steps = steps } }) last asks zs)) where
@@ -89,7 +90,8 @@ module _ (set : Setting) (v w : View) (s : CallerState) (n flags : ℕ) (t : Vge
     };
     samples = λ lanes visits callers c. let lists = book_lists lanes visits callers in
         each_append (λ (l : SeenLine). SamplesStand (fast_in visits) (deeds_of lists l.steps))
-          (map (λ (b : BoundAct). b.line) acts) (line ∷ [])
+          (map (λ (b : BoundAct). b.line) acts)
+        (line ∷ [])
         (acts_samples set w lanes visits callers c asks zs meant)
         (inl (vread_quiet (fast_in visits) n flags acts (meaning_by lists) (means lanes visits callers c)), tt);
   }

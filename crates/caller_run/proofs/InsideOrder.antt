@@ -1,39 +1,17 @@
 -- What a caller did in a call with acts inside, in the order of its steps and those of its acts.
-use Rattle.std.proofs.Common.{◌≡◌, ℕ, ◌⊎◌, inl, inr, false, List, [], ◌∷◌, ◌++◌, take, drop, refl, sym, ap, ◌∙◌, subst, append_assoc, append-nil}
+use Rattle.std.proofs.Common.{◌≡◌, ℕ, ◌⊎◌, inl, inr, false, List, [], ◌∷◌, ◌++◌, refl, sym, ap, ◌∙◌, subst}
 use Rattle.std.specs.Prelude.{◌==◌}
-use Rattle.std.proofs.lemmas.List.{take-append-drop}
 use Rattle.key_names.specs.declared.names.Step.{Step}
 use Rattle.key_names.specs.Calls.{BoundAct}
 use Rattle.rng_core.specs.declared.setting.Setting.{Setting}
 use Rattle.rng_core.specs.Acts.{Ask, ActOutcome}
 use Rattle.rng_core.specs.InsideDid.{bound_acts}
-use Rattle.caller_run.specs.Items.{Item, items_from, items_at_point, cut_rekey, vread_items}
+use Rattle.caller_run.specs.Items.{Item, items_from, cut_rekey, vread_items}
 use Rattle.caller_run.proofs.ActDoings.{Untouched, act_items, untouched_items}
-use Rattle.caller_run.proofs.CallSteps.{rekey_whole}
+use Rattle.caller_run.proofs.CallSteps.{no_steps, no_late, own_items}
 use Rattle.caller_run.proofs.KeyCuts.{AreParts}
 use Rattle.caller_run.proofs.OwnSteps.{Spot, view_at, line_of, items_at, OwnSteps, Reached}
 use Rattle.caller_run.proofs.PartItems.{Part, part_then}
-
--- Steps where no act has any
-
-no_steps : (xs ys a b front : List Item) → a ≡ [] → b ≡ [] → (((front ++ xs) ++ a) ++ b) ++ ys ≡ front ++ (xs ++ ys)
-no_steps xs ys a b front e f = (λ i. (((front ++ xs) ++ e i) ++ f i) ++ ys) ∙ simp append-nil (append_assoc front xs ys)
-
--- without steps at the points 3 and 4 the cut is of no account
-no_late : (items : List Item) (acts : List BoundAct) → items_at_point acts 3 ≡ [] → items_at_point acts 4 ≡ [] →
-    vread_items items acts ≡ (take 2 items ++ items_at_point acts 1 ++ items_at_point acts 2) ++ drop 2 items
-no_late items acts e f =
-    let cut = cut_rekey (drop 2 items) in
-    let front : List Item = take 2 items ++ items_at_point acts 1 ++ items_at_point acts 2 in
-    no_steps cut.0 cut.1 (items_at_point acts 3) (items_at_point acts 4) front e f
-    ∙ ap (λ (l : List Item). front ++ l) (sym (rekey_whole (drop 2 items)))
-
-pub no_acts : (items : List Item) (acts : List BoundAct) → ((p : ℕ) → items_at_point acts p ≡ []) →
-    vread_items items acts ≡ items
-no_acts items acts none =
-    no_late items acts (none 3) (none 4)
-    ∙ (λ i. (take 2 items ++ none 1 i ++ none 2 i) ++ drop 2 items)
-    ∙ simp append-nil (take-append-drop 2 items)
 
 module _ (set : Setting) (asks : List Ask) where
   -- the acts at a point keep their steps
@@ -161,6 +139,6 @@ module _ (set : Setting) (asks : List Ask) where
       Part set.caller (view_at s) (view_at t) (vread_items (line_of set asks t) (bound_acts set asks t.outcomes))
   quiet_part s t items new empty k =
       let line = k.line ∙ ap (λ (l : List Step). items_from set.event 0 l ++ items) empty in
-      let none = no_acts (line_of set asks t) (bound_acts set asks t.outcomes)
+      let none = own_items (line_of set asks t) (bound_acts set asks t.outcomes)
       (λ p. untouched_items set p asks t.outcomes ((kept_own p s t items k).untouched (new p))) in
       subst (Part set.caller (view_at s) (view_at t)) (sym (none ∙ line)) k.part

@@ -105,8 +105,8 @@ module _ (set : Setting) (asks : List Ask) where
       DoesAll acting (at attempt s) (at_point point wiped ∷ steps) last →
         Goes (λ t. ActPassed (at attempt s) point wiped t) (attempt_at attempt point) steps last
     goes_passed point wiped does =
-        goes (λ t. ActPassed (at attempt s) point wiped t) (attempt_at attempt point) steps does.0 last does.1.set
-          does.1.attempt does.1.asks does.1 does.2
+        goes (λ t. ActPassed (at attempt s) point wiped t) (attempt_at attempt point) steps does.0 last
+        does.1.set does.1.attempt does.1.asks does.1 does.2
 
   -- Own steps
 

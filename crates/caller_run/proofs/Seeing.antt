@@ -18,6 +18,8 @@ use Rattle.lane_table.specs.Hands.{Has}
 use Rattle.lane_table.specs.Went.{floor}
 use Rattle.rng_core.specs.Told.{moment}
 use Rattle.rng_core.specs.Did.{setting_of}
+use Rattle.rng_core.proofs.Hosting.{published_more}
+use Rattle.std.proofs.lemmas.List.Elements.{recursion_from_All, All-replicate}
 use Rattle.rng_core.proofs.Doing.{did_floor}
 use Rattle.caller_run.proofs.Callings.{no_count}
 use Rattle.lane_table.proofs.Sights.{sees_up}
@@ -28,27 +30,19 @@ use Rattle.caller_run.specs.Says.{ShowsFit}
 use Rattle.caller_run.specs.declared.caller.Caller.{Caller}
 use Rattle.caller_run.specs.declared.said.Said.{Said}
 
-published_up : (a b : ℕ) → a ≤ b → published_by a ≤ published_by b
-published_up zero b le = omega arith
-published_up (suc a) zero le = absurd (omega arith)
-published_up (suc a) (suc b) le = omega arith
-
 module _ {X : Type 0} (P : X → Type 0) where
   each_set : (xs : List X) (i : ℕ) (x : X) → AllByRecursion P xs → P x → AllByRecursion P (slice_set xs i x)
   each_set [] i x all is = tt
   each_set (y ∷ xs) zero x all is = (is, all.1)
   each_set (y ∷ xs) (suc i) x all is = (all.0, each_set xs i x all.1 is)
 
-  each_same : (n : ℕ) (x : X) → P x → AllByRecursion P (replicate n x)
-  each_same zero x is = tt
-  each_same (suc n) x is = (is, each_same n x is)
-
 -- at the start
 pub seen_start : (found : ℕ) (set : calls.Setting) → Seen found (caller_start set)
-seen_start found set = record {
+seen_start found set = let P : VgetrandomState → Type 0 =
+    λ (st : VgetrandomState). st.generation ≤ published_by found in record {
   many = refl;
   current = omega arith;
-  published = each_same (λ (st : VgetrandomState). st.generation ≤ published_by found) 16 wiped_state (omega arith);
+  published = recursion_from_All P (replicate 16 wiped_state) (All-replicate P 16 wiped_state (omega arith));
 }
 
 -- more was seen
@@ -58,12 +52,13 @@ seen_up a b s le k = record {
   current = k.current;
   published = each_weaker (λ (st : VgetrandomState). st.generation ≤ published_by a)
     (λ st. st.generation ≤ published_by b) s.states
-      (λ st low. let up = published_up a b le in omega arith) k.published;
+      (λ st low. let up = published_more a b le in omega arith) k.published;
 }
 
 -- the current state is this one now
 pub seen_with : (found : ℕ) (s : CallerState) (st : VgetrandomState) → st.generation ≤ published_by found →
-    Seen found s → Seen found (with_state s st)
+    Seen found s →
+    Seen found (with_state s st)
 seen_with found s st low k = record {
   many = length-set s.states s.current st ∙ k.many;
   current = k.current;
@@ -73,7 +68,8 @@ seen_with found s st low k = record {
 
 -- behind an event by itself
 pub seen_after : (version cpus found : ℕ) (s : CallerState) (event : Event) → InRange version cpus event →
-    Seen found s → Seen found (caller_after s event)
+    Seen found s →
+    Seen found (caller_after s event)
 seen_after version cpus found s Drop range k = seen_with found s wiped_state (omega arith) k
 seen_after version cpus found s (State number) range k =
     record { many = k.many; current = range.1; published = k.published }

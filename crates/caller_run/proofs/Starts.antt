@@ -36,17 +36,17 @@ pub idle : (t : Lanes) (caller : ℕ) (p : Pass) → Has t caller [] p → IsIdl
 idle t caller p h = idle_of t caller p h
 
 -- the only pass has the whole share
-pub whole_share : (plan : Plan) (caller : ℕ) (events : List Event) (c : Caller) (lines : List SeenLine) (v : View) →
+pub whole_share : {caller : ℕ} {events : List Event} {c : Caller} {lines : List SeenLine} {v : View} (plan : Plan) →
     v ≡ newcomer plan →
     HasEnded v caller events c lines → (view c.pass).share ≡ 2 ^ (view c.pass).halvings
-whole_share plan caller events c lines v start e =
+whole_share plan start e =
     e.done.ran.same.share ∙ ap (λ (w : View). w.share) start
     ∙ sym (ap (λ (h : ℕ). 2 ^ h) (e.done.ran.same.halvings ∙ ap (λ (w : View). w.halvings) start))
 
-pub ran_alone : (cpus first : ℕ) (events : List Event) (c : Caller) (lines : List SeenLine) (v : View) →
+pub ran_alone : {events : List Event} {c : Caller} {lines : List SeenLine} {v : View} (cpus first : ℕ) →
     v ≡ newcomer (plan_of (cpus + 2) first) → HasEnded v 0 events c lines → Ended (cpus + 2) (view c.pass) →
     floor (view c.pass) ≤ (model c.pass 1).base.generation → RanAlone cpus events lines (view c.pass)
-ran_alone cpus first events c lines v start e ended seen =
+ran_alone {events = events} {c = c} {lines = lines} cpus first start e ended seen =
     let g : HasEnded (newcomer (plan_of (cpus + 2) first)) 0 events c lines =
     subst (λ (w : View). HasEnded w 0 events c lines) start e in record {
       fit = g.fit;

@@ -1,5 +1,5 @@
 -- Reads out of a caller's current vgetrandom state, as its loop over the events sees them.
-use Rattle.std.proofs.Common.{Option, ◌≤◌, ◌≡◌, ℕ, zero, suc, ◌<◌, List, [], ◌∷◌, ◌++◌, length, map, get_or, sym, ap, ◌∙◌, subst, refl, arith}
+use Rattle.std.proofs.Common.{Option, ◌≤◌, ◌≡◌, ℕ, ◌<◌, List, [], ◌++◌, length, map, get_or, sym, ap, ◌∙◌, subst, refl}
 use Rattle.std.specs.Prelude.{Result, slice_get, unwrap_or}
 use Rattle.std.specs.List.{AllByRecursion}
 use Rattle.key_names.specs.declared.errno.Errno.{Errno}
@@ -19,9 +19,9 @@ use Rattle.key_names.specs.Meaning.{CallerState}
 use Rattle.key_names.specs.VreadSteps.{published_by}
 use Rattle.std.proofs.lemmas.Option.{slice_get-get_or}
 use Rattle.rng_core.specs.Acts.{ActOutcome}
+use Rattle.rng_core.proofs.InsideCalls.{fresh_undone, outcomes_long}
 use Rattle.caller_run.specs.Calling.{StateRead}
 use Rattle.caller_run.specs.Says.{IsNoCount}
-use Rattle.lane_table.specs.declared.lanes.Pass.{Pass}
 use Rattle.rng_core.specs.declared.acts.Bound.{Bound}
 use Rattle.rng_core.specs.declared.attempt.Attempt.TheVariants.{Before}
 use Rattle.rng_core.specs.Acting.{act_stand, InsideRan}
@@ -36,7 +36,6 @@ use Rattle.caller_run.specs.Done.{CallDone}
 use Rattle.caller_run.specs.Says.{shown_by, line_of}
 use Rattle.caller_run.specs.declared.caller.Caller.{Caller}
 use Rattle.caller_run.specs.declared.said.Said.{Said}
-use Rattle.caller_run.proofs.ActsMeant.{fresh_undone, outcomes_long}
 use Rattle.caller_run.proofs.InsideDone.{inside_done}
 use Rattle.caller_run.proofs.VreadDone.{vread_done}
 
@@ -73,7 +72,7 @@ module _ {t : Lanes} {c d : Caller} {said : Said} {served : List ℕ} {before : 
       (subst (λ (x : Shown). P st (result_answer ended) x before) (sym b.shows) here)))
 
   steps_fit : {steps : List Step} (deals : List Deal) → steps ≡ before ++ map step_of deals →
-    AllByRecursion StepFits (map step_of deals) → AllByRecursion StepFits steps
+      AllByRecursion StepFits (map step_of deals) → AllByRecursion StepFits steps
   steps_fit deals trace fits = subst (AllByRecursion StepFits)
     (sym (trace ∙ ap (λ (l : List Step). l ++ map step_of deals) b.new)) fits
 
@@ -102,8 +101,8 @@ module _ {t : Lanes} {c d : Caller} {said : Said} {served : List ℕ} {before : 
 
     -- with no act inside
     pub read_alone : (acts : List Bound) (out : List ℕ) → acts ≡ [] →
-        VreadDid n flags st left (result_answer ended) (bytes_or_none (given ended served)) c.set
-          (moment c.pass before) (moment d.pass steps) →
+        VreadDid n flags st left (result_answer ended) (bytes_or_none (given ended served)) c.set (moment c.pass before)
+        (moment d.pass steps) →
         StateRead t n flags c d said served steps (asks_of acts) (outcomes_of acts out)
     read_alone acts out none did =
         subst (λ (bs : List Bound). StateRead t n flags c d said served steps (asks_of bs) (outcomes_of bs out))
@@ -119,7 +118,8 @@ module _ {t : Lanes} {c d : Caller} {said : Said} {served : List ℕ} {before : 
       1 < length (view c.pass).lanes →
         asks_of after ≡ asks_of acts →
         InsideDid n flags st left (result_answer ended) (bytes_or_none (given ended served)) c.set
-          (moment c.pass before) (moment d.pass steps)
+          (moment c.pass before)
+        (moment d.pass steps)
         (asks_of acts) (outcomes_of after out_after) →
         InsideRan n flags st left (act_stand (core.stand c.set c.pass before) Before (asks_of acts)
           (outcomes_of acts out))
@@ -129,7 +129,8 @@ module _ {t : Lanes} {c d : Caller} {said : Said} {served : List ℕ} {before : 
         let zs = outcomes_of after out_after in
         read_by (asks_of acts) zs
         (inside_done c.set (view c.pass) (view d.pass) (stand c) n flags left said.answer (shown_by served said.shows)
-          VreadWord steps (asks_of acts)
+          VreadWord steps
+        (asks_of acts)
         (outcomes_of acts out) zs refl (fresh_undone acts out fresh) (outcomes_long acts out) two
         (told_by (λ s a x l. InsideDid n flags s left a x c.set (moment c.pass l) (moment d.pass steps) (asks_of acts)
           zs) did)
@@ -137,6 +138,6 @@ module _ {t : Lanes} {c d : Caller} {said : Said} {served : List ℕ} {before : 
           (outcomes_of acts out))
         (λ last. act_stand (core.stand c.set d.pass steps) last (asks_of acts) zs))
         (subst (λ (l : List Ask). InsideRan n flags st left
-          (act_stand (core.stand c.set c.pass before) Before (asks_of acts) (outcomes_of acts out))
+        (act_stand (core.stand c.set c.pass before) Before (asks_of acts) (outcomes_of acts out))
         (λ last. act_stand (core.stand c.set d.pass steps) last l zs)) asks ran)))
         (outcomes_long after out_after ∙ ap length asks) (steps_fit did.deals did.trace did.fits) did.acts_fit

@@ -41,8 +41,9 @@ pub record HasRead (t : Lanes) (event : Event) (c d e : Caller) (before after : 
   pub zs : List ActOutcome
   pub read : StateRead t len flags c d said served steps (asks_of acts) zs
   pub on : GoesOn event d e
-  pub lines : after.lines ≡ told_anew before.lines (asks_of acts) (act_lines d.set (asks_of acts) zs)
-    ++ line_of d.set VreadWord served said steps ∷ []
+  pub lines : after.lines
+      ≡ told_anew before.lines (asks_of acts) (act_lines d.set (asks_of acts) zs)
+        ++ line_of d.set VreadWord served said steps ∷ []
   pub line_room : after.line_room + 1 ≡ before.line_room
   pub byte_room : before.byte_room ≤ after.byte_room + (len + all_wanted (asks_of acts))
   pub none : left ≡ []
@@ -95,5 +96,6 @@ module _ {t : Lanes} {event : Event} {c d e : Caller} {before after : Gathered} 
       (fit_more caller c.set.event events (Vread k.len k.flags) rest (told_anew before.lines asks told) line
       (own_line d g set on k.said k.served k.steps)
       (λ more f. fit_anew caller d.set (ap (λ (s : Setting). s.caller) set ∙ g.own) events asks k.zs before.lines more
-        g.idle (g.fit more f)))
+        g.idle
+      (g.fit more f)))
       tt))

@@ -1,5 +1,5 @@
 -- The system call that deeds of a form fulfil.
-use Rattle.std.proofs.Common.{◌≡◌, ℕ, ◌<◌, List, [], ◌∷◌, ◌++◌, refl, sym, ap, ◌∙◌, subst, inl, inr, ◌⊎◌, ⊎_elim, arith, append-nil, length, Bool, true, false, cond}
+use Rattle.std.proofs.Common.{◌≡◌, ℕ, ◌<◌, List, [], ◌∷◌, ◌++◌, refl, sym, ap, ◌∙◌, subst, inl, inr, ◌⊎◌, ⊎_elim, arith, append-nil, Bool, true, false, cond}
 use Rattle.std.specs.Prelude.{MatchBool, ◌==◌, ◌&&◌, not}
 use Rattle.std.proofs.lemmas.Bool.{ne_eqb, eq-eqb}
 use Rattle.key_names.specs.declared.entries.Taken.TheVariants.{User}
@@ -210,7 +210,3 @@ module _ (set : Setting) (n flags g : ℕ) (good : is_bad flags ≡ false) where
       answers = answer_is rest deeds false false e no_again on.0;
       shows = ap bytes_or_none (r.bytes_are ∙ sym on.1 ∙ ap served_bytes (sym e));
     }
-
-pub nil_of : (xs : List ℕ) → length xs ≡ 0 → xs ≡ []
-nil_of [] e = refl
-nil_of (x ∷ xs) e = absurd (omega arith)

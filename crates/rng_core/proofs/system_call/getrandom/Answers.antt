@@ -11,7 +11,8 @@ use Rattle.key_names.specs.declared.names.Step.{Step}
 use Rattle.key_names.specs.declared.names.Step.TheVariants.{Look}
 use Rattle.rng_core.specs.Told.{moment, BeginsWithLook}
 use Rattle.rng_core.proofs.Doing.{did_floor, did_nothing, did_map, did_look, did_behind, did_then}
-use Rattle.rng_core.proofs.SysFulfilling.{sys_invalid, sys_again, sys_interrupted, sys_waited_none, sys_waited, sys_none, sys_read, nil_of}
+use Rattle.rng_core.proofs.SysFulfilling.{sys_invalid, sys_again, sys_interrupted, sys_waited_none, sys_waited, sys_none, sys_read}
+use Rattle.rng_core.proofs.Hosting.{none_left}
 use Rattle.rng_core.proofs.system_call.getrandom.Goals as goal
 
 found_none : (found : ℕ) (b : Bool) → (found == 0 && b) ≡ true → found ≡ 0
@@ -72,7 +73,7 @@ returns-then-is_empty-clause-did g c = let good = sym c.are_bad.ensures ∙ c.if
     let none : length c.args.buf.now ≡ 0 = search rules in
     subst (λ (z : List ℕ). Did (Fulfils (setting_of c.args.set.now) (Read (length c.args.buf.now) c.args.flags) Done
       (bytes_or_none z)) c.args.set.now (moment c.args.pass.now c.args.trace.now)
-      (moment c.wait_ready.new.pass c.wait_ready.new.trace)) (sym (nil_of c.args.buf.now none))
+      (moment c.wait_ready.new.pass c.wait_ready.new.trace)) (sym (none_left c.args.buf.now none))
     (did_map _ _ _ (λ deeds h. sys_waited_none (setting_of c.args.set.now) (length c.args.buf.now) c.args.flags
       c.look-found.result good must patient none h.holds.first h.holds.rest deeds h.holds.before h.holds.behind
       (h.deeds_are ∙ ap (λ (l : List Deed). looked c.look-found.result ∷ l) h.holds.deeds_are))
@@ -96,7 +97,7 @@ returns-then-is_empty-2-clause-did g c = let good = sym c.are_bad.ensures ∙ c.
     sym c.must_wait.ensures ∙ c.if-must_wait.false in let none : length c.args.buf.now ≡ 0 = search rules in
     subst (λ (z : List ℕ). Did (Fulfils (setting_of c.args.set.now) (Read (length c.args.buf.now) c.args.flags) Done
       (bytes_or_none z)) c.args.set.now (moment c.args.pass.now c.args.trace.now)
-      (moment c.look-found.new.pass c.look-found.new.trace)) (sym (nil_of c.args.buf.now none))
+      (moment c.look-found.new.pass c.look-found.new.trace)) (sym (none_left c.args.buf.now none))
     (did_map _ _ _ (λ deeds e. sys_none (setting_of c.args.set.now) (length c.args.buf.now) c.args.flags
       c.look-found.result good takes none deeds e) (did_look _ _ _ _ c.look-found.ensures.told))
 

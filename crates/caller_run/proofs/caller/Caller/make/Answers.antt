@@ -1,5 +1,4 @@
-use Rattle.std.proofs.Common.{length, ◌∷◌, ◌++◌, [], sym, subst, ap, ◌∙◌, arith, rules, ◌≡◌}
-use Rattle.key_names.specs.declared.events.Word.{Word}
+use Rattle.std.proofs.Common.{length, ◌∷◌, ◌++◌, [], sym, subst, ◌∙◌, arith, rules, ◌≡◌}
 use Rattle.caller_run.specs.Says.{line_of, most_shown}
 use Rattle.caller_run.specs.Standing.{waiting_in, HasGone}
 use Rattle.caller_run.proofs.RoomFills.{fills_call}

@@ -1,9 +1,6 @@
-use Rattle.std.proofs.Common.{◌≡◌, [], refl, length, get_or, ◌<◌, sym, arith}
+use Rattle.std.proofs.Common.{refl, length, ◌<◌, sym, arith}
 use Rattle.std.proofs.lemmas.Bool.{eqb-true}
-use Rattle.key_names.specs.Meaning.{current_state}
 use Rattle.lane_table.specs.Calls.{view}
-use Rattle.caller_run.specs.Calling.{stand}
-use Rattle.caller_run.proofs.ActsMeant.{outcomes_long}
 use Rattle.rng_core.proofs.Hosting.{none_left}
 use Rattle.caller_run.proofs.StateReads.{read_alone, read_inside, current_is}
 use Rattle.caller_run.proofs.caller.Caller.vread.Goals as goal
