@@ -1,7 +1,5 @@
 -- What a caller has seen of the generations of its vgetrandom states, event by event.
-use Rattle.std.proofs.Common.{◌≡◌, ℕ, zero, suc, ◌≤◌, List, [], ◌∷◌, replicate, refl, sym, ◌∙◌, subst, arith}
-use Rattle.std.specs.Prelude.{slice_set}
-use Rattle.std.specs.List.{AllByRecursion}
+use Rattle.std.proofs.Common.{◌≡◌, ℕ, ◌≤◌, List, [], replicate, refl, sym, ◌∙◌, subst, arith}
 use Rattle.std.proofs.lemmas.List.{length-set}
 use Rattle.key_names.specs.declared.events.Event.{Event}
 use Rattle.key_names.specs.declared.events.Event.TheVariants.{Vread, Drop, State}
@@ -11,7 +9,7 @@ use Rattle.key_names.specs.Meaning.{CallerState, caller_start, caller_after, wit
 use Rattle.key_names.specs.ScriptGrammar.{InRange, event_word}
 use Rattle.key_names.specs.VgetrandomState.{VgetrandomState, wiped_state}
 use Rattle.key_names.specs.VreadSteps.{published_by}
-use Rattle.key_names.proofs.Each.{each_weaker}
+use Rattle.key_names.proofs.Each.{each_set, each_weaker}
 use Rattle.lane_table.specs.declared.lanes.Lanes.{Lanes}
 use Rattle.lane_table.specs.Calls.{view}
 use Rattle.lane_table.specs.Hands.{Has}
@@ -29,12 +27,6 @@ use Rattle.caller_run.specs.Doings.{deals_of}
 use Rattle.caller_run.specs.Says.{ShowsFit}
 use Rattle.caller_run.specs.declared.caller.Caller.{Caller}
 use Rattle.caller_run.specs.declared.said.Said.{Said}
-
-module _ {X : Type 0} (P : X → Type 0) where
-  each_set : (xs : List X) (i : ℕ) (x : X) → AllByRecursion P xs → P x → AllByRecursion P (slice_set xs i x)
-  each_set [] i x all is = tt
-  each_set (y ∷ xs) zero x all is = (is, all.1)
-  each_set (y ∷ xs) (suc i) x all is = (all.0, each_set xs i x all.1 is)
 
 -- at the start
 pub seen_start : (found : ℕ) (set : calls.Setting) → Seen found (caller_start set)
