@@ -102,5 +102,5 @@ pub after_entry-after_entries : (pool : List PoolEntry) (es : List BaseEntry) (e
 after_entry-after_entries pool es e root is =
     after_entry-base_at pool (base_after es) (base_value_after pool es) root e is
     ∙ ap (λ (s : BaseState). base_at s (base_value_step pool (base_value_after pool es) e))
-      (sym (fold-append base_step base_start es (e ∷ [])))
+    (sym (fold-append base_step base_start es (e ∷ [])))
     ∙ ap (base_at (base_after (es ++ e ∷ []))) (sym (fold-append (base_value_step pool) zero_key es (e ∷ [])))

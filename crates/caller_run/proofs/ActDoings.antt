@@ -44,7 +44,7 @@ module _ (set : Setting) where
 
   -- none, where none was done
   pub untouched_items : (p : ℕ) (asks : List Ask) (xs : List ActOutcome) → Untouched p asks xs →
-    act_items asks xs p ≡ []
+      act_items asks xs p ≡ []
   untouched_items p [] xs k = refl
   untouched_items p (a ∷ asks) [] k = refl
   untouched_items p (a ∷ asks) (x ∷ xs) k = go (number_of a.point == p) k.0 (untouched_items p asks xs k.1)
@@ -56,7 +56,7 @@ module _ (set : Setting) where
 
   -- one act did these steps, as its line tells
   act_part : (a : Ask) (v w : View) (y : ActOutcome) → ActRan set a v w y →
-    Part set.caller v w (line_items (act_line set a y))
+      Part set.caller v w (line_items (act_line set a y))
   act_part a v w y k =
       subst (λ (l : List Step). Part set.caller v w (items_from a.event 0 l)) (sym k.did.told.trace)
       (part_went set.caller a.event 0 v w k.did.deals k.did.told.went)
@@ -86,11 +86,11 @@ module _ (set : Setting) where
         go true false same h u rest = absurd (cc same)
         go false true same h u rest = absurd (cc same)
         go false false same h u rest = subst (λ (z : View). Part set.caller z w (act_items asks ys (number_of point)))
-          h.1 rest
+            h.1 rest
 
     -- at another point nothing changes
     pub acts_elsewhere : (q : ℕ) → (number_of point == q) ≡ false →
-      (asks : List Ask) (v w : View) (xs ys : List ActOutcome) →
+        (asks : List Ask) (v w : View) (xs ys : List ActOutcome) →
         ActsAt set point asks v w xs ys →
         (act_items asks ys q ≡ act_items asks xs q) × (Untouched q asks xs → Untouched q asks ys)
     acts_elsewhere q other [] v w [] [] k = (refl, λ u. u)

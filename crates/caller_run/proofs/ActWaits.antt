@@ -36,8 +36,14 @@ use Rattle.caller_run.proofs.HasGone.{gone_by, fit_more}
 
 -- what c tells of an act that is not done
 abbrev pub idle_line : Caller → SeenLine
-idle_line c = record { caller = c.set.caller; event = c.set.event; word = InsideWord; answer = Unused; steps = [];
-    shown = no_data }
+idle_line c = record {
+  caller = c.set.caller;
+  event = c.set.event;
+  word = InsideWord;
+  answer = Unused;
+  steps = [];
+  shown = no_data;
+}
 
 -- c keeps an act for its next vread at this event, and e goes on: these are the lines, of which the last tells that the act
 -- was not done, and the acts that wait, before it and behind it
@@ -74,7 +80,7 @@ module _ {event : Event} {c e : Caller} {before after : Gathered} {acts left : L
       (subst (λ (y : Event). Fills y before after acts left) (sym k.event_is)
       (subst (Fills (Inside (number_of k.point) k.act) before after acts) (sym k.kept)
       (fills_act before after line k.lines k.line_room k.point k.act c.set.event acts k.byte_room range.2 g.at g.fresh
-        g.told))) g
+      g.told))) g
 
   module _ (at : c.set.event ≡ length before.lines) (v : View) (caller : ℕ) (events rest : List Event)
       (g : HasGone v caller events (Inside (number_of k.point) k.act ∷ rest) c before.lines asks)
@@ -84,11 +90,11 @@ module _ {event : Event} {c e : Caller} {before after : Gathered} {acts left : L
 
     idle : AllByRecursion (HasLine caller (before.lines ++ line ∷ [])) (asks ++ x ∷ [])
     idle = each_more (HasLine caller (before.lines ++ line ∷ [])) asks x
-      (idle_more caller before.lines line asks g.idle) (record {
-      line = line;
-      there = ap (slice_get (before.lines ++ line ∷ [])) at ∙ get_seam before.lines line;
-      is = line_is;
-    })
+        (idle_more caller before.lines line asks g.idle) (record {
+          line = line;
+          there = ap (slice_get (before.lines ++ line ∷ [])) at ∙ get_seam before.lines line;
+          is = line_is;
+        })
 
     fit : (more : List SeenLine) → LinesFit caller (suc c.set.event) rest more →
         LinesFit caller 0 events ((before.lines ++ line ∷ []) ++ more)
@@ -109,7 +115,7 @@ module _ {event : Event} {c e : Caller} {before after : Gathered} {acts left : L
         (so_far_waits events rest before.lines g.waiting g.calls x line has at g.so_far) fit idle
 
     gone_either : (b : Bool) → has_vread rest ≡ b →
-      HasGone v caller events rest e (before.lines ++ line ∷ []) (asks ++ x ∷ [])
+        HasGone v caller events rest e (before.lines ++ line ∷ []) (asks ++ x ∷ [])
     gone_either true has = gone_waits has
     gone_either false none = gone_idle none
 
@@ -121,5 +127,5 @@ module _ {event : Event} {c e : Caller} {before after : Gathered} {acts left : L
       (subst (HasGone v caller events rest e (before.lines ++ line ∷ []))
       (sym (ap asks_of k.kept ∙ map-append ask_of acts (new_bound k.point k.act c.set.event ∷ [])))
       (gone_either at v caller events rest (subst (λ (y : Event). HasGone v caller events (y ∷ rest) c before.lines
-        asks) k.event_is g)
+      asks) k.event_is g)
       (subst (λ (y : Event). GoesOn y c e) k.event_is k.on) (has_vread rest) refl))

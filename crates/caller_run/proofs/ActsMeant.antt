@@ -59,12 +59,12 @@ module _ (set : Setting) (w : View) where
       where
         go : (b : Bool) → (b ≡ false → z.steps ≡ []) →
             deeds_of lists z.steps ≡ (if b then done_line (deeds_of lists z.steps) z.answer z.bytes else
-              unused_line).deeds
+            unused_line).deeds
         go true idle = refl
         go false idle = ap (deeds_of lists) (idle refl)
 
     pub act_answer : (a : Ask) (z : ActOutcome) → Meant set w a z →
-      (act_line set a z).answer ≡ (outcome_line lists z).answer
+        (act_line set a z).answer ≡ (outcome_line lists z).answer
     act_answer a z m = go z.done
       where
         go : (b : Bool) → (if b then result_answer z.answer else Unused)
@@ -73,7 +73,7 @@ module _ (set : Setting) (w : View) where
         go false = refl
 
     pub act_shown : (a : Ask) (z : ActOutcome) → Meant set w a z →
-      (act_line set a z).shown ≡ (outcome_line lists z).shown
+        (act_line set a z).shown ≡ (outcome_line lists z).shown
     act_shown a z m = go z.done
       where
         go : (b : Bool) → (if b then bytes_or_none (given z.answer z.bytes) else no_data)

@@ -71,7 +71,7 @@ module _ (f : Item → ℕ) where
   weight items = sum_by f items
 
   at_one : (p w : ℕ) → 1 ≤ p → p ≤ 4 → cond (p == 1) w
-    0 + (cond (p == 2) w 0 + (cond (p == 3) w 0 + cond (p == 4) w 0)) ≡ w
+      0 + (cond (p == 2) w 0 + (cond (p == 3) w 0 + cond (p == 4) w 0)) ≡ w
   at_one zero w from to = absurd (omega arith)
   at_one (suc zero) w from to = omega arith
   at_one (suc (suc zero)) w from to = omega arith
@@ -84,7 +84,7 @@ module _ (f : Item → ℕ) where
   point_weight bound acts point = go (bound.point == point)
     where
       go : (b : Bool) → weight (if b then line_items bound.line
-        ++ items_at_point acts point else items_at_point acts point)
+          ++ items_at_point acts point else items_at_point acts point)
           ≡ cond b (weight (line_items bound.line)) 0 + weight (items_at_point acts point)
       go true = sum_by-append f (line_items bound.line) (items_at_point acts point)
       go false = omega arith
@@ -204,13 +204,13 @@ module _ (P : Item → Type 0) where
       let f1 = in_front P (take 2 items ++ a1) a2 f2 in
       let of_line : Each items =
       subst Each (take-append-drop 2 items) (each_append P (take 2 items) (drop 2 items)
-        (in_front P (take 2 items) a1 f1)
+      (in_front P (take 2 items) a1 f1)
       (subst Each (sym (rekey_whole (drop 2 items))) (each_append P r end (behind P (take 2 items ++ a1 ++ a2) r fr)
       (behind P (take 2 items ++ a1 ++ a2 ++ r ++ a3 ++ a4) end all)))) in
       let inside = of_acts acts fit (behind P (take 2 items) a1 f1) (behind P (take 2 items ++ a1) a2 f2)
       (behind P (take 2 items ++ a1 ++ a2 ++ r) a3 f3) (behind P (take 2 items ++ a1 ++ a2 ++ r ++ a3) a4 f4) in
       subst Each (sym (flat_map-append line_items (map act_line acts) (line ∷ [])))
       (each_append P (lines_items (map act_line acts)) (items ++ []) inside
-        (subst Each (sym (append-nil items)) of_line))
+      (subst Each (sym (append-nil items)) of_line))
   call_each (unbound bound) fit all = subst Each (sym (append-nil (line_items bound.line))) all
   call_each (ending line) fit all = subst Each (sym (append-nil (line_items line))) all

@@ -64,8 +64,11 @@ first_can {event = event} {rest = rest} can = let g = can.goes in record {
     numbers = (let a = g.numbers in omega arith);
     at = g.at;
     line_room = (let a = g.line_room in omega arith);
-    byte_room = (let a = g.byte_room in omega (arith, sum_by-cons most_shown event rest,
-      sum_by-cons most_shown event []));
+    byte_room = (let a = g.byte_room in omega (
+      arith,
+      sum_by-cons most_shown event rest,
+      sum_by-cons most_shown event [],
+    ));
     longest = (g.longest.0, tt);
     wanted = (let a = g.wanted in omega (arith, sum_by-cons read_inside event rest, sum_by-cons read_inside event []));
     few = (g.few.0, (g.few.1.0, tt));
@@ -80,19 +83,19 @@ module _ {t : Lanes} {event : Event} {c e : Caller} {before after : Gathered} {a
     {served inside : ℕ}
     {rest : List Event} (d : Caller) where
   pub can_next : d.set ≡ c.set → Has t d.set.caller [] d.pass → StatesStand d → GoesOn event d e →
-    Fills event before after acts left →
+      Fills event before after acts left →
       CanGoWith t c before acts served inside (event ∷ rest) → CanGoWith t e after left served inside rest
   can_next set has states on fills g =
       let fits : Fits t.cpus (setting_of e.set) =
       subst (Fits t.cpus) (sym (ap (λ (s : CallerState). s.setting) on.stand ∙ setting_moves (stand d) event
       ∙ ap (λ (s : Setting). setting_after (setting_of s) event) set))
       (fits_after g.range.0 t.cpus (setting_of c.set) event g.range.1.0
-        (record { cpu = g.ready.cpu; moment = g.ready.moment })) in
+      (record { cpu = g.ready.cpu; moment = g.ready.moment })) in
       let same = ap (λ (s : Setting). s.event) set in
       record {
         ready = record {
           has = subst (λ (n : ℕ). Has t n [] e.pass) (sym on.caller)
-            (subst (λ (p : Pass). Has t d.set.caller [] p) (sym on.pass) has);
+              (subst (λ (p : Pass). Has t d.set.caller [] p) (sym on.pass) has);
           cpu = fits.cpu;
           moment = fits.moment;
         };
@@ -105,7 +108,7 @@ module _ {t : Lanes} {event : Event} {c e : Caller} {before after : Gathered} {a
         at = (let a = g.at in let b = on.event in let l = fills.lines in omega arith);
         line_room = (let a = g.line_room in let b = fills.line_room in omega arith);
         byte_room = (let a = g.byte_room in let b = fills.byte_room in
-          omega (arith, sum_by-cons most_shown event rest));
+            omega (arith, sum_by-cons most_shown event rest));
         longest = g.longest.1;
         wanted = (let a = g.wanted in let b = fills.wanted in omega (arith, sum_by-cons read_inside event rest));
         few = subst (λ (n : ℕ). (n ≤ 8) × FewActs n rest) (sym fills.many) g.few.1;

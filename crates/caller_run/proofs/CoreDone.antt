@@ -41,8 +41,14 @@ module _ (set : Setting) (v w : View) (s : CallerState) where
         shown = shown;
       }))
   core_done event word answer shown steps same d =
-      alone_done set.caller v w s (record { caller = set.caller; event = set.event; word = word; answer = answer;
-        steps = steps; shown = shown })
+      alone_done set.caller v w s (record {
+        caller = set.caller;
+        event = set.event;
+        word = word;
+        answer = answer;
+        steps = steps;
+        shown = shown;
+      })
       d.deals d.told.went d.told.trace event
       (λ lanes visits callers c. let h = (line_stands lanes visits callers c).holds in (
         subst (λ (x : Told). Form x event (deeds_of (book_lists lanes visits callers) steps)) (sym same) h.form,
@@ -53,10 +59,10 @@ module _ (set : Setting) (v w : View) (s : CallerState) where
     where
       line_stands : (lanes : ℕ) (visits : ℕ → List Visit) (callers : StateLists) → Continues lanes w visits →
           Sampled (Fulfils (setting_of set) event answer shown) visits
-            (deeds_of (book_lists lanes visits callers) steps)
+          (deeds_of (book_lists lanes visits callers) steps)
       line_stands lanes visits callers c =
           subst (λ (l : List Step). Sampled (Fulfils (setting_of set) event answer shown) visits
-            (deeds_of (book_lists lanes visits callers) l))
+          (deeds_of (book_lists lanes visits callers) l))
           (sym d.told.trace) (d.stands lanes visits callers c)
 
   -- the end
@@ -70,15 +76,21 @@ module _ (set : Setting) (v w : View) (s : CallerState) where
         shown = no_data;
       }))
   end_done word steps d =
-      ending_done set.caller v w s (record { caller = set.caller; event = set.event; word = word; answer = Done;
-        steps = steps; shown = no_data })
+      ending_done set.caller v w s (record {
+        caller = set.caller;
+        event = set.event;
+        word = word;
+        answer = Done;
+        steps = steps;
+        shown = no_data;
+      })
       d.deals d.told.went d.told.trace
       (λ lanes visits callers c.
       subst (λ (l : List Step). EndForm (deeds_of (book_lists lanes visits callers) l)) (sym d.told.trace)
-        (d.stands lanes visits callers c))
+      (d.stands lanes visits callers c))
       refl refl
       (λ lanes visits callers c.
       subst (λ (l : List Step). SamplesStand (fast_in visits) (deeds_of (book_lists lanes visits callers) l))
-        (sym d.told.trace)
+      (sym d.told.trace)
       (end_samples (fast_in visits) (deeds_of (book_lists lanes visits callers) (map step_of d.deals))
-        (d.stands lanes visits callers c)))
+      (d.stands lanes visits callers c)))

@@ -35,15 +35,15 @@ module _ {t : Lanes} {v : View} {caller : ℕ} {events : List Event} {i : ℕ} {
   still_next d after can gone = record {
     can = can (drop (i + 1) events) can_here;
     gone = gone v caller events (drop (i + 1) events)
-      (subst (λ (l : List Event). HasGoneIn v caller events l c room) behind still.gone);
+        (subst (λ (l : List Event). HasGoneIn v caller events l c room) behind still.gone);
   }
 
 pub all_gone : {t : Lanes} {v : View} {caller : ℕ} {events : List Event} {i : ℕ} {c : Caller} {room : Room}
     {served inside : ℕ} →
     length events ≤ i → StillGoes t v caller events i c room served inside →
-      CanGo t c room served inside [] × HasGoneIn v caller events [] c room
+    CanGo t c room served inside [] × HasGoneIn v caller events [] c room
 all_gone {t = t} {v = v} {caller = caller} {events = events} {i = i} {c = c} {room = room} {served = served}
     {inside = inside} past still = (
-  subst (CanGo t c room served inside) (drop_all i events past) still.can,
-  subst (λ (l : List Event). HasGoneIn v caller events l c room) (drop_all i events past) still.gone,
-)
+      subst (CanGo t c room served inside) (drop_all i events past) still.can,
+      subst (λ (l : List Event). HasGoneIn v caller events l c room) (drop_all i events past) still.gone,
+    )

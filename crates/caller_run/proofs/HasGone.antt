@@ -54,29 +54,29 @@ fit_more caller n events event rest lines line is fit more f =
 module _ {v : View} {caller : ℕ} {events rest : List Event} {event : Event} {c e : Caller} {lines : List SeenLine}
     {asks : List Ask}
     (d : Caller) (g : HasGone v caller events (event ∷ rest) c lines asks) (set : d.set ≡ c.set)
-      (on : GoesOn event d e) where
+    (on : GoesOn event d e) where
   -- behind it the calls are these
   pub gone_on : (calls : List Call) (after : List SeenLine) (left waiting : List Ask) →
       CallsDone caller v (view d.pass) (caller_start first_setting) (caller_after (stand d) event) calls →
       (has_vread rest ≡ true → waiting ≡ left) → CallsSoFar events rest after waiting calls →
       ((more : List SeenLine) → LinesFit caller (suc c.set.event) rest more →
-        LinesFit caller 0 events (after ++ more)) →
+      LinesFit caller 0 events (after ++ more)) →
       AllByRecursion (HasLine caller after) left → HasGone v caller events rest e after left
   gone_on calls after left waiting done waits so_far fit idle = record {
     own = on.caller ∙ ap (λ (s : Setting). s.caller) set ∙ g.own;
     calls = calls;
     done = subst (λ (s : CallerState). CallsDone caller v (view e.pass) (caller_start first_setting) s calls)
-      (sym on.stand)
+        (sym on.stand)
         (subst (λ (p : Pass). CallsDone caller v (view p) (caller_start first_setting) (caller_after (stand d) event)
-          calls)
+        calls)
         (sym on.pass) done);
     waiting = waiting;
     waits = waits;
     so_far = so_far;
     fit = subst (λ (n : ℕ). (more : List SeenLine) → LinesFit caller n rest more →
-      LinesFit caller 0 events (after ++ more))
+        LinesFit caller 0 events (after ++ more))
         (let a = on.event in let b = ap (λ (s : Setting). s.event) set in
-          let q : suc c.set.event ≡ e.set.event = omega arith in q) fit;
+        let q : suc c.set.event ≡ e.set.event = omega arith in q) fit;
     idle = idle;
   }
 
@@ -85,28 +85,31 @@ module _ {v : View} {caller : ℕ} {events rest : List Event} {event : Event} {c
       CallDone c.set.caller (view c.pass) (view d.pass) (stand c) (caller_after (stand d) event) call →
       (has_vread rest ≡ true → waiting ≡ left) → CallsSoFar events rest after waiting (g.calls ++ call ∷ []) →
       ((more : List SeenLine) → LinesFit caller (suc c.set.event) rest more →
-        LinesFit caller 0 events (after ++ more)) →
+      LinesFit caller 0 events (after ++ more)) →
       AllByRecursion (HasLine caller after) left → HasGone v caller events rest e after left
   gone_by call after left waiting done =
       gone_on (g.calls ++ call ∷ []) after left waiting
       (calls_done_then caller v (view c.pass) (view d.pass) (caller_start first_setting) (stand c)
-        (caller_after (stand d) event)
+      (caller_after (stand d) event)
       g.calls call g.done
       (subst (λ (n : ℕ). CallDone n (view c.pass) (view d.pass) (stand c) (caller_after (stand d) event) call) g.own
-        done))
+      done))
 
   -- the line of its call is the event's
   pub own_line : (said : Said) (served : List ℕ) (steps : List Step) →
       LineIs caller c.set.event (event_word event) (line_of d.set (event_word event) served said steps)
   own_line said served steps =
-      record { caller = ap (λ (s : Setting). s.caller) set ∙ g.own; event = ap (λ (s : Setting). s.event) set;
-        word_is = refl }
+      record {
+        caller = ap (λ (s : Setting). s.caller) set ∙ g.own;
+        event = ap (λ (s : Setting). s.event) set;
+        word_is = refl;
+      }
 
 -- an event whose call was one of the core
 module _ {v : View} {caller : ℕ} {events rest : List Event} {event : Event} {t : Lanes} {c d e : Caller}
     {lines : List SeenLine}
     {asks : List Ask} {said : Said} {served : List ℕ} {steps : List Step} (is : IsCall event)
-      (k : Called t event c d said served steps)
+    (k : Called t event c d said served steps)
     (on : GoesOn event d e) where
   pub gone_call : HasGone v caller events (event ∷ rest) c lines asks →
       HasGone v caller events rest e (lines ++ line_of d.set (event_word event) served said steps ∷ []) asks
@@ -114,7 +117,7 @@ module _ {v : View} {caller : ℕ} {events rest : List Event} {event : Event} {t
       let line : SeenLine = line_of d.set (event_word event) served said steps in
       gone_by d g k.set on (alone event line) (lines ++ line ∷ []) asks g.waiting
       (subst (λ (s : Setting). CallDone c.set.caller (view c.pass) (view d.pass) (stand c)
-        (caller_after (stand d) event)
+      (caller_after (stand d) event)
       (alone event (line_of s (event_word event) served said steps))) (sym k.set)
       (subst (λ (s : CallerState). CallDone c.set.caller (view c.pass) (view d.pass) (stand c) (caller_after s event)
       (alone event (line_of c.set (event_word event) served said steps))) (sym (same_stand k))
@@ -134,10 +137,22 @@ pub gone_all : {v : View} {caller : ℕ} {events : List Event} {c : Caller} {lin
 gone_all {v = v} {caller = caller} {events = events} {c = c} {lines = lines} d served said steps set answer shown did
     g =
     let line : SeenLine = line_of d.set EndWord served said steps in
-    let same : line ≡ record { caller = c.set.caller; event = c.set.event; word = EndWord; answer = Done;
-      steps = steps; shown = no_data } =
-    (λ i. record { caller = (set i).caller; event = (set i).event; word = EndWord; answer = answer i; steps = steps;
-      shown = shown i }) in
+    let same : line ≡ record {
+      caller = c.set.caller;
+      event = c.set.event;
+      word = EndWord;
+      answer = Done;
+      steps = steps;
+      shown = no_data;
+    } =
+    (λ i. record {
+      caller = (set i).caller;
+      event = (set i).event;
+      word = EndWord;
+      answer = answer i;
+      steps = steps;
+      shown = shown i;
+    }) in
     record {
       fit = g.fit (line ∷ []) (record {
         caller = ap (λ (s : Setting). s.caller) set ∙ g.own;
@@ -151,7 +166,7 @@ gone_all {v = v} {caller = caller} {events = events} {c = c} {lines = lines} d s
           (ending line) g.done
           (subst (λ (n : ℕ). CallDone n (view c.pass) (view d.pass) (stand c) (stand c) (ending line)) g.own
           (subst (λ (l : SeenLine). CallDone c.set.caller (view c.pass) (view d.pass) (stand c) (stand c) (ending l))
-            (sym same)
+          (sym same)
           (end_done c.set (view c.pass) (view d.pass) (stand c) EndWord steps did))));
     }
 
@@ -163,7 +178,7 @@ gone_nothing caller events c own none_yet stands = record {
   own = own;
   calls = [];
   done = subst (λ (s : CallerState). CallsDone caller (view c.pass) (view c.pass) (caller_start first_setting) s [])
-    (sym stands)
+      (sym stands)
       (calls_done_nothing caller (view c.pass) (caller_start first_setting));
   waiting = [];
   waits = λ has. refl;

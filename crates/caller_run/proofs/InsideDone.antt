@@ -53,7 +53,7 @@ module _ (set : Setting) (v w : View) (s : CallerState) (n flags : ℕ) (t : Vge
   meant = acted_meant ran.steps set asks
       (act_stand (record { set = set; moment = record { view = v; steps = [] } }) Before asks xs)
       (act_stand (record { set = set; moment = record { view = w; steps = steps } }) ran.last asks zs) refl refl
-        ran.does
+      ran.does
       (undone_meant set v asks xs fresh long)
 
   part : Part set.caller v w (vread_items (line_items line) acts)
@@ -70,7 +70,7 @@ module _ (set : Setting) (v w : View) (s : CallerState) (n flags : ℕ) (t : Vge
   means lanes visits callers c =
       let lists = book_lists lanes visits callers in
       subst (λ (l : List Step). VreadMeans n flags acts
-        (inside_meaning lists (deeds_of lists l) answer shown did.entries zs s t))
+      (inside_meaning lists (deeds_of lists l) answer shown did.entries zs s t))
       (sym did.trace) (did.stands lanes visits callers c s same refl)
 
   pub inside_done : CallDone set.caller v w s (with_state s t) (vread_call n flags line acts)
@@ -90,7 +90,7 @@ module _ (set : Setting) (v w : View) (s : CallerState) (n flags : ℕ) (t : Vge
     };
     samples = λ lanes visits callers c. let lists = book_lists lanes visits callers in
         each_append (λ (l : SeenLine). SamplesStand (fast_in visits) (deeds_of lists l.steps))
-          (map (λ (b : BoundAct). b.line) acts)
+        (map (λ (b : BoundAct). b.line) acts)
         (line ∷ [])
         (acts_samples set w lanes visits callers c asks zs meant)
         (inl (vread_quiet (fast_in visits) n flags acts (meaning_by lists) (means lanes visits callers c)), tt);

@@ -51,7 +51,7 @@ rekey_steps (a ∷ b ∷ c ∷ items) = go (is_mark c.step)
   where
     go : (by : Bool) →
         both_steps (if by then (a ∷ b ∷ (cut_items (c ∷ items)).0, (cut_items (c ∷ items)).1) else
-          ([], a ∷ b ∷ c ∷ items))
+        ([], a ∷ b ∷ c ∷ items))
         ≡ (if by then (
           a.step ∷ b.step ∷ (cut_behind_visits (steps_of (c ∷ items))).0,
           (cut_behind_visits (steps_of (c ∷ items))).1,

@@ -104,7 +104,7 @@ module _ (events es : List Event) (lines : List SeenLine) (waiting : List Ask) (
       CallsSoFar events es (lines ++ idle ∷ []) (waiting ++ x ∷ []) calls
   so_far_waits x idle has at s = record {
     told = each_more (λ (a : Ask). a.event < length (lines ++ idle ∷ [])) waiting x
-      (told_more lines idle waiting s.told)
+        (told_more lines idle waiting s.told)
         (omega (arith, length-append lines (idle ∷ [])));
     follows = λ none. cc;
     calls_are = λ acts more many. goes acts more
@@ -116,7 +116,7 @@ module _ (events es : List Event) (lines : List SeenLine) (waiting : List Ask) (
           ≡ calls ++ calls_from (all_bound (waiting ++ x ∷ []) acts) es more
       goes acts more l =
           ap (λ (ls : List SeenLine). calls_of events (told_anew (lines ++ idle ∷ []) (waiting ++ x ∷ []) ls ++ more))
-            l.is
+          l.is
           ∙ ap (λ (ls : List SeenLine). calls_of events (ls ++ more))
           (anew_last lines idle l.line waiting x l.front at s.told l.many)
           ∙ ap (calls_of events) (append_assoc (told_anew lines waiting l.front) (l.line ∷ []) more)
@@ -124,7 +124,7 @@ module _ (events es : List Event) (lines : List SeenLine) (waiting : List Ask) (
           ∙ ap (λ b. calls ++ (if b then calls_from (all_bound waiting l.front ++ bound_by x l.line ∷ []) es more else
           unbound (bound_by x l.line) ∷ calls_from (all_bound waiting l.front) es more)) has
           ∙ ap (λ (bs : List BoundAct). calls ++ calls_from bs es more)
-            (sym (bound_more waiting l.front x l.line l.many))
+          (sym (bound_more waiting l.front x l.line l.many))
           ∙ ap (λ (ls : List SeenLine). calls ++ calls_from (all_bound (waiting ++ x ∷ []) ls) es more) (sym l.is)
 
   -- a vread, with the lines of the acts that waited for it

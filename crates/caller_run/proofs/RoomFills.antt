@@ -26,7 +26,7 @@ pub record Fills (event : Event) (before after : Gathered) (acts left : List Bou
   pub lines : length after.lines ≡ length before.lines + 1
   pub line_room : after.line_room + 1 ≡ before.line_room
   pub byte_room : before.byte_room + all_wanted (asks_of left) ≤ after.byte_room +
-    (most_shown event + all_wanted (asks_of acts))
+      (most_shown event + all_wanted (asks_of acts))
   pub wanted : all_wanted (asks_of left) ≤ read_inside event + all_wanted (asks_of acts)
   pub many : length left ≡ acts_after (length acts) event
   pub fresh : AllByRecursion IsFresh left
@@ -69,7 +69,7 @@ module _ (before after : Gathered) (line : SeenLine) (lines : after.lines ≡ be
 
   -- a call of the core
   pub fills_call : {event : Event} {acts : List Bound} → IsCall event →
-    before.byte_room ≤ after.byte_room + most_shown event →
+      before.byte_room ≤ after.byte_room + most_shown event →
       AllByRecursion IsFresh acts → AreTold (length before.lines) (asks_of acts) → Fills event before after acts acts
   fills_call {event = event} {acts = acts} is bytes fresh told = record {
     lines = one_line;
@@ -79,12 +79,12 @@ module _ (before after : Gathered) (line : SeenLine) (lines : after.lines ≡ be
     many = sym (waits_same (length acts) event is);
     fresh = fresh;
     told = subst (λ (ls : List SeenLine). AreTold (length ls) (asks_of acts)) (sym lines)
-      (told_more before.lines line (asks_of acts) told);
+        (told_more before.lines line (asks_of acts) told);
   }
 
   -- an act that waits
   pub fills_act : (point : Point) (act : InsideAct) (event : ℕ) (acts : List Bound) →
-    before.byte_room ≤ after.byte_room → ActInRange act →
+      before.byte_room ≤ after.byte_room → ActInRange act →
       event ≡ length before.lines → AllByRecursion IsFresh acts → AreTold (length before.lines) (asks_of acts) →
       Fills (Inside (number_of point) act) before after acts (acts ++ new_bound point act event ∷ [])
   fills_act point act event acts bytes range at fresh told =
@@ -110,7 +110,7 @@ module _ (before after : Gathered) (line : SeenLine) (lines : after.lines ≡ be
 pub fills_read : {before after : Gathered} {n flags : ℕ} {acts left : List Bound} →
     length after.lines ≡ length before.lines + 1 →
     after.line_room + 1 ≡ before.line_room → before.byte_room ≤ after.byte_room + (n + all_wanted (asks_of acts)) →
-      left ≡ [] →
+    left ≡ [] →
     Fills (Vread n flags) before after acts left
 fills_read {after = after} {left = left} lines line_room bytes none =
     let wanted : all_wanted (asks_of left) ≡ 0 = ap (λ (l : List Bound). all_wanted (asks_of l)) none in

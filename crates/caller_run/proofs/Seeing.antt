@@ -32,10 +32,10 @@ use Rattle.caller_run.specs.declared.said.Said.{Said}
 pub seen_start : (found : ℕ) (set : calls.Setting) → Seen found (caller_start set)
 seen_start found set = let P : VgetrandomState → Type 0 =
     λ (st : VgetrandomState). st.generation ≤ published_by found in record {
-  many = refl;
-  current = omega arith;
-  published = recursion_from_All P (replicate 16 wiped_state) (All-replicate P 16 wiped_state (omega arith));
-}
+      many = refl;
+      current = omega arith;
+      published = recursion_from_All P (replicate 16 wiped_state) (All-replicate P 16 wiped_state (omega arith));
+    }
 
 -- more was seen
 pub seen_up : (a b : ℕ) (s : CallerState) → a ≤ b → Seen a s → Seen b s
@@ -43,7 +43,7 @@ seen_up a b s le k = record {
   many = k.many;
   current = k.current;
   published = each_weaker (λ (st : VgetrandomState). st.generation ≤ published_by a)
-    (λ st. st.generation ≤ published_by b) s.states
+      (λ st. st.generation ≤ published_by b) s.states
       (λ st low. let up = published_more a b le in omega arith) k.published;
 }
 
@@ -55,7 +55,7 @@ seen_with found s st low k = record {
   many = length-set s.states s.current st ∙ k.many;
   current = k.current;
   published = each_set (λ (t : VgetrandomState). t.generation ≤ published_by found) s.states s.current st k.published
-    low;
+      low;
 }
 
 -- behind an event by itself
@@ -86,7 +86,7 @@ module _ {t : Lanes} {event : Event} {c d : Caller} {said : Said} {served : List
     set = k.set;
     states = λ s. subst (Seen (floor (view d.pass))) (sym (same_stand k))
         (seen_up (floor (view c.pass)) (floor (view d.pass)) (stand c)
-          (did_floor c.set (moment c.pass []) (moment d.pass steps) k.does) s);
+        (did_floor c.set (moment c.pass []) (moment d.pass steps) k.does) s);
     shows = k.shows;
   }
 

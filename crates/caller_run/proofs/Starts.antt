@@ -71,7 +71,7 @@ pub record IsNew (room : Room) (served inside : ℕ) (events : List Event) : Typ
 can_start : (t : Lanes) (c : Caller) (room : Room) (served inside : ℕ) (events : List Event) →
     Has t c.set.caller [] c.pass → 1 ≤ t.cpus →
     stand c ≡ caller_start first_setting → c.set.event ≡ 0 →
-      (version : ℕ) × AllByRecursion (InRange version t.cpus) events →
+    (version : ℕ) × AllByRecursion (InRange version t.cpus) events →
     AllByRecursion ForksNobody events → FewActs 0 events → length events ≤ 65536 → IsNew room served inside events →
     CanGo t c room served inside events
 can_start t c room served inside events has some stands none_yet range alone acts few new = record {
@@ -88,13 +88,13 @@ can_start t c room served inside events has some stands none_yet range alone act
     at = none_yet ∙ ap length (sym new.lines);
     line_room = (let a = new.line_room in omega arith);
     byte_room = (let a = new.byte_room in let b = ap (λ (l : List Bound). all_wanted (asks_of l)) new.acts in
-      omega arith);
+        omega arith);
     longest = recursion_from_All (λ event. most_shown event ≤ served) events new.longest;
     wanted = (let a = new.inside_is in let b = ap (λ (l : List Bound). all_wanted (asks_of l)) new.acts in omega arith);
     few = subst (λ (l : List Bound). (length l ≤ 8) × FewActs (length l) events) (sym new.acts) (omega arith, acts);
     fresh = subst (AllByRecursion IsFresh) (sym new.acts) tt;
     told = subst (λ (l : List Bound). AllByRecursion (λ a. a.event < length room.lines.lines) (asks_of l))
-      (sym new.acts) tt;
+        (sym new.acts) tt;
   };
   act_room = new.act_room;
 }
@@ -103,7 +103,7 @@ can_start t c room served inside events has some stands none_yet range alone act
 pub still_start : (t : Lanes) (p : Pass) (plan : Plan) (c : Caller) (room : Room) (served inside : ℕ)
     (events : List Event) →
     IsPassOf t p × (p.caller ≡ 0) → p.seat.me ≡ (newcomer plan, []) → c.pass ≡ p →
-      (c.set.caller ≡ 0) × (c.set.event ≡ 0) →
+    (c.set.caller ≡ 0) × (c.set.event ≡ 0) →
     1 ≤ t.cpus → stand c ≡ caller_start first_setting → (version : ℕ) × AllByRecursion (InRange version t.cpus) events →
     AllByRecursion ForksNobody events → FewActs 0 events → length events ≤ 65536 → IsNew room served inside events →
     StillGoes t (view c.pass) 0 events 0 c room served inside
@@ -113,7 +113,7 @@ still_start t p plan c room served inside events pass seat same own some stands 
       (subst (λ (q : Pass). Has t 0 [] q) (sym same) (has_new t 0 plan p pass.0 pass.1 seat)))
       some stands own.1 range alone acts few new;
   gone = subst (λ (l : List SeenLine). HasGone (view c.pass) 0 events events c l (asks_of room.acts.items))
-    (sym new.lines)
+      (sym new.lines)
       (subst (λ (l : List Bound). HasGone (view c.pass) 0 events events c [] (asks_of l)) (sym new.acts)
       (gone_nothing 0 events c own.0 own.1 stands));
 }

@@ -74,7 +74,7 @@ module _ {t : Lanes} {c d : Caller} {said : Said} {served : List ℕ} {before : 
   steps_fit : {steps : List Step} (deals : List Deal) → steps ≡ before ++ map step_of deals →
       AllByRecursion StepFits (map step_of deals) → AllByRecursion StepFits steps
   steps_fit deals trace fits = subst (AllByRecursion StepFits)
-    (sym (trace ∙ ap (λ (l : List Step). l ++ map step_of deals) b.new)) fits
+      (sym (trace ∙ ap (λ (l : List Step). l ++ map step_of deals) b.new)) fits
 
   module _ {n flags : ℕ} {steps : List Step} where
     -- a read is told by what it did
@@ -82,7 +82,7 @@ module _ {t : Lanes} {c d : Caller} {said : Said} {served : List ℕ} {before : 
         CallDone c.set.caller (view c.pass) (view d.pass) (stand c) (with_state (stand c) left)
         (vread_call n flags (line_of c.set VreadWord served said steps) (bound_acts c.set asks zs)) →
         length zs ≡ length asks → AllByRecursion StepFits steps →
-          AllByRecursion (λ z. AllByRecursion StepFits z.steps) zs →
+        AllByRecursion (λ z. AllByRecursion StepFits z.steps) zs →
         StateRead t n flags c d said served steps asks zs
     read_by asks zs done long steps_fit acts_fit = record {
       has = b.has;
@@ -92,7 +92,7 @@ module _ {t : Lanes} {c d : Caller} {said : Said} {served : List ℕ} {before : 
       published = b.published;
       done = subst (λ (s : CallerState). CallDone c.set.caller (view c.pass) (view d.pass) (stand c) s
           (vread_call n flags (line_of c.set VreadWord served said steps) (bound_acts c.set asks zs))) (sym b.stands)
-            done;
+          done;
       long = long;
       steps_fit = steps_fit;
       acts_fit = acts_fit;
@@ -106,36 +106,36 @@ module _ {t : Lanes} {c d : Caller} {said : Said} {served : List ℕ} {before : 
         StateRead t n flags c d said served steps (asks_of acts) (outcomes_of acts out)
     read_alone acts out none did =
         subst (λ (bs : List Bound). StateRead t n flags c d said served steps (asks_of bs) (outcomes_of bs out))
-          (sym none)
+        (sym none)
         (read_by [] []
         (vread_done c.set (view c.pass) (view d.pass) (stand c) n flags left said.answer (shown_by served said.shows)
-          VreadWord steps refl
+        VreadWord steps refl
         (told_by (λ s a x l. VreadDid n flags s left a x c.set (moment c.pass l) (moment d.pass steps)) did))
         refl (steps_fit did.did.deals did.did.told.trace did.did.told.fits) tt)
 
     -- with these acts inside, which then were those
     pub read_inside : (acts after : List Bound) (out out_after : List ℕ) → AllByRecursion IsFresh acts →
-      1 < length (view c.pass).lanes →
+        1 < length (view c.pass).lanes →
         asks_of after ≡ asks_of acts →
         InsideDid n flags st left (result_answer ended) (bytes_or_none (given ended served)) c.set
-          (moment c.pass before)
+        (moment c.pass before)
         (moment d.pass steps)
         (asks_of acts) (outcomes_of after out_after) →
         InsideRan n flags st left (act_stand (core.stand c.set c.pass before) Before (asks_of acts)
-          (outcomes_of acts out))
+        (outcomes_of acts out))
         (λ last. act_stand (core.stand c.set d.pass steps) last (asks_of after) (outcomes_of after out_after)) →
         StateRead t n flags c d said served steps (asks_of acts) (outcomes_of after out_after)
     read_inside acts after out out_after fresh two asks did ran =
         let zs = outcomes_of after out_after in
         read_by (asks_of acts) zs
         (inside_done c.set (view c.pass) (view d.pass) (stand c) n flags left said.answer (shown_by served said.shows)
-          VreadWord steps
+        VreadWord steps
         (asks_of acts)
         (outcomes_of acts out) zs refl (fresh_undone acts out fresh) (outcomes_long acts out) two
         (told_by (λ s a x l. InsideDid n flags s left a x c.set (moment c.pass l) (moment d.pass steps) (asks_of acts)
-          zs) did)
+        zs) did)
         (told_by (λ s a x l. InsideRan n flags s left (act_stand (core.stand c.set c.pass l) Before (asks_of acts)
-          (outcomes_of acts out))
+        (outcomes_of acts out))
         (λ last. act_stand (core.stand c.set d.pass steps) last (asks_of acts) zs))
         (subst (λ (l : List Ask). InsideRan n flags st left
         (act_stand (core.stand c.set c.pass before) Before (asks_of acts) (outcomes_of acts out))

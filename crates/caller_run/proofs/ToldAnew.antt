@@ -50,7 +50,7 @@ anew_last lines idle line [] x (l ∷ acts) at told many = absurd (omega arith)
 anew_last lines idle line (a ∷ asks) x [] at told many = absurd (omega arith)
 anew_last lines idle line (a ∷ asks) x (l ∷ acts) at told many =
     ap (λ (ls : List SeenLine). told_anew ls (asks ++ x ∷ []) (acts ++ line ∷ []))
-      (set-append_left lines (idle ∷ []) a.event l told.0)
+    (set-append_left lines (idle ∷ []) a.event l told.0)
     ∙ anew_last (slice_set lines a.event l) idle line asks x acts (at ∙ sym (length-set lines a.event l))
     (subst (λ (n : ℕ). AreTold n asks) (sym (length-set lines a.event l)) told.1) (omega arith)
 
@@ -77,7 +77,7 @@ module _ (old new : SeenLine) (caller : new.caller ≡ old.caller) (event : new.
   fit_set c n [] (line ∷ more ∷ lines) i there fit = absurd fit
   fit_set c n (e ∷ events) [] i there fit = absurd fit
   fit_set c n (e ∷ events) (line ∷ lines) zero there fit = let same : line ≡ old = cc in
-    (is_too c n (event_word e) line same fit.0, fit.1)
+      (is_too c n (event_word e) line same fit.0, fit.1)
   fit_set c n (e ∷ events) (line ∷ lines) (suc i) there fit = (fit.0, fit_set c (suc n) events lines i there fit.1)
 
 -- what stands at a place where a line was set there or elsewhere
@@ -97,20 +97,26 @@ module _ (caller : ℕ) where
   Idle lines asks = AllByRecursion (HasLine caller lines) asks
 
   pub idle_more : (lines : List SeenLine) (line : SeenLine) (asks : List Ask) → Idle lines asks →
-    Idle (lines ++ line ∷ []) asks
+      Idle (lines ++ line ∷ []) asks
   idle_more lines line asks idle =
       each_weaker (HasLine caller lines) (HasLine caller (lines ++ line ∷ [])) asks
-      (λ a has. record { line = has.line; there = (front_stays lines (line ∷ []) a.event has.line has.there).entry;
-        is = has.is }) idle
+      (λ a has. record {
+        line = has.line;
+        there = (front_stays lines (line ∷ []) a.event has.line has.there).entry;
+        is = has.is;
+      }) idle
 
   idle_set : (lines : List SeenLine) (i : ℕ) (line : SeenLine) (asks : List Ask) → LineIs caller i InsideWord line →
-    Idle lines asks →
+      Idle lines asks →
       Idle (slice_set lines i line) asks
   idle_set lines i line asks is idle =
       each_weaker (HasLine caller lines) (HasLine caller (slice_set lines i line)) asks
       (λ a has. elim (get_set lines i a.event has.line line has.there) [
-        | inl here ↦ record { line = line; there = here.1;
-          is = subst (λ (n : ℕ). LineIs caller n InsideWord line) here.0 is }
+        | inl here ↦ record {
+          line = line;
+          there = here.1;
+          is = subst (λ (n : ℕ). LineIs caller n InsideWord line) here.0 is;
+        }
         | inr there ↦ record { line = has.line; there = there; is = has.is }
       ]) idle
 
@@ -134,7 +140,7 @@ module _ (caller : ℕ) where
         (idle_set lines a.event line asks (record { caller = own; event = refl; word_is = refl }) idle.1)
         (subst (LinesFit caller 0 events) (set-append_left lines more a.event line low)
         (fit_set has.line line (own ∙ sym has.is.caller) (sym has.is.event) (sym has.is.word_is) caller 0 events
-          (lines ++ more) a.event
+        (lines ++ more) a.event
         (front_stays lines more a.event has.line has.there).entry fit))
 
 pub lines_long : (set : Setting) (asks : List Ask) (zs : List ActOutcome) → length zs ≡ length asks →

@@ -62,7 +62,7 @@ module _ (fast : ℕ → ℕ → FastPool) where
   shows_quiet set (system_call n flags answer ∷ steps) deeds k =
       are deeds (k.call ++ k.rest) k.deeds_are
       (each_append (IsQuiet fast) k.call k.rest (sys fast set n flags k.call k.form)
-        (shows_quiet set steps k.rest k.goes_on))
+      (shows_quiet set steps k.rest k.goes_on))
   shows_quiet set (at_point point wiped ∷ steps) deeds k = shows_quiet set steps deeds k
 
   module _ (n flags : ℕ) (acts : List BoundAct) (m : CallMeaning) where
@@ -70,7 +70,7 @@ module _ (fast : ℕ → ℕ → FastPool) where
     by_call_quiet k = shows_quiet m.before.setting k.steps m.own.deeds k.shows
 
     behind_look : (look : ℕ) (rest : List Deed) → m.own.deeds ≡ looked look ∷ rest →
-      LocalOrCall n flags acts m look rest →
+        LocalOrCall n flags acts m look rest →
         Quiet m.own.deeds
     behind_look look rest is k = go (serves_locally (published_by look) (current_state m.before) n) k
       where
@@ -82,7 +82,7 @@ module _ (fast : ℕ → ℕ → FastPool) where
     vread_quiet k = go (tries_local n flags acts) k.ways
       where
         go : (b : Bool) → MatchBool b (Looked (LocalOrCall n flags acts m) m.own.deeds) (ByVgetrandom n flags acts m) →
-          Quiet m.own.deeds
+            Quiet m.own.deeds
         go true h = behind_look h.0 h.1 h.2 h.3
         go false h = by_call_quiet h
 
@@ -91,7 +91,7 @@ module _ (set : Setting) (v w : View) (s : CallerState) (n flags : ℕ) (t : Vge
     (shown : Shown)
     (word : Word) (steps : List Step) (same : s.setting ≡ setting_of set)
     (k : VreadDid n flags (current_state s) t answer shown set (record { view = v; steps = [] })
-      (record { view = w; steps = steps })) where
+    (record { view = w; steps = steps })) where
   abbrev line : SeenLine
   line = record { caller = set.caller; event = set.event; word = word; answer = answer; steps = steps; shown = shown }
 
@@ -102,17 +102,17 @@ module _ (set : Setting) (v w : View) (s : CallerState) (n flags : ℕ) (t : Vge
   vread_done = record {
     doings = doings_from set.event 0 k.did.deals;
     ran = ran_then set.caller v k.looked w [] (doings_from set.event 0 k.did.deals)
-      (ran_glanced set.caller v k.looked k.glanced)
+        (ran_glanced set.caller v k.looked k.glanced)
         (ran_went set.caller set.event 0 k.looked w k.did.deals k.did.told.went);
     order = items_from_doings set.event 0 k.did.deals
-      ∙ ap (λ (l : List Step). items_from set.event 0 l) (sym k.did.told.trace)
+        ∙ ap (λ (l : List Step). items_from set.event 0 l) (sym k.did.told.trace)
         ∙ sym (own_items (items_from set.event 0 steps) [] (λ p. refl));
     points = tt;
     meant = λ lanes visits callers c. record {
       meaning = meaning_by (deeds_of (book_lists lanes visits callers) steps);
       before = refl;
       means = subst (λ (l : List Step). VreadMeans n flags []
-        (meaning_by (deeds_of (book_lists lanes visits callers) l)))
+          (meaning_by (deeds_of (book_lists lanes visits callers) l)))
           (sym k.did.told.trace)
           (k.did.stands lanes visits callers c s same refl);
       after = refl;
@@ -122,10 +122,10 @@ module _ (set : Setting) (v w : View) (s : CallerState) (n flags : ℕ) (t : Vge
     };
     samples = λ lanes visits callers c. (
       inl (subst (λ (l : List Step). AllByRecursion (IsQuiet (fast_in visits))
-        (deeds_of (book_lists lanes visits callers) l))
+          (deeds_of (book_lists lanes visits callers) l))
           (sym k.did.told.trace)
           (vread_quiet (fast_in visits) n flags [] (meaning_by
-            (deeds_of (book_lists lanes visits callers) (map step_of k.did.deals)))
+          (deeds_of (book_lists lanes visits callers) (map step_of k.did.deals)))
           (k.did.stands lanes visits callers c s same refl))),
       tt,
     );

@@ -43,7 +43,7 @@ pub record HasRead (t : Lanes) (event : Event) (c d e : Caller) (before after : 
   pub on : GoesOn event d e
   pub lines : after.lines
       ≡ told_anew before.lines (asks_of acts) (act_lines d.set (asks_of acts) zs)
-        ++ line_of d.set VreadWord served said steps ∷ []
+      ++ line_of d.set VreadWord served said steps ∷ []
   pub line_room : after.line_room + 1 ≡ before.line_room
   pub byte_room : before.byte_room ≤ after.byte_room + (len + all_wanted (asks_of acts))
   pub none : left ≡ []
@@ -70,7 +70,7 @@ module _ {t : Lanes} {event : Event} {c d e : Caller} {before after : Gathered} 
       (fills_read (omega arith) k.line_room k.byte_room k.none)) g
 
   pub gone_read : (v : View) (caller : ℕ) (events rest : List Event) →
-    HasGone v caller events (event ∷ rest) c before.lines asks →
+      HasGone v caller events (event ∷ rest) c before.lines asks →
       HasGone v caller events rest e after.lines (asks_of left)
   gone_read v caller events rest gone =
       let set = k.read.set in
@@ -81,21 +81,21 @@ module _ {t : Lanes} {event : Event} {c d e : Caller} {before after : Gathered} 
       let on : GoesOn (Vread k.len k.flags) d e = subst (λ (x : Event). GoesOn x d e) k.event_is k.on in
       subst (λ (ls : List SeenLine). HasGone v caller events rest e ls (asks_of left)) (sym k.lines)
       (subst (λ (bs : List Bound). HasGone v caller events rest e (told_anew before.lines asks told ++ line ∷ [])
-        (asks_of bs)) (sym k.none)
+      (asks_of bs)) (sym k.none)
       (gone_by d g set on (vread_call k.len k.flags line (all_bound asks told))
-        (told_anew before.lines asks told ++ line ∷ []) [] []
+      (told_anew before.lines asks told ++ line ∷ []) [] []
       (subst (λ (s : Setting). CallDone c.set.caller (view c.pass) (view d.pass) (stand c) (stand d)
       (vread_call k.len k.flags (line_of s VreadWord k.served k.said k.steps) (all_bound asks told))) (sym set)
       (subst (λ (bs : List BoundAct). CallDone c.set.caller (view c.pass) (view d.pass) (stand c) (stand d)
       (vread_call k.len k.flags (line_of c.set VreadWord k.served k.said k.steps) bs)) bound k.read.done))
       (λ has. refl)
       (so_far_vread events rest before.lines asks g.calls k.len k.flags line told
-        (lines_long d.set asks k.zs k.read.long)
+      (lines_long d.set asks k.zs k.read.long)
       (subst (λ (w : List Ask). CallsSoFar events (Vread k.len k.flags ∷ rest) before.lines w g.calls) (g.waits refl)
-        g.so_far))
+      g.so_far))
       (fit_more caller c.set.event events (Vread k.len k.flags) rest (told_anew before.lines asks told) line
       (own_line d g set on k.said k.served k.steps)
       (λ more f. fit_anew caller d.set (ap (λ (s : Setting). s.caller) set ∙ g.own) events asks k.zs before.lines more
-        g.idle
+      g.idle
       (g.fit more f)))
       tt))

@@ -19,8 +19,10 @@ HandsRefill lists e handed = (place : ℕ) → base_refill_of e ≡ Some place �
 
 pub refilled-handed_at : (lists : Lists) (refill : Option ℕ) (handed : CpuValue) (g : ℕ) (value : List ℕ) →
     ((place : ℕ) → refill ≡ Some place → handed ≡ handed_at lists place) →
-    refilled refill handed (record { key = value; generation = g }) ≡ record { key = call_value_or lists refill value;
-    generation = generation_or lists.base refill g }
+    refilled refill handed (record { key = value; generation = g }) ≡ record {
+      key = call_value_or lists refill value;
+      generation = generation_or lists.base refill g;
+    }
 refilled-handed_at lists None handed g value is = refl
 refilled-handed_at lists (Some place) handed g value is = is place refl
 
@@ -48,6 +50,6 @@ pub after_entry-after_entries : (lists : Lists) (c : ℕ) (es : List CpuEntry) (
 after_entry-after_entries lists c es e handed is =
     after_entry-cpu_at lists c (cpu_after lists.base c es) (cpu_value_after lists es) e handed is
     ∙ ap (λ (s : CpuState). cpu_at s (cpu_value_step lists (cpu_value_after lists es) e))
-      (sym (fold-append (cpu_step lists.base c) cpu_start es (e ∷ [])))
+    (sym (fold-append (cpu_step lists.base c) cpu_start es (e ∷ [])))
     ∙ ap (cpu_at (cpu_after lists.base c (es ++ e ∷ [])))
-      (sym (fold-append (cpu_value_step lists) zero_key es (e ∷ [])))
+    (sym (fold-append (cpu_value_step lists) zero_key es (e ∷ [])))

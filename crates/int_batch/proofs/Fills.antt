@@ -48,23 +48,23 @@ length_front : (from width : ℕ) (bytes : List ℕ) → from ≤ length bytes �
     length (take from bytes ++ replicate width 0) ≡ from + width
 length_front from width bytes within =
     length-append (take from bytes) (replicate width 0)
-      ∙ ap (λ (n : ℕ). n + length {A = ℕ} (replicate width 0)) (length-take-le from bytes within)
+    ∙ ap (λ (n : ℕ). n + length {A = ℕ} (replicate width 0)) (length-take-le from bytes within)
     ∙ ap (λ (n : ℕ). from + n) (length-replicate width 0)
 
 drop-with_zeros : (from width : ℕ) (bytes : List ℕ) → from + width ≤ length bytes →
     drop (from + width) (with_zeros from width bytes) ≡ drop (from + width) bytes
 drop-with_zeros from width bytes within =
     drop_at (take from bytes ++ replicate width 0) (drop (from + width) bytes) (from + width)
-      (length_front from width bytes (omega arith))
+    (length_front from width bytes (omega arith))
 
 length-with_zeros : (from width : ℕ) (bytes : List ℕ) → from + width ≤ length bytes →
     length (with_zeros from width bytes) ≡ length bytes
 length-with_zeros from width bytes within =
     let front = length_front from width bytes (omega arith) in
     let behind : length (drop (from + width) bytes) ≡ length bytes - (from + width) =
-      length-drop (from + width) bytes in
+    length-drop (from + width) bytes in
     let both : length (with_zeros from width bytes) ≡ length (take from bytes ++ replicate width 0) + length
-      (drop (from + width) bytes) =
+    (drop (from + width) bytes) =
     length-append (take from bytes ++ replicate width 0) (drop (from + width) bytes) in
     omega arith
 

@@ -25,9 +25,13 @@ clean_arguments version cpus (Add text bits) few range =
     (clean_hex text range.0, (clean_decimal bits (omega arith), tt))
 clean_arguments version cpus (Credit bits) few range = (clean_decimal bits (omega arith), tt)
 clean_arguments version cpus (Irq v1 v2) few range = (clean_decimal v1 range.0, (clean_decimal v2 range.1, tt))
-clean_arguments version cpus (Input word kind code value) few range =
-    (clean_decimal word range.0, (clean_decimal kind (omega arith),
-      (clean_decimal code (omega arith), (clean_decimal value (omega arith), tt))))
+clean_arguments version cpus (Input word kind code value) few range = (
+  clean_decimal word range.0,
+  (
+    clean_decimal kind (omega arith),
+    (clean_decimal code (omega arith), (clean_decimal value (omega arith), tt)),
+  ),
+)
 clean_arguments version cpus (Read len flags) few range =
     (clean_decimal len (omega arith), (clean_decimal flags (omega arith), tt))
 clean_arguments version cpus (Vread len flags) few range =

@@ -32,7 +32,7 @@ four_are (a ∷ b ∷ fields) all e =
     let step = step_ok (two_fields fields) (λ both. Ok ((a, b), both)) all e in
     ap (λ (others : List (List ℕ)). a ∷ b ∷ others) (two_are fields step.0 step.1)
     ∙ ap (λ (p : (List ℕ × List ℕ) × (List ℕ × List ℕ)). p.0.0 ∷ p.0.1 ∷ p.1.0 ∷ p.1.1 ∷ [])
-      (same_ok {E = FaultKind} ((a, b), step.0) all step.2)
+    (same_ok {E = FaultKind} ((a, b), step.0) all step.2)
 
 input_takes : (version cpus : ℕ) → Takes input_of (IsEvent version cpus words.Input)
 input_takes version cpus fields e is =
@@ -44,14 +44,14 @@ input_takes version cpus fields e is =
     let kind = step_ok (number 65536 all.0.1) (λ kind. number 65536 all.1.0 >>= λ code. number 256 all.1.1 >>= λ value.
     Ok (Input word.0 kind code value)) e word.2 in
     let code = step_ok (number 65536 all.1.0) (λ code. number 256 all.1.1 >>= λ value. Ok
-      (Input word.0 kind.0 code value)) e kind.2 in
+    (Input word.0 kind.0 code value)) e kind.2 in
     let value = step_ok (number 256 all.1.1) (λ value. Ok (Input word.0 kind.0 code.0 value)) e code.2 in
     let w = (numbers (2 ^ 64) (omega arith)).takes all.0.0 word.0 word.1 in
     let k = (numbers 65536 (omega arith)).takes all.0.1 kind.0 kind.1 in
     let c = (numbers 65536 (omega arith)).takes all.1.0 code.0 code.1 in
     let v = (numbers 256 (omega arith)).takes all.1.1 value.0 value.1 in
     subst (λ x. IsEvent version cpus words.Input fields x)
-      (same_ok {E = FaultKind} (Input word.0 kind.0 code.0 value.0) e value.2)
+    (same_ok {E = FaultKind} (Input word.0 kind.0 code.0 value.0) e value.2)
     (record { word = refl; spelt = four_are fields all step.1 ∙ cc (w.0, k.0, c.0, v.0); range = (w.1, k.1, c.1, v.1) })
 
 input_again : (word kind code value : ℕ) → (word < 2 ^ 64) × (kind < 65536) × (code < 65536) × (value < 256)
@@ -80,16 +80,19 @@ act_takes version cpus point act what e spelt fits is =
 
 vread_takes : (version cpus : ℕ) (point act len : List ℕ) (e : Event) → act ≡ codes "vread"
     → (number_in 1 5 point >>= λ p. number 1048577 len >>= λ n. Ok (Inside p (VreadAct n))) ≡ Ok e →
-      IsAct version cpus (point ∷ act ∷ len ∷ []) e
+    IsAct version cpus (point ∷ act ∷ len ∷ []) e
 vread_takes version cpus point act len e spelt is =
     let step = step_ok (number_in 1 5 point) (λ p. number 1048577 len >>= λ n. Ok (Inside p (VreadAct n))) e is in
     let last = step_ok (number 1048577 len) (λ n. Ok (Inside step.0 (VreadAct n))) e step.2 in
     let p = (numbers_in 1 5 (omega arith)).takes point step.0 step.1 in
     let n = (numbers 1048577 (omega arith)).takes len last.0 last.1 in
     subst (λ x. IsAct version cpus (point ∷ act ∷ len ∷ []) x)
-      (same_ok {E = FaultKind} (Inside step.0 (VreadAct last.0)) e last.2)
-    (record { word = refl; spelt = cc (p.0, n.0, spelt);
-      range = (omega (arith, p.1.0), omega (arith, p.1.1), omega (arith, n.1)) })
+    (same_ok {E = FaultKind} (Inside step.0 (VreadAct last.0)) e last.2)
+    (record {
+      word = refl;
+      spelt = cc (p.0, n.0, spelt);
+      range = (omega (arith, p.1.0), omega (arith, p.1.1), omega (arith, n.1));
+    })
 
 text_is : (field text : List ℕ) → bytes_eq field text ≡ true → field ≡ text
 text_is field text e = (bytes_eq-Decides field text).0 e
@@ -105,17 +108,17 @@ inside_takes version cpus (point ∷ []) e is = absurd cc
 inside_takes version cpus (point ∷ act ∷ []) e is =
     elim (cases_Bool (bytes_eq act (codes "wipe"))) [
       | inl wipe ↦ act_takes version cpus point act Wipe e
-        (ap (λ (f : List ℕ). f ∷ []) (sym (text_is act (codes "wipe") wipe))) tt (rw wipe at is)
+          (ap (λ (f : List ℕ). f ∷ []) (sym (text_is act (codes "wipe") wipe))) tt (rw wipe at is)
       | inr not ↦
           elim (cases_Bool (bytes_eq act (codes "reseed"))) [
             | inl reseed ↦ act_takes version cpus point act ReseedAct e
-              (ap (λ (f : List ℕ). f ∷ []) (sym (text_is act (codes "reseed") reseed))) tt (rw (not, reseed) at is)
+                (ap (λ (f : List ℕ). f ∷ []) (sym (text_is act (codes "reseed") reseed))) tt (rw (not, reseed) at is)
             | inr neither ↦ let none = rw (not, neither) at is in absurd cc
           ]
     ]
 inside_takes version cpus (point ∷ act ∷ len ∷ more) e is =
     let step = step_ok (one_field (len ∷ more)) (λ field. cond (bytes_eq act (codes "vread")) (vread_at point field)
-      (Err UnknownWord)) e is in
+    (Err UnknownWord)) e is in
     let chosen = only_then (bytes_eq act (codes "vread")) (vread_at point step.0) UnknownWord e step.2 in
     subst (λ others. IsAct version cpus (point ∷ act ∷ others) e) (sym (one_is (len ∷ more) step.0 step.1))
     (vread_takes version cpus point act step.0 e (text_is act (codes "vread") chosen.0) chosen.1)
@@ -125,8 +128,10 @@ inside_again : (point : ℕ) (act : InsideAct) → (0 < point) × (point ≤ 4) 
 inside_again point Wipe range = rw ((numbers_in 1 5 (omega arith)).again point (omega arith, omega (arith, range.1)))
     refl
 inside_again point (VreadAct len) range =
-    rw ((numbers_in 1 5 (omega arith)).again point (omega arith, omega (arith, range.1)),
-      (numbers 1048577 (omega arith)).again len (omega (arith, range.2))) refl
+    rw (
+      (numbers_in 1 5 (omega arith)).again point (omega arith, omega (arith, range.1)),
+      (numbers 1048577 (omega arith)).again len (omega (arith, range.2)),
+    ) refl
 inside_again point ReseedAct range = rw ((numbers_in 1 5 (omega arith)).again point
     (omega arith, omega (arith, range.1))) refl
 
@@ -143,7 +148,7 @@ since_takes first version r e is =
 -- an event that only a later version has
 later_takes : (first version cpus : ℕ) (word : Word) (read : List (List ℕ) → Result Event FaultKind)
     → (first ≤ version → Takes read (IsEvent version cpus word)) →
-      Takes (λ fields. since first version (read fields)) (IsEvent version cpus word)
+    Takes (λ fields. since first version (read fields)) (IsEvent version cpus word)
 later_takes first version cpus word read takes fields e is =
     let there = since_takes first version (read fields) e is in
     takes there.0 fields e there.1

@@ -37,7 +37,7 @@ pub record Spells {A : Type 0} (read : List ℕ → Result A FaultKind) (spell :
 pub numbers : (limit : ℕ) → limit ≤ 2 ^ 64 → Spells (number limit) decimal (λ n. n < limit)
 numbers limit wide = record {
   takes = λ field n e. let is = number_takes limit n field (found (number_below limit field) BadNumber n e) in
-    (is.1, is.0);
+      (is.1, is.0);
   again = λ n below. ap (λ o. ok_or o BadNumber) (number_again limit n below wide);
 }
 
@@ -109,7 +109,7 @@ pub plain_takes : (event : Event) (P : List (List ℕ) → Event → Type 0) →
 plain_takes event P holds fields e is =
     let step = step_ok (no_field fields) (λ none. Ok event) e is in
     subst (λ x. P fields x) (same_ok {E = FaultKind} event e step.2)
-      (subst (λ f. P f event) (sym (none_is fields step.0 step.1)) holds)
+    (subst (λ f. P f event) (sym (none_is fields step.0 step.1)) holds)
 
 pub unary_takes : {A : Type 0} {first : List ℕ → Result A FaultKind} {spell : A → List ℕ} {Fits : A → Type 0}
     → Spells first spell Fits → (make : A → Event) (P : List (List ℕ) → Event → Type 0)
@@ -120,14 +120,14 @@ unary_takes {A} {first} {spell} spells make P holds fields e is =
     let a = spells.takes step.0 value.0 value.1 in
     subst (λ x. P fields x) (same_ok {E = FaultKind} (make value.0) e value.2)
     (subst (λ f. P f (make value.0)) (sym (one_is fields step.0 step.1 ∙ ap (λ (f : List ℕ). f ∷ []) a.0))
-      (holds value.0 a.1))
+    (holds value.0 a.1))
 
 pub binary_takes : {A B : Type 0} {first : List ℕ → Result A FaultKind} {second : List ℕ →
     Result B FaultKind} {spell : A → List ℕ} {spell_second : B → List ℕ}
     {Fits : A → Type 0} {FitsSecond : B → Type 0} → Spells first spell Fits → Spells second spell_second FitsSecond
     → (make : A → B → Event) (P : List (List ℕ) → Event → Type 0)
     → ((a : A) (b : B) → Fits a → FitsSecond b → P (spell a ∷ spell_second b ∷ []) (make a b)) →
-      Takes (binary first second make) P
+    Takes (binary first second make) P
 binary_takes {A} {B} {first} {second} {spell} {spell_second} spells seconds make P holds fields e is =
     let step = step_ok (two_fields fields) (λ both. first both.0 >>= λ a. second both.1 >>= λ b. Ok (make a b)) e is in
     let one = step_ok (first step.0.0) (λ a. second step.0.1 >>= λ b. Ok (make a b)) e step.2 in
@@ -135,8 +135,8 @@ binary_takes {A} {B} {first} {second} {spell} {spell_second} spells seconds make
     let a = spells.takes step.0.0 one.0 one.1 in
     let b = seconds.takes step.0.1 two.0 two.1 in
     let spelt : fields ≡ spell one.0 ∷ spell_second two.0 ∷ [] =
-      two_are fields step.0 step.1 ∙ ap (λ (f : List ℕ). f ∷ step.0.1 ∷ []) a.0
-      ∙ ap (λ (f : List ℕ). spell one.0 ∷ f ∷ []) b.0 in
+    two_are fields step.0 step.1 ∙ ap (λ (f : List ℕ). f ∷ step.0.1 ∷ []) a.0
+    ∙ ap (λ (f : List ℕ). spell one.0 ∷ f ∷ []) b.0 in
     subst (λ x. P fields x) (same_ok {E = FaultKind} (make one.0 two.0) e two.2)
     (subst (λ f. P f (make one.0 two.0)) (sym spelt) (holds one.0 two.0 a.1 b.1))
 
@@ -148,5 +148,5 @@ pub binary_again : {A B : Type 0} {first : List ℕ → Result A FaultKind} {sec
     Result B FaultKind} {spell : A → List ℕ} {spell_second : B → List ℕ}
     {Fits : A → Type 0} {FitsSecond : B → Type 0} → Spells first spell Fits → Spells second spell_second FitsSecond
     → (make : A → B → Event) (a : A) (b : B) → Fits a → FitsSecond b →
-      binary first second make (spell a ∷ spell_second b ∷ []) ≡ Ok (make a b)
+    binary first second make (spell a ∷ spell_second b ∷ []) ≡ Ok (make a b)
 binary_again spells seconds make a b fits fits_second = rw (spells.again a fits, seconds.again b fits_second) refl

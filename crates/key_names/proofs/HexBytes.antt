@@ -55,7 +55,7 @@ no_bytes = refl
 pub byte_read : (out digits : List ℕ) (i high low : ℕ) → i < length out → length digits ≡ 2 * length out →
     encode_lower (take i out) ≡ take (2 * i) digits → high < 16 → low < 16 →
     slice_index lower_digits high ≡ get_or digits (2 * i) 0 →
-      slice_index lower_digits low ≡ get_or digits (2 * i + 1) 0 →
+    slice_index lower_digits low ≡ get_or digits (2 * i + 1) 0 →
     encode_lower (take (i + 1) (set out i (high * 16 + low))) ≡ take (2 * (i + 1)) digits
 byte_read out digits i high low here twice before small_high small_low at_high at_low =
     let byte = high * 16 + low in

@@ -142,7 +142,7 @@ none_else field dash not (Some (b ∷ bytes)) e =
     let is = bytes_takes field (b ∷ bytes) e in
     let long : 0 < length field = rw (is.0) (omega (arith, length-encode_with lower_digits (b ∷ bytes))) in
     absurd (not (b ∷ bytes) long (rw (is.0) (lower_encoded (b ∷ bytes) is.1))
-      (rw (is.0) (decode_of-encode_lower (b ∷ bytes) is.1)))
+    (rw (is.0) (decode_of-encode_lower (b ∷ bytes) is.1)))
 
 -- no digits, or digits of another case
 pub bytes_none : (field : List ℕ) → bytes_eq field (hex []) ≡ false

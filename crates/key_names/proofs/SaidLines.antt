@@ -115,7 +115,7 @@ pub record Says (version cpus : ℕ) (fields : List (List ℕ)) (what : Said) : 
 
 event_says : (version cpus : ℕ) (word : Word) (fields : List (List ℕ)) (what : Said) → cpus ≤ 256
     → (event_of version cpus word fields >>= λ event. Ok (SaysEvent event)) ≡ Ok what →
-      Says version cpus (word_text word ∷ fields) what
+    Says version cpus (word_text word ∷ fields) what
 event_says version cpus word fields what few is =
     let step = step_ok (event_of version cpus word fields) (λ event. Ok (SaysEvent event)) what is in
     let e = event_takes version cpus word few fields step.0 step.1 in
@@ -138,7 +138,7 @@ by_first version cpus (first ∷ fields) what few is =
     elim (cases_Bool (bytes_eq first (codes "caller"))) [
       | inl caller ↦
           let step = step_ok (one_field fields) (λ field. number 64 field >>= λ c. Ok (SaysCaller c)) what
-            (rw caller at is) in
+          (rw caller at is) in
           let value = step_ok (number 64 step.0) (λ c. Ok (SaysCaller c)) what step.2 in
           let c = (numbers 64 (omega arith)).takes step.0 value.0 value.1 in
           let spelt = one_is fields step.0 step.1 in
@@ -147,10 +147,10 @@ by_first version cpus (first ∷ fields) what few is =
           (record { spelt = cc (first_is, spelt, c.0); range = c.1 })
       | inr not ↦
           let step = step_ok (ok_or (word_of first) UnknownWord) (λ word. said_by_word version cpus fields word) what
-            (rw not at is) in
+          (rw not at is) in
           let word = word_takes first step.0 (found (word_of first) UnknownWord step.0 step.1) in
           subst (λ f. Says version cpus (f ∷ fields) what) (sym word)
-            (by_word version cpus fields step.0 what few step.2)
+          (by_word version cpus fields step.0 what few step.2)
     ]
 
 -- the line that says it

@@ -83,8 +83,12 @@ event_after d e next is =
       | inr good ↦
           elim (cases_Bool (is_past_limits d e)) [
             | inl past ↦ let none = rw (good, past) at is in absurd cc
-            | inr within ↦ (good, within, same_ok {E = FaultKind} (GoesOn (with_event d e)) next
-              (rw (good, within) at is))
+            | inr within ↦ (
+              good,
+              within,
+              same_ok {E = FaultKind} (GoesOn (with_event d e)) next
+                  (rw (good, within) at is),
+            )
           ]
     ]
 
@@ -96,8 +100,11 @@ block_after d c next is =
       | inl same ↦
           elim (cases_Bool (times_forked (blocks_of d) c == 0)) [
             | inl zero_is ↦ let none = rw (same, zero_is) at is in absurd cc
-            | inr some ↦ (eqb-true _ _ same, eqb-false _ _ some,
-              same_ok {E = FaultKind} (GoesOn (with_block d)) next (rw (same, some) at is))
+            | inr some ↦ (
+              eqb-true _ _ same,
+              eqb-false _ _ some,
+              same_ok {E = FaultKind} (GoesOn (with_block d)) next (rw (same, some) at is),
+            )
           ]
     ]
 
@@ -138,7 +145,7 @@ block_continues d more s rest =
       es = [];
       later = rest.es ∷ rest.later;
       script = rest.script ∙ ap (λ (callers : List (List Event)).
-        record { version = d.version; cpus = d.cpus; callers = callers }) same;
+          record { version = d.version; cpus = d.cpus; callers = callers }) same;
       spelt = ap (λ (lines : List (List ℕ)). said_line (SaysCaller (length (blocks_of d))) ∷ lines) rest.spelt
           ∙ ap (λ (k : ℕ). said_line (SaysCaller k) ∷ rest_lines k rest.es rest.later) n;
       whole = subst (Whole d.version d.cpus) same rest.whole;
@@ -161,12 +168,12 @@ by_said : (d : Draft) (n : ℕ) (more : List (List ℕ)) (s : Script) (what : Sa
     SaidInRange d.version d.cpus what
     → after d what ≡ Ok next
     → by_next (λ later. script_from later (n + 1) more)
-      (nothing_behind (n + 1) more >>= λ none. Ok (script_of_draft d)) next ≡ Ok s
+    (nothing_behind (n + 1) more >>= λ none. Ok (script_of_draft d)) next ≡ Ok s
     → Behind more s → Continues d (said_line what ∷ more) s
 by_said d n more s (SaysEvent e) next fine range is follows behind =
     let a = event_after d e next is in
     event_continues d e more s (behind (with_event d e) (n + 1) (event_fine d e fine range a.0 a.1)
-      (rw (← a.2) at follows))
+    (rw (← a.2) at follows))
 by_said d n more s (SaysCaller c) next fine range is follows behind =
     let a = block_after d c next is in
     let few : length (blocks_of d) < 64 = rw a.0 at range in
@@ -177,7 +184,7 @@ by_said d n more s SaysEnd next fine range is follows behind =
     let a = end_after d next is in
     let step = step_ok (nothing_behind (n + 1) more) (λ none. Ok (script_of_draft d)) s (rw (← a.1) at follows) in
     end_continues d more s fine a.0 (nothing_takes (n + 1) more step.0 step.1)
-      (same_ok {E = ScriptFault} (script_of_draft d) s step.2)
+    (same_ok {E = ScriptFault} (script_of_draft d) s step.2)
 
 pub from_takes : (d : Draft) (n : ℕ) (lines : List (List ℕ)) (s : Script) → Fine d → script_from d n lines ≡ Ok s →
     Continues d lines s
@@ -186,7 +193,7 @@ from_takes d n [] s fine e = absurd cc
 from_takes d n (line ∷ more) s fine e =
     let next = step_ok (at_line n (line_of (line ∷ more) >>= λ whole. said d.version d.cpus whole >>= after d)) _ s e in
     let whole = step_ok (line_of (line ∷ more)) (λ whole. said d.version d.cpus whole >>= after d) next.0
-      (at_ok n _ next.0 next.1) in
+    (at_ok n _ next.0 next.1) in
     let what = step_ok (said d.version d.cpus whole.0) (after d) next.0 whole.2 in
     let says = said_takes d.version d.cpus whole.0 what.0 (few_cpus d.version d.cpus fine.cpus.1) what.1 in
     let is = line_takes line more whole.0 whole.1 ∙ says.0 in
@@ -205,11 +212,14 @@ step_again : (d : Draft) (n : ℕ) (what : Said) (more : List (List ℕ)) (next 
     → HasFirst more → after d what ≡ Ok next
     → script_from d n (said_line what ∷ more)
     ≡ by_next (λ later. script_from later (n + 1) more)
-      (nothing_behind (n + 1) more >>= λ none. Ok (script_of_draft d)) next
+    (nothing_behind (n + 1) more >>= λ none. Ok (script_of_draft d)) next
 unfolding script_from
 step_again d n what more next few range some is =
-    rw (line_again (said_line what) more some (printable_said d.version d.cpus what few range),
-      said_again d.version d.cpus what few range, is) refl
+    rw (
+      line_again (said_line what) more some (printable_said d.version d.cpus what few range),
+      said_again d.version d.cpus what few range,
+      is,
+    ) refl
 
 event_next : (d : Draft) (e : Event) → EventFits d e → after d (SaysEvent e) ≡ Ok (GoesOn (with_event d e))
 event_next d e fits = rw (fits.fork, fits.limits) refl
@@ -226,7 +236,7 @@ events_again : (d : Draft) (n : ℕ) (es : List Event) (later : List (List Event
     (more : List (List ℕ)) (s : Script)
     → d.cpus ≤ 256 → Whole d.version d.cpus (callers_with d es later)
     → ((m : ℕ) → script_from (with_events d es) m (line ∷ more) ≡ Ok s) →
-      script_from d n (event_lines es ++ line ∷ more) ≡ Ok s
+    script_from d n (event_lines es ++ line ∷ more) ≡ Ok s
 events_again d n [] later line more s few whole ends =
     let same = append-nil d.events in
     rw same at (ends n)
@@ -234,7 +244,7 @@ events_again d n (e ∷ es) later line more s few whole ends =
     let fits = whole_event d e es later whole in
     let same = append_assoc d.events (e ∷ []) es in
     step_again d n (SaysEvent e) (event_lines es ++ line ∷ more) (GoesOn (with_event d e)) few fits.range
-      (first_behind (event_lines es) line more) (event_next d e fits)
+    (first_behind (event_lines es) line more) (event_next d e fits)
     ∙ events_again (with_event d e) (n + 1) es later line more s few (rw same whole) (λ m. rw same (ends m))
 
 -- the lines behind those of a block's events
@@ -252,7 +262,7 @@ end_again : (d : Draft) (m : ℕ) → d.cpus ≤ 256 → Whole d.version d.cpus 
     → script_from d m (codes "end" ∷ [] ∷ []) ≡ Ok (script_of_draft d)
 end_again d m few whole =
     step_again d m SaysEnd ([] ∷ []) Ends few tt (record { first = []; others = []; is = refl })
-      (rw (whole_end d whole) refl)
+    (rw (whole_end d whole) refl)
 
 block_next : (d : Draft) → times_forked (blocks_of d) (length (blocks_of d)) ≡ 1
     → after d (SaysCaller (suc (length d.done))) ≡ Ok (GoesOn (with_block d))
@@ -269,23 +279,23 @@ pub from_again : (d : Draft) (n : ℕ) (es : List Event) (later : List (List Eve
 from_again d n es [] few whole =
     ap (script_from d n) (rest_split (length d.done) es [])
     ∙ events_again d n es [] (codes "end") ([] ∷ []) (script_with d es []) few whole
-      (λ m. end_again (with_events d es) m few whole)
+    (λ m. end_again (with_events d es) m few whole)
 from_again d n es (next ∷ later) few whole =
     let b = with_events d es in
     let c = length d.done in
     let same : callers_with (with_block b) next later ≡ callers_with d es (next ∷ later) =
-      append_assoc d.done ((d.events ++ es) ∷ []) (next ∷ later) in
+    append_assoc d.done ((d.events ++ es) ∷ []) (next ∷ later) in
     let whole_later : Whole d.version d.cpus (callers_with (with_block b) next later) = rw same whole in
     let fits = whole_block b next later whole_later in
     let long = length_blocks b in
     let more = rest_lines (suc c) next later in
     let on = λ (m : ℕ). subst (λ k. script_from (with_block b) m (rest_lines k next later) ≡ Ok
-      (script_with (with_block b) next later)) long
+    (script_with (with_block b) next later)) long
     (from_again (with_block b) m next later few whole_later) in
     ap (script_from d n) (rest_split c es (next ∷ later))
     ∙ events_again d n es (next ∷ later) (said_line (SaysCaller (suc c))) more (script_with d es (next ∷ later)) few
-      whole (λ m.
+    whole (λ m.
     step_again b m (SaysCaller (suc c)) more (GoesOn (with_block b)) few (omega (arith, fits.0))
-      (first_rest (suc c) next later) (block_next b fits.1)
+    (first_rest (suc c) next later) (block_next b fits.1)
     ∙ on (m + 1) ∙ ap (λ (callers : List (List Event)). Ok
-      (record { version = d.version; cpus = d.cpus; callers = callers })) same)
+    (record { version = d.version; cpus = d.cpus; callers = callers })) same)

@@ -60,8 +60,10 @@ pub record IsUndone (x : ActOutcome) : Type 0 where
 pub fresh_undone : (bounds : List Bound) (out : List ℕ) → AllByRecursion IsFresh bounds →
     AllByRecursion IsUndone (outcomes_of bounds out)
 fresh_undone [] out all = tt
-fresh_undone (b ∷ bounds) out all = (record { idle = all.0.idle; empty = all.0.empty },
-    fresh_undone bounds (drop (wants b.act) out) all.1)
+fresh_undone (b ∷ bounds) out all = (
+  record { idle = all.0.idle; empty = all.0.empty },
+  fresh_undone bounds (drop (wants b.act) out) all.1,
+)
 
 pub outcomes_long : (bounds : List Bound) (out : List ℕ) → length (outcomes_of bounds out) ≡ length (asks_of bounds)
 outcomes_long [] out = refl
@@ -109,17 +111,17 @@ module _ (set : Setting) (w : View) (lanes : ℕ) (visits : ℕ → List Visit) 
 
   one_means : (a : Ask) (z : ActOutcome)
       (done : z.done ≡ true → ActMeans (setting_of set) a.act (done_line (deeds_of lists z.steps) z.answer z.bytes))
-        (b : Bool) →
+      (b : Bool) →
       z.done ≡ b →
       MatchBool b (ActMeans (setting_of set) a.act (outcome_line lists z)) (outcome_line lists z ≡ unused_line)
   one_means a z done true e = subst (ActMeans (setting_of set) a.act)
       (sym (ap (λ (d : Bool). if d then done_line (deeds_of lists z.steps) z.answer z.bytes else unused_line) e))
-        (done e)
+      (done e)
   one_means a z done false e = ap (λ (d : Bool). if d then done_line (deeds_of lists z.steps) z.answer z.bytes else
-    unused_line) e
+      unused_line) e
 
   acts_mean : (asks : List Ask) (xs zs : List ActOutcome) → AllByRecursion IsUndone xs →
-    AllDone (first_points points) asks xs zs →
+      AllDone (first_points points) asks xs zs →
       AllMeant set w asks zs →
       ActsMean (setting_of set) (is_reached points) (bound_acts set asks zs) (map (outcome_line lists) zs)
   acts_mean [] [] [] idle done all = tt
@@ -165,7 +167,7 @@ module _ {R : Type 0} {h last : LaneHost R} {finish : Finish} (n flags : ℕ) (s
 
   -- each step is one of the caller itself
   pub inside_ran : InsideRan n flags s finish.state from
-    (λ attempt. act_stand (stand h.set.now last.pass.now last.trace.now) attempt
+      (λ attempt. act_stand (stand h.set.now last.pass.now last.trace.now) attempt
       (asks_of last.acts.now) (outcomes_of last.acts.now last.out.now))
   inside_ran = record {
     steps = runs.steps;
@@ -182,7 +184,7 @@ module _ {R : Type 0} {h last : LaneHost R} {finish : Finish} (n flags : ℕ) (s
     ended : EndsWell (published_by (floor (view last.pass.now))) n runs.outcome
     ended =
         let more = published_more (floor (view h.pass.now)) (floor (view last.pass.now))
-          (acted_onward runs.steps from to does).floors in
+        (acted_onward runs.steps from to does).floors in
         call_ends (published_by (floor (view last.pass.now))) n flags s runs.steps runs.outcome (omega arith)
         (acted_up_to runs.steps from to does) runs.relates
 
@@ -190,7 +192,7 @@ module _ {R : Type 0} {h last : LaneHost R} {finish : Finish} (n flags : ℕ) (s
     still_current = let a = ended.low in let e = ap (λ (z : VgetrandomState). z.generation) runs.state in omega arith
 
     module _ (two : 1 < length (view h.pass.now).lanes) (fresh : AllByRecursion IsFresh h.acts.now)
-      (before_all : h.attempt ≡ Before)
+        (before_all : h.attempt ≡ Before)
         (long : length finish.buf ≡ n) where
       abbrev set : Setting
       set = h.set.now
@@ -204,7 +206,7 @@ module _ {R : Type 0} {h last : LaneHost R} {finish : Finish} (n flags : ℕ) (s
       meant : AllMeant set (view last.pass.now) asks zs
       meant = acted_meant runs.steps set asks from to refl refl does
           (undone_meant set (view h.pass.now) asks (outcomes_of h.acts.now h.out.now)
-            (fresh_undone h.acts.now h.out.now fresh)
+          (fresh_undone h.acts.now h.out.now fresh)
           (outcomes_long h.acts.now h.out.now))
 
       done : AllDone (first_points (points_of runs.steps)) asks (outcomes_of h.acts.now h.out.now) zs
@@ -232,7 +234,7 @@ module _ {R : Type 0} {h last : LaneHost R} {finish : Finish} (n flags : ℕ) (s
       ends = ending_is n runs.outcome.ending finish.result finish.buf long ended.none runs.ends
 
       pub called : length h.acts.now ≡ 0 → Called n flags s finish.state answer shown set from.core.moment
-        to.core.moment
+          to.core.moment
       called idle = let none = ap asks_of (none_left h.acts.now idle) in record {
         steps = runs.steps;
         outcome = runs.outcome;
@@ -245,7 +247,7 @@ module _ {R : Type 0} {h last : LaneHost R} {finish : Finish} (n flags : ℕ) (s
       }
 
       module _ (lanes : ℕ) (visits : ℕ → List Visit) (callers : StateLists)
-        (c : Continues lanes (view last.pass.now) visits)
+          (c : Continues lanes (view last.pass.now) visits)
           (before : CallerState) (set_is : before.setting ≡ setting_of set) (state_is : current_state before ≡ s) where
         abbrev book : Lists
         book = book_lists lanes visits callers
@@ -261,11 +263,11 @@ module _ {R : Type 0} {h last : LaneHost R} {finish : Finish} (n flags : ℕ) (s
           steps = runs.steps;
           outcome = runs.outcome;
           is_call = subst (λ (z : VgetrandomState). IsCall n flags z runs.steps runs.outcome) (sym state_is)
-            runs.relates;
+              runs.relates;
           shows = subst (λ z. Shows z runs.steps deeds) (sym set_is) (own.stands lanes visits callers c);
           wipes = wipes;
           inside = subst (λ z. ActsMean z (is_reached (points_of runs.steps)) (bound_acts set asks zs)
-            (map (outcome_line book) zs))
+              (map (outcome_line book) zs))
               (sym set_is)
               (acts_mean set (view last.pass.now) lanes visits callers c (points_of runs.steps) asks
               (outcomes_of h.acts.now h.out.now) zs (fresh_undone h.acts.now h.out.now fresh) done meant);
@@ -281,11 +283,11 @@ module _ {R : Type 0} {h last : LaneHost R} {finish : Finish} (n flags : ℕ) (s
               (never_fall (floor (view h.pass.now)) (looks_in own.deals) (floor (view last.pass.now)) own.rises);
           ways = match_false _ _ (tries_local n flags (bound_acts set asks zs))
               (no_local n flags set (view last.pass.now) asks zs (let e = length-map h.acts.now ask_of in omega arith)
-                meant) by_call;
+              meant) by_call;
         }
 
       pub inside_did : 0 < length h.acts.now → InsideDid n flags s finish.state answer shown set from.core.moment
-        to.core.moment asks zs
+          to.core.moment asks zs
       inside_did some = record {
         entries = runs.outcome.entries;
         deals = own.deals;
@@ -293,5 +295,5 @@ module _ {R : Type 0} {h last : LaneHost R} {finish : Finish} (n flags : ℕ) (s
         fits = own.fits;
         acts_fit = all_fit set (view last.pass.now) asks zs meant;
         stands = λ lanes visits callers c before set_is state_is. line lanes visits callers c before set_is state_is
-          some;
+            some;
       }

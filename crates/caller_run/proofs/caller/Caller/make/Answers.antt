@@ -14,7 +14,7 @@ returns-clause-can g c inside rest can =
     record {
       goes = can_next c.call-said.new.self k.set k.has (k.states can.goes.states) c.go_on.ensures
           (fills_call _ _ _ c.tell.ensures.lines c.tell.ensures.line_room c.requires.kind
-            (let b = c.tell.ensures.byte_room in omega arith)
+          (let b = c.tell.ensures.byte_room in omega arith)
           can.goes.fresh can.goes.told) can.goes;
       act_room = can.act_room;
     }
@@ -25,5 +25,5 @@ returns-clause-gone g c v caller events rest gone =
     subst (λ l. HasGone v caller events rest c.go_on.new.self l (waiting_in c.args.room.now))
     (sym (c.tell.ensures.lines
     ∙ (λ i. c.args.room.now.lines.lines ++ line_of call.self.set (c.word_of.ensures i) call.served c.call-said.result
-      call.trace ∷ [])))
+    call.trace ∷ [])))
     (gone_call c.requires.kind c.call-said.ensures c.go_on.ensures gone)

@@ -38,7 +38,7 @@ returns-clause-act_room g c = search rules
 put_back : (back items : List Bound) (n : ℕ) → length back ≡ n → take n (back ++ drop (length back) items) ≡ back
 put_back back items n long =
     ap (λ (k : ℕ). take k (back ++ drop (length back) items)) (sym long)
-      ∙ take-append_seam back (drop (length back) items)
+    ∙ take-append_seam back (drop (length back) items)
 
 -- what the caller did for its event
 has_read : (g : _) (c : After-go_on g) → HasRead c.args.lanes.now c.args.event.now c.args.self.now
@@ -53,7 +53,7 @@ has_read g c =
     let n_is : length (take c.most_shown.result c.args.served.now) ≡ len =
     length-take-le c.most_shown.result c.args.served.now low ∙ shown in
     let left_is : left ≡ after.acts = c.deref_mut-2.ensures.value
-      ∙ put_back after.acts acts.items acts.len (search rules) in
+    ∙ put_back after.acts acts.items acts.len (search rules) in
     let asks_are : asks_of left ≡ asks_of acts.items =
     ap asks_of left_is ∙ c.vread-said.ensures.asks ∙ ap asks_of c.deref_mut.ensures.value in
     let zs = outcomes_of after.acts after.inside in
@@ -71,14 +71,14 @@ has_read g c =
       read = subst (λ (n : ℕ). StateRead c.args.lanes.now n c.args.flags c.args.self.now after.self c.vread-said.result
           after.served after.trace (asks_of acts.items) zs) n_is
           (subst (λ (bs : List Bound). StateRead c.args.lanes.now (length (take c.most_shown.result c.args.served.now))
-            c.args.flags
+          c.args.flags
           c.args.self.now after.self c.vread-said.result after.served after.trace (asks_of bs) zs)
-            c.deref_mut.ensures.value
+          c.deref_mut.ensures.value
           c.vread-said.ensures.read);
       on = c.go_on.ensures;
       lines = c.tell.ensures.lines
           ∙ ap (λ (ls : List SeenLine). ls ++ line_of after.self.set VreadWord after.served c.vread-said.result
-            after.trace ∷ [])
+          after.trace ∷ [])
           (c.tell_acts.ensures.lines
           ∙ (λ i. told_anew c.args.room.now.lines.lines (asks_are i)
           (act_lines after.self.set (asks_are i) (outcomes_of (left_is i) after.inside))));

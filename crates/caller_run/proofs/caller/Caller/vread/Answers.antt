@@ -15,12 +15,12 @@ returns-then-is_empty-clause-read g c =
       published = c.vread.ensures.current;
       new = c.requires.new;
       current = current_is states.all states.current c.index-self-self.result
-        (let m = stand.many in let l = stand.current in omega arith);
+          (let m = stand.many in let l = stand.current in omega arith);
       answers = c.read.ensures.answer;
       shows = c.read.ensures.shows c.vread.new.buf;
       bytes = c.read.ensures.bytes;
     }) acts c.args.inside.now (none_left acts (eqb-true (length acts) 0 (sym c.if-is_empty.ensures)))
-      c.vread.ensures.did
+    c.vread.ensures.did
 
 pub returns-clause-read : goal.returns-clause-read
 returns-clause-read g c =
@@ -34,9 +34,9 @@ returns-clause-read g c =
       published = told.current;
       new = c.requires.new;
       current = current_is states.all states.current c.index-self-self.result
-        (let m = stand.many in let l = stand.current in omega arith);
+          (let m = stand.many in let l = stand.current in omega arith);
       answers = c.read-2.ensures.answer;
       shows = c.read-2.ensures.shows c.vread_inside.new.buf;
       bytes = c.read-2.ensures.bytes;
     }) c.args.acts.now c.vread_inside.new.acts c.args.inside.now c.vread_inside.new.out c.requires.fresh two told.asks
-      told.did told.ran
+    told.did told.ran

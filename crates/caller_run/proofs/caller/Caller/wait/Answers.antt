@@ -24,7 +24,7 @@ kept c =
       line_room = c.tell.ensures.line_room;
       byte_room = (let b = c.tell.ensures.byte_room in omega arith);
       kept = c.push_reserved.ensures.items ∙ ap (λ (b : Bound). c.args.room.now.acts.items ++ b ∷ [])
-        c.of-bound.ensures;
+          c.of-bound.ensures;
     }
 
 pub returns-clause-can : goal.returns-clause-can
