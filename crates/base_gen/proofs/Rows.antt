@@ -29,7 +29,8 @@ after_entry-Tick_root place now root b = refl
 pub after_entry-Draw : (taken : Taken) (root : List ℕ) (b : BaseValue) → after_entry (Draw None taken) root b ≡ erased b
 after_entry-Draw taken root b = refl
 
-pub after_entry-Draw_root : (place : ℕ) (taken : Taken) (root : List ℕ) (b : BaseValue) → after_entry (Draw (Some place) taken) root b ≡ erased (record b { key = root })
+pub after_entry-Draw_root : (place : ℕ) (taken : Taken) (root : List ℕ) (b : BaseValue) →
+    after_entry (Draw (Some place) taken) root b ≡ erased (record b { key = root })
 after_entry-Draw_root place taken root b = refl
 
 -- `call_key`
@@ -45,26 +46,33 @@ pub after_entry-Tick : (now : ℕ) (root : List ℕ) (b : BaseValue) → after_e
 after_entry-Tick now root b = refl
 
 -- `up`
-pub after_entry-Fork : (child : ℕ) (root : List ℕ) (b : BaseValue) → after_entry (Fork child) root b ≡ record b { running = one_more b.running }
+pub after_entry-Fork : (child : ℕ) (root : List ℕ) (b : BaseValue) →
+    after_entry (Fork child) root b ≡ record b { running = one_more b.running }
 after_entry-Fork child root b = refl
 
-pub after_entry-Resume : (root : List ℕ) (b : BaseValue) → after_entry Resume root b ≡ record b { running = one_more b.running }
+pub after_entry-Resume : (root : List ℕ) (b : BaseValue) →
+    after_entry Resume root b ≡ record b { running = one_more b.running }
 after_entry-Resume root b = refl
 
-pub after_entry-Interrupt : (root : List ℕ) (b : BaseValue) → after_entry Interrupt root b ≡ record b { running = one_more b.running }
+pub after_entry-Interrupt : (root : List ℕ) (b : BaseValue) →
+    after_entry Interrupt root b ≡ record b { running = one_more b.running }
 after_entry-Interrupt root b = refl
 
-pub after_entry-Unstall : (root : List ℕ) (b : BaseValue) → after_entry Unstall root b ≡ record b { running = one_more b.running }
+pub after_entry-Unstall : (root : List ℕ) (b : BaseValue) →
+    after_entry Unstall root b ≡ record b { running = one_more b.running }
 after_entry-Unstall root b = refl
 
 -- `down`
-pub after_entry-End : (root : List ℕ) (b : BaseValue) → after_entry End root b ≡ record b { running = one_less b.running }
+pub after_entry-End : (root : List ℕ) (b : BaseValue) →
+    after_entry End root b ≡ record b { running = one_less b.running }
 after_entry-End root b = refl
 
-pub after_entry-Wait : (root : List ℕ) (b : BaseValue) → after_entry Wait root b ≡ record b { running = one_less b.running }
+pub after_entry-Wait : (root : List ℕ) (b : BaseValue) →
+    after_entry Wait root b ≡ record b { running = one_less b.running }
 after_entry-Wait root b = refl
 
-pub after_entry-Stall : (root : List ℕ) (b : BaseValue) → after_entry Stall root b ≡ record b { running = one_less b.running }
+pub after_entry-Stall : (root : List ℕ) (b : BaseValue) →
+    after_entry Stall root b ≡ record b { running = one_less b.running }
 after_entry-Stall root b = refl
 
 -- what is handed to an entry is the root that it names
@@ -93,5 +101,6 @@ pub after_entry-after_entries : (pool : List PoolEntry) (es : List BaseEntry) (e
     HandsRoot pool e root → after_entry e root (after_entries pool es) ≡ after_entries pool (es ++ e ∷ [])
 after_entry-after_entries pool es e root is =
     after_entry-base_at pool (base_after es) (base_value_after pool es) root e is
-    ∙ ap (λ (s : BaseState). base_at s (base_value_step pool (base_value_after pool es) e)) (sym (fold-append base_step base_start es (e ∷ [])))
+    ∙ ap (λ (s : BaseState). base_at s (base_value_step pool (base_value_after pool es) e))
+    (sym (fold-append base_step base_start es (e ∷ [])))
     ∙ ap (base_at (base_after (es ++ e ∷ []))) (sym (fold-append (base_value_step pool) zero_key es (e ∷ [])))

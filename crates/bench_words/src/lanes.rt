@@ -23,7 +23,8 @@ fn started(alloc: Global) -> Result<(Lanes, Pass), AllocError>
 fn mix(held: &mut Held)
     requires { (i : ℕ) × (s : Model) × (2 ≤ i) × ValueStands i held.old.state s }
     ensures turn { held.new.turn ≡ held.old.turn }
-    ensures made { (i : ℕ) (s : Model) (got : Handed) → 2 ≤ i → ValueStands i held.old.state s → ValueStands i held.new.state (made_of s (Cpu (Irq 1 2 0)) got) }
+    ensures made { (i : ℕ) (s : Model) (got : Handed) → 2 ≤ i → ValueStands i held.old.state s
+        → ValueStands i held.new.state (made_of s (Cpu (Irq 1 2 0)) got) }
 {
     match held.state_mut() {
         LaneState::Cpu(lane) => {

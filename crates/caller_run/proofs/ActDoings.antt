@@ -10,13 +10,9 @@ use Rattle.lane_table.specs.declared.view.View.{View}
 use Rattle.rng_core.specs.declared.setting.Setting.{Setting}
 use Rattle.rng_core.specs.Acts.{Ask, ActOutcome, ActRan, ActsAt}
 use Rattle.rng_core.specs.InsideDid.{act_line, bound_acts}
+use Rattle.rng_core.proofs.InsideCalls.{IsUndone}
 use Rattle.caller_run.specs.Items.{Item, items_from, line_items, items_at_point}
 use Rattle.caller_run.proofs.PartItems.{Part, part_nothing, part_then, part_went}
-
--- an act that was not done
-pub record IsUndone (x : ActOutcome) : Type 0 where
-  pub idle : x.done ≡ false
-  pub empty : x.steps ≡ []
 
 -- no act at this point was done
 abbrev pub Untouched : ℕ → List Ask → List ActOutcome → Type 0
@@ -47,7 +43,8 @@ module _ (set : Setting) where
   act_items asks xs p = items_at_point (bound_acts set asks xs) p
 
   -- none, where none was done
-  pub untouched_items : (p : ℕ) (asks : List Ask) (xs : List ActOutcome) → Untouched p asks xs → act_items asks xs p ≡ []
+  pub untouched_items : (p : ℕ) (asks : List Ask) (xs : List ActOutcome) → Untouched p asks xs →
+      act_items asks xs p ≡ []
   untouched_items p [] xs k = refl
   untouched_items p (a ∷ asks) [] k = refl
   untouched_items p (a ∷ asks) (x ∷ xs) k = go (number_of a.point == p) k.0 (untouched_items p asks xs k.1)
@@ -58,7 +55,8 @@ module _ (set : Setting) where
       go false h rest = rest
 
   -- one act did these steps, as its line tells
-  act_part : (a : Ask) (v w : View) (y : ActOutcome) → ActRan set a v w y → Part set.caller v w (line_items (act_line set a y))
+  act_part : (a : Ask) (v w : View) (y : ActOutcome) → ActRan set a v w y →
+      Part set.caller v w (line_items (act_line set a y))
   act_part a v w y k =
       subst (λ (l : List Step). Part set.caller v w (items_from a.event 0 l)) (sym k.did.told.trace)
       (part_went set.caller a.event 0 v w k.did.deals k.did.told.went)
@@ -87,10 +85,12 @@ module _ (set : Setting) where
             (act_part a v k.0 y ran) rest
         go true false same h u rest = absurd (cc same)
         go false true same h u rest = absurd (cc same)
-        go false false same h u rest = subst (λ (z : View). Part set.caller z w (act_items asks ys (number_of point))) h.1 rest
+        go false false same h u rest = subst (λ (z : View). Part set.caller z w (act_items asks ys (number_of point)))
+            h.1 rest
 
     -- at another point nothing changes
-    pub acts_elsewhere : (q : ℕ) → (number_of point == q) ≡ false → (asks : List Ask) (v w : View) (xs ys : List ActOutcome) →
+    pub acts_elsewhere : (q : ℕ) → (number_of point == q) ≡ false →
+        (asks : List Ask) (v w : View) (xs ys : List ActOutcome) →
         ActsAt set point asks v w xs ys →
         (act_items asks ys q ≡ act_items asks xs q) × (Untouched q asks xs → Untouched q asks ys)
     acts_elsewhere q other [] v w [] [] k = (refl, λ u. u)

@@ -34,6 +34,17 @@ use Rattle.caller_run.proofs.CanGo.{GoesOn}
 use Rattle.caller_run.proofs.ToldAnew.{idle_more}
 use Rattle.caller_run.proofs.HasGone.{gone_by, fit_more}
 
+-- what c tells of an act that is not done
+abbrev pub idle_line : Caller → SeenLine
+idle_line c = record {
+  caller = c.set.caller;
+  event = c.set.event;
+  word = InsideWord;
+  answer = Unused;
+  steps = [];
+  shown = no_data;
+}
+
 -- c keeps an act for its next vread at this event, and e goes on: these are the lines, of which the last tells that the act
 -- was not done, and the acts that wait, before it and behind it
 pub record Keeps (event : Event) (c e : Caller) (before after : Gathered) (acts left : List Bound) : Type 0 where
@@ -41,7 +52,7 @@ pub record Keeps (event : Event) (c e : Caller) (before after : Gathered) (acts 
   pub act : InsideAct
   pub event_is : event ≡ Inside (number_of point) act
   pub on : GoesOn event c e
-  pub lines : after.lines ≡ before.lines ++ record { caller = c.set.caller; event = c.set.event; word = InsideWord; answer = Unused; steps = []; shown = no_data } ∷ []
+  pub lines : after.lines ≡ before.lines ++ idle_line c ∷ []
   pub line_room : after.line_room + 1 ≡ before.line_room
   pub byte_room : before.byte_room ≤ after.byte_room
   pub kept : left ≡ acts ++ new_bound point act c.set.event ∷ []
@@ -50,10 +61,10 @@ get_seam : (lines : List SeenLine) (line : SeenLine) → slice_get (lines ++ lin
 get_seam [] line = refl
 get_seam (l ∷ lines) line = get_seam lines line
 
-module _ (event : Event) (c e : Caller) (before after : Gathered) (acts left : List Bound) (k : Keeps event c e before after acts left)
-    (at : c.set.event ≡ length before.lines) where
+module _ {event : Event} {c e : Caller} {before after : Gathered} {acts left : List Bound}
+    (k : Keeps event c e before after acts left) where
   abbrev line : SeenLine
-  line = record { caller = c.set.caller; event = c.set.event; word = InsideWord; answer = Unused; steps = []; shown = no_data }
+  line = idle_line c
 
   abbrev asks : List Ask
   asks = asks_of acts
@@ -61,27 +72,29 @@ module _ (event : Event) (c e : Caller) (before after : Gathered) (acts left : L
   abbrev x : Ask
   x = ask_of (new_bound k.point k.act c.set.event)
 
-  pub can_keep : (t : Lanes) (m inside : ℕ) (rest : List Event) → CanGoWith t c before acts m inside (event ∷ rest) →
+  pub can_keep : {t : Lanes} {m inside : ℕ} {rest : List Event} → CanGoWith t c before acts m inside (event ∷ rest) →
       CanGoWith t e after left m inside rest
-  can_keep t m inside rest g =
+  can_keep {t = t} g =
       let range = subst (InRange g.range.0 t.cpus) k.event_is g.range.1.0 in
-      can_next t event c c e before after acts left m inside rest refl g.ready.has g.states k.on
+      can_next c refl g.ready.has g.states k.on
       (subst (λ (y : Event). Fills y before after acts left) (sym k.event_is)
       (subst (Fills (Inside (number_of k.point) k.act) before after acts) (sym k.kept)
-      (fills_act before after line k.lines k.line_room k.point k.act c.set.event acts k.byte_room range.2 at g.fresh g.told))) g
+      (fills_act before after line k.lines k.line_room k.point k.act c.set.event acts k.byte_room range.2 g.at g.fresh
+      g.told))) g
 
-  module _ (v : View) (caller : ℕ) (events rest : List Event)
+  module _ (at : c.set.event ≡ length before.lines) (v : View) (caller : ℕ) (events rest : List Event)
       (g : HasGone v caller events (Inside (number_of k.point) k.act ∷ rest) c before.lines asks)
       (on : GoesOn (Inside (number_of k.point) k.act) c e) where
     line_is : LineIs caller c.set.event InsideWord line
     line_is = record { caller = g.own; event = refl; word_is = refl }
 
     idle : AllByRecursion (HasLine caller (before.lines ++ line ∷ [])) (asks ++ x ∷ [])
-    idle = each_more (HasLine caller (before.lines ++ line ∷ [])) asks x (idle_more caller before.lines line asks g.idle) (record {
-      line = line;
-      there = ap (slice_get (before.lines ++ line ∷ [])) at ∙ get_seam before.lines line;
-      is = line_is;
-    })
+    idle = each_more (HasLine caller (before.lines ++ line ∷ [])) asks x
+        (idle_more caller before.lines line asks g.idle) (record {
+          line = line;
+          there = ap (slice_get (before.lines ++ line ∷ [])) at ∙ get_seam before.lines line;
+          is = line_is;
+        })
 
     fit : (more : List SeenLine) → LinesFit caller (suc c.set.event) rest more →
         LinesFit caller 0 events ((before.lines ++ line ∷ []) ++ more)
@@ -101,15 +114,18 @@ module _ (event : Event) (c e : Caller) (before after : Gathered) (acts left : L
         (λ _. ap (λ (w : List Ask). w ++ x ∷ []) (g.waits has))
         (so_far_waits events rest before.lines g.waiting g.calls x line has at g.so_far) fit idle
 
-    gone_either : (b : Bool) → has_vread rest ≡ b → HasGone v caller events rest e (before.lines ++ line ∷ []) (asks ++ x ∷ [])
+    gone_either : (b : Bool) → has_vread rest ≡ b →
+        HasGone v caller events rest e (before.lines ++ line ∷ []) (asks ++ x ∷ [])
     gone_either true has = gone_waits has
     gone_either false none = gone_idle none
 
-  pub gone_keep : (v : View) (caller : ℕ) (events rest : List Event) → HasGone v caller events (event ∷ rest) c before.lines asks →
+  pub gone_keep : c.set.event ≡ length before.lines → (v : View) (caller : ℕ) (events rest : List Event) →
+      HasGone v caller events (event ∷ rest) c before.lines asks →
       HasGone v caller events rest e after.lines (asks_of left)
-  gone_keep v caller events rest g =
+  gone_keep at v caller events rest g =
       subst (λ (ls : List SeenLine). HasGone v caller events rest e ls (asks_of left)) (sym k.lines)
       (subst (HasGone v caller events rest e (before.lines ++ line ∷ []))
       (sym (ap asks_of k.kept ∙ map-append ask_of acts (new_bound k.point k.act c.set.event ∷ [])))
-      (gone_either v caller events rest (subst (λ (y : Event). HasGone v caller events (y ∷ rest) c before.lines asks) k.event_is g)
+      (gone_either at v caller events rest (subst (λ (y : Event). HasGone v caller events (y ∷ rest) c before.lines
+      asks) k.event_is g)
       (subst (λ (y : Event). GoesOn y c e) k.event_is k.on) (has_vread rest) refl))

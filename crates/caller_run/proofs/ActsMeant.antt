@@ -1,5 +1,5 @@
 -- What the acts inside a call mean, and their samples.
-use Rattle.std.proofs.Common.{◌≡◌, ℕ, ◌≤◌, inl, Bool, true, false, List, [], ◌∷◌, length, drop, map, refl, sym, ap, ◌∙◌, subst, arith}
+use Rattle.std.proofs.Common.{◌≡◌, ℕ, ◌≤◌, inl, Bool, true, false, List, [], ◌∷◌, map, refl, sym, ap, subst, arith}
 use Rattle.std.specs.Prelude.{if◌then◌else◌}
 use Rattle.std.specs.List.{AllByRecursion}
 use Rattle.key_names.specs.declared.events.Answer.TheVariants.{Unused}
@@ -16,45 +16,18 @@ use Rattle.key_names.specs.FastPool.{FastPool}
 use Rattle.key_names.specs.IsTranscript.{EachAct}
 use Rattle.key_names.specs.Meaning.{LineMeaning, ActMeans, unused_line}
 use Rattle.key_names.specs.SeenLine.{SeenLine, bytes_or_none, no_data}
-use Rattle.key_names.specs.TranscriptGrammar.{StepFits}
 use Rattle.key_names.specs.VreadSteps.{number_of}
 use Rattle.lane_table.specs.declared.view.View.{View}
 use Rattle.lane_table.specs.declared.view.Visit.{Visit}
 use Rattle.lane_table.specs.BookLists.{StateLists, book_lists}
 use Rattle.lane_table.specs.BookLaws.{Continues}
-use Rattle.rng_core.specs.declared.acts.Bound.{Bound}
 use Rattle.rng_core.specs.declared.setting.Setting.{Setting}
 use Rattle.rng_core.specs.Did.{setting_of, result_answer, given}
-use Rattle.rng_core.specs.Acts.{Ask, ActOutcome, wants, done_line, asks_of, outcomes_of}
-use Rattle.rng_core.specs.InsideDid.{IsFresh, act_line, bound_acts, outcome_line}
+use Rattle.rng_core.specs.Acts.{Ask, ActOutcome, done_line}
+use Rattle.rng_core.specs.InsideDid.{act_line, bound_acts, outcome_line}
 use Rattle.rng_core.specs.SampleDeeds.{SamplesStand, fast_in}
 use Rattle.rng_core.proofs.ActRuns.{Meant, AllMeant}
-use Rattle.caller_run.proofs.ActDoings.{IsUndone}
 use Rattle.caller_run.proofs.QuietForms.{sys, form_samples}
-
--- acts as they are handed to a call were not done
-pub fresh_undone : (bounds : List Bound) (out : List ℕ) → AllByRecursion IsFresh bounds → AllByRecursion IsUndone (outcomes_of bounds out)
-fresh_undone [] out all = tt
-fresh_undone (b ∷ bounds) out all = (record { idle = all.0.idle; empty = all.0.empty }, fresh_undone bounds (drop (wants b.act) out) all.1)
-
-pub outcomes_long : (bounds : List Bound) (out : List ℕ) → length (outcomes_of bounds out) ≡ length (asks_of bounds)
-outcomes_long [] out = refl
-outcomes_long (b ∷ bounds) out = let e = outcomes_long bounds (drop (wants b.act) out) in omega arith
-
--- they mean nothing yet
-pub undone_meant : (set : Setting) (v : View) (asks : List Ask) (xs : List ActOutcome) → AllByRecursion IsUndone xs →
-    length xs ≡ length asks → AllMeant set v asks xs
-undone_meant set v [] [] all long = tt
-undone_meant set v [] (x ∷ xs) all long = absurd (omega arith)
-undone_meant set v (a ∷ asks) [] all long = absurd (omega arith)
-undone_meant set v (a ∷ asks) (x ∷ xs) all long = (
-  record {
-    done = λ e lanes visits callers c. let no : true ≡ false = sym e ∙ all.0.idle in absurd (cc no);
-    idle = λ e. all.0.empty;
-    fits = subst (AllByRecursion StepFits) (sym all.0.empty) tt;
-  },
-  undone_meant set v asks xs all.1 (omega arith),
-)
 
 -- each act has one of the four points
 pub points_fit : (set : Setting) (asks : List Ask) (zs : List ActOutcome) →
@@ -85,11 +58,13 @@ module _ (set : Setting) (w : View) where
     act_deeds a z m = go z.done m.idle
       where
         go : (b : Bool) → (b ≡ false → z.steps ≡ []) →
-            deeds_of lists z.steps ≡ (if b then done_line (deeds_of lists z.steps) z.answer z.bytes else unused_line).deeds
+            deeds_of lists z.steps ≡ (if b then done_line (deeds_of lists z.steps) z.answer z.bytes else
+            unused_line).deeds
         go true idle = refl
         go false idle = ap (deeds_of lists) (idle refl)
 
-    pub act_answer : (a : Ask) (z : ActOutcome) → Meant set w a z → (act_line set a z).answer ≡ (outcome_line lists z).answer
+    pub act_answer : (a : Ask) (z : ActOutcome) → Meant set w a z →
+        (act_line set a z).answer ≡ (outcome_line lists z).answer
     act_answer a z m = go z.done
       where
         go : (b : Bool) → (if b then result_answer z.answer else Unused)
@@ -97,7 +72,8 @@ module _ (set : Setting) (w : View) where
         go true = refl
         go false = refl
 
-    pub act_shown : (a : Ask) (z : ActOutcome) → Meant set w a z → (act_line set a z).shown ≡ (outcome_line lists z).shown
+    pub act_shown : (a : Ask) (z : ActOutcome) → Meant set w a z →
+        (act_line set a z).shown ≡ (outcome_line lists z).shown
     act_shown a z m = go z.done
       where
         go : (b : Bool) → (if b then bytes_or_none (given z.answer z.bytes) else no_data)

@@ -9,7 +9,7 @@ use Rattle.key_names.specs.Calls.{alone, unbound, ending, BoundAct}
 use Rattle.key_names.specs.Deeds.{deeds_of}
 use Rattle.key_names.specs.Forms.{Form, EndForm}
 use Rattle.caller_run.specs.Items.{items_from}
-use Rattle.key_names.specs.Meaning.{CallerState, state_after, event_entries, unused_line}
+use Rattle.key_names.specs.Meaning.{CallerState, caller_after, event_entries, unused_line}
 use Rattle.key_names.specs.SeenLine.{SeenLine, no_data}
 use Rattle.lane_table.specs.declared.view.Visit.{Visit}
 use Rattle.lane_table.specs.declared.view.View.{View}
@@ -38,7 +38,7 @@ module _ (caller : ℕ) (v w : View) (s : CallerState) (line : SeenLine) (deals 
       InTheEnd (λ visits lists. Form s.setting event (deeds_of lists line.steps)
       × (line.answer ≡ answer_of event (deeds_of lists line.steps))
       × (line.shown ≡ shown_of event (deeds_of lists line.steps))) →
-      Sampled → CallDone caller v w s (state_after s event) (alone event line)
+      Sampled → CallDone caller v w s (caller_after s event) (alone event line)
   alone_done event told sampled = record {
     doings = doings_from line.event 0 deals;
     ran = ran_went caller line.event 0 v w deals went;
@@ -54,7 +54,7 @@ module _ (caller : ℕ) (v w : View) (s : CallerState) (line : SeenLine) (deals 
         acts = [];
         entries = event_entries event;
         before = s;
-        after = state_after s event;
+        after = caller_after s event;
       };
       before = refl;
       means = record { form = t.0; answer = t.1; shown = t.2; no_acts = refl; entries = refl; after = refl };

@@ -73,7 +73,8 @@ calls_done_then caller u v w s t r calls call a b = record {
   doings = a.doings ++ b.doings;
   ran = ran_then caller u v w a.doings b.doings a.ran b.ran;
   order = map-append item_of a.doings b.doings ∙ (λ i. a.order i ++ b.order i)
-      ∙ sym (flat_map-append call_items calls (call ∷ []) ∙ ap (λ l. calls_items calls ++ l) (append-nil (call_items call)));
+      ∙ sym (flat_map-append call_items calls (call ∷ [])
+      ∙ ap (λ l. calls_items calls ++ l) (append-nil (call_items call)));
   points = each_more PointsFit calls call a.points b.points;
   meant = λ lanes visits callers c.
       meant_more (book_lists lanes visits callers) s t r calls call

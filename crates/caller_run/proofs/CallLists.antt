@@ -61,7 +61,8 @@ module _ (c : ℕ) (P : Kept) (k : Keeps c P) where
       by_test true is bound line has not =
           let Q : Bool → Type 0 = λ b. P waiting (Inside bound.point bound.act ∷ es) (bound.line ∷ lines)
           (if b then calls_from (waiting ++ bound ∷ []) es lines else unbound bound ∷ calls_from waiting es lines) in
-          subst Q (sym is) (k.waits waiting n bound es lines (calls_from (waiting ++ bound ∷ []) es lines) line (has is))
+          subst Q (sym is) (k.waits waiting n bound es lines (calls_from (waiting ++ bound ∷ []) es lines) line
+          (has is))
       by_test false is bound line has not =
           let Q : Bool → Type 0 = λ b. P waiting (Inside bound.point bound.act ∷ es) (bound.line ∷ lines)
           (if b then calls_from (waiting ++ bound ∷ []) es lines else unbound bound ∷ calls_from waiting es lines) in

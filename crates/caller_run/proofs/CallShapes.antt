@@ -87,7 +87,8 @@ module _ (n : ℕ) where
         steps_are = k.steps_are ∙ ap (λ (l : List HostStep). at_point Serve k.wiped ∷ l) (end.steps_are
             ∙ ap (λ (l : List HostStep). at_point End end.wiped ∷ l) last.steps_are);
         held = _;
-        end_is = ap end_of k.attempt_is ∙ ap end_of serve.attempt_is ∙ ap end_of end.attempt_is ∙ ap end_of last.attempt_is;
+        end_is = ap end_of k.attempt_is ∙ ap end_of serve.attempt_is ∙ ap end_of end.attempt_is
+            ∙ ap end_of last.attempt_is;
       }
 
   -- the second attempt begins with two own steps that are looks
@@ -96,8 +97,10 @@ module _ (n : ℕ) where
   start_looks c published s steps more attempt k = go (s.generation == published) k
     where
       go : (b : Bool) → MatchBool b (AtPoint Serve (FromServe n c) s steps attempt)
-          (AtPoint Written (FromWritten n c) (record s { generation = published }) steps attempt) → LooksFirst (steps ++ more)
-      go true h = subst (λ (l : List HostStep). LooksFirst (l ++ more)) (sym (serve_steps c s steps attempt h).steps_are) tt
+          (AtPoint Written (FromWritten n c) (record s { generation = published }) steps attempt) →
+          LooksFirst (steps ++ more)
+      go true h = subst (λ (l : List HostStep). LooksFirst (l ++ more))
+          (sym (serve_steps c s steps attempt h).steps_are) tt
       go false h =
           subst (λ (l : List HostStep). LooksFirst (l ++ more))
           (sym (h.steps_are ∙ ap (λ (l : List HostStep). at_point Written h.wiped ∷ l) h.goes_on.steps_are)) refl
@@ -112,11 +115,13 @@ module _ (n : ℕ) where
           rest = look.rest ++ k.rest;
           steps_are = k.steps_are ∙ ap (λ (l : List HostStep). l ++ k.rest) look.steps_are;
           quiet = subst (Quiet First) back (refl, later_quiet (start.rest ++ k.rest));
-          looks = subst LooksFirst back (start_looks c look.published _ start.rest k.rest start.attempt_after start.goes_on);
+          looks = subst LooksFirst back (start_looks c look.published _ start.rest k.rest start.attempt_after
+              start.goes_on);
         }
 
     after_copy : (attempt : Attempt) (end : AttemptEnd) (held : Bool) (steps : List HostStep) (outcome : Outcome) →
-        end ≡ (if held then holds else outdated) → AfterAttempt n flags (SecondAttempt n flags) end attempt steps outcome →
+        end ≡ (if held then holds else outdated) → AfterAttempt n flags (SecondAttempt n flags) end attempt steps
+        outcome →
         Behind steps
     after_copy attempt end true steps outcome is k =
         let h = subst (λ (e : AttemptEnd). AfterAttempt n flags (SecondAttempt n flags) e attempt steps outcome) is k in
@@ -176,7 +181,8 @@ module _ (n : ℕ) where
             rest = system_call 32 0 call.answer ∷ call.rest ++ rest;
             steps_are = ap (λ (l : List HostStep). l ++ rest)
                 (h.steps_are ∙ ap (λ (l : List HostStep). at_point Written h.wiped ∷ l) call.steps_are);
-            keys = keys call.answer _ call.rest h.attempt_after whole (same ∙ ap end_of h.attempt_is) call.goes_on after;
+            keys = keys call.answer _ call.rest h.attempt_after whole (same ∙ ap end_of h.attempt_is) call.goes_on
+                after;
           })
 
     first_attempt : (found : ℕ) (s : VgetrandomState) (steps : List HostStep) (outcome : Outcome) → 1 ≤ found →
@@ -193,7 +199,8 @@ module _ (n : ℕ) where
           (ap end_of start.attempt_is) start.goes_on k.goes_on;
     }
 
-    system_quiet : (s : VgetrandomState) (steps : List HostStep) (outcome : Outcome) → BySystem n flags s steps outcome →
+    system_quiet : (s : VgetrandomState) (steps : List HostStep) (outcome : Outcome) →
+        BySystem n flags s steps outcome →
         Quiet Before steps
     system_quiet s steps outcome k = subst (Quiet Before) (sym k.steps_are) tt
 
@@ -214,7 +221,8 @@ module _ (n : ℕ) where
             inr (first_attempt found (record s { in_use = true }) steps outcome (omega (arith, ne)) h)
 
     -- each call is one or the other
-    pub call_shape : (s : VgetrandomState) (steps : List HostStep) (outcome : Outcome) → IsCall n flags s steps outcome →
+    pub call_shape : (s : VgetrandomState) (steps : List HostStep) (outcome : Outcome) →
+        IsCall n flags s steps outcome →
         Quiet Before steps ⊎ Tries steps
     call_shape s steps outcome k = go (is_bad flags) k
       where

@@ -1,5 +1,5 @@
 -- The steps of a call in the order in which they happen are those of its lines.
-use Rattle.std.proofs.Common.{◌≡◌, ℕ, zero, suc, ◌+◌, ◌≤◌, Bool, true, false, cond, List, [], ◌∷◌, ◌++◌, take, drop, map, refl, sym, ap, ◌∙◌, subst, arith, append-nil}
+use Rattle.std.proofs.Common.{append_assoc, ◌≡◌, ℕ, zero, suc, ◌+◌, ◌≤◌, Bool, true, false, cond, List, [], ◌∷◌, ◌++◌, take, drop, map, refl, sym, ap, ◌∙◌, subst, arith, append-nil}
 use Rattle.std.specs.Prelude.{if◌then◌else◌, ◌==◌}
 use Rattle.std.specs.List.{AllByRecursion, flat_map, sum_by}
 use Rattle.std.proofs.lemmas.List.{take-append-drop}
@@ -9,7 +9,7 @@ use Rattle.key_names.specs.Calls.{Call, alone, vread_call, unbound, ending, Boun
 use Rattle.key_names.specs.History.{is_mark}
 use Rattle.caller_run.specs.Items.{Item, line_items, cut_items, cut_rekey, items_at_point, vread_items, call_items}
 use Rattle.key_names.specs.SeenLine.{SeenLine}
-use Rattle.key_names.proofs.Each.{each_append}
+use Rattle.key_names.proofs.Each.{each_append, each_parts}
 use Rattle.caller_run.specs.Done.{call_lines, PointsFit}
 
 -- the steps of some lines
@@ -41,6 +41,27 @@ rekey_whole (a ∷ b ∷ c ∷ items) = go (is_mark c.step)
     go true = ap (λ (l : List Item). a ∷ b ∷ l) (cut_whole (c ∷ items))
     go false = refl
 
+-- two lists without steps between others
+pub no_steps : (xs ys a b front : List Item) → a ≡ [] → b ≡ [] → (((front ++ xs) ++ a) ++ b) ++ ys ≡ front ++ (xs ++ ys)
+no_steps xs ys a b front e f = (λ i. (((front ++ xs) ++ e i) ++ f i) ++ ys) ∙ simp append-nil (append_assoc front xs ys)
+
+-- without steps at the points 3 and 4 the cut is of no account
+pub no_late : (items : List Item) (acts : List BoundAct) → items_at_point acts 3 ≡ [] → items_at_point acts 4 ≡ [] →
+    vread_items items acts ≡ (take 2 items ++ items_at_point acts 1 ++ items_at_point acts 2) ++ drop 2 items
+no_late items acts e f =
+    let cut = cut_rekey (drop 2 items) in
+    let front : List Item = take 2 items ++ items_at_point acts 1 ++ items_at_point acts 2 in
+    no_steps cut.0 cut.1 (items_at_point acts 3) (items_at_point acts 4) front e f
+    ∙ ap (λ (l : List Item). front ++ l) (sym (rekey_whole (drop 2 items)))
+
+-- where no act has any the steps of the line stand as they are
+pub own_items : (items : List Item) (acts : List BoundAct) → ((p : ℕ) → items_at_point acts p ≡ []) →
+    vread_items items acts ≡ items
+own_items items acts none =
+    no_late items acts (none 3) (none 4)
+    ∙ (λ i. (take 2 items ++ none 1 i ++ none 2 i) ++ drop 2 items)
+    ∙ simp append-nil (take-append-drop 2 items)
+
 abbrev pub act_line : BoundAct → SeenLine
 act_line bound = bound.line
 
@@ -49,7 +70,8 @@ module _ (f : Item → ℕ) where
   abbrev weight : List Item → ℕ
   weight items = sum_by f items
 
-  at_one : (p w : ℕ) → 1 ≤ p → p ≤ 4 → cond (p == 1) w 0 + (cond (p == 2) w 0 + (cond (p == 3) w 0 + cond (p == 4) w 0)) ≡ w
+  at_one : (p w : ℕ) → 1 ≤ p → p ≤ 4 → cond (p == 1) w
+      0 + (cond (p == 2) w 0 + (cond (p == 3) w 0 + cond (p == 4) w 0)) ≡ w
   at_one zero w from to = absurd (omega arith)
   at_one (suc zero) w from to = omega arith
   at_one (suc (suc zero)) w from to = omega arith
@@ -61,7 +83,8 @@ module _ (f : Item → ℕ) where
       ≡ cond (bound.point == point) (weight (line_items bound.line)) 0 + weight (items_at_point acts point)
   point_weight bound acts point = go (bound.point == point)
     where
-      go : (b : Bool) → weight (if b then line_items bound.line ++ items_at_point acts point else items_at_point acts point)
+      go : (b : Bool) → weight (if b then line_items bound.line
+          ++ items_at_point acts point else items_at_point acts point)
           ≡ cond b (weight (line_items bound.line)) 0 + weight (items_at_point acts point)
       go true = sum_by-append f (line_items bound.line) (items_at_point acts point)
       go false = omega arith
@@ -121,12 +144,10 @@ module _ (f : Item → ℕ) where
 
 -- what holds of each of both holds of each of one
 pub in_front : {X : Type 0} (P : X → Type 0) (xs ys : List X) → AllByRecursion P (xs ++ ys) → AllByRecursion P xs
-in_front P [] ys all = tt
-in_front P (x ∷ xs) ys all = (all.0, in_front P xs ys all.1)
+in_front P xs ys all = (each_parts P xs ys all).0
 
 pub behind : {X : Type 0} (P : X → Type 0) (xs ys : List X) → AllByRecursion P (xs ++ ys) → AllByRecursion P ys
-behind P [] ys all = all
-behind P (x ∷ xs) ys all = behind P xs ys all.1
+behind P xs ys all = (each_parts P xs ys all).1
 
 -- what holds of each step
 module _ (P : Item → Type 0) where
@@ -182,12 +203,14 @@ module _ (P : Item → Type 0) where
       let f2 = in_front P (take 2 items ++ a1 ++ a2) r fr in
       let f1 = in_front P (take 2 items ++ a1) a2 f2 in
       let of_line : Each items =
-      subst Each (take-append-drop 2 items) (each_append P (take 2 items) (drop 2 items) (in_front P (take 2 items) a1 f1)
+      subst Each (take-append-drop 2 items) (each_append P (take 2 items) (drop 2 items)
+      (in_front P (take 2 items) a1 f1)
       (subst Each (sym (rekey_whole (drop 2 items))) (each_append P r end (behind P (take 2 items ++ a1 ++ a2) r fr)
       (behind P (take 2 items ++ a1 ++ a2 ++ r ++ a3 ++ a4) end all)))) in
       let inside = of_acts acts fit (behind P (take 2 items) a1 f1) (behind P (take 2 items ++ a1) a2 f2)
       (behind P (take 2 items ++ a1 ++ a2 ++ r) a3 f3) (behind P (take 2 items ++ a1 ++ a2 ++ r ++ a3) a4 f4) in
       subst Each (sym (flat_map-append line_items (map act_line acts) (line ∷ [])))
-      (each_append P (lines_items (map act_line acts)) (items ++ []) inside (subst Each (sym (append-nil items)) of_line))
+      (each_append P (lines_items (map act_line acts)) (items ++ []) inside
+      (subst Each (sym (append-nil items)) of_line))
   call_each (unbound bound) fit all = subst Each (sym (append-nil (line_items bound.line))) all
   call_each (ending line) fit all = subst Each (sym (append-nil (line_items line))) all

@@ -32,7 +32,8 @@ module _ (f : Item → ℕ) where
 
   -- one call more in front, and its own line
   in_front_of : (call : Call) (line : SeenLine) (calls : List Call) (lines : List SeenLine) (n m : ℕ) →
-      weight (call_items call) ≡ n + weight (line_items line) → weight (calls_items calls) ≡ m + weight (lines_items lines) →
+      weight (call_items call) ≡ n + weight (line_items line) →
+      weight (calls_items calls) ≡ m + weight (lines_items lines) →
       weight (calls_items (call ∷ calls)) ≡ (n + m) + weight (lines_items (line ∷ lines))
   in_front_of call line calls lines n m here rest =
       let a : weight (calls_items (call ∷ calls)) ≡ weight (call_items call) + weight (calls_items calls) =
@@ -55,7 +56,8 @@ module _ (f : Item → ℕ) where
         ≡ weight (lines_items (map act_line waiting)) + weight (line_items bound.line) =
         ap weight (waiting_more waiting bound)
         ∙ sum_by-append f (lines_items (map act_line waiting)) (line_items bound.line) in
-        let b : weight (lines_items (bound.line ∷ lines)) ≡ weight (line_items bound.line) + weight (lines_items lines) =
+        let b : weight (lines_items (bound.line ∷ lines)) ≡ weight (line_items bound.line) + weight
+        (lines_items lines) =
         sum_by-append f (line_items bound.line) (lines_items lines) in
         let r = rest fit in omega arith;
     idles = λ waiting n bound es lines calls is rest fit.
@@ -83,7 +85,8 @@ module _ (P : Item → Type 0) where
     does = λ waiting n event es line lines calls is rest fit all.
         let r = rest fit.1 (behind P (line_items line) (calls_items calls) all) in (
           r.0,
-          each_append P (line_items line) (lines_items lines) (in_front P (line_items line) (calls_items calls) all) r.1,
+          each_append P (line_items line) (lines_items lines) (in_front P (line_items line) (calls_items calls) all)
+              r.1,
         );
     reads = λ waiting n len flags es line lines calls is rest fit all.
         let call : Call = vread_call len flags line waiting in
@@ -93,7 +96,8 @@ module _ (P : Item → Type 0) where
         (call_each P call fit.0 (in_front P (call_items call) (calls_items calls) all)) in (
           in_front P (lines_items (map act_line waiting)) (line_items line ++ []) here,
           each_append P (line_items line) (lines_items lines)
-              (in_front P (line_items line) [] (behind P (lines_items (map act_line waiting)) (line_items line ++ []) here))
+              (in_front P (line_items line) [] (behind P (lines_items (map act_line waiting)) (line_items line ++ [])
+              here))
               r.1,
         );
     waits = λ waiting n bound es lines calls is rest fit all.

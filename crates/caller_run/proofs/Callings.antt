@@ -37,12 +37,14 @@ quietly set event answer shown m n other did = record {
   told = did.told;
   stands = λ lanes visits callers c. let h = did.stands lanes visits callers c in record {
     holds = h;
-    samples = form_samples (fast_in visits) (setting_of set) event (deeds_of (book_lists lanes visits callers) (map step_of did.deals)) other h.form;
+    samples = form_samples (fast_in visits) (setting_of set) event
+        (deeds_of (book_lists lanes visits callers) (map step_of did.deals)) other h.form;
   };
 }
 
 -- c made the call of an event, and is d behind it
-module _ (t : Lanes) (event e : Event) (c d : Caller) (said : Said) (served : List ℕ) (before steps : List Step) (is : event ≡ e)
+module _ (t : Lanes) (event e : Event) (c d : Caller) (said : Said) (served : List ℕ) (before steps : List Step)
+    (is : event ≡ e)
     (new : before ≡ []) (same : d ≡ record c { pass = d.pass }) (has : Has t c.set.caller [] d.pass) where
   pub by_does : (answer : Answer) (shown : Shown) → said.answer ≡ answer → shown_by served said.shows ≡ shown →
       ShowsFit (event_word e) said.shows → Does c.set e answer shown (moment c.pass before) (moment d.pass steps) →
@@ -52,7 +54,8 @@ module _ (t : Lanes) (event e : Event) (c d : Caller) (said : Said) (served : Li
         has = subst (λ (x : Caller). Has t x.set.caller [] d.pass) (sym same) has;
         set = ap (λ (x : Caller). x.set) same;
         states = ap (λ (x : Caller). x.states) same;
-        does = subst (λ (a : Answer). Does c.set e a (shown_by served said.shows) (moment c.pass []) (moment d.pass steps)) (sym answers)
+        does = subst (λ (a : Answer). Does c.set e a (shown_by served said.shows) (moment c.pass [])
+            (moment d.pass steps)) (sym answers)
             (subst (λ (x : Shown). Does c.set e answer x (moment c.pass []) (moment d.pass steps)) (sym shows)
             (subst (λ (l : List Step). Does c.set e answer shown (moment c.pass l) (moment d.pass steps)) new does));
         shows = fit;
@@ -69,7 +72,8 @@ module _ (t : Lanes) (event e : Event) (c d : Caller) (said : Said) (served : Li
 
 -- credit alone is credit for no bytes
 pub as_credit : (set : Setting) (bits : ℕ) (m n : Moment) →
-    Did (Fulfils (setting_of set) (Add [] bits) Done no_data) set m n → Did (Fulfils (setting_of set) (Credit bits) Done no_data) set m n
+    Did (Fulfils (setting_of set) (Add [] bits) Done no_data) set m n →
+    Did (Fulfils (setting_of set) (Credit bits) Done no_data) set m n
 as_credit set bits m n did = record {
   deals = did.deals;
   told = did.told;
@@ -91,12 +95,15 @@ no_interrupt : (event : Event) → IsSetting event → IsNoInterrupt event
 no_interrupt (Irq v1 v2) is = absurd is
 no_interrupt event is = tt
 
-pub asks_nothing : (t : Lanes) (event : Event) (c : Caller) (said : Said) (served : List ℕ) (steps : List Step) → steps ≡ [] → IsReady t c →
-    1 ≤ t.cpus → said ≡ record { answer = Done; shows = Nothing } → IsSetting event → Called t event c c said served steps
+pub asks_nothing : (t : Lanes) (event : Event) (c : Caller) (said : Said) (served : List ℕ) (steps : List Step) →
+    steps ≡ [] → IsReady t c →
+    1 ≤ t.cpus → said ≡ record { answer = Done; shows = Nothing } → IsSetting event →
+    Called t event c c said served steps
 asks_nothing t event c said served steps new ready some says is =
     subst (λ (l : List Step). Called t event c c said served l) (sym new)
     (by_answer t event event c c said served [] [] refl refl refl ready.has Done says (no_interrupt event is)
-    (did_nothing c.set (moment c.pass []) (let s = ready.has.pass.sized in omega arith) (settings_fulfil (setting_of c.set) event is)))
+    (did_nothing c.set (moment c.pass []) (let s = ready.has.pass.sized in omega arith)
+    (settings_fulfil (setting_of c.set) event is)))
 
 -- bytes stand on the line of a word that is not bits
 pub no_count : (word : Word) (shows : Shows) → (word ≡ Bits → ⊥) → IsNoCount shows → ShowsFit word shows

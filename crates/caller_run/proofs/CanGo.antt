@@ -5,7 +5,7 @@ use Rattle.key_names.specs.declared.events.Event.{Event}
 use Rattle.key_names.specs.declared.events.Event.TheVariants.{At, On, Hw, Drop, State}
 use Rattle.key_names.specs.Calls.{Call, alone, vread_call, unbound, ending, has_vread, calls_of, setting_after, first_setting, BoundAct}
 use Rattle.key_names.specs.Calls as calls
-use Rattle.key_names.specs.Meaning.{CallerState, state_after}
+use Rattle.key_names.specs.Meaning.{CallerState, caller_after}
 use Rattle.key_names.specs.ScriptGrammar.{InRange, FewActs}
 use Rattle.lane_table.specs.declared.lanes.Lanes.{Lanes}
 use Rattle.lane_table.specs.declared.lanes.Pass.{Pass}
@@ -27,7 +27,7 @@ use Rattle.caller_run.proofs.RoomFills.{Fills}
 
 -- what an event by itself leaves of the setting
 
-setting_moves : (s : CallerState) (event : Event) → (state_after s event).setting ≡ setting_after s.setting event
+setting_moves : (s : CallerState) (event : Event) → (caller_after s event).setting ≡ setting_after s.setting event
 setting_moves s Drop = refl
 setting_moves s (State number) = refl
 setting_moves s event = refl
@@ -47,15 +47,15 @@ fits_after version cpus set event range f = f
 -- the caller behind an event: d made its call, and e goes on, as `go_on` ensures
 abbrev pub GoesOn : Event → Caller → Caller → Type 0
 GoesOn event d e = record {
-  stand : stand e ≡ state_after (stand d) event;
+  stand : stand e ≡ caller_after (stand d) event;
   caller : e.set.caller ≡ d.set.caller;
   event : e.set.event ≡ d.set.event + 1;
   pass : e.pass ≡ d.pass;
 }
 
-pub first_can : (t : Lanes) (c : Caller) (room : Room) (served inside : ℕ) (event : Event) (rest : List Event) →
+pub first_can : {t : Lanes} {c : Caller} {room : Room} {served inside : ℕ} {event : Event} {rest : List Event} →
     CanGo t c room served inside (event ∷ rest) → CanGo t c room served inside (event ∷ [])
-first_can t c room served inside event rest can = let g = can.goes in record {
+first_can {event = event} {rest = rest} can = let g = can.goes in record {
   goes = record {
     ready = g.ready;
     states = g.states;
@@ -64,7 +64,11 @@ first_can t c room served inside event rest can = let g = can.goes in record {
     numbers = (let a = g.numbers in omega arith);
     at = g.at;
     line_room = (let a = g.line_room in omega arith);
-    byte_room = (let a = g.byte_room in omega (arith, sum_by-cons most_shown event rest, sum_by-cons most_shown event []));
+    byte_room = (let a = g.byte_room in omega (
+      arith,
+      sum_by-cons most_shown event rest,
+      sum_by-cons most_shown event [],
+    ));
     longest = (g.longest.0, tt);
     wanted = (let a = g.wanted in omega (arith, sum_by-cons read_inside event rest, sum_by-cons read_inside event []));
     few = (g.few.0, (g.few.1.0, tt));
@@ -74,18 +78,24 @@ first_can t c room served inside event rest can = let g = can.goes in record {
   act_room = can.act_room;
 }
 
-module _ (t : Lanes) (event : Event) (c d e : Caller) (before after : Gathered) (acts left : List Bound) (served inside : ℕ) (rest : List Event) where
-  pub can_next : d.set ≡ c.set → Has t d.set.caller [] d.pass → StatesStand d → GoesOn event d e → Fills event before after acts left →
+-- an event is made and the lines go on: c is the caller before it, d behind its call, and e where it goes on
+module _ {t : Lanes} {event : Event} {c e : Caller} {before after : Gathered} {acts left : List Bound}
+    {served inside : ℕ}
+    {rest : List Event} (d : Caller) where
+  pub can_next : d.set ≡ c.set → Has t d.set.caller [] d.pass → StatesStand d → GoesOn event d e →
+      Fills event before after acts left →
       CanGoWith t c before acts served inside (event ∷ rest) → CanGoWith t e after left served inside rest
   can_next set has states on fills g =
       let fits : Fits t.cpus (setting_of e.set) =
       subst (Fits t.cpus) (sym (ap (λ (s : CallerState). s.setting) on.stand ∙ setting_moves (stand d) event
       ∙ ap (λ (s : Setting). setting_after (setting_of s) event) set))
-      (fits_after g.range.0 t.cpus (setting_of c.set) event g.range.1.0 (record { cpu = g.ready.cpu; moment = g.ready.moment })) in
+      (fits_after g.range.0 t.cpus (setting_of c.set) event g.range.1.0
+      (record { cpu = g.ready.cpu; moment = g.ready.moment })) in
       let same = ap (λ (s : Setting). s.event) set in
       record {
         ready = record {
-          has = subst (λ (n : ℕ). Has t n [] e.pass) (sym on.caller) (subst (λ (p : Pass). Has t d.set.caller [] p) (sym on.pass) has);
+          has = subst (λ (n : ℕ). Has t n [] e.pass) (sym on.caller)
+              (subst (λ (p : Pass). Has t d.set.caller [] p) (sym on.pass) has);
           cpu = fits.cpu;
           moment = fits.moment;
         };
@@ -97,7 +107,8 @@ module _ (t : Lanes) (event : Event) (c d e : Caller) (before after : Gathered) 
         numbers = (let a = g.numbers in let b = on.event in omega arith);
         at = (let a = g.at in let b = on.event in let l = fills.lines in omega arith);
         line_room = (let a = g.line_room in let b = fills.line_room in omega arith);
-        byte_room = (let a = g.byte_room in let b = fills.byte_room in omega (arith, sum_by-cons most_shown event rest));
+        byte_room = (let a = g.byte_room in let b = fills.byte_room in
+            omega (arith, sum_by-cons most_shown event rest));
         longest = g.longest.1;
         wanted = (let a = g.wanted in let b = fills.wanted in omega (arith, sum_by-cons read_inside event rest));
         few = subst (λ (n : ℕ). (n ≤ 8) × FewActs n rest) (sym fills.many) g.few.1;

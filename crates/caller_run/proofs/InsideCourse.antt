@@ -41,7 +41,8 @@ known_continues v w onward two consistent =
     })
 
 module _ (set : Setting) (asks : List Ask) where
-  look_onward : (attempt : Attempt) (s t : Spot) (g : ℕ) → ActPublished (at set asks attempt s) g (at set asks attempt t) →
+  look_onward : (attempt : Attempt) (s t : Spot) (g : ℕ) →
+      ActPublished (at set asks attempt s) g (at set asks attempt t) →
       Onward (view_at s) (view_at t)
   look_onward attempt s t g k =
       did_onward set s.moment t.moment (did_look set s.moment t.moment k.core.found k.core.told)
@@ -63,12 +64,14 @@ module _ (set : Setting) (asks : List Ask) where
       let done = subst (λ (l : List HostStep). DoesAll acting (at set asks First s) l (at set asks last t)) none does in
       record { items = []; own = own_nothing set asks s t (ap spot (sym done)); unmarked = tt }
   tail steps s t last (inr next) does =
-      let done = subst (λ (l : List HostStep). DoesAll acting (at set asks First s) l (at set asks last t)) next.steps_are does in
+      let done = subst (λ (l : List HostStep). DoesAll acting (at set asks First s) l (at set asks last t))
+      next.steps_are does in
       let look = goes_published set asks First s next.rest (at set asks last t) next.published done in
       let rest = quietly set asks next.rest First look.0 last t next.quiet look.2 in
       let here = next_items set asks s (Look look.1.core.found ∷ []) in record {
         items = here ++ rest.items;
-        own = own_then set asks s look.0 t here rest.items (own_look set asks First s look.0 next.published look.1) rest.own;
+        own = own_then set asks s look.0 t here rest.items (own_look set asks First s look.0 next.published look.1)
+            rest.own;
         unmarked = rest.begins next.looks;
       }
 
@@ -91,7 +94,8 @@ module _ (set : Setting) (asks : List Ask) where
   copied steps s t last c does =
       let to = at set asks last t in
       let done = subst (λ (l : List HostStep). DoesAll acting (at set asks First s) l to) c.steps_are does in
-      let serve = goes_passed set asks First s (at_point End c.at_end ∷ publishes c.published ∷ c.rest) to Serve c.at_serve done in
+      let serve = goes_passed set asks First s (at_point End c.at_end ∷ publishes c.published ∷ c.rest) to Serve
+      c.at_serve done in
       let end = goes_passed set asks First serve.0 (publishes c.published ∷ c.rest) to End c.at_end serve.2 in
       let look = goes_published set asks First end.0 c.rest to c.published end.2 in
       let rest = tail c.rest look.0 t last c.behind look.2 in
@@ -101,7 +105,8 @@ module _ (set : Setting) (asks : List Ask) where
         serve = reached_first set asks First s serve.0 Serve c.at_serve serve.1;
         end = reached_first set asks First serve.0 end.0 End c.at_end end.1;
         items = here ++ rest.items;
-        own = own_then set asks end.0 look.0 t here rest.items (own_look set asks First end.0 look.0 c.published look.1) rest.own;
+        own = own_then set asks end.0 look.0 t here rest.items
+            (own_look set asks First end.0 look.0 c.published look.1) rest.own;
         unmarked = refl;
         third = rest.unmarked;
         later = view_at look.0;
@@ -121,9 +126,11 @@ module _ (set : Setting) (asks : List Ask) where
     pub seen : 1 ≤ floor (view_at started)
     pub two : 1 < length (view_at started).lanes
 
-  module _ (s looked started t : Spot) (last : Attempt) (new : (p : ℕ) → Untouched p asks s.outcomes) (k : Looked s looked started) where
+  module _ (s looked started t : Spot) (last : Attempt) (new : (p : ℕ) → Untouched p asks s.outcomes)
+      (k : Looked s looked started) where
     -- without a new key
-    by_copy : (steps : List HostStep) → Copies steps → DoesAll acting (at set asks First started) steps (at set asks last t) →
+    by_copy : (steps : List HostStep) → Copies steps →
+        DoesAll acting (at set asks First started) steps (at set asks last t) →
         Course set asks s t
     by_copy steps c does = let d = copied steps started t last c does in record {
       looked = looked;
@@ -146,9 +153,11 @@ module _ (set : Setting) (asks : List Ask) where
       cut = inl (plain_cut d.items d.third);
     }
 
-    module _ (written : Spot) (write : Reached set asks 2 started written) (onward : Onward (view_at started) (view_at written)) where
+    module _ (written : Spot) (write : Reached set asks 2 started written)
+        (onward : Onward (view_at started) (view_at written)) where
       -- with a new key
-      by_key : (steps : List HostStep) → Rekeys steps → DoesAll acting (at set asks First written) steps (at set asks last t) →
+      by_key : (steps : List HostStep) → Rekeys steps →
+          DoesAll acting (at set asks First written) steps (at set asks last t) →
           Course set asks s t
       by_key steps c does =
           let to = at set asks last t in
@@ -157,7 +166,8 @@ module _ (set : Setting) (asks : List Ask) where
           let did = call.1.core.did in
           let d = copied c.rest call.0 t last c.copies call.2 in
           let know = did_onward set written.moment call.0.moment did in
-          let keys = key_call set (read c.key c.visit) written.moment call.0.moment did (length d.later.lanes) (known_of d.later)
+          let keys = key_call set (read c.key c.visit) written.moment call.0.moment did (length d.later.lanes)
+          (known_of d.later)
           (known_continues (view_at call.0) d.later d.onward
           (let a = k.two in let b = onward.sized in let e = know.sized in omega arith) d.consistent)
           (let a = k.seen in let b = onward.floors in omega arith) in record {
@@ -182,10 +192,12 @@ module _ (set : Setting) (asks : List Ask) where
           }
 
       -- where there was none to be had
-      by_failure : (steps : List HostStep) → Fails steps → DoesAll acting (at set asks First written) steps (at set asks last t) →
+      by_failure : (steps : List HostStep) → Fails steps →
+          DoesAll acting (at set asks First written) steps (at set asks last t) →
           Course set asks s t
       by_failure steps c does =
-          let own = quietly set asks steps First written last t (subst (Quiet First) (sym c.steps_are) tt) does in record {
+          let own = quietly set asks steps First written last t (subst (Quiet First) (sym c.steps_are) tt) does in
+          record {
             looked = looked;
             started = started;
             written = written;
@@ -206,15 +218,19 @@ module _ (set : Setting) (asks : List Ask) where
             cut = inr (none 3 refl refl own.items own.own, none 4 refl refl own.items own.own);
           }
         where
-          none : (q : ℕ) → (1 == q) ≡ false → (2 == q) ≡ false → (items : List Item) → OwnSteps set asks written t items →
+          none : (q : ℕ) → (1 == q) ≡ false → (2 == q) ≡ false → (items : List Item) →
+              OwnSteps set asks written t items →
               items_at set asks t q ≡ []
           none q a b items own =
               let all = kept_then set asks q s started t
-              (kept_then set asks q s looked started (kept_own set asks q s looked _ k.looks) (kept_at set asks q 1 looked started a k.start))
-              (kept_then set asks q started written t (kept_at set asks q 2 started written b write) (kept_own set asks q written t items own)) in
+              (kept_then set asks q s looked started (kept_own set asks q s looked _ k.looks)
+              (kept_at set asks q 1 looked started a k.start))
+              (kept_then set asks q started written t (kept_at set asks q 2 started written b write)
+              (kept_own set asks q written t items own)) in
               untouched_items set q asks t.outcomes (all.untouched (new q))
 
-    by_writing : (steps : List HostStep) → Writes steps → DoesAll acting (at set asks First started) steps (at set asks last t) →
+    by_writing : (steps : List HostStep) → Writes steps →
+        DoesAll acting (at set asks First started) steps (at set asks last t) →
         Course set asks s t
     by_writing steps c does =
         let to = at set asks last t in
@@ -223,8 +239,10 @@ module _ (set : Setting) (asks : List Ask) where
         go write.0 c.rest (reached_first set asks First started write.0 Written c.at_written write.1)
         (point_onward First started write.0 Written c.at_written write.1) c.keys write.2
       where
-        go : (written : Spot) (steps : List HostStep) → Reached set asks 2 started written → Onward (view_at started) (view_at written) →
-            Rekeys steps ⊎ Fails steps → DoesAll acting (at set asks First written) steps (at set asks last t) → Course set asks s t
+        go : (written : Spot) (steps : List HostStep) → Reached set asks 2 started written →
+            Onward (view_at started) (view_at written) →
+            Rekeys steps ⊎ Fails steps → DoesAll acting (at set asks First written) steps (at set asks last t) →
+            Course set asks s t
         go written steps write onward (inl c) does = by_key written write onward steps c does
         go written steps write onward (inr c) does = by_failure written write onward steps c does
 
@@ -239,12 +257,14 @@ module _ (set : Setting) (asks : List Ask) where
   found_some g (suc found) ready is = omega arith
 
   course : (steps : List HostStep) (s t : Spot) (last : Attempt) → 1 < length (view_at s).lanes →
-      ((p : ℕ) → Untouched p asks s.outcomes) → Tries steps → DoesAll acting (at set asks Before s) steps (at set asks last t) →
+      ((p : ℕ) → Untouched p asks s.outcomes) → Tries steps →
+      DoesAll acting (at set asks Before s) steps (at set asks last t) →
       Course set asks s t
   course steps s t last two new c does =
       let to = at set asks last t in
       let done = subst (λ (l : List HostStep). DoesAll acting (at set asks Before s) l to) c.steps_are does in
-      let one = goes_published set asks Before s (publishes c.published ∷ at_point Start c.at_start ∷ c.rest) to c.found done in
+      let one = goes_published set asks Before s (publishes c.published ∷ at_point Start c.at_start ∷ c.rest) to
+      c.found done in
       let other = goes_published set asks Before one.0 (at_point Start c.at_start ∷ c.rest) to c.published one.2 in
       let start = goes_passed set asks Before other.0 c.rest to Start c.at_start other.2 in
       let a = look_onward Before s one.0 c.found one.1 in
@@ -255,7 +275,8 @@ module _ (set : Setting) (asks : List Ask) where
         second = _;
         looks = own_then set asks s one.0 other.0 (next_items set asks s (Look one.1.core.found ∷ []))
             (next_items set asks one.0 (Look other.1.core.found ∷ []))
-            (own_look set asks Before s one.0 c.found one.1) (own_look set asks Before one.0 other.0 c.published other.1);
+            (own_look set asks Before s one.0 c.found one.1)
+            (own_look set asks Before one.0 other.0 c.published other.1);
         start = reached_first set asks Before other.0 start.0 Start c.at_start start.1;
         seen = (let some = found_some c.found one.1.core.found c.ready one.1.core.is in let f = one.1.core.known in
             let g = b.floors in let h = e.floors in omega arith);
@@ -263,14 +284,17 @@ module _ (set : Setting) (asks : List Ask) where
       }) c.rest c.goes_on start.2
 
   -- what the caller did in any call, in order
-  pub inside_part : (n flags : ℕ) (state : VgetrandomState) (steps : List HostStep) (outcome : Outcome) (s t : Spot) (last : Attempt) →
+  pub inside_part : (n flags : ℕ) (state : VgetrandomState) (steps : List HostStep) (outcome : Outcome) (s t : Spot)
+      (last : Attempt) →
       1 < length (view_at s).lanes → ((p : ℕ) → Untouched p asks s.outcomes) → s.moment.steps ≡ [] →
       IsCall n flags state steps outcome → DoesAll acting (at set asks Before s) steps (at set asks last t) →
       Part set.caller (view_at s) (view_at t) (vread_items (line_of set asks t) (bound_acts set asks t.outcomes))
-  inside_part n flags state steps outcome s t last two new empty is_call does = go (call_shape n flags state steps outcome is_call)
+  inside_part n flags state steps outcome s t last two new empty is_call does =
+      go (call_shape n flags state steps outcome is_call)
     where
       go : Quiet Before steps ⊎ Tries steps →
           Part set.caller (view_at s) (view_at t) (vread_items (line_of set asks t) (bound_acts set asks t.outcomes))
       go (inl quiet) =
-          let own = quietly set asks steps Before s last t quiet does in quiet_part set asks s t own.items new empty own.own
+          let own = quietly set asks steps Before s last t quiet does in
+          quiet_part set asks s t own.items new empty own.own
       go (inr tries) = course_part set asks s t new empty (course steps s t last two new tries does)

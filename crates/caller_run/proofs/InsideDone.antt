@@ -24,19 +24,22 @@ use Rattle.rng_core.specs.InsideDid.{bound_acts, inside_meaning, InsideDid}
 use Rattle.rng_core.specs.SampleDeeds.{SamplesStand, fast_in}
 use Rattle.rng_core.proofs.ActRuns.{AllMeant}
 use Rattle.rng_core.proofs.Acting.{acted_meant}
+use Rattle.rng_core.proofs.InsideCalls.{IsUndone, undone_meant}
 use Rattle.caller_run.specs.Done.{CallDone}
 use Rattle.caller_run.specs.Items.{line_items, vread_items}
-use Rattle.caller_run.proofs.ActDoings.{IsUndone, all_untouched}
-use Rattle.caller_run.proofs.ActsMeant.{undone_meant, points_fit, each_act, act_deeds, act_answer, act_shown, acts_samples}
+use Rattle.caller_run.proofs.ActDoings.{all_untouched}
+use Rattle.caller_run.proofs.ActsMeant.{points_fit, each_act, act_deeds, act_answer, act_shown, acts_samples}
 use Rattle.caller_run.proofs.InsideCourse.{inside_part}
 use Rattle.caller_run.proofs.PartItems.{Part}
 use Rattle.caller_run.proofs.VreadDone.{vread_quiet}
 
 -- the read went from v to w, with these steps in its line, and with acts of which none was done before it
-module _ (set : Setting) (v w : View) (s : CallerState) (n flags : ℕ) (t : VgetrandomState) (answer : Answer) (shown : Shown)
+module _ (set : Setting) (v w : View) (s : CallerState) (n flags : ℕ) (t : VgetrandomState) (answer : Answer)
+    (shown : Shown)
     (word : Word) (steps : List Step) (asks : List Ask) (xs zs : List ActOutcome) (same : s.setting ≡ setting_of set)
     (fresh : AllByRecursion IsUndone xs) (long : length xs ≡ length asks) (two : 1 < length v.lanes)
-    (did : InsideDid n flags (current_state s) t answer shown set (record { view = v; steps = [] }) (record { view = w; steps = steps }) asks zs)
+    (did : InsideDid n flags (current_state s) t answer shown set (record { view = v; steps = [] })
+    (record { view = w; steps = steps }) asks zs)
     (ran : InsideRan n flags (current_state s) t
     (act_stand (record { set = set; moment = record { view = v; steps = [] } }) Before asks xs)
     (λ last. act_stand (record { set = set; moment = record { view = w; steps = steps } }) last asks zs)) where
@@ -49,7 +52,8 @@ module _ (set : Setting) (v w : View) (s : CallerState) (n flags : ℕ) (t : Vge
   meant : AllMeant set w asks zs
   meant = acted_meant ran.steps set asks
       (act_stand (record { set = set; moment = record { view = v; steps = [] } }) Before asks xs)
-      (act_stand (record { set = set; moment = record { view = w; steps = steps } }) ran.last asks zs) refl refl ran.does
+      (act_stand (record { set = set; moment = record { view = w; steps = steps } }) ran.last asks zs) refl refl
+      ran.does
       (undone_meant set v asks xs fresh long)
 
   part : Part set.caller v w (vread_items (line_items line) acts)
@@ -65,7 +69,8 @@ module _ (set : Setting) (v w : View) (s : CallerState) (n flags : ℕ) (t : Vge
       VreadMeans n flags acts (meaning_by (book_lists lanes visits callers))
   means lanes visits callers c =
       let lists = book_lists lanes visits callers in
-      subst (λ (l : List Step). VreadMeans n flags acts (inside_meaning lists (deeds_of lists l) answer shown did.entries zs s t))
+      subst (λ (l : List Step). VreadMeans n flags acts
+      (inside_meaning lists (deeds_of lists l) answer shown did.entries zs s t))
       (sym did.trace) (did.stands lanes visits callers c s same refl)
 
   pub inside_done : CallDone set.caller v w s (with_state s t) (vread_call n flags line acts)
@@ -84,7 +89,9 @@ module _ (set : Setting) (v w : View) (s : CallerState) (n flags : ℕ) (t : Vge
       shown = (refl, each_act set w lists _ (act_shown set w lists) asks zs meant);
     };
     samples = λ lanes visits callers c. let lists = book_lists lanes visits callers in
-        each_append (λ (l : SeenLine). SamplesStand (fast_in visits) (deeds_of lists l.steps)) (map (λ (b : BoundAct). b.line) acts) (line ∷ [])
+        each_append (λ (l : SeenLine). SamplesStand (fast_in visits) (deeds_of lists l.steps))
+        (map (λ (b : BoundAct). b.line) acts)
+        (line ∷ [])
         (acts_samples set w lanes visits callers c asks zs meant)
         (inl (vread_quiet (fast_in visits) n flags acts (meaning_by lists) (means lanes visits callers c)), tt);
   }

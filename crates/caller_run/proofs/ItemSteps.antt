@@ -50,7 +50,8 @@ rekey_steps (a ∷ b ∷ []) = refl
 rekey_steps (a ∷ b ∷ c ∷ items) = go (is_mark c.step)
   where
     go : (by : Bool) →
-        both_steps (if by then (a ∷ b ∷ (cut_items (c ∷ items)).0, (cut_items (c ∷ items)).1) else ([], a ∷ b ∷ c ∷ items))
+        both_steps (if by then (a ∷ b ∷ (cut_items (c ∷ items)).0, (cut_items (c ∷ items)).1) else
+        ([], a ∷ b ∷ c ∷ items))
         ≡ (if by then (
           a.step ∷ b.step ∷ (cut_behind_visits (steps_of (c ∷ items))).0,
           (cut_behind_visits (steps_of (c ∷ items))).1,

@@ -57,7 +57,8 @@ marks_cut event n (step ∷ steps) rest all begins =
     (marks_cut event (suc n) steps rest all.1 begins)
   where
     go : (item : Item) (b : Bool) (marks : List Item) → b ≡ true → AreParts (cut_items (marks ++ rest)) marks rest →
-        AreParts (let cut = cut_items (marks ++ rest) in if b then (item ∷ cut.0, cut.1) else ([], item ∷ marks ++ rest))
+        AreParts (let cut = cut_items (marks ++ rest) in
+        if b then (item ∷ cut.0, cut.1) else ([], item ∷ marks ++ rest))
         (item ∷ marks) rest
     go item true marks e parts = ap (λ (cut : List Item × List Item). (item ∷ cut.0, cut.1)) parts
     go item false marks e parts = absurd (cc e)
@@ -73,7 +74,8 @@ key_cut event n (a ∷ b ∷ c ∷ more) rest k begins =
     (marks_cut event (suc (suc n)) (c ∷ more) rest k begins)
   where
     go : (front marks : List Item) (by : Bool) → by ≡ true → AreParts (cut_items (marks ++ rest)) marks rest →
-        AreParts (let cut = cut_items (marks ++ rest) in if by then (front ++ cut.0, cut.1) else ([], front ++ marks ++ rest))
+        AreParts (let cut = cut_items (marks ++ rest) in
+        if by then (front ++ cut.0, cut.1) else ([], front ++ marks ++ rest))
         (front ++ marks) rest
     go front marks true e parts = ap (λ (cut : List Item × List Item). (front ++ cut.0, cut.1)) parts
     go front marks false e parts = absurd (cc e)
@@ -100,7 +102,8 @@ is_visit (at_base v) = true
 is_visit (at_cpu v) = true
 is_visit nothing_there = true
 
-visit_or : {E : Type 0} (deed : E → Deed) (o : Option E) → ((e : E) → is_visit (deed e) ≡ true) → is_visit (deed_or deed o) ≡ true
+visit_or : {E : Type 0} (deed : E → Deed) (o : Option E) → ((e : E) → is_visit (deed e) ≡ true) →
+    is_visit (deed_or deed o) ≡ true
 visit_or deed None visits = refl
 visit_or deed (Some e) visits = visits e
 
@@ -108,7 +111,8 @@ module _ (lists : Lists) where
   visit_at : (lane : LaneId) (place : ℕ) → is_visit (deed_at lists lane place) ≡ true
   visit_at PoolLane place = visit_or (λ e. at_pool (pool_visit lists place e)) (slice_get lists.pool place) (λ e. refl)
   visit_at BaseLane place = visit_or (λ e. at_base (base_visit lists place e)) (slice_get lists.base place) (λ e. refl)
-  visit_at (CpuLane c) place = visit_or (λ e. at_cpu (cpu_visit lists c place e)) (slice_get (cpu_list lists c) place) (λ e. refl)
+  visit_at (CpuLane c) place = visit_or (λ e. at_cpu (cpu_visit lists c place e)) (slice_get (cpu_list lists c) place)
+      (λ e. refl)
 
   -- a mark stands exactly where a visit does
   marks_are : (steps : List Step) → map is_mark steps ≡ map is_visit (deeds_of lists steps)
@@ -116,7 +120,8 @@ module _ (lists : Lists) where
   marks_are (Look g ∷ steps) = ap (λ (l : List Bool). false ∷ l) (marks_are steps)
   marks_are (Marked mark ∷ steps) = λ i. sym (visit_at mark.lane mark.place) i ∷ marks_are steps i
 
-  all_marks : (steps : List Step) → AllByRecursion (λ b. b ≡ true) (map is_mark steps) → AllByRecursion (λ step. is_mark step ≡ true) steps
+  all_marks : (steps : List Step) → AllByRecursion (λ b. b ≡ true) (map is_mark steps) →
+      AllByRecursion (λ step. is_mark step ≡ true) steps
   all_marks [] all = tt
   all_marks (step ∷ steps) all = (all.0, all_marks steps all.1)
 
@@ -133,9 +138,11 @@ module _ (lists : Lists) where
   read_steps : (set : Told) (steps : List Step) (g : ℕ) (rest : List Deed) → deeds_of lists steps ≡ look_deed g ∷ rest →
       CpuReadForm set (User 32) rest → IsKeySteps steps
   read_steps set steps g rest e (inl f) =
-      key_marks steps [] (marks_are steps ∙ ap (map is_visit) e ∙ ap (λ (l : List Deed). false ∷ map is_visit l) f.deeds_are) tt
+      key_marks steps [] (marks_are steps ∙ ap (map is_visit) e
+      ∙ ap (λ (l : List Deed). false ∷ map is_visit l) f.deeds_are) tt
   read_steps set steps g rest e (inr f) =
-      key_marks steps (true ∷ []) (marks_are steps ∙ ap (map is_visit) e ∙ ap (λ (l : List Deed). false ∷ map is_visit l) f.deeds_are)
+      key_marks steps (true ∷ []) (marks_are steps ∙ ap (map is_visit) e
+      ∙ ap (λ (l : List Deed). false ∷ map is_visit l) f.deeds_are)
       (refl, tt)
 
   -- its look is no less than what was seen before it
@@ -149,7 +156,8 @@ module _ (lists : Lists) where
       ∙ ap (λ (l : List Deed). elim l as (λ _. Bool) [ [] ↦ true | d ∷ ds ↦ is_visit d ]) e in absurd (cc no)
 
 -- where a generation was seen, a system call for a new key reads from the CPU
-pub key_call : (set : Setting) (answer : SystemAnswer) (l m : Moment) (k : Did (SystemCall (setting_of set) 32 0 answer) set l m)
+pub key_call : (set : Setting) (answer : SystemAnswer) (l m : Moment)
+    (k : Did (SystemCall (setting_of set) 32 0 answer) set l m)
     (lanes : ℕ) (visits : ℕ → List Visit) → Continues lanes m.view visits → 1 ≤ floor l.view →
     IsKeySteps (map step_of k.deals)
 key_call set answer l m k lanes visits c seen =
@@ -161,12 +169,14 @@ key_call set answer l m k lanes visits c seen =
     no_zero : (g : ℕ) → 1 ≤ g → (g == 0 && not (is_insecure 0)) ≡ true → ⊥
     no_zero g low e = let zero_is = eqb-true g 0 (and_parts (g == 0) (not (is_insecure 0)) e).0 in absurd (omega arith)
 
-    reads : (lists : Lists) (g : ℕ) (rest : List Deed) → 1 ≤ g → deeds_of lists (map step_of k.deals) ≡ look_deed g ∷ rest →
+    reads : (lists : Lists) (g : ℕ) (rest : List Deed) → 1 ≤ g →
+        deeds_of lists (map step_of k.deals) ≡ look_deed g ∷ rest →
         ReadForm (setting_of set) (User 32) g rest → IsKeySteps (map step_of k.deals)
     reads lists g rest low e (inl f) = let zero_is = f.0 in absurd (omega arith)
     reads lists g rest low e (inr f) = read_steps lists (setting_of set) (map step_of k.deals) g rest e f
 
-    go : (lists : Lists) (g : ℕ) (rest : List Deed) → 1 ≤ g → deeds_of lists (map step_of k.deals) ≡ look_deed g ∷ rest →
+    go : (lists : Lists) (g : ℕ) (rest : List Deed) → 1 ≤ g →
+        deeds_of lists (map step_of k.deals) ≡ look_deed g ∷ rest →
         (b : Bool) → (g == 0 && not (is_insecure 0)) ≡ b →
         MatchBool b (WaitedInVain rest ⊎ Waited (setting_of set) 32 rest) (ReadForm (setting_of set) (User 32) g rest) →
         IsKeySteps (map step_of k.deals)

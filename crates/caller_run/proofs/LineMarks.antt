@@ -110,7 +110,8 @@ module _ (w : ℕ → ℕ) where
       go d.deal (deals_sum lane caller doings)
       ∙ sym (sum_by-cons (λ item. sum_by (in_lane lane) (mark_of caller item)) (item_of d) (items_of doings))
     where
-      here : (b : Bool) (place : ℕ) (more : List ℕ) → sum_by w (cond b (place ∷ more) more) ≡ cond b (w place) 0 + sum_by w more
+      here : (b : Bool) (place : ℕ) (more : List ℕ) →
+          sum_by w (cond b (place ∷ more) more) ≡ cond b (w place) 0 + sum_by w more
       here true place more = sum_by-cons w place more
       here false place more = omega arith
 

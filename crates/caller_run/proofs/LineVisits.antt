@@ -81,7 +81,8 @@ module _ (w : View) (caller : ℕ) (events : List Event) (lines : List SeenLine)
 
   marked_in : (by : MarkBy) → IsIn by marks → InLine by.who (deed_at lists by.mark.lane by.mark.place)
   marked_in by there =
-      let in_all : IsIn by (flat_map line_marks lines) = subst (IsIn by) (append-nil (flat_map line_marks lines)) there in
+      let in_all : IsIn by (flat_map line_marks lines) =
+      subst (IsIn by) (append-nil (flat_map line_marks lines)) there in
       let f = in_flat line_marks by lines in_all in
       let m : FromLine f.0.caller f.0.event f.0.steps by = from_line f.0.caller f.0.event 0 f.0.steps by f.2 in
       record {
@@ -92,7 +93,8 @@ module _ (w : View) (caller : ℕ) (events : List Event) (lines : List SeenLine)
         deed_there = deed_in lists (Marked by.mark) f.0.steps m.step;
       }
 
-  stamp_of_mark : (by : MarkBy) → IsIn by marks → stamped_at book by.mark.lane by.mark.place ≡ Some (by.mark.stamp, by.who)
+  stamp_of_mark : (by : MarkBy) → IsIn by marks →
+      stamped_at book by.mark.lane by.mark.place ≡ Some (by.mark.stamp, by.who)
   stamp_of_mark by there =
       each_in (λ b. stamped_at book b.mark.lane b.mark.place ≡ Some (b.mark.stamp, b.who)) by marks visits.stand there
 
@@ -170,13 +172,15 @@ module _ (w : View) (caller : ℕ) (events : List Event) (lines : List SeenLine)
       let from : FromLine line.caller line.event line.steps m.0 =
       from_line line.caller line.event 0 line.steps m.0 m.1 in (
         m.0,
-        subst (IsIn m.0) (sym (append-nil (flat_map line_marks lines))) (in_flat_back line_marks line m.0 lines there m.1),
+        subst (IsIn m.0) (sym (append-nil (flat_map line_marks lines)))
+            (in_flat_back line_marks line m.0 lines there m.1),
         m.2,
         from.caller_is ∙ each_in (IsOfCaller caller) line lines own there,
         from.event_is,
       )
 
-  pub record Behind {E : Type 0} (list : List (of_book.Visit E)) (place : ℕ) (entry : E) (line : SeenLine) : Type 0 where
+  pub record Behind {E : Type 0} (list : List (of_book.Visit E)) (place : ℕ) (entry : E) (line : SeenLine)
+      : Type 0 where
     pub visit : of_book.Visit E
     pub at : slice_get list place ≡ Some visit
     pub is : visit.entry ≡ entry
@@ -265,7 +269,8 @@ module _ (w : View) (caller : ℕ) (events : List Event) (lines : List SeenLine)
           (λ i. stamped_at book (sym d.0 i) (sym d.1 i))
           ∙ ap (λ (k : Mark). stamped_at book k.lane k.place) (sym m.2) ∙ stamp_of_mark m.0 m.1 in
           let v = stamped_visit (visits_of book s.cpu) s.place m.0.mark.stamp m.0.who stamp in
-          let entered : slice_get (cpu_list lists s.cpu) s.place ≡ Some v.0.entry = cpu_entry_at s.cpu s.place v.0 v.1 in
+          let entered : slice_get (cpu_list lists s.cpu) s.place ≡ Some v.0.entry =
+          cpu_entry_at s.cpu s.place v.0 v.1 in
           record {
             visit = v.0;
             at = v.1;

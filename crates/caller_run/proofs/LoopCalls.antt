@@ -103,7 +103,8 @@ module _ (events es : List Event) (lines : List SeenLine) (waiting : List Ask) (
       CallsSoFar events (Inside (number_of x.point) x.act ∷ es) lines waiting calls →
       CallsSoFar events es (lines ++ idle ∷ []) (waiting ++ x ∷ []) calls
   so_far_waits x idle has at s = record {
-    told = each_more (λ (a : Ask). a.event < length (lines ++ idle ∷ [])) waiting x (told_more lines idle waiting s.told)
+    told = each_more (λ (a : Ask). a.event < length (lines ++ idle ∷ [])) waiting x
+        (told_more lines idle waiting s.told)
         (omega (arith, length-append lines (idle ∷ [])));
     follows = λ none. cc;
     calls_are = λ acts more many. goes acts more
@@ -114,14 +115,16 @@ module _ (events es : List Event) (lines : List SeenLine) (waiting : List Ask) (
           calls_of events (told_anew (lines ++ idle ∷ []) (waiting ++ x ∷ []) acts ++ more)
           ≡ calls ++ calls_from (all_bound (waiting ++ x ∷ []) acts) es more
       goes acts more l =
-          ap (λ (ls : List SeenLine). calls_of events (told_anew (lines ++ idle ∷ []) (waiting ++ x ∷ []) ls ++ more)) l.is
+          ap (λ (ls : List SeenLine). calls_of events (told_anew (lines ++ idle ∷ []) (waiting ++ x ∷ []) ls ++ more))
+          l.is
           ∙ ap (λ (ls : List SeenLine). calls_of events (ls ++ more))
           (anew_last lines idle l.line waiting x l.front at s.told l.many)
           ∙ ap (calls_of events) (append_assoc (told_anew lines waiting l.front) (l.line ∷ []) more)
           ∙ s.calls_are l.front (l.line ∷ more) l.many
           ∙ ap (λ b. calls ++ (if b then calls_from (all_bound waiting l.front ++ bound_by x l.line ∷ []) es more else
           unbound (bound_by x l.line) ∷ calls_from (all_bound waiting l.front) es more)) has
-          ∙ ap (λ (bs : List BoundAct). calls ++ calls_from bs es more) (sym (bound_more waiting l.front x l.line l.many))
+          ∙ ap (λ (bs : List BoundAct). calls ++ calls_from bs es more)
+          (sym (bound_more waiting l.front x l.line l.many))
           ∙ ap (λ (ls : List SeenLine). calls ++ calls_from (all_bound (waiting ++ x ∷ []) ls) es more) (sym l.is)
 
   -- a vread, with the lines of the acts that waited for it

@@ -120,7 +120,8 @@ module _ (caller : ℕ) (w : View) (doings : List Doing) (stood : AllByRecursion
         ∙ length-flat_map (mark_of caller) (lines_items lines)
         ∙ sym (same (λ item. length (mark_of caller item)))
         ∙ count_marks caller (length w.lanes) doings within
-        ∙ sum_range (λ lane. length (places_in lane (deals_of doings))) (λ lane. length (known_of w lane)) 0 (length w.lanes)
+        ∙ sum_range (λ lane. length (places_in lane (deals_of doings))) (λ lane. length (known_of w lane)) 0
+        (length w.lanes)
         (λ lane below. (let e : lane < length w.lanes = omega arith in sym (made lane e) ∙ ended.made lane e))
         ∙ sym (all_made w ended.made)
 
@@ -129,10 +130,12 @@ module _ (caller : ℕ) (w : View) (doings : List Doing) (stood : AllByRecursion
     marks_visits = ended_visits w callers low ended marks all_visit many
 
     places_same : (lane : LaneId) (g : ℕ → ℕ) →
-        sum_by g (map (λ mark. mark.place) (lane_marks lane marks)) ≡ sum_by g (places_in (index_of lane) (deals_of doings))
+        sum_by g (map (λ mark. mark.place) (lane_marks lane marks)) ≡ sum_by g
+        (places_in (index_of lane) (deals_of doings))
     places_same lane g = lane_weight g lane caller lines doings own same
 
-    in_lane : (lane : LaneId) → index_of lane < length w.lanes → length (lane_marks lane marks) ≡ (at (index_of lane) w).made
+    in_lane : (lane : LaneId) → index_of lane < length w.lanes →
+        length (lane_marks lane marks) ≡ (at (index_of lane) w).made
     in_lane lane below =
         sym (length-map (lane_marks lane marks) (λ mark. mark.place))
         ∙ sym (sum_ones (map (λ mark. mark.place) (lane_marks lane marks))) ∙ places_same lane (λ p. 1)

@@ -169,7 +169,8 @@ number_from c n [] (l ∷ []) line fit (inr rest) = absurd rest
 number_from c n [] (l ∷ more ∷ lines) line fit here = absurd fit
 number_from c n (event ∷ events) [] line fit here = absurd here
 number_from c n (event ∷ events) (l ∷ lines) line fit (inl same) =
-    let e : l.event ≡ n = fit.0.event in let f : l.event ≡ line.event = ap (λ (x : SeenLine). x.event) same in omega arith
+    let e : l.event ≡ n = fit.0.event in let f : l.event ≡ line.event = ap (λ (x : SeenLine). x.event) same in
+    omega arith
 number_from c n (event ∷ events) (l ∷ lines) line fit (inr rest) =
     let up = number_from c (suc n) events lines line fit.1 rest in omega arith
 

@@ -27,7 +27,8 @@ no_fork_first number event es none = go (is_fork_of number event) refl
     whole : count_by (is_fork_of number) (event ∷ es) ≡ hit (is_fork_of number event) + count_by (is_fork_of number) es
     whole = sum_by-cons (λ e. hit (is_fork_of number e)) event es
 
-    go : (b : Bool) → is_fork_of number event ≡ b → (is_fork_of number event ≡ false) × (count_by (is_fork_of number) es ≡ 0)
+    go : (b : Bool) → is_fork_of number event ≡ b →
+        (is_fork_of number event ≡ false) × (count_by (is_fork_of number) es ≡ 0)
     go true is = (let here : hit (is_fork_of number event) ≡ 1 = ap hit is in absurd (omega (arith, whole)))
     go false is = (is, (let here : hit (is_fork_of number event) ≡ 0 = ap hit is in omega (arith, whole)))
 
@@ -35,8 +36,10 @@ no_fork_first number event es none = go (is_fork_of number event) refl
 pub forks_nobody : (events : List Event) → ((number : ℕ) → count_by (is_fork_of number) events ≡ 0) →
     AllByRecursion ForksNobody events
 forks_nobody [] none = tt
-forks_nobody (event ∷ es) none =
-    (go event (λ number. (no_fork_first number event es (none number)).0), forks_nobody es (λ number. (no_fork_first number event es (none number)).1))
+forks_nobody (event ∷ es) none = (
+  go event (λ number. (no_fork_first number event es (none number)).0),
+  forks_nobody es (λ number. (no_fork_first number event es (none number)).1),
+)
   where
     go : (event : Event) → ((number : ℕ) → is_fork_of number event ≡ false) → ForksNobody event
     go (Fork child) none = let itself : (child == child) ≡ true = grind (arith, nat_tests) in let not = none child in cc
@@ -47,7 +50,8 @@ not_forked : (event : Event) (line : SeenLine) (calls : List Call) → is_fork_o
 not_forked (Fork child) line calls is none = go (child == 0) is
   where
     go : (b : Bool) → b ≡ false →
-        (if b then Some (record { before = []; line = line }) else with_call_before (alone (Fork child) line) (fork_point 0 calls))
+        (if b then Some (record { before = []; line = line }) else with_call_before (alone (Fork child) line)
+        (fork_point 0 calls))
         ≡ None
     go true is = cc
     go false is = ap (with_call_before (alone (Fork child) line)) none
@@ -64,7 +68,8 @@ keeps_unforked c = record {
   reads = λ waiting n len flags es line lines calls is rest none.
       let h = no_fork_first 0 (Vread len flags) es none in
       ap (with_call_before (vread_call len flags line waiting)) (rest h.1);
-  waits = λ waiting n bound es lines calls is rest none. rest (no_fork_first 0 (Inside bound.point bound.act) es none).1;
+  waits = λ waiting n bound es lines calls is rest none. rest
+      (no_fork_first 0 (Inside bound.point bound.act) es none).1;
   idles = λ waiting n bound es lines calls is rest none.
       ap (with_call_before (unbound bound)) (rest (no_fork_first 0 (Inside bound.point bound.act) es none).1);
 }
@@ -101,4 +106,5 @@ stamps_are (d ∷ doings) = go d.deal (stamps_are doings)
 
 pub doings_rise : (low high : ℕ) (doings : List Doing) → Climbs low (stamps_in (deals_of doings)) high →
     Rises (stamps_of (steps_of (items_of doings)))
-doings_rise low high doings c = subst Rises (sym (stamps_are doings)) (climbs_rise low high (stamps_in (deals_of doings)) c)
+doings_rise low high doings c = subst Rises (sym (stamps_are doings))
+    (climbs_rise low high (stamps_in (deals_of doings)) c)

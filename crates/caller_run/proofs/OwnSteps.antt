@@ -71,7 +71,8 @@ module _ (set : Setting) (asks : List Ask) where
 
   -- One step of the host
 
-  is_at : (t : ActStand) (attempt : Attempt) → t.core.set ≡ set → t.attempt ≡ attempt → t.asks ≡ asks → t ≡ at attempt (spot t)
+  is_at : (t : ActStand) (attempt : Attempt) → t.core.set ≡ set → t.attempt ≡ attempt → t.asks ≡ asks →
+      t ≡ at attempt (spot t)
   is_at t attempt a b c = λ i. act_stand (record { set = a i; moment = t.core.moment }) (b i) (c i) t.outcomes
 
   abbrev pub Goes : (ActStand → Type 0) → Attempt → List HostStep → ActStand → Type 0
@@ -92,16 +93,20 @@ module _ (set : Setting) (asks : List Ask) where
         goes (λ t. ActPublished (at attempt s) g t) attempt steps does.0 last does.1.core.same does.1.acts.attempt
         does.1.acts.asks does.1 does.2
 
-    pub goes_answered : (n flags : ℕ) (answer : SystemAnswer) → DoesAll acting (at attempt s) (system_call n flags answer ∷ steps) last →
+    pub goes_answered : (n flags : ℕ) (answer : SystemAnswer) →
+        DoesAll acting (at attempt s) (system_call n flags answer ∷ steps) last →
         Goes (λ t. ActAnswered (at attempt s) n flags answer t) attempt steps last
     goes_answered n flags answer does =
-        goes (λ t. ActAnswered (at attempt s) n flags answer t) attempt steps does.0 last does.1.core.same does.1.acts.attempt
+        goes (λ t. ActAnswered (at attempt s) n flags answer t) attempt steps does.0 last does.1.core.same
+        does.1.acts.attempt
         does.1.acts.asks does.1 does.2
 
-    pub goes_passed : (point : Point) (wiped : Bool) → DoesAll acting (at attempt s) (at_point point wiped ∷ steps) last →
+    pub goes_passed : (point : Point) (wiped : Bool) →
+        DoesAll acting (at attempt s) (at_point point wiped ∷ steps) last →
         Goes (λ t. ActPassed (at attempt s) point wiped t) (attempt_at attempt point) steps last
     goes_passed point wiped does =
-        goes (λ t. ActPassed (at attempt s) point wiped t) (attempt_at attempt point) steps does.0 last does.1.set does.1.attempt does.1.asks does.1 does.2
+        goes (λ t. ActPassed (at attempt s) point wiped t) (attempt_at attempt point) steps does.0 last
+        does.1.set does.1.attempt does.1.asks does.1 does.2
 
   -- Own steps
 
@@ -149,13 +154,15 @@ module _ (set : Setting) (asks : List Ask) where
     pub own : OwnSteps s t items
     pub begins : LooksFirst steps → BeginsUnmarked items
 
-  looks : (s : Spot) (deals : List Deal) (rest : List Item) (after : List Step) → after ≡ s.moment.steps ++ map step_of deals →
+  looks : (s : Spot) (deals : List Deal) (rest : List Item) (after : List Step) →
+      after ≡ s.moment.steps ++ map step_of deals →
       BeginsWithLook s.moment.steps after → BeginsUnmarked (next_items s (map step_of deals) ++ rest)
   looks s deals rest after trace k =
       subst (λ (l : List Step). BeginsUnmarked (next_items s l ++ rest))
       (sym (append_cancel_left s.moment.steps (map step_of deals) (Look k.look ∷ k.rest) (sym trace ∙ k.is))) refl
 
-  pub quietly : (steps : List HostStep) (attempt : Attempt) (s : Spot) (end : Attempt) (t : Spot) → Quiet attempt steps →
+  pub quietly : (steps : List HostStep) (attempt : Attempt) (s : Spot) (end : Attempt) (t : Spot) →
+      Quiet attempt steps →
       DoesAll acting (at attempt s) steps (at end t) → Quietly steps s t
   quietly [] attempt s end t quiet does =
       record { items = []; own = own_nothing s t (ap spot (sym does)); begins = λ first. tt }
@@ -163,7 +170,8 @@ module _ (set : Setting) (asks : List Ask) where
       let k = goes_published attempt s steps (at end t) g does in
       let rest = quietly steps attempt k.0 end t quiet k.2 in record {
         items = next_items s (Look k.1.core.found ∷ []) ++ rest.items;
-        own = own_then s k.0 t (next_items s (Look k.1.core.found ∷ [])) rest.items (own_look attempt s k.0 g k.1) rest.own;
+        own = own_then s k.0 t (next_items s (Look k.1.core.found ∷ [])) rest.items (own_look attempt s k.0 g k.1)
+            rest.own;
         begins = λ first. refl;
       }
   quietly (system_call n flags answer ∷ steps) attempt s end t quiet does =

@@ -17,9 +17,11 @@ pub record Part (caller : ℕ) (v w : View) (items : List Item) : Type 0 where
 
 pub part_nothing : (caller : ℕ) (v w : View) → w ≡ v → Part caller v w []
 part_nothing caller v w same =
-    subst (λ (u : View). Part caller v u []) (sym same) (record { doings = []; ran = ran_nothing caller v; order = refl })
+    subst (λ (u : View). Part caller v u []) (sym same)
+    (record { doings = []; ran = ran_nothing caller v; order = refl })
 
-pub part_then : (caller : ℕ) (u v w : View) (xs ys : List Item) → Part caller u v xs → Part caller v w ys → Part caller u w (xs ++ ys)
+pub part_then : (caller : ℕ) (u v w : View) (xs ys : List Item) → Part caller u v xs → Part caller v w ys →
+    Part caller u w (xs ++ ys)
 part_then caller u v w xs ys a b = record {
   doings = a.doings ++ b.doings;
   ran = ran_then caller u v w a.doings b.doings a.ran b.ran;

@@ -52,7 +52,8 @@ module _ (fast : ℕ → ℕ → FastPool) where
 
   credit : (set : Setting) (entry : PoolEntry) (deeds : List Deed) → CreditForm set entry deeds → Quiet deeds
   credit set entry deeds f =
-      are deeds (at_pool f.pool ∷ f.rest) f.deeds_are (tt, cross set (crossing f.pool.before.bits f.pool.after.bits) f.rest f.crosses)
+      are deeds (at_pool f.pool ∷ f.rest) f.deeds_are
+      (tt, cross set (crossing f.pool.before.bits f.pool.after.bits) f.rest f.crosses)
 
   draw : (set : Setting) (taken : Taken) (deeds : List Deed) → DrawForm set taken deeds → Quiet deeds
   draw set taken deeds (inl f) = rooted set _ deeds f
@@ -62,14 +63,16 @@ module _ (fast : ℕ → ℕ → FastPool) where
   cpu_read set taken deeds (inl f) =
       are deeds (looked f.look ∷ at_cpu f.cpu ∷ []) f.deeds_are (tt, (cpu f.cpu _ f.reads tt, tt))
   cpu_read set taken deeds (inr f) =
-      are deeds (looked f.look ∷ at_base f.base ∷ at_cpu f.cpu ∷ []) f.deeds_are (tt, (tt, (cpu f.cpu _ f.reads tt, tt)))
+      are deeds (looked f.look ∷ at_base f.base ∷ at_cpu f.cpu ∷ []) f.deeds_are
+      (tt, (tt, (cpu f.cpu _ f.reads tt, tt)))
 
   behind_look : (P : ℕ → List Deed → Type 0) → ((g : ℕ) (rest : List Deed) → P g rest → Quiet rest) →
       (deeds : List Deed) → Looked P deeds → Quiet deeds
   behind_look P quiet deeds f = are deeds (looked f.0 ∷ f.1) f.2 (tt, quiet f.0 f.1 f.3)
 
   -- one of two ways
-  choice : (b : Bool) (A B : Type 0) (deeds : List Deed) → (A → Quiet deeds) → (B → Quiet deeds) → MatchBool b A B → Quiet deeds
+  choice : (b : Bool) (A B : Type 0) (deeds : List Deed) → (A → Quiet deeds) → (B → Quiet deeds) → MatchBool b A B →
+      Quiet deeds
   choice true A B deeds x y h = x h
   choice false A B deeds x y h = y h
 
@@ -100,7 +103,8 @@ module _ (fast : ℕ → ℕ → FastPool) where
   int set width g rest (inr (_, inl f)) =
       are rest (looked f.look ∷ at_cpu f.cpu ∷ []) f.deeds_are (tt, (cpu f.cpu _ f.serves tt, tt))
   int set width g rest (inr (_, inr f)) =
-      are rest (looked f.look ∷ at_base f.base ∷ at_cpu f.cpu ∷ []) f.deeds_are (tt, (tt, (cpu f.cpu _ f.serves tt, tt)))
+      are rest (looked f.look ∷ at_base f.base ∷ at_cpu f.cpu ∷ []) f.deeds_are
+      (tt, (tt, (cpu f.cpu _ f.serves tt, tt)))
 
   reseed : (set : Setting) (g : ℕ) (rest : List Deed) → ReseedForm set g rest → Quiet rest
   reseed set g rest (inl f) = empty rest f.1

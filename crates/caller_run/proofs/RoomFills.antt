@@ -25,7 +25,8 @@ use Rattle.caller_run.proofs.ToldAnew.{AreTold, told_more}
 pub record Fills (event : Event) (before after : Gathered) (acts left : List Bound) : Type 0 where
   pub lines : length after.lines ≡ length before.lines + 1
   pub line_room : after.line_room + 1 ≡ before.line_room
-  pub byte_room : before.byte_room + all_wanted (asks_of left) ≤ after.byte_room + (most_shown event + all_wanted (asks_of acts))
+  pub byte_room : before.byte_room + all_wanted (asks_of left) ≤ after.byte_room +
+      (most_shown event + all_wanted (asks_of acts))
   pub wanted : all_wanted (asks_of left) ≤ read_inside event + all_wanted (asks_of acts)
   pub many : length left ≡ acts_after (length acts) event
   pub fresh : AllByRecursion IsFresh left
@@ -56,7 +57,8 @@ short (ReadAct len) range = range
 short Reseed range = omega arith
 
 -- acts that were not done yet want no more than a vread gives each of them
-pub wanted_few : (bounds : List Bound) → AllByRecursion IsFresh bounds → all_wanted (asks_of bounds) ≤ 1048576 * length bounds
+pub wanted_few : (bounds : List Bound) → AllByRecursion IsFresh bounds →
+    all_wanted (asks_of bounds) ≤ 1048576 * length bounds
 wanted_few [] all = omega arith
 wanted_few (b ∷ bounds) all = let rest = wanted_few bounds all.1 in let here = all.0.short in omega arith
 
@@ -66,20 +68,23 @@ module _ (before after : Gathered) (line : SeenLine) (lines : after.lines ≡ be
   one_line = ap length lines ∙ length-append before.lines (line ∷ [])
 
   -- a call of the core
-  pub fills_call : (event : Event) (acts : List Bound) → IsCall event → before.byte_room ≤ after.byte_room + most_shown event →
+  pub fills_call : {event : Event} {acts : List Bound} → IsCall event →
+      before.byte_room ≤ after.byte_room + most_shown event →
       AllByRecursion IsFresh acts → AreTold (length before.lines) (asks_of acts) → Fills event before after acts acts
-  fills_call event acts is bytes fresh told = record {
+  fills_call {event = event} {acts = acts} is bytes fresh told = record {
     lines = one_line;
     line_room = line_room;
     byte_room = omega arith;
     wanted = omega arith;
     many = sym (waits_same (length acts) event is);
     fresh = fresh;
-    told = subst (λ (ls : List SeenLine). AreTold (length ls) (asks_of acts)) (sym lines) (told_more before.lines line (asks_of acts) told);
+    told = subst (λ (ls : List SeenLine). AreTold (length ls) (asks_of acts)) (sym lines)
+        (told_more before.lines line (asks_of acts) told);
   }
 
   -- an act that waits
-  pub fills_act : (point : Point) (act : InsideAct) (event : ℕ) (acts : List Bound) → before.byte_room ≤ after.byte_room → ActInRange act →
+  pub fills_act : (point : Point) (act : InsideAct) (event : ℕ) (acts : List Bound) →
+      before.byte_room ≤ after.byte_room → ActInRange act →
       event ≡ length before.lines → AllByRecursion IsFresh acts → AreTold (length before.lines) (asks_of acts) →
       Fills (Inside (number_of point) act) before after acts (acts ++ new_bound point act event ∷ [])
   fills_act point act event acts bytes range at fresh told =
@@ -102,10 +107,12 @@ module _ (before after : Gathered) (line : SeenLine) (lines : after.lines ≡ be
       }
 
 -- a vread, behind which no act waits
-pub fills_read : (before after : Gathered) (n flags : ℕ) (acts left : List Bound) → length after.lines ≡ length before.lines + 1 →
-    after.line_room + 1 ≡ before.line_room → before.byte_room ≤ after.byte_room + (n + all_wanted (asks_of acts)) → left ≡ [] →
+pub fills_read : {before after : Gathered} {n flags : ℕ} {acts left : List Bound} →
+    length after.lines ≡ length before.lines + 1 →
+    after.line_room + 1 ≡ before.line_room → before.byte_room ≤ after.byte_room + (n + all_wanted (asks_of acts)) →
+    left ≡ [] →
     Fills (Vread n flags) before after acts left
-fills_read before after n flags acts left lines line_room bytes none =
+fills_read {after = after} {left = left} lines line_room bytes none =
     let wanted : all_wanted (asks_of left) ≡ 0 = ap (λ (l : List Bound). all_wanted (asks_of l)) none in
     record {
       lines = lines;

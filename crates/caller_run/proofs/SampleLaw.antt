@@ -46,13 +46,16 @@ Crosses rest = AllByRecursion IsCrossing rest
 
 -- the deeds of one line
 module _ (fast : ℕ → ℕ → FastPool) (deeds : List Deed) where
-  must_dump : SamplesStand fast deeds → (s : CpuVisit) → IsIn (at_cpu s) deeds → IsDump s.entry → Dumps fast Crosses deeds
-  must_dump (inl quiet) s here dump = absurd (quiet_dump (fast s.cpu s.place) s.entry (each_in (IsQuiet fast) (at_cpu s) deeds quiet here) dump)
+  must_dump : SamplesStand fast deeds → (s : CpuVisit) → IsIn (at_cpu s) deeds → IsDump s.entry →
+      Dumps fast Crosses deeds
+  must_dump (inl quiet) s here dump = absurd (quiet_dump (fast s.cpu s.place) s.entry
+      (each_in (IsQuiet fast) (at_cpu s) deeds quiet here) dump)
   must_dump (inr d) s here dump = d
 
   was_due : SamplesStand fast deeds → (s : CpuVisit) → IsIn (at_cpu s) deeds → MakesDue (fast s.cpu s.place) s.entry →
       Dumps fast Crosses deeds
-  was_due (inl quiet) s here due = absurd (quiet_due (fast s.cpu s.place) s.entry (each_in (IsQuiet fast) (at_cpu s) deeds quiet here) due)
+  was_due (inl quiet) s here due = absurd (quiet_due (fast s.cpu s.place) s.entry
+      (each_in (IsQuiet fast) (at_cpu s) deeds quiet here) due)
   was_due (inr d) s here due = d
 
   module _ (d : Dumps fast Crosses deeds) where
@@ -153,7 +156,8 @@ module _ (w : View) (caller : ℕ) (events : List Event) (lines : List SeenLine)
   of_cpu = cpu_behind w caller events lines callers ok (fit_own caller 0 events lines fit) visits
 
   of_pool : (line : SeenLine) (s : PoolVisit) → IsIn line lines → IsIn (at_pool s) (deeds line) →
-      Behind w caller events lines callers ok (fit_own caller 0 events lines fit) visits the_book.pool s.place s.entry line
+      Behind w caller events lines callers ok (fit_own caller 0 events lines fit) visits the_book.pool s.place s.entry
+      line
   of_pool = pool_behind w caller events lines callers ok (fit_own caller 0 events lines fit) visits
 
   -- two visits of one event are in one line
@@ -241,7 +245,8 @@ module _ (w : View) (caller : ℕ) (events : List Event) (lines : List SeenLine)
         d.dump.place,
         (let lt = d.after in omega arith),
         subst (λ (n : ℕ). DumpAt (visits_of the_book n) d.dump.place who) cpu
-            (dump_at f.line d.dump who f.there (dump_in fast (deeds f.line) d) (f.event ∙ a.event.1) (sym a.event.0 ∙ f.by)
+            (dump_at f.line d.dump who f.there (dump_in fast (deeds f.line) d) (f.event ∙ a.event.1)
+            (sym a.event.0 ∙ f.by)
             d.dumps),
       )
 
@@ -279,7 +284,8 @@ module _ (w : View) (caller : ℕ) (events : List Event) (lines : List SeenLine)
 
   mix_dumped : (c k p : ℕ) (who : Who) (text : List ℕ) (bits : ℕ) → DumpAt (visits_of the_book c) k who →
       MixAt the_book.pool p who text bits →
-      (text ≡ dump_bytes (fast_before (visits_of the_book c) k)) × (bits ≡ dump_bits (fast_before (visits_of the_book c) k))
+      (text ≡ dump_bytes (fast_before (visits_of the_book c) k))
+      × (bits ≡ dump_bits (fast_before (visits_of the_book c) k))
   mix_dumped c k p who text bits a b =
       let o : OfDump c k who = of_dump c k who a in
       let d : Dumps fast Crosses (deeds o.line) = o.dumps in

@@ -1,23 +1,23 @@
 -- What a caller has seen of the generations of its vgetrandom states, event by event.
-use Rattle.std.proofs.Common.{◌≡◌, ℕ, zero, suc, ◌≤◌, List, [], ◌∷◌, replicate, refl, sym, ◌∙◌, subst, arith}
-use Rattle.std.specs.Prelude.{slice_set}
-use Rattle.std.specs.List.{AllByRecursion}
+use Rattle.std.proofs.Common.{◌≡◌, ℕ, ◌≤◌, List, [], replicate, refl, sym, ◌∙◌, subst, arith}
 use Rattle.std.proofs.lemmas.List.{length-set}
 use Rattle.key_names.specs.declared.events.Event.{Event}
 use Rattle.key_names.specs.declared.events.Event.TheVariants.{Vread, Drop, State}
 use Rattle.key_names.specs.declared.names.Step.{Step}
 use Rattle.key_names.specs.Calls as calls
-use Rattle.key_names.specs.Meaning.{CallerState, caller_start, state_after, with_state}
+use Rattle.key_names.specs.Meaning.{CallerState, caller_start, caller_after, with_state}
 use Rattle.key_names.specs.ScriptGrammar.{InRange, event_word}
 use Rattle.key_names.specs.VgetrandomState.{VgetrandomState, wiped_state}
 use Rattle.key_names.specs.VreadSteps.{published_by}
-use Rattle.key_names.proofs.Each.{each_weaker}
+use Rattle.key_names.proofs.Each.{each_set, each_weaker}
 use Rattle.lane_table.specs.declared.lanes.Lanes.{Lanes}
 use Rattle.lane_table.specs.Calls.{view}
 use Rattle.lane_table.specs.Hands.{Has}
 use Rattle.lane_table.specs.Went.{floor}
 use Rattle.rng_core.specs.Told.{moment}
 use Rattle.rng_core.specs.Did.{setting_of}
+use Rattle.rng_core.proofs.Hosting.{published_more}
+use Rattle.std.proofs.lemmas.List.Elements.{recursion_from_All, All-replicate}
 use Rattle.rng_core.proofs.Doing.{did_floor}
 use Rattle.caller_run.proofs.Callings.{no_count}
 use Rattle.lane_table.proofs.Sights.{sees_up}
@@ -28,50 +28,43 @@ use Rattle.caller_run.specs.Says.{ShowsFit}
 use Rattle.caller_run.specs.declared.caller.Caller.{Caller}
 use Rattle.caller_run.specs.declared.said.Said.{Said}
 
-published_up : (a b : ℕ) → a ≤ b → published_by a ≤ published_by b
-published_up zero b le = omega arith
-published_up (suc a) zero le = absurd (omega arith)
-published_up (suc a) (suc b) le = omega arith
-
-module _ {X : Type 0} (P : X → Type 0) where
-  each_set : (xs : List X) (i : ℕ) (x : X) → AllByRecursion P xs → P x → AllByRecursion P (slice_set xs i x)
-  each_set [] i x all is = tt
-  each_set (y ∷ xs) zero x all is = (is, all.1)
-  each_set (y ∷ xs) (suc i) x all is = (all.0, each_set xs i x all.1 is)
-
-  each_same : (n : ℕ) (x : X) → P x → AllByRecursion P (replicate n x)
-  each_same zero x is = tt
-  each_same (suc n) x is = (is, each_same n x is)
-
 -- at the start
 pub seen_start : (found : ℕ) (set : calls.Setting) → Seen found (caller_start set)
-seen_start found set = record {
-  many = refl;
-  current = omega arith;
-  published = each_same (λ (st : VgetrandomState). st.generation ≤ published_by found) 16 wiped_state (omega arith);
-}
+seen_start found set = let P : VgetrandomState → Type 0 =
+    λ (st : VgetrandomState). st.generation ≤ published_by found in record {
+      many = refl;
+      current = omega arith;
+      published = recursion_from_All P (replicate 16 wiped_state) (All-replicate P 16 wiped_state (omega arith));
+    }
 
 -- more was seen
 pub seen_up : (a b : ℕ) (s : CallerState) → a ≤ b → Seen a s → Seen b s
 seen_up a b s le k = record {
   many = k.many;
   current = k.current;
-  published = each_weaker (λ (st : VgetrandomState). st.generation ≤ published_by a) (λ st. st.generation ≤ published_by b) s.states
-      (λ st low. let up = published_up a b le in omega arith) k.published;
+  published = each_weaker (λ (st : VgetrandomState). st.generation ≤ published_by a)
+      (λ st. st.generation ≤ published_by b) s.states
+      (λ st low. let up = published_more a b le in omega arith) k.published;
 }
 
 -- the current state is this one now
-pub seen_with : (found : ℕ) (s : CallerState) (st : VgetrandomState) → st.generation ≤ published_by found → Seen found s → Seen found (with_state s st)
+pub seen_with : (found : ℕ) (s : CallerState) (st : VgetrandomState) → st.generation ≤ published_by found →
+    Seen found s →
+    Seen found (with_state s st)
 seen_with found s st low k = record {
   many = length-set s.states s.current st ∙ k.many;
   current = k.current;
-  published = each_set (λ (t : VgetrandomState). t.generation ≤ published_by found) s.states s.current st k.published low;
+  published = each_set (λ (t : VgetrandomState). t.generation ≤ published_by found) s.states s.current st k.published
+      low;
 }
 
 -- behind an event by itself
-pub seen_after : (version cpus found : ℕ) (s : CallerState) (event : Event) → InRange version cpus event → Seen found s → Seen found (state_after s event)
+pub seen_after : (version cpus found : ℕ) (s : CallerState) (event : Event) → InRange version cpus event →
+    Seen found s →
+    Seen found (caller_after s event)
 seen_after version cpus found s Drop range k = seen_with found s wiped_state (omega arith) k
-seen_after version cpus found s (State number) range k = record { many = k.many; current = range.1; published = k.published }
+seen_after version cpus found s (State number) range k =
+    record { many = k.many; current = range.1; published = k.published }
 seen_after version cpus found s event range k = record { many = k.many; current = k.current; published = k.published }
 
 -- a call of any event
@@ -83,7 +76,7 @@ pub record Kept (t : Lanes) (event : Event) (c d : Caller) (said : Said) : Type 
   pub states : StatesStand c → StatesStand d
   pub shows : ShowsFit (event_word event) said.shows
 
-module _ (t : Lanes) (event : Event) (c d : Caller) (said : Said) (served : List ℕ) (steps : List Step) where
+module _ {t : Lanes} {event : Event} {c d : Caller} {said : Said} {served : List ℕ} {steps : List Step} where
   pub same_stand : Called t event c d said served steps → stand d ≡ stand c
   same_stand k = (λ i. caller_at (setting_of (k.set i)) (k.states i))
 
@@ -92,13 +85,15 @@ module _ (t : Lanes) (event : Event) (c d : Caller) (said : Said) (served : List
     has = k.has;
     set = k.set;
     states = λ s. subst (Seen (floor (view d.pass))) (sym (same_stand k))
-        (seen_up (floor (view c.pass)) (floor (view d.pass)) (stand c) (did_floor c.set (moment c.pass []) (moment d.pass steps) k.does) s);
+        (seen_up (floor (view c.pass)) (floor (view d.pass)) (stand c)
+        (did_floor c.set (moment c.pass []) (moment d.pass steps) k.does) s);
     shows = k.shows;
   }
 
-pub read_kept : (t : Lanes) (n flags : ℕ) (c d : Caller) (said : Said) (served : List ℕ) (steps : List Step) (asks : List Ask)
-    (zs : List ActOutcome) → StateRead t n flags c d said served steps asks zs → Kept t (Vread n flags) c d said
-read_kept t n flags c d said served steps asks zs k = record {
+pub read_kept : {t : Lanes} {n flags : ℕ} {c d : Caller} {said : Said} {served : List ℕ} {steps : List Step}
+    {asks : List Ask}
+    {zs : List ActOutcome} → StateRead t n flags c d said served steps asks zs → Kept t (Vread n flags) c d said
+read_kept {t = t} {c = c} {d = d} {said = said} k = record {
   has = k.has;
   set = k.set;
   states = λ s. subst (Seen (floor (view d.pass))) (sym k.stands)

@@ -36,16 +36,17 @@ pub idle : (t : Lanes) (caller : ℕ) (p : Pass) → Has t caller [] p → IsIdl
 idle t caller p h = idle_of t caller p h
 
 -- the only pass has the whole share
-pub whole_share : (plan : Plan) (caller : ℕ) (events : List Event) (c : Caller) (lines : List SeenLine) (v : View) → v ≡ newcomer plan →
+pub whole_share : {caller : ℕ} {events : List Event} {c : Caller} {lines : List SeenLine} {v : View} (plan : Plan) →
+    v ≡ newcomer plan →
     HasEnded v caller events c lines → (view c.pass).share ≡ 2 ^ (view c.pass).halvings
-whole_share plan caller events c lines v start e =
+whole_share plan start e =
     e.done.ran.same.share ∙ ap (λ (w : View). w.share) start
     ∙ sym (ap (λ (h : ℕ). 2 ^ h) (e.done.ran.same.halvings ∙ ap (λ (w : View). w.halvings) start))
 
-pub ran_alone : (cpus first : ℕ) (events : List Event) (c : Caller) (lines : List SeenLine) (v : View) →
+pub ran_alone : {events : List Event} {c : Caller} {lines : List SeenLine} {v : View} (cpus first : ℕ) →
     v ≡ newcomer (plan_of (cpus + 2) first) → HasEnded v 0 events c lines → Ended (cpus + 2) (view c.pass) →
     floor (view c.pass) ≤ (model c.pass 1).base.generation → RanAlone cpus events lines (view c.pass)
-ran_alone cpus first events c lines v start e ended seen =
+ran_alone {events = events} {c = c} {lines = lines} cpus first start e ended seen =
     let g : HasEnded (newcomer (plan_of (cpus + 2) first)) 0 events c lines =
     subst (λ (w : View). HasEnded w 0 events c lines) start e in record {
       fit = g.fit;
@@ -67,8 +68,10 @@ pub record IsNew (room : Room) (served inside : ℕ) (events : List Event) : Typ
   pub inside_is : inside ≡ sum_by read_inside events
 
 -- what a caller needs at its start
-can_start : (t : Lanes) (c : Caller) (room : Room) (served inside : ℕ) (events : List Event) → Has t c.set.caller [] c.pass → 1 ≤ t.cpus →
-    stand c ≡ caller_start first_setting → c.set.event ≡ 0 → (version : ℕ) × AllByRecursion (InRange version t.cpus) events →
+can_start : (t : Lanes) (c : Caller) (room : Room) (served inside : ℕ) (events : List Event) →
+    Has t c.set.caller [] c.pass → 1 ≤ t.cpus →
+    stand c ≡ caller_start first_setting → c.set.event ≡ 0 →
+    (version : ℕ) × AllByRecursion (InRange version t.cpus) events →
     AllByRecursion ForksNobody events → FewActs 0 events → length events ≤ 65536 → IsNew room served inside events →
     CanGo t c room served inside events
 can_start t c room served inside events has some stands none_yet range alone acts few new = record {
@@ -84,19 +87,23 @@ can_start t c room served inside events has some stands none_yet range alone act
     numbers = omega arith;
     at = none_yet ∙ ap length (sym new.lines);
     line_room = (let a = new.line_room in omega arith);
-    byte_room = (let a = new.byte_room in let b = ap (λ (l : List Bound). all_wanted (asks_of l)) new.acts in omega arith);
+    byte_room = (let a = new.byte_room in let b = ap (λ (l : List Bound). all_wanted (asks_of l)) new.acts in
+        omega arith);
     longest = recursion_from_All (λ event. most_shown event ≤ served) events new.longest;
     wanted = (let a = new.inside_is in let b = ap (λ (l : List Bound). all_wanted (asks_of l)) new.acts in omega arith);
     few = subst (λ (l : List Bound). (length l ≤ 8) × FewActs (length l) events) (sym new.acts) (omega arith, acts);
     fresh = subst (AllByRecursion IsFresh) (sym new.acts) tt;
-    told = subst (λ (l : List Bound). AllByRecursion (λ a. a.event < length room.lines.lines) (asks_of l)) (sym new.acts) tt;
+    told = subst (λ (l : List Bound). AllByRecursion (λ a. a.event < length room.lines.lines) (asks_of l))
+        (sym new.acts) tt;
   };
   act_room = new.act_room;
 }
 
 -- the only caller of a new table at its start
-pub still_start : (t : Lanes) (p : Pass) (plan : Plan) (c : Caller) (room : Room) (served inside : ℕ) (events : List Event) →
-    IsPassOf t p × (p.caller ≡ 0) → p.seat.me ≡ (newcomer plan, []) → c.pass ≡ p → (c.set.caller ≡ 0) × (c.set.event ≡ 0) →
+pub still_start : (t : Lanes) (p : Pass) (plan : Plan) (c : Caller) (room : Room) (served inside : ℕ)
+    (events : List Event) →
+    IsPassOf t p × (p.caller ≡ 0) → p.seat.me ≡ (newcomer plan, []) → c.pass ≡ p →
+    (c.set.caller ≡ 0) × (c.set.event ≡ 0) →
     1 ≤ t.cpus → stand c ≡ caller_start first_setting → (version : ℕ) × AllByRecursion (InRange version t.cpus) events →
     AllByRecursion ForksNobody events → FewActs 0 events → length events ≤ 65536 → IsNew room served inside events →
     StillGoes t (view c.pass) 0 events 0 c room served inside
@@ -105,11 +112,13 @@ still_start t p plan c room served inside events pass seat same own some stands 
       (subst (λ (n : ℕ). Has t n [] c.pass) (sym own.0)
       (subst (λ (q : Pass). Has t 0 [] q) (sym same) (has_new t 0 plan p pass.0 pass.1 seat)))
       some stands own.1 range alone acts few new;
-  gone = subst (λ (l : List SeenLine). HasGone (view c.pass) 0 events events c l (asks_of room.acts.items)) (sym new.lines)
+  gone = subst (λ (l : List SeenLine). HasGone (view c.pass) 0 events events c l (asks_of room.acts.items))
+      (sym new.lines)
       (subst (λ (l : List Bound). HasGone (view c.pass) 0 events events c [] (asks_of l)) (sym new.acts)
       (gone_nothing 0 events c own.0 own.1 stands));
 }
 
 -- what the pass knew
-pub new_view : (p : Pass) (plan : Plan) (c : Caller) → p.seat.me ≡ (newcomer plan, []) → c.pass ≡ p → view c.pass ≡ newcomer plan
+pub new_view : (p : Pass) (plan : Plan) (c : Caller) → p.seat.me ≡ (newcomer plan, []) → c.pass ≡ p →
+    view c.pass ≡ newcomer plan
 new_view p plan c seat same = ap view same ∙ ap (λ (m : Seated). m.0) seat

@@ -23,7 +23,8 @@ use Rattle.std.proofs.Math.Seq.{set-append_seam}
 abbrev pub AreTold : ℕ → List Ask → Type 0
 AreTold count asks = AllByRecursion (λ a. a.event < count) asks
 
-pub anew_long : (lines : List SeenLine) (asks : List Ask) (acts : List SeenLine) → length (told_anew lines asks acts) ≡ length lines
+pub anew_long : (lines : List SeenLine) (asks : List Ask) (acts : List SeenLine) →
+    length (told_anew lines asks acts) ≡ length lines
 anew_long lines [] acts = refl
 anew_long lines (a ∷ asks) [] = refl
 anew_long lines (a ∷ asks) (l ∷ acts) = anew_long (slice_set lines a.event l) asks acts ∙ length-set lines a.event l
@@ -39,7 +40,8 @@ anew_front lines more (a ∷ asks) (l ∷ acts) told =
     (subst (λ (n : ℕ). AreTold n asks) (sym (length-set lines a.event l)) told.1)
 
 -- the last of them is the last act's
-pub anew_last : (lines : List SeenLine) (idle line : SeenLine) (asks : List Ask) (x : Ask) (acts : List SeenLine) → x.event ≡ length lines →
+pub anew_last : (lines : List SeenLine) (idle line : SeenLine) (asks : List Ask) (x : Ask) (acts : List SeenLine) →
+    x.event ≡ length lines →
     AreTold (length lines) asks → length acts ≡ length asks →
     told_anew (lines ++ idle ∷ []) (asks ++ x ∷ []) (acts ++ line ∷ []) ≡ told_anew lines asks acts ++ line ∷ []
 anew_last lines idle line [] x [] at told many =
@@ -47,7 +49,8 @@ anew_last lines idle line [] x [] at told many =
 anew_last lines idle line [] x (l ∷ acts) at told many = absurd (omega arith)
 anew_last lines idle line (a ∷ asks) x [] at told many = absurd (omega arith)
 anew_last lines idle line (a ∷ asks) x (l ∷ acts) at told many =
-    ap (λ (ls : List SeenLine). told_anew ls (asks ++ x ∷ []) (acts ++ line ∷ [])) (set-append_left lines (idle ∷ []) a.event l told.0)
+    ap (λ (ls : List SeenLine). told_anew ls (asks ++ x ∷ []) (acts ++ line ∷ []))
+    (set-append_left lines (idle ∷ []) a.event l told.0)
     ∙ anew_last (slice_set lines a.event l) idle line asks x acts (at ∙ sym (length-set lines a.event l))
     (subst (λ (n : ℕ). AreTold n asks) (sym (length-set lines a.event l)) told.1) (omega arith)
 
@@ -59,7 +62,8 @@ told_more lines line asks told =
     (λ a low. omega (arith, length-append lines (line ∷ []))) told
 
 -- a line of the same event fits where the other stood
-module _ (old new : SeenLine) (caller : new.caller ≡ old.caller) (event : new.event ≡ old.event) (word : new.word ≡ old.word) where
+module _ (old new : SeenLine) (caller : new.caller ≡ old.caller) (event : new.event ≡ old.event)
+    (word : new.word ≡ old.word) where
   is_too : (c n : ℕ) (w : Word) (line : SeenLine) → line ≡ old → LineIs c n w line → LineIs c n w new
   is_too c n w line same is =
       let k = subst (LineIs c n w) same is in
@@ -72,7 +76,8 @@ module _ (old new : SeenLine) (caller : new.caller ≡ old.caller) (event : new.
   fit_set c n [] (line ∷ []) (suc i) there fit = fit
   fit_set c n [] (line ∷ more ∷ lines) i there fit = absurd fit
   fit_set c n (e ∷ events) [] i there fit = absurd fit
-  fit_set c n (e ∷ events) (line ∷ lines) zero there fit = let same : line ≡ old = cc in (is_too c n (event_word e) line same fit.0, fit.1)
+  fit_set c n (e ∷ events) (line ∷ lines) zero there fit = let same : line ≡ old = cc in
+      (is_too c n (event_word e) line same fit.0, fit.1)
   fit_set c n (e ∷ events) (line ∷ lines) (suc i) there fit = (fit.0, fit_set c (suc n) events lines i there fit.1)
 
 -- what stands at a place where a line was set there or elsewhere
@@ -91,17 +96,27 @@ module _ (caller : ℕ) where
   abbrev Idle : List SeenLine → List Ask → Type 0
   Idle lines asks = AllByRecursion (HasLine caller lines) asks
 
-  pub idle_more : (lines : List SeenLine) (line : SeenLine) (asks : List Ask) → Idle lines asks → Idle (lines ++ line ∷ []) asks
+  pub idle_more : (lines : List SeenLine) (line : SeenLine) (asks : List Ask) → Idle lines asks →
+      Idle (lines ++ line ∷ []) asks
   idle_more lines line asks idle =
       each_weaker (HasLine caller lines) (HasLine caller (lines ++ line ∷ [])) asks
-      (λ a has. record { line = has.line; there = (front_stays lines (line ∷ []) a.event has.line has.there).entry; is = has.is }) idle
+      (λ a has. record {
+        line = has.line;
+        there = (front_stays lines (line ∷ []) a.event has.line has.there).entry;
+        is = has.is;
+      }) idle
 
-  idle_set : (lines : List SeenLine) (i : ℕ) (line : SeenLine) (asks : List Ask) → LineIs caller i InsideWord line → Idle lines asks →
+  idle_set : (lines : List SeenLine) (i : ℕ) (line : SeenLine) (asks : List Ask) → LineIs caller i InsideWord line →
+      Idle lines asks →
       Idle (slice_set lines i line) asks
   idle_set lines i line asks is idle =
       each_weaker (HasLine caller lines) (HasLine caller (slice_set lines i line)) asks
       (λ a has. elim (get_set lines i a.event has.line line has.there) [
-        | inl here ↦ record { line = line; there = here.1; is = subst (λ (n : ℕ). LineIs caller n InsideWord line) here.0 is }
+        | inl here ↦ record {
+          line = line;
+          there = here.1;
+          is = subst (λ (n : ℕ). LineIs caller n InsideWord line) here.0 is;
+        }
         | inr there ↦ record { line = has.line; there = there; is = has.is }
       ]) idle
 
@@ -124,15 +139,19 @@ module _ (caller : ℕ) where
         fit_anew asks zs (slice_set lines a.event line) more
         (idle_set lines a.event line asks (record { caller = own; event = refl; word_is = refl }) idle.1)
         (subst (LinesFit caller 0 events) (set-append_left lines more a.event line low)
-        (fit_set has.line line (own ∙ sym has.is.caller) (sym has.is.event) (sym has.is.word_is) caller 0 events (lines ++ more) a.event
+        (fit_set has.line line (own ∙ sym has.is.caller) (sym has.is.event) (sym has.is.word_is) caller 0 events
+        (lines ++ more) a.event
         (front_stays lines more a.event has.line has.there).entry fit))
 
-pub lines_long : (set : Setting) (asks : List Ask) (zs : List ActOutcome) → length zs ≡ length asks → length (act_lines set asks zs) ≡ length asks
+pub lines_long : (set : Setting) (asks : List Ask) (zs : List ActOutcome) → length zs ≡ length asks →
+    length (act_lines set asks zs) ≡ length asks
 lines_long set [] zs long = refl
 lines_long set (a ∷ asks) [] long = absurd (omega arith)
 lines_long set (a ∷ asks) (z ∷ zs) long = let e = lines_long set asks zs (omega arith) in omega arith
 
-pub bound_same : (set : Setting) (asks : List Ask) (zs : List ActOutcome) → all_bound asks (act_lines set asks zs) ≡ bound_acts set asks zs
+pub bound_same : (set : Setting) (asks : List Ask) (zs : List ActOutcome) →
+    all_bound asks (act_lines set asks zs) ≡ bound_acts set asks zs
 bound_same set [] zs = refl
 bound_same set (a ∷ asks) [] = refl
-bound_same set (a ∷ asks) (z ∷ zs) = ap (λ (bs : List BoundAct). bound_by a (act_line set a z) ∷ bs) (bound_same set asks zs)
+bound_same set (a ∷ asks) (z ∷ zs) = ap (λ (bs : List BoundAct). bound_by a (act_line set a z) ∷ bs)
+    (bound_same set asks zs)

@@ -30,7 +30,8 @@ use Rattle.caller_run.proofs.HasGone.{gone_by, fit_more, own_line}
 
 -- d read out of c's current state for this event, with the acts inside that waited for it, and e goes on: these are the
 -- lines and the acts that wait, before it and behind it
-pub record HasRead (t : Lanes) (event : Event) (c d e : Caller) (before after : Gathered) (acts left : List Bound) : Type 0 where
+pub record HasRead (t : Lanes) (event : Event) (c d e : Caller) (before after : Gathered)
+    (acts left : List Bound) : Type 0 where
   pub len : ℕ
   pub flags : ℕ
   pub event_is : event ≡ Vread len flags
@@ -40,12 +41,14 @@ pub record HasRead (t : Lanes) (event : Event) (c d e : Caller) (before after : 
   pub zs : List ActOutcome
   pub read : StateRead t len flags c d said served steps (asks_of acts) zs
   pub on : GoesOn event d e
-  pub lines : after.lines ≡ told_anew before.lines (asks_of acts) (act_lines d.set (asks_of acts) zs) ++ line_of d.set VreadWord served said steps ∷ []
+  pub lines : after.lines
+      ≡ told_anew before.lines (asks_of acts) (act_lines d.set (asks_of acts) zs)
+      ++ line_of d.set VreadWord served said steps ∷ []
   pub line_room : after.line_room + 1 ≡ before.line_room
   pub byte_room : before.byte_room ≤ after.byte_room + (len + all_wanted (asks_of acts))
   pub none : left ≡ []
 
-module _ (t : Lanes) (event : Event) (c d e : Caller) (before after : Gathered) (acts left : List Bound)
+module _ {t : Lanes} {event : Event} {c d e : Caller} {before after : Gathered} {acts left : List Bound}
     (k : HasRead t event c d e before after acts left) where
   abbrev asks : List Ask
   asks = asks_of acts
@@ -56,17 +59,18 @@ module _ (t : Lanes) (event : Event) (c d e : Caller) (before after : Gathered) 
   abbrev told : List SeenLine
   told = act_lines d.set asks k.zs
 
-  pub can_read : (m inside : ℕ) (rest : List Event) → CanGoWith t c before acts m inside (event ∷ rest) →
+  pub can_read : {m inside : ℕ} {rest : List Event} → CanGoWith t c before acts m inside (event ∷ rest) →
       CanGoWith t e after left m inside rest
-  can_read m inside rest g =
-      let kept = read_kept t k.len k.flags c d k.said k.served k.steps asks k.zs k.read in
+  can_read g =
+      let kept = read_kept k.read in
       let long = ap length k.lines ∙ length-append (told_anew before.lines asks told) (line ∷ []) in
       let anew = anew_long before.lines asks told in
-      can_next t event c d e before after acts left m inside rest kept.set kept.has (kept.states g.states) k.on
+      can_next d kept.set kept.has (kept.states g.states) k.on
       (subst (λ (x : Event). Fills x before after acts left) (sym k.event_is)
-      (fills_read before after k.len k.flags acts left (omega arith) k.line_room k.byte_room k.none)) g
+      (fills_read (omega arith) k.line_room k.byte_room k.none)) g
 
-  pub gone_read : (v : View) (caller : ℕ) (events rest : List Event) → HasGone v caller events (event ∷ rest) c before.lines asks →
+  pub gone_read : (v : View) (caller : ℕ) (events rest : List Event) →
+      HasGone v caller events (event ∷ rest) c before.lines asks →
       HasGone v caller events rest e after.lines (asks_of left)
   gone_read v caller events rest gone =
       let set = k.read.set in
@@ -76,16 +80,22 @@ module _ (t : Lanes) (event : Event) (c d e : Caller) (before after : Gathered) 
       subst (λ (x : Event). HasGone v caller events (x ∷ rest) c before.lines asks) k.event_is gone in
       let on : GoesOn (Vread k.len k.flags) d e = subst (λ (x : Event). GoesOn x d e) k.event_is k.on in
       subst (λ (ls : List SeenLine). HasGone v caller events rest e ls (asks_of left)) (sym k.lines)
-      (subst (λ (bs : List Bound). HasGone v caller events rest e (told_anew before.lines asks told ++ line ∷ []) (asks_of bs)) (sym k.none)
-      (gone_by d g set on (vread_call k.len k.flags line (all_bound asks told)) (told_anew before.lines asks told ++ line ∷ []) [] []
+      (subst (λ (bs : List Bound). HasGone v caller events rest e (told_anew before.lines asks told ++ line ∷ [])
+      (asks_of bs)) (sym k.none)
+      (gone_by d g set on (vread_call k.len k.flags line (all_bound asks told))
+      (told_anew before.lines asks told ++ line ∷ []) [] []
       (subst (λ (s : Setting). CallDone c.set.caller (view c.pass) (view d.pass) (stand c) (stand d)
       (vread_call k.len k.flags (line_of s VreadWord k.served k.said k.steps) (all_bound asks told))) (sym set)
       (subst (λ (bs : List BoundAct). CallDone c.set.caller (view c.pass) (view d.pass) (stand c) (stand d)
       (vread_call k.len k.flags (line_of c.set VreadWord k.served k.said k.steps) bs)) bound k.read.done))
       (λ has. refl)
-      (so_far_vread events rest before.lines asks g.calls k.len k.flags line told (lines_long d.set asks k.zs k.read.long)
-      (subst (λ (w : List Ask). CallsSoFar events (Vread k.len k.flags ∷ rest) before.lines w g.calls) (g.waits refl) g.so_far))
+      (so_far_vread events rest before.lines asks g.calls k.len k.flags line told
+      (lines_long d.set asks k.zs k.read.long)
+      (subst (λ (w : List Ask). CallsSoFar events (Vread k.len k.flags ∷ rest) before.lines w g.calls) (g.waits refl)
+      g.so_far))
       (fit_more caller c.set.event events (Vread k.len k.flags) rest (told_anew before.lines asks told) line
       (own_line d g set on k.said k.served k.steps)
-      (λ more f. fit_anew caller d.set (ap (λ (s : Setting). s.caller) set ∙ g.own) events asks k.zs before.lines more g.idle (g.fit more f)))
+      (λ more f. fit_anew caller d.set (ap (λ (s : Setting). s.caller) set ∙ g.own) events asks k.zs before.lines more
+      g.idle
+      (g.fit more f)))
       tt))

@@ -60,29 +60,31 @@ deed_same lanes w callers (CpuLane c) place = refl
 deeds_same : (lanes : ℕ) (w : View) (callers : StateLists) (steps : List Step) →
     deeds_of (book_lists lanes (known_of w) []) steps ≡ deeds_of (book_lists lanes (known_of w) callers) steps
 deeds_same lanes w callers [] = refl
-deeds_same lanes w callers (Look g ∷ steps) = ap (λ (l : List Deed). deed_of (book_lists lanes (known_of w) []) (Look g) ∷ l)
+deeds_same lanes w callers (Look g ∷ steps) = ap
+    (λ (l : List Deed). deed_of (book_lists lanes (known_of w) []) (Look g) ∷ l)
     (deeds_same lanes w callers steps)
 deeds_same lanes w callers (Marked mark ∷ steps) =
     (λ i. deed_same lanes w callers mark.lane mark.place i ∷ deeds_same lanes w callers steps i)
 
-module _ (P Q : SeenLine → LineMeaning → Type 0) (weaker : (line : SeenLine) (m : LineMeaning) → P line m → Q line m) where
-  acts_weaker : (acts : List BoundAct) (ms : List LineMeaning) → EachAct P acts ms → EachAct Q acts ms
-  acts_weaker [] [] all = tt
-  acts_weaker [] (m ∷ ms) all = absurd all
-  acts_weaker (bound ∷ acts) [] all = absurd all
-  acts_weaker (bound ∷ acts) (m ∷ ms) all = (weaker bound.line m all.0, acts_weaker acts ms all.1)
+module _ (P Q : SeenLine → LineMeaning → Type 0) (weaker : (line : SeenLine) (m : LineMeaning) → P line m → Q line m)
+  where
+    acts_weaker : (acts : List BoundAct) (ms : List LineMeaning) → EachAct P acts ms → EachAct Q acts ms
+    acts_weaker [] [] all = tt
+    acts_weaker [] (m ∷ ms) all = absurd all
+    acts_weaker (bound ∷ acts) [] all = absurd all
+    acts_weaker (bound ∷ acts) (m ∷ ms) all = (weaker bound.line m all.0, acts_weaker acts ms all.1)
 
-  call_weaker : (call : Call) (m : CallMeaning) → EachOfCall P call m → EachOfCall Q call m
-  call_weaker (alone event line) m all = weaker line m.own all
-  call_weaker (vread_call len flags line acts) m all = (weaker line m.own all.0, acts_weaker acts m.acts all.1)
-  call_weaker (unbound bound) m all = weaker bound.line m.own all
-  call_weaker (ending line) m all = weaker line m.own all
+    call_weaker : (call : Call) (m : CallMeaning) → EachOfCall P call m → EachOfCall Q call m
+    call_weaker (alone event line) m all = weaker line m.own all
+    call_weaker (vread_call len flags line acts) m all = (weaker line m.own all.0, acts_weaker acts m.acts all.1)
+    call_weaker (unbound bound) m all = weaker bound.line m.own all
+    call_weaker (ending line) m all = weaker line m.own all
 
-  lines_weaker : (calls : List Call) (ms : List CallMeaning) → EachLine P calls ms → EachLine Q calls ms
-  lines_weaker [] [] all = tt
-  lines_weaker [] (m ∷ ms) all = absurd all
-  lines_weaker (call ∷ calls) [] all = absurd all
-  lines_weaker (call ∷ calls) (m ∷ ms) all = (call_weaker call m all.0, lines_weaker calls ms all.1)
+    lines_weaker : (calls : List Call) (ms : List CallMeaning) → EachLine P calls ms → EachLine Q calls ms
+    lines_weaker [] [] all = tt
+    lines_weaker [] (m ∷ ms) all = absurd all
+    lines_weaker (call ∷ calls) [] all = absurd all
+    lines_weaker (call ∷ calls) (m ∷ ms) all = (call_weaker call m all.0, lines_weaker calls ms all.1)
 
 module _ (version cpus : ℕ) (events : List Event) (lines : List SeenLine) (w : View)
     (ok : WellFormed (one_caller version cpus events)) (r : RanAlone cpus events lines w) where
@@ -153,7 +155,8 @@ module _ (version cpus : ℕ) (events : List Event) (lines : List SeenLine) (w :
   own : AllByRecursion (IsOfCaller 0) lines
   own = fit_own 0 0 events lines r.fit
 
-  each_visits : AllByRecursion (λ item. AllByRecursion (MarksVisit lanes (known_of w)) (mark_of 0 item)) (lines_items lines)
+  each_visits : AllByRecursion (λ item. AllByRecursion (MarksVisit lanes (known_of w)) (mark_of 0 item))
+      (lines_items lines)
   each_visits =
       calls_each _ 0 events lines r.fit r.done.points
       (subst (AllByRecursion _) r.done.order (items_visit 0 w doings r.done.ran.stood))
@@ -190,7 +193,8 @@ module _ (version cpus : ℕ) (events : List Event) (lines : List SeenLine) (w :
       (marks_visits 0 w doings r.done.ran.stood callers low ended places made lines own same each_visits)
       (marks_places 0 w doings r.done.ran.stood callers low ended places made lines own same each_visits)
       (marks_many 0 w doings r.done.ran.stood callers low ended places made lines own same each_visits)
-      (calls_lines (λ line. SamplesStand (fast_in (known_of w)) (deeds_of (lists_of book) line.steps)) 0 events lines r.fit
+      (calls_lines (λ line. SamplesStand (fast_in (known_of w)) (deeds_of (lists_of book) line.steps)) 0 events lines
+      r.fit
       (r.done.samples lanes (known_of w) callers continues))
 
   forms : FormsStand (one_caller version cpus events) (lines ∷ []) book (meant.meanings ∷ [])

@@ -57,7 +57,8 @@ pub record IsReady (t : Lanes) (c : Caller) : Type 0 where
   pub moment : c.set.now < 2 ^ 40
 
 -- the caller, then c and now d, made the call of an event, with these steps and these bytes
-pub record Called (t : Lanes) (event : Event) (c d : Caller) (said : Said) (served : List ℕ) (steps : List Step) : Type 0 where
+pub record Called (t : Lanes) (event : Event) (c d : Caller) (said : Said) (served : List ℕ) (steps : List Step)
+    : Type 0 where
   pub has : Has t d.set.caller [] d.pass
   pub set : d.set ≡ c.set
   pub states : d.states ≡ c.states

@@ -40,7 +40,8 @@ IsAlone _ = ⊤
 
 -- what a loop over the events keeps, rest being those that it has not come to: whatever lines are told anew and follow,
 -- these calls were made
-pub record CallsSoFar (events rest : List Event) (lines : List SeenLine) (waiting : List Ask) (calls : List Call) : Type 0 where
+pub record CallsSoFar (events rest : List Event) (lines : List SeenLine) (waiting : List Ask)
+    (calls : List Call) : Type 0 where
   pub told : AllByRecursion (λ a. a.event < length lines) waiting
   pub follows : has_vread rest ≡ false → waiting ≡ []
   pub calls_are : (acts more : List SeenLine) → length acts ≡ length waiting →

@@ -45,14 +45,9 @@ pub(crate) fn all_wanted(acts: &[Bound]) -> usize
 
 impl Caller {
     /// An act waits for the caller's next `vread`. Its line says that it was not done, until that `vread` tells it anew.
-    pub(crate) fn wait(
-        &mut self,
-        room: &mut Room,
-        event: &Event,
-        point: u8,
-        act: InsideAct,
-    )
-        requires can { (t : Lanes) × (served : ℕ) × (inside : ℕ) × CanGo t self.old room.old served inside (event.now ∷ []) }
+    pub(crate) fn wait(&mut self, room: &mut Room, event: &Event, point: u8, act: InsideAct)
+        requires can { (t : Lanes) × (served : ℕ) × (inside : ℕ)
+            × CanGo t self.old room.old served inside (event.now ∷ []) }
         requires is { event.now ≡ Inside point act }
         ensures can { (t : Lanes) (served inside : ℕ) (rest : List Event)
             → CanGo t self.old room.old served inside (event.now ∷ rest)

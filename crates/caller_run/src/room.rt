@@ -4,7 +4,7 @@ ghost use Rattle.caller_run.specs.Says.{most_shown};
 ghost use Rattle.caller_run.specs.Standing.{read_inside};
 ghost use Rattle.rng_core.specs.Acts.{wants};
 
-use event_script::reads::bytes_of;
+use event_script::reads::bytes_read;
 use key_names::{Event, InsideAct};
 use rng_core::Bound;
 use std::alloc::{AllocError, Global};
@@ -29,7 +29,7 @@ pub(crate) fn most_shown(event: &Event) -> u32
         Event::Int16 => 2,
         Event::Int32 => 4,
         Event::Int64 => 8,
-        _ => bytes_of(event),
+        _ => bytes_read(event),
     }
 }
 

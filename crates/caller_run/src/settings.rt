@@ -1,7 +1,7 @@
 //! What a caller sets.
 ghost use Rattle.std.specs.Prelude.{◌≡◌, ◌<◌, ◌^◌, ◌+◌, ◌-◌};
 ghost use Rattle.key_names.specs.Calls.{setting_after};
-ghost use Rattle.key_names.specs.Meaning.{state_after};
+ghost use Rattle.key_names.specs.Meaning.{caller_after};
 ghost use Rattle.rng_core.specs.Did.{setting_of};
 ghost use Rattle.caller_run.specs.Calling.{stand};
 
@@ -31,7 +31,7 @@ impl Caller {
     pub(crate) fn go_on(&mut self, event: &Event)
         requires number { self.old.set.event < 2 ^ 32 - 1 }
         requires current { self.old.states.current < 16 }
-        ensures stand { stand self.new ≡ state_after (stand self.old) event.now }
+        ensures stand { stand self.new ≡ caller_after (stand self.old) event.now }
         ensures caller { self.new.set.caller ≡ self.old.set.caller }
         ensures event { self.new.set.event ≡ self.old.set.event + 1 }
         ensures pass { self.new.pass ≡ self.old.pass }

@@ -1,7 +1,7 @@
 //! The vgetrandom states of a caller.
 ghost use Rattle.std.specs.Prelude.{◌≡◌, ◌<◌, replicate, slice_set};
 ghost use Rattle.key_names.specs.Calls.{Setting, setting_after};
-ghost use Rattle.key_names.specs.Meaning.{state_after};
+ghost use Rattle.key_names.specs.Meaning.{caller_after};
 ghost use Rattle.key_names.specs.VgetrandomState.{wiped_state};
 ghost use Rattle.caller_run.specs.Calling.{caller_at};
 
@@ -38,7 +38,7 @@ impl States {
     pub(crate) fn go_on(&mut self, event: &Event)
         requires { self.old.current < 16 }
         ensures { (set : Setting)
-            → caller_at (setting_after set event.now) self.new ≡ state_after (caller_at set self.old) event.now }
+            → caller_at (setting_after set event.now) self.new ≡ caller_after (caller_at set self.old) event.now }
     {
         match event {
             Event::Drop => self.wipe_current(),

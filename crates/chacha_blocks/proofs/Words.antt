@@ -84,8 +84,10 @@ word_bytes-generator_at key w (suc k) within =
     let next : (w + k + 1) % 2 ^ 68 ≡ w + suc k = omega arith in
     let start : 4 * (w + k) ≡ 4 * w + 4 * k = omega arith in
     let longer : 4 * k + 4 ≡ 4 * suc k = omega arith in
-    let bytes : keystream key (4 * w) (4 * k) ++ to_le_bytes w32 (word_at 10 (key_of key) 0 (w + k)) ≡ keystream key (4 * w) (4 * suc k) =
-    ap (λ ys. keystream key (4 * w) (4 * k) ++ ys) (sym (keystream-word key (w + k)) ∙ ap (λ q. keystream key q 4) start)
+    let bytes : keystream key (4 * w) (4 * k) ++ to_le_bytes w32 (word_at 10 (key_of key) 0 (w + k)) ≡ keystream key
+    (4 * w) (4 * suc k) =
+    ap (λ ys. keystream key (4 * w) (4 * k) ++ ys)
+    (sym (keystream-word key (w + k)) ∙ ap (λ q. keystream key q 4) start)
     ∙ sym (keystream-add key (4 * w) (4 * k) 4) ∙ ap (keystream key (4 * w)) longer in
     rw (word_bytes-generator_at key w k before, bytes, next) refl
 
@@ -101,9 +103,11 @@ fill_via_u32-generator_at key w n within =
 pub bytes_of_fill : (key : List ℕ) (w n : ℕ) (rng rest : ChaCha) (bytes : List ℕ) → rng ≡ generator_at key w →
     (bytes, rest) ≡ fill_via_u32 (next_word 10) n rng → w + n < 2 ^ 67 → bytes ≡ keystream key (4 * w) n
 bytes_of_fill key w n rng rest bytes begins wrote within =
-    ap (λ (p : List ℕ × ChaCha). p.0) (wrote ∙ ap (fill_via_u32 (next_word 10) n) begins ∙ fill_via_u32-generator_at key w n within)
+    ap (λ (p : List ℕ × ChaCha). p.0) (wrote ∙ ap (fill_via_u32 (next_word 10) n) begins
+    ∙ fill_via_u32-generator_at key w n within)
 
 pub rest_of_fill : (key : List ℕ) (w n : ℕ) (rng rest : ChaCha) (bytes : List ℕ) → rng ≡ generator_at key w →
     (bytes, rest) ≡ fill_via_u32 (next_word 10) n rng → w + n < 2 ^ 67 → rest ≡ generator_at key (w + (n + 3) / 4)
 rest_of_fill key w n rng rest bytes begins wrote within =
-    ap (λ (p : List ℕ × ChaCha). p.1) (wrote ∙ ap (fill_via_u32 (next_word 10) n) begins ∙ fill_via_u32-generator_at key w n within)
+    ap (λ (p : List ℕ × ChaCha). p.1) (wrote ∙ ap (fill_via_u32 (next_word 10) n) begins
+    ∙ fill_via_u32-generator_at key w n within)

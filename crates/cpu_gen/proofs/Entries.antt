@@ -17,15 +17,25 @@ handed_at lists b = record { key = base_call_value lists b; generation = generat
 abbrev pub HandsRefill : Lists → CpuEntry → CpuValue → Type 0
 HandsRefill lists e handed = (place : ℕ) → base_refill_of e ≡ Some place → handed ≡ handed_at lists place
 
-pub refilled-handed_at : (lists : Lists) (refill : Option ℕ) (handed : CpuValue) (g : ℕ) (value : List ℕ) → ((place : ℕ) → refill ≡ Some place → handed ≡ handed_at lists place) → refilled refill handed (record { key = value; generation = g }) ≡ record { key = call_value_or lists refill value; generation = generation_or lists.base refill g }
+pub refilled-handed_at : (lists : Lists) (refill : Option ℕ) (handed : CpuValue) (g : ℕ) (value : List ℕ) →
+    ((place : ℕ) → refill ≡ Some place → handed ≡ handed_at lists place) →
+    refilled refill handed (record { key = value; generation = g }) ≡ record {
+      key = call_value_or lists refill value;
+      generation = generation_or lists.base refill g;
+    }
 refilled-handed_at lists None handed g value is = refl
 refilled-handed_at lists (Some place) handed g value is = is place refl
 
 -- one entry in a state of the list
-pub after_entry-cpu_at : (lists : Lists) (c : ℕ) (s : CpuState) (value : List ℕ) (e : CpuEntry) (handed : CpuValue) → HandsRefill lists e handed → after_entry e handed (cpu_at s value) ≡ cpu_at (cpu_step lists.base c s e) (cpu_value_step lists value e)
-after_entry-cpu_at lists c s value (Read look refill taken) handed is = ap erased (refilled-handed_at lists refill handed s.generation value is)
-after_entry-cpu_at lists c s value (Int look refill width true) handed is = ap erased (refilled-handed_at lists refill handed s.generation value is)
-after_entry-cpu_at lists c s value (Int look refill width false) handed is = refilled-handed_at lists refill handed s.generation value is
+pub after_entry-cpu_at : (lists : Lists) (c : ℕ) (s : CpuState) (value : List ℕ) (e : CpuEntry) (handed : CpuValue) →
+    HandsRefill lists e handed → after_entry e handed (cpu_at s value) ≡ cpu_at (cpu_step lists.base c s e)
+    (cpu_value_step lists value e)
+after_entry-cpu_at lists c s value (Read look refill taken) handed is =
+    ap erased (refilled-handed_at lists refill handed s.generation value is)
+after_entry-cpu_at lists c s value (Int look refill width true) handed is =
+    ap erased (refilled-handed_at lists refill handed s.generation value is)
+after_entry-cpu_at lists c s value (Int look refill width false) handed is =
+    refilled-handed_at lists refill handed s.generation value is
 after_entry-cpu_at lists c s value (Irq v1 v2 now) handed is = refl
 after_entry-cpu_at lists c s value (Dump now) handed is = refl
 after_entry-cpu_at lists c s value Prepare handed is = refl
@@ -35,8 +45,11 @@ after_entry-cpu_at lists c s value Online handed is = refl
 pub start-after_entries : (lists : Lists) (c : ℕ) → start ≡ after_entries lists c []
 start-after_entries lists c = refl
 
-pub after_entry-after_entries : (lists : Lists) (c : ℕ) (es : List CpuEntry) (e : CpuEntry) (handed : CpuValue) → HandsRefill lists e handed → after_entry e handed (after_entries lists c es) ≡ after_entries lists c (es ++ e ∷ [])
+pub after_entry-after_entries : (lists : Lists) (c : ℕ) (es : List CpuEntry) (e : CpuEntry) (handed : CpuValue) →
+    HandsRefill lists e handed → after_entry e handed (after_entries lists c es) ≡ after_entries lists c (es ++ e ∷ [])
 after_entry-after_entries lists c es e handed is =
     after_entry-cpu_at lists c (cpu_after lists.base c es) (cpu_value_after lists es) e handed is
-    ∙ ap (λ (s : CpuState). cpu_at s (cpu_value_step lists (cpu_value_after lists es) e)) (sym (fold-append (cpu_step lists.base c) cpu_start es (e ∷ [])))
-    ∙ ap (cpu_at (cpu_after lists.base c (es ++ e ∷ []))) (sym (fold-append (cpu_value_step lists) zero_key es (e ∷ [])))
+    ∙ ap (λ (s : CpuState). cpu_at s (cpu_value_step lists (cpu_value_after lists es) e))
+    (sym (fold-append (cpu_step lists.base c) cpu_start es (e ∷ [])))
+    ∙ ap (cpu_at (cpu_after lists.base c (es ++ e ∷ [])))
+    (sym (fold-append (cpu_value_step lists) zero_key es (e ∷ [])))

@@ -13,7 +13,7 @@ use Rattle.key_names.proofs.Parts.{Lacks, first_part, parts_at, parts_whole}
 pub nowhere : (byte : ℕ) (text : List ℕ) → IsFirstByte (is_byte byte) text None → parts byte text ≡ text ∷ []
 nowhere byte text h =
     parts_whole byte text (λ k d in_text. rw (get_or_default text k d 0 in_text)
-      (false_from_ne_true _ (h k (omega arith) in_text)))
+    (false_from_ne_true _ (h k (omega arith) in_text)))
 
 split_there : (byte place : ℕ) (text : List ℕ) → place < length text → get_or text place 0 ≡ byte
     → take place text ++ byte ∷ drop (place + 1) text ≡ text

@@ -39,7 +39,7 @@ pub few_digits : (i : ℕ) (field : List ℕ) → AllDigits 10 (take i field) �
     digits_value 10 (take i field) < 10 ^ 18
 few_digits i field all few =
     digits_value_short (numerals_by_value (AllDigits 10) tells_digits) (take i field) 18 all
-      (omega (arith, length-take i field))
+    (omega (arith, length-take i field))
 
 pub later_digit : (n i : ℕ) (field last : List ℕ) → last ≡ drop n field → get_or last i 0 ≡ get_or field (n + i) 0
 later_digit n i field last is = rw is (get_or-drop n field i 0)

@@ -23,7 +23,7 @@ bad_line text line rest cut bad = rw (cut, (first_part 10 rest).is, bad) refl
 one_step : (d : Draft) (n : ℕ) (lines : List (List ℕ)) → HasFirst lines
     → script_from d n lines
     ≡ (at_line n (line_of lines >>= behind_line d) >>= by_next (λ later. script_from later (n + 1) (behind lines))
-      (nothing_behind (n + 1) (behind lines) >>= λ none. Ok (script_of_draft d)))
+    (nothing_behind (n + 1) (behind lines) >>= λ none. Ok (script_of_draft d)))
 unfolding script_from
 one_step d n [] some = absurd (let e = some.is in cc)
 one_step d n (line ∷ more) some = refl
@@ -32,8 +32,8 @@ one_step d n (line ∷ more) some = refl
 pub step_of : (d : Draft) (n : ℕ) (text : List ℕ)
     → script_from d n (parts 10 text)
     ≡ (at_line n (line_of (parts 10 text) >>= behind_line d) >>= by_next
-      (λ later. script_from later (n + 1) (behind (parts 10 text)))
-      (nothing_behind (n + 1) (behind (parts 10 text)) >>= λ none. Ok (script_of_draft d)))
+    (λ later. script_from later (n + 1) (behind (parts 10 text)))
+    (nothing_behind (n + 1) (behind (parts 10 text)) >>= λ none. Ok (script_of_draft d)))
 step_of d n text = one_step d n (parts 10 text) (first_part 10 text)
 
 not_alone : (n : ℕ) (lines : List (List ℕ)) → (lines ≡ [] ∷ [] → ⊥) →
@@ -49,25 +49,25 @@ pub more_behind : (n : ℕ) (text : List ℕ) (kind : FaultKind) → 0 < length 
     → nothing_behind n (parts 10 text) ≡ Err (record { line = n; kind = kind })
 more_behind n text kind some is =
     let not : parts 10 text ≡ [] ∷ [] → ⊥ = λ e. omega
-      (arith, ap length (sym (join_with_byte-slice_split 10 text) ∙ ap (join_with_byte 10) e)) in
+    (arith, ap length (sym (join_with_byte-slice_split 10 text) ∙ ap (join_with_byte 10) e)) in
     not_alone n (parts 10 text) not ∙ ap (λ r. at_line n (r >>= λ line. Err UnknownWord)) is
 
 -- ---- what the first line makes of the whole
 
 pub goes_on : (d later : Draft) (n : ℕ) (text rest : List ℕ) → behind_first d (parts 10 text) ≡ Ok (GoesOn later)
     → parts 10 rest ≡ behind (parts 10 text) → script_from d n (parts 10 text) ≡ script_from later (n + 1)
-      (parts 10 rest)
+    (parts 10 rest)
 goes_on d later n text rest is cut = step_of d n text ∙ rw (is, cut) refl
 
 pub ends : (d : Draft) (n : ℕ) (text rest : List ℕ) → behind_first d (parts 10 text) ≡ Ok Ends
     → parts 10 rest ≡ behind (parts 10 text) → parts 10 rest ≡ [] ∷ [] →
-      script_from d n (parts 10 text) ≡ Ok (script_of_draft d)
+    script_from d n (parts 10 text) ≡ Ok (script_of_draft d)
 ends d n text rest is cut none = step_of d n text ∙ rw (is, ← cut, none) refl
 
 pub ends_early : (d : Draft) (n : ℕ) (text rest : List ℕ) (fault : ScriptFault) → behind_first d (parts 10 text) ≡
     Ok Ends
     → parts 10 rest ≡ behind (parts 10 text) → nothing_behind (n + 1) (parts 10 rest) ≡ Err fault →
-      script_from d n (parts 10 text) ≡ Err fault
+    script_from d n (parts 10 text) ≡ Err fault
 ends_early d n text rest fault is cut more = step_of d n text ∙ rw (is, ← cut, more) refl
 
 pub faults : (d : Draft) (n : ℕ) (text : List ℕ) (kind : FaultKind) → behind_first d (parts 10 text) ≡ Err kind

@@ -25,7 +25,7 @@ joined line (next ∷ lines) some = refl
 cut_is : (left line rest : List ℕ) → parts 10 left ≡ line ∷ parts 10 rest → left ≡ line ++ 10 ∷ rest
 cut_is left line rest cut =
     sym (join_with_byte-slice_split 10 left) ∙ ap (join_with_byte 10) cut
-      ∙ joined line (parts 10 rest) (first_part 10 rest)
+    ∙ joined line (parts 10 rest) (first_part 10 rest)
     ∙ ap (λ (r : List ℕ). line ++ 10 ∷ r) (join_with_byte-slice_split 10 rest)
 
 first_chosen : (t : Bool) (a b c d : List (List ℕ)) (x y : List ℕ) → HasFirst (cond t (x ∷ a) (y ∷ b))
@@ -58,7 +58,7 @@ goes_past text left line rest h cut not =
     let some = first_part 10 rest in
     let lines = ap front_lines cut ∙ front_on (parts 10 rest) line some not in
     let left_front : front left ≡ line ++ 10 ∷ front rest =
-      ap (join_with_byte 10) lines ∙ joined line (front_lines (parts 10 rest)) (first_front (parts 10 rest) some) in
+    ap (join_with_byte 10) lines ∙ joined line (front_lines (parts 10 rest)) (first_front (parts 10 rest) some) in
     record {
       before = h.before ++ (line ++ 10 ∷ []);
       whole = h.whole ∙ ap (λ (x : List ℕ). h.before ++ x) (cut_is left line rest cut) ∙ regroup h.before line rest;

@@ -14,11 +14,11 @@ one_more_fork child some =
 
 one_more_call : (start callers count caller : ℕ) →
     load_events start callers (count + 1) caller ≡ load_events start callers count caller
-      ++ call start caller count ∷ []
+    ++ call start caller count ∷ []
 one_more_call start callers count caller =
     let calls = map (call start caller) (range_with_len 0 count) in
     ap (λ es. opening callers caller ++ On caller ∷ es)
-      (map-range_with_len_more (call start caller) 0 count count (omega arith))
+    (map-range_with_len_more (call start caller) 0 count count (omega arith))
     ∙ sym (append_assoc (opening callers caller) (On caller ∷ calls) (call start caller count ∷ []))
 
 -- what a push makes of the events, where the event is the next call

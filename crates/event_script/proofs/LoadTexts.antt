@@ -7,7 +7,7 @@ use Rattle.std.proofs.lemmas.List.{length-append}
 use Rattle.std.proofs.lemmas.List.Concat.{flat_map-cons}
 use Rattle.std.proofs.lemmas.List.Sums.{sum_by-cons}
 use Rattle.key_names.specs.declared.events.Event.{Event}
-use Rattle.key_names.specs.ScriptGrammar.{Script, blocks, event_fields, script_lines, script_text}
+use Rattle.key_names.specs.ScriptGrammar.{Script, block_lines, event_fields, script_lines, script_text}
 use Rattle.key_names.specs.Spelling.{lined, spaced}
 use Rattle.key_names.proofs.Each.{each_append}
 
@@ -34,8 +34,13 @@ lined_len (line ∷ lines) short =
     let here : fields_len line ≤ 95 = short.0 in
     let cut : lined (map spaced (line ∷ lines)) ≡ (spaced line ++ 10 ∷ []) ++ lined (map spaced lines) =
     flat_map-cons (λ (l : List ℕ). l ++ 10 ∷ []) (spaced line) (map spaced lines) in
-    omega (arith, spaced_len line, ap length cut, length-append (spaced line ++ 10 ∷ []) (lined (map spaced lines)),
-      length-append (spaced line) (10 ∷ []))
+    omega (
+      arith,
+      spaced_len line,
+      ap length cut,
+      length-append (spaced line ++ 10 ∷ []) (lined (map spaced lines)),
+      length-append (spaced line) (10 ∷ []),
+    )
 
 events_short : (events : List Event) → AllByRecursion (λ e. IsShort (event_fields e)) events →
     AllByRecursion IsShort (map event_fields events)
@@ -48,33 +53,38 @@ length-events (event ∷ events) = let rest : length (map event_fields events) �
     omega arith
 
 blocks_short : (c : ℕ) (callers : List (List Event)) → c + length callers ≤ 64 →
-    AllByRecursion (AllByRecursion (λ e. IsShort (event_fields e))) callers → AllByRecursion IsShort (blocks c callers)
+    AllByRecursion (AllByRecursion (λ e. IsShort (event_fields e))) callers →
+    AllByRecursion IsShort (block_lines c callers)
 blocks_short c [] few short = tt
 blocks_short c (events ∷ callers) few short =
     let number : length (decimal c) ≤ 2 = length-decimal-le 2 c (omega arith) (omega arith) (omega arith) in (
       omega arith,
-      each_append IsShort (map event_fields events) (blocks (suc c) callers)
+      each_append IsShort (map event_fields events) (block_lines (suc c) callers)
           (events_short events short.0) (blocks_short (suc c) callers (omega arith) short.1),
     )
 
-length-blocks : (c : ℕ) (callers : List (List Event)) →
-    length (blocks c callers) ≡ length callers + sum_by length callers
-length-blocks c [] = omega arith
-length-blocks c (events ∷ callers) =
-    let rest : length (blocks (suc c) callers) ≡ length callers + sum_by length callers =
-      length-blocks (suc c) callers in
-    omega (arith, length-append (map event_fields events) (blocks (suc c) callers), length-events events,
-      sum_by-cons {X = List Event} length events callers)
+length-block_lines : (c : ℕ) (callers : List (List Event)) →
+    length (block_lines c callers) ≡ length callers + sum_by length callers
+length-block_lines c [] = omega arith
+length-block_lines c (events ∷ callers) =
+    let rest : length (block_lines (suc c) callers) ≡ length callers + sum_by length callers =
+    length-block_lines (suc c) callers in
+    omega (
+      arith,
+      length-append (map event_fields events) (block_lines (suc c) callers),
+      length-events events,
+      sum_by-cons {X = List Event} length events callers,
+    )
 
 -- the text of a script with few short events is short
 pub text_len : (s : Script) → s.version ≤ 3 → s.cpus ≤ 64 → length s.callers ≤ 64 → sum_by length s.callers ≤ 65536 →
     AllByRecursion (AllByRecursion (λ e. IsShort (event_fields e))) s.callers → length (script_text s) ≤ 16777216
 text_len s version cpus few events short =
     let one : length (decimal s.version) ≤ 2 = length-decimal-le 2 s.version (omega arith) (omega arith) (omega arith)
-      in
+    in
     let two : length (decimal s.cpus) ≤ 2 = length-decimal-le 2 s.cpus (omega arith) (omega arith) (omega arith) in
-    let body = each_append IsShort (blocks 0 s.callers) ((codes "end" ∷ []) ∷ [])
-      (blocks_short 0 s.callers (omega arith) short) (omega arith, tt) in
+    let body = each_append IsShort (block_lines 0 s.callers) ((codes "end" ∷ []) ∷ [])
+    (blocks_short 0 s.callers (omega arith) short) (omega arith, tt) in
     let all : AllByRecursion IsShort (script_lines s) = (omega arith, (omega arith, body)) in
-    let count = length-blocks 0 s.callers in
-    omega (arith, lined_len (script_lines s) all, length-append (blocks 0 s.callers) ((codes "end" ∷ []) ∷ []))
+    let count = length-block_lines 0 s.callers in
+    omega (arith, lined_len (script_lines s) all, length-append (block_lines 0 s.callers) ((codes "end" ∷ []) ∷ []))

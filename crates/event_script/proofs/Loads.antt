@@ -24,9 +24,11 @@ use Rattle.event_script.proofs.LoadTexts.{IsShort, text_len}
 each_from : {A : Type 0} (P : A → Type 0) (f : ℕ → A) (from n : ℕ) → ((k : ℕ) → from ≤ k → k < from + n → P (f k)) →
     AllByRecursion P (map f (range_with_len from n))
 each_from P f from zero each = tt
-each_from P f from (suc n) each =
-    (each from (omega arith) (omega arith), each_from P f (from + 1) n
-      (λ k low high. each k (omega arith) (omega arith)))
+each_from P f from (suc n) each = (
+  each from (omega arith) (omega arith),
+  each_from P f (from + 1) n
+      (λ k low high. each k (omega arith) (omega arith)),
+)
 
 each_at : {A : Type 0} (P : A → Type 0) (xs : List A) (i : ℕ) (d : A) → AllByRecursion P xs → P d → P (get_or xs i d)
 each_at P [] i d all other = other
@@ -62,9 +64,19 @@ all_bytes : (bytes : List ℕ) → AllByRecursion (λ b. b < 256) bytes → IsBy
 all_bytes bytes all = λ i. each_at (λ b. b < 256) bytes i 0 all (omega arith)
 
 word_bytes : (n : ℕ) → IsBytes (to_le_bytes w64 n)
-word_bytes n = all_bytes (to_le_bytes w64 n)
-    (omega arith, (omega arith, (omega arith, (omega arith,
-      (omega arith, (omega arith, (omega arith, (omega arith, tt))))))))
+word_bytes n = all_bytes (to_le_bytes w64 n) (
+  omega arith,
+  (
+    omega arith,
+    (
+      omega arith,
+      (
+        omega arith,
+        (omega arith, (omega arith, (omega arith, (omega arith, tt)))),
+      ),
+    ),
+  ),
+)
 
 light_calls : (cpus len caller number : ℕ) → len ≤ 100 → caller < 64 → number < 1000 →
     AllByRecursion (Light cpus) (calls len caller number)
@@ -82,8 +94,12 @@ light_calls cpus len caller number short few small =
           (
             record { range = tt; acts = λ w. omega arith; read = omega arith; short = omega arith },
             (
-              record { range = (omega arith, omega arith); acts = λ w. omega arith; read = omega arith;
-                short = omega arith },
+              record {
+                range = (omega arith, omega arith);
+                acts = λ w. omega arith;
+                read = omega arith;
+                short = omega arith;
+              },
               (
                 record { range = word_bytes number; acts = λ w. omega arith; read = omega arith; short = omega arith },
                 (
@@ -106,12 +122,19 @@ light_call cpus start caller number few small =
 call_forks_none : (start caller number : ℕ) → ForksNone (call start caller number)
 call_forks_none start caller number =
     let plain : (event : Event) → ((n : ℕ) → is_fork_of n event ≡ false) → ((c : ℕ) → IsForkAbove c event) →
-      ForksNone event =
+    ForksNone event =
     λ event none above. record { none = none; above = above } in
     let no = λ (n : ℕ). refl in let up = λ (c : ℕ). tt in
-    each_at ForksNone (calls (read_len start number) caller number) (turn start caller number) Reseed
-    (plain _ no up, (plain _ no up, (plain _ no up,
-      (plain _ no up, (plain _ no up, (plain _ no up, (plain _ no up, (plain _ no up, tt))))))))
+    each_at ForksNone (calls (read_len start number) caller number) (turn start caller number) Reseed (
+      plain _ no up,
+      (
+        plain _ no up,
+        (
+          plain _ no up,
+          (plain _ no up, (plain _ no up, (plain _ no up, (plain _ no up, (plain _ no up, tt))))),
+        ),
+      ),
+    )
     (plain _ no up)
 
 light_opening : (callers caller : ℕ) → callers ≤ 64 → AllByRecursion (Light callers) (opening callers caller)
@@ -126,8 +149,12 @@ light_opening callers zero few =
       },
       each_from (Light callers) Fork 1 (callers - 1) (λ k low high.
           (let two : length (decimal k) ≤ 2 = length-decimal-le 2 k (omega arith) (omega arith) (omega arith) in
-          record { range = (omega arith, omega arith); acts = λ w. omega arith; read = omega arith;
-            short = omega arith })),
+          record {
+            range = (omega arith, omega arith);
+            acts = λ w. omega arith;
+            read = omega arith;
+            short = omega arith;
+          })),
     )
 light_opening callers (suc caller) few = tt
 
@@ -168,7 +195,7 @@ forks_others : (number from n : ℕ) → ((k : ℕ) → from ≤ k → k < from 
 forks_others number from zero others = refl
 forks_others number from (suc n) others =
     let rest : count_by (is_fork_of number) (map Fork (range_with_len (from + 1) n)) ≡ 0 =
-      forks_others number (from + 1) n (λ k low high. others k (omega arith) (omega arith)) in
+    forks_others number (from + 1) n (λ k low high. others k (omega arith) (omega arith)) in
     sum_by-cons (λ e. cond (is_fork_of number e) 1 0) (Fork from) (map Fork (range_with_len (from + 1) n))
     ∙ rw (ne_eqb from number (others from (omega arith) (omega arith))) (omega arith)
 
@@ -178,14 +205,14 @@ forks_among : (number from n : ℕ) → from ≤ number → number < from + n �
 forks_among number from zero low high = absurd (omega arith)
 forks_among number from (suc n) low high =
     let split = sum_by-cons (λ e. cond (is_fork_of number e) 1 0) (Fork from) (map Fork (range_with_len (from + 1) n))
-      in
+    in
     elim (cases_eq from number) [
       | inl same ↦
           let none = forks_others number (from + 1) n (λ k low high is. omega arith) in
-            split ∙ rw (eq-eqb from number same) (omega arith)
+          split ∙ rw (eq-eqb from number same) (omega arith)
       | inr other ↦
           let rest : count_by (is_fork_of number) (map Fork (range_with_len (from + 1) n)) ≡ 1 =
-            forks_among number (from + 1) n (omega arith) (omega arith) in
+          forks_among number (from + 1) n (omega arith) (omega arith) in
           split ∙ rw (ne_eqb from number other) (omega arith)
     ]
 
@@ -200,11 +227,14 @@ calls_fork_none start caller count = (
 -- how often the events of a caller fork a number: as often as the opening
 opening_forks : (start callers count caller number : ℕ) →
     count_by (is_fork_of number) (load_events start callers count caller) ≡ count_by (is_fork_of number)
-      (opening callers caller)
+    (opening callers caller)
 opening_forks start callers count caller number =
     let behind = On caller ∷ map (call start caller) (range_with_len 0 count) in
-    omega (arith, sum_by-append (λ e. cond (is_fork_of number e) 1 0) (opening callers caller) behind,
-      forks_none number behind (calls_fork_none start caller count))
+    omega (
+      arith,
+      sum_by-append (λ e. cond (is_fork_of number e) 1 0) (opening callers caller) behind,
+      forks_none number behind (calls_fork_none start caller count),
+    )
 
 opening_above : (callers caller : ℕ) → AllByRecursion (IsForkAbove caller) (opening callers caller)
 opening_above callers zero = (tt, each_from (IsForkAbove 0) Fork 1 (callers - 1) (λ k low high. omega arith))
@@ -216,7 +246,7 @@ events_above start callers count caller =
     let behind = On caller ∷ map (call start caller) (range_with_len 0 count) in
     each_append (IsForkAbove caller) (opening callers caller) behind (opening_above callers caller)
     (each_weaker ForksNone (IsForkAbove caller) behind (λ e none. none.above caller)
-      (calls_fork_none start caller count))
+    (calls_fork_none start caller count))
 
 length-load_events : (start callers count caller : ℕ) →
     length (load_events start callers count caller) ≡ length (opening callers caller) + (1 + count)
@@ -240,7 +270,7 @@ later_fork_none start callers count from n number later =
     let events = load_events start callers count in
     let none : (k : ℕ) → 1 ≤ k → count_by (is_fork_of number) (opening callers k) ≡ 0 =
     λ k some. elim k as (λ k. 1 ≤ k → count_by (is_fork_of number) (opening callers k) ≡ 0)
-      [ zero ↦ λ none. absurd (omega arith) | suc k ↦ λ some. refl ] some in
+    [ zero ↦ λ none. absurd (omega arith) | suc k ↦ λ some. refl ] some in
     let each = each_from (λ es. count_by (is_fork_of number) es ≤ 0) events from n
     (λ k low high. omega (arith, opening_forks start callers count k number, none k (omega arith))) in
     omega (arith, sum_at_most (count_by (is_fork_of number)) 0 (map events (range_with_len from n)) each)
@@ -251,19 +281,31 @@ forked_first number n first = rw first refl
 -- caller 0 forks each number from 1 on once, up to the last caller's
 opening_count : (number others : ℕ) →
     count_by (is_fork_of number) (opening (suc others) 0) ≡
-      (if nat_lt 0 number && nat_lt number (suc others) then 1 else 0)
+    (if nat_lt 0 number && nat_lt number (suc others) then 1 else 0)
 opening_count number others =
     let forks = map Fork (range_with_len 1 (suc others - 1)) in
     let split = sum_by-cons (λ e. cond (is_fork_of number e) 1 0) (Add (range_with_len 0 32) 256) forks in
     elim (cases_lt 0 number) [
       | inl some ↦ elim (cases_lt number (suc others)) [
-        | inl low ↦ omega (arith, split, forks_among number 1 (suc others - 1) some (omega arith),
-          forked_low number (suc others) some low)
-        | inr high ↦ omega (arith, split, forks_others number 1 (suc others - 1) (λ k low up is. omega arith),
-          forked_high number (suc others) high)
+        | inl low ↦ omega (
+          arith,
+          split,
+          forks_among number 1 (suc others - 1) some (omega arith),
+          forked_low number (suc others) some low,
+        )
+        | inr high ↦ omega (
+          arith,
+          split,
+          forks_others number 1 (suc others - 1) (λ k low up is. omega arith),
+          forked_high number (suc others) high,
+        )
       ]
-      | inr first ↦ omega (arith, split, forks_others number 1 (suc others - 1) (λ k low up is. omega arith),
-        forked_first number (suc others) (omega arith))
+      | inr first ↦ omega (
+        arith,
+        split,
+        forks_others number 1 (suc others - 1) (λ k low up is. omega arith),
+        forked_first number (suc others) (omega arith),
+      )
     ]
 
 few_events : (start others count : ℕ) → others < 64 → count ≤ 1000 →
@@ -274,28 +316,41 @@ few_events start others count few small =
     let forks = length-map-range_with_len Fork 1 (suc others - 1) in
     let short : (k : ℕ) → 1 ≤ k → length (opening (suc others) k) ≡ 0 =
     λ k some. elim k as (λ k. 1 ≤ k → length (opening (suc others) k) ≡ 0)
-      [ zero ↦ λ none. absurd (omega arith) | suc k ↦ λ some. refl ] some in
+    [ zero ↦ λ none. absurd (omega arith) | suc k ↦ λ some. refl ] some in
     let each = each_from (λ es. length es ≤ 1001) events 1 others
     (λ k low high. omega (arith, length-load_events start (suc others) count k, short k low)) in
-    omega (arith, sum_by-cons {X = List Event} length (events 0) later, length-load_events start (suc others) count 0,
-      sum_at_most {A = List Event} length 1001 later each, length-map-range_with_len events 1 others)
+    omega (
+      arith,
+      sum_by-cons {X = List Event} length (events 0) later,
+      length-load_events start (suc others) count 0,
+      sum_at_most {A = List Event} length 1001 later each,
+      length-map-range_with_len events 1 others,
+    )
 
 few_reads_in : (blocks : List (List Event)) → AllByRecursion (AllByRecursion (λ e. bytes_read e ≤ 100)) blocks →
     sum_by (sum_by bytes_read) blocks ≤ 100 * sum_by length blocks
 few_reads_in [] all = omega arith
 few_reads_in (events ∷ blocks) all =
     let rest : sum_by (sum_by bytes_read) blocks ≤ 100 * sum_by length blocks = few_reads_in blocks all.1 in
-    omega (arith, sum_by-cons (sum_by bytes_read) events blocks, sum_by-cons {X = List Event} length events blocks,
-      few_reads events all.0)
+    omega (
+      arith,
+      sum_by-cons (sum_by bytes_read) events blocks,
+      sum_by-cons {X = List Event} length events blocks,
+      few_reads events all.0,
+    )
 
 forked_once : (start others count number : ℕ) →
     times_forked (map (load_events start (suc others) count) (range_with_len 0 (suc others))) number ≡
     (if nat_lt 0 number && nat_lt number (suc others) then 1 else 0)
 forked_once start others count number =
     let events = load_events start (suc others) count in
-    omega (arith, sum_by-cons (count_by (is_fork_of number)) (events 0) (map events (range_with_len 1 others)),
-      opening_forks start (suc others) count 0 number, opening_count number others,
-      later_fork_none start (suc others) count 1 others number (omega arith))
+    omega (
+      arith,
+      sum_by-cons (count_by (is_fork_of number)) (events 0) (map events (range_with_len 1 others)),
+      opening_forks start (suc others) count 0 number,
+      opening_count number others,
+      later_fork_none start (suc others) count 1 others number (omega arith),
+    )
 
 load_of : (start others count : ℕ) → others < 64 → count ≤ 1000 → WellFormed (load_script start (suc others) count)
 load_of start others count few small =
@@ -304,26 +359,26 @@ load_of start others count few small =
     let long = length-map-range_with_len events 0 (suc others) in
     let total = few_events start others count few small in
     let light : AllByRecursion (AllByRecursion (Light (suc others))) all =
-      each_from (AllByRecursion (Light (suc others))) events 0 (suc others)
+    each_from (AllByRecursion (Light (suc others))) events 0 (suc others)
     (λ k low high. light_events start (suc others) count k (omega arith) (omega arith) small) in
     let each : (P : Event → Type 0) → ((e : Event) → Light (suc others) e → P e) →
-      AllByRecursion (AllByRecursion P) all =
+    AllByRecursion (AllByRecursion P) all =
     λ P weaker. each_weaker (AllByRecursion (Light (suc others))) (AllByRecursion P) all
-      (λ es. each_weaker (Light (suc others)) P es weaker) light in
+    (λ es. each_weaker (Light (suc others)) P es weaker) light in
     record {
       version = (omega arith, omega arith);
       cpus = (omega arith, omega arith);
       callers = (omega arith, omega arith);
       ranges = each (InRange 1 (suc others)) (λ e l. l.range);
       forked = λ c. subst (λ n. times_forked all c ≡ (if nat_lt 0 c && nat_lt c n then 1 else 0)) (sym long)
-        (forked_once start others count c);
+          (forked_once start others count c);
       above = above_from events 0 (suc others) (events_above start (suc others) count);
       acts = each_weaker (AllByRecursion (λ e. (w : ℕ) → acts_after w e ≤ w)) (FewActs 0) all
-        (λ es acts. few_acts 0 es (omega arith) acts) (each (λ e. (w : ℕ) → acts_after w e ≤ w) (λ e l. l.acts));
+          (λ es acts. few_acts 0 es (omega arith) acts) (each (λ e. (w : ℕ) → acts_after w e ≤ w) (λ e l. l.acts));
       events = total;
       reads = (let few = few_reads_in all (each (λ e. bytes_read e ≤ 100) (λ e l. l.read)) in omega arith);
       text = text_len (load_script start (suc others) count) (omega arith) (omega arith) (omega arith) total
-        (each (λ e. IsShort (event_fields e)) (λ e l. l.short));
+          (each (λ e. IsShort (event_fields e)) (λ e l. l.short));
     }
 
 pub load_well_formed : (start callers count : ℕ) → 1 ≤ callers → callers ≤ 64 → count ≤ 1000 →

@@ -33,7 +33,7 @@ marks_with version cpus c before with (Fork child) forked range long small is su
       | inl same ↦
           let one : count_by (is_fork_of c) (Fork child ∷ []) ≡ 1 = rw (eq-eqb child c same) refl in
           let flag : get_or (set forked child true) c false ≡ true =
-            get_or-set_at forked child c true false (sym same) (omega arith) in
+          get_or-set_at forked child c true false (sym same) (omega arith) in
           flag ∙ sym (lt-ltb 0 with (omega arith))
       | inr other ↦
           let none : count_by (is_fork_of c) (Fork child ∷ []) ≡ 0 = rw (ne_eqb child c other) refl in
@@ -49,13 +49,13 @@ pub tallied_event : (d : Draft) (e : Event) (count read acts : ℕ) (forked : Li
     Tallied (blocks_of d) d.events count read acts forked
     → InRange d.version d.cpus e → is_past_limits d e ≡ false
     → Tallied (blocks_of (with_event d e)) (d.events ++ e ∷ []) (count + 1) (read + bytes_read e) (acts_after acts e)
-      (marked forked (fork_in e))
+    (marked forked (fork_in e))
 tallied_event d e count read acts forked t range within =
     let limit = or_parts (leb 65536 (sum_by length (blocks_of d)) || ltb 16777216
-      (sum_by (sum_by bytes_read) (blocks_of d) + bytes_read e)) (ltb 8 (acts_after (fold acts_after 0 d.events) e))
-      within in
+    (sum_by (sum_by bytes_read) (blocks_of d) + bytes_read e)) (ltb 8 (acts_after (fold acts_after 0 d.events) e))
+    within in
     let counts = or_parts (leb 65536 (sum_by length (blocks_of d)))
-      (ltb 16777216 (sum_by (sum_by bytes_read) (blocks_of d) + bytes_read e)) limit.0 in
+    (ltb 16777216 (sum_by (sum_by bytes_read) (blocks_of d) + bytes_read e)) limit.0 in
     let many = leb-false _ _ counts.0 in
     let much = ltb-false _ _ counts.1 in
     let most = ltb-false _ _ limit.1 in
@@ -68,7 +68,7 @@ tallied_event d e count read acts forked t range within =
       read_is = omega arith;
       acts_are = rw (t.acts_are, fold-append acts_after 0 d.events (e ∷ [])) refl;
       marks = λ c small. marks_with d.version d.cpus c (times_forked (blocks_of d) c)
-        (times_forked (blocks_of (with_event d e)) c) e forked range t.long small (t.marks c small) (times_with d e c);
+          (times_forked (blocks_of (with_event d e)) c) e forked range t.long small (t.marks c small) (times_with d e c);
       high = λ c high. omega (arith, times_with d e c, t.high c high, none_high d.version d.cpus c e range high);
       long = length_marked forked (fork_in e) ∙ t.long;
       few = omega arith;
@@ -84,7 +84,7 @@ tallied_block d count read acts forked t = record {
   read_is = t.read_is ∙ sym (total_block (sum_by bytes_read) reads (blocks_of d));
   acts_are = refl;
   marks = λ c small. t.marks c small ∙ ap (ltb 0)
-    (sym (total_block (count_by (is_fork_of c)) (forks_of c) (blocks_of d)));
+      (sym (total_block (count_by (is_fork_of c)) (forks_of c) (blocks_of d)));
   high = λ c high. total_block (count_by (is_fork_of c)) (forks_of c) (blocks_of d) ∙ t.high c high;
   long = t.long;
   few = t.few;
@@ -101,9 +101,13 @@ no_flags d count read acts n forked t n_is whole =
     list_any_none (λ flag. flag) (drop n forked) (λ k dummy inside.
     let place : n + k < 64 = omega (arith, t.long, length-drop n forked) in
     let none : times_forked (blocks_of d) (n + k) ≡ 0 =
-      no_orphan (length (blocks_of d)) (n + k) (blocks_of d) (omega arith) whole in
-    rw (get_or-drop n forked k dummy, get_or_default forked (n + k) dummy false (omega (arith, t.long)),
-      t.marks (n + k) place, none) refl)
+    no_orphan (length (blocks_of d)) (n + k) (blocks_of d) (omega arith) whole in
+    rw (
+      get_or-drop n forked k dummy,
+      get_or_default forked (n + k) dummy false (omega (arith, t.long)),
+      t.marks (n + k) place,
+      none,
+    ) refl)
 
 no_number : (d : Draft) (count read acts n c : ℕ) (forked : List Bool) →
     Tallied (blocks_of d) d.events count read acts forked
@@ -117,9 +121,9 @@ no_number d count read acts n c forked t none high =
             | inl some ↦
                 let place : n + (c - n) ≡ c = omega arith in
                 let flag : get_or (drop n forked) (c - n) false ≡ true =
-                  rw (get_or-drop n forked (c - n) false, place) (t.marks c low ∙ some) in
+                rw (get_or-drop n forked (c - n) false, place) (t.marks c low ∙ some) in
                 absurd (both_ways _ none (list_any_at (λ b. b) (drop n forked) (c - n) false
-                  (omega (arith, t.long, length-drop n forked)) flag))
+                (omega (arith, t.long, length-drop n forked)) flag))
           ]
     ]
 
@@ -134,7 +138,7 @@ orphans d count read acts n forked t n_is =
             | inl flag ↦ flag ∙ sym orphan
             | inr none ↦
                 let free : has_orphan d ≡ false = orphanless (length (blocks_of d)) (blocks_of d)
-                  (λ c high. no_number d count read acts n c forked t none (omega arith)) in
+                (λ c high. no_number d count read acts n c forked t none (omega arith)) in
                 absurd (both_ways _ free orphan)
           ]
     ]

@@ -4,5 +4,9 @@ use Rattle.key_names.specs.ScriptFaults as faults
 use Rattle.event_script.specs.declared.draft.Draft.{Draft}
 
 abbrev pub draft_as : Draft → faults.Draft
-draft_as d = record { version = d.version; cpus = d.cpus; done = map (λ block. block.items) d.done.items;
-    events = d.events.items }
+draft_as d = record {
+  version = d.version;
+  cpus = d.cpus;
+  done = map (λ block. block.items) d.done.items;
+  events = d.events.items;
+}

@@ -13,8 +13,8 @@ abbrev pub fork_in : Event → Option ℕ
 fork_in (Fork child) = Some child
 fork_in _ = None
 
-pub record Tallied (blocks : List (List Event)) (last : List Event) (count read acts : ℕ) (forked : List Bool) : Type 0
-    where
+pub record Tallied (blocks : List (List Event)) (last : List Event) (count read acts : ℕ) (forked : List Bool)
+    : Type 0 where
   pub count_is : count ≡ sum_by length blocks
   pub read_is : read ≡ sum_by (sum_by bytes_read) blocks
   pub acts_are : acts ≡ fold acts_after 0 last

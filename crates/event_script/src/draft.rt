@@ -8,7 +8,7 @@ ghost use Rattle.key_names.specs.ScriptFaults.{SaysEvent, SaysCaller, GoesOn, af
 ghost use Rattle.key_names.specs.ScriptGrammar.{InRange, acts_after};
 
 use crate::error::LineError;
-use crate::reads::bytes_of;
+use crate::reads::bytes_read;
 use key_names::{Event, FaultKind};
 use std::alloc::{AllocError, Global};
 use std::mem;
@@ -96,7 +96,7 @@ impl Draft {
         ensures { result ≡ is_past_limits (draft_as self.now) event.now }
     {
         self.event_count >= MOST_EVENTS
-            || self.bytes_read + u64::from(bytes_of(event)) > MOST_READ
+            || self.bytes_read + u64::from(bytes_read(event)) > MOST_READ
             || waiting_after(self.acts, event) > MOST_ACTS
     }
 
@@ -112,7 +112,7 @@ impl Draft {
         if self.is_past_limits(&event) {
             return Err(LineError::Kind(FaultKind::TooMany));
         }
-        let bytes = bytes_of(&event);
+        let bytes = bytes_read(&event);
         let acts = waiting_after(self.acts, &event);
         let child = fork_of(&event);
         self.events.push(event)?;

@@ -179,8 +179,7 @@ fn prepare(version: u32, cpus: u32, rest: Option<&[u8]>) -> Result<Event, FaultK
 
 fn online(version: u32, cpus: u32, rest: Option<&[u8]>) -> Result<Event, FaultKind>
     requires { 0 < cpus }
-    ensures { Tells (λ event. event) result (since 2 version (unary (number cpus) Event.Online (fields_of rest.entry)))
-        }
+    ensures { Tells (λ event. event) result (since 2 version (unary (number cpus) Event.Online (fields_of rest.entry))) }
 {
     known_since(2, version)?;
     let cpu = number_below(cpus, one(rest)?)?;

@@ -6,7 +6,7 @@ ghost use Rattle.key_names.specs.ScriptGrammar.{bytes_read};
 use key_names::{Event, InsideAct};
 
 /// How many bytes an event reads, as it asks for them; 0 for one that is no read.
-pub fn bytes_of(event: &Event) -> u32
+pub fn bytes_read(event: &Event) -> u32
     ensures { result ≡ bytes_read event.now }
 {
     match event {

@@ -29,8 +29,11 @@ impl Model for Script {
 
     ghost Value = { Spelt };
 
-    ghost view = { λ s. record { version = s.version; cpus = s.cpus;
-        callers = map (λ events. events.items) s.callers.items } };
+    ghost view = { λ s. record {
+      version = s.version;
+      cpus = s.cpus;
+      callers = map (λ events. events.items) s.callers.items;
+    } };
 
     ghost invariant = { λ s. WellFormed
         (record { version = s.version; cpus = s.cpus; callers = map (λ events. events.items) s.callers.items }) };

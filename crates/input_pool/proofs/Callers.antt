@@ -3,7 +3,7 @@ use Rattle.std.proofs.Common.{◌≡◌, ◌≢◌, ℕ, ◌<◌, ◌≤◌, Lis
 use Rattle.std.proofs.lemmas.Bool.{lt-ltb, le-ltb, ne_eqb, eq-eqb}
 use Rattle.std.specs.Int.{to_le_bytes}
 use Rattle.key_names.specs.declared.entries.PoolEntry.TheVariants.{Mix, Input}
-use Rattle.key_names.specs.InputTimer.{input_number, timer_after, timer_bits}
+use Rattle.key_names.specs.InputTimer.{input_number, input_timer_after, timer_bits}
 use Rattle.key_names.specs.PoolList.{PoolState, credit, crossing, pool_step}
 use Rattle.input_pool.specs.PoolStands.{PoolParts, PoolStands}
 
@@ -58,7 +58,7 @@ pub pool_step-timed : (s : PoolState) (word kind code value now : ℕ) → value
       text = s.text ++ input_bytes word kind code value;
       value = value;
       bits = credit s.bits (timer_bits s.timer now);
-      timer = timer_after s.timer now;
+      timer = input_timer_after s.timer now;
     }
 pool_step-timed s word kind code value now fresh room =
     let number = to_le_bytes w32 (input_number kind code value) in

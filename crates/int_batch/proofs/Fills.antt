@@ -13,11 +13,13 @@ use Rattle.int_batch.specs.BatchValue.{BatchValue, start, wants, filled, next_by
 pub wants-start : (look width : ℕ) → wants look width (start width) ≡ must_fill look width None
 wants-start look width = ap (λ (b : Bool). b || not (look == 0)) (le-leb (96 / width) (96 / width) (omega arith))
 
-pub wants-must_fill : (look width : ℕ) (key : List ℕ) (fill : Fill) (b : BatchValue) → IsBatchOf width key fill b → wants look width b ≡ must_fill look width (Some fill)
+pub wants-must_fill : (look width : ℕ) (key : List ℕ) (fill : Fill) (b : BatchValue) → IsBatchOf width key fill b →
+    wants look width b ≡ must_fill look width (Some fill)
 wants-must_fill look width key fill b is = rw (is.position, is.generation) refl
 
 -- filled from the key's stream
-pub IsBatchOf-filled : (width : ℕ) (key : List ℕ) (fill : Fill) → fill.count ≡ 0 → IsBatchOf width key fill (filled (keystream key 32 96) fill.look)
+pub IsBatchOf-filled : (width : ℕ) (key : List ℕ) (fill : Fill) → fill.count ≡ 0 →
+    IsBatchOf width key fill (filled (keystream key 32 96) fill.look)
 IsBatchOf-filled width key fill none = record {
   position = sym none;
   generation = refl;
@@ -30,7 +32,8 @@ room : (width position : ℕ) → position < 96 / width → width * position + w
 room width position below = grind arith
 
 -- what is served
-pub next_bytes-batched_int : (width : ℕ) (key : List ℕ) (fill : Fill) (b : BatchValue) → IsBatchOf width key fill b → fill.count < 96 / width → next_bytes width b ≡ batched_int key width fill.count
+pub next_bytes-batched_int : (width : ℕ) (key : List ℕ) (fill : Fill) (b : BatchValue) → IsBatchOf width key fill b →
+    fill.count < 96 / width → next_bytes width b ≡ batched_int key width fill.count
 next_bytes-batched_int width key fill b is below =
     let from = width * fill.count in
     let fits : from + width ≤ 96 = room width fill.count below in
@@ -41,24 +44,32 @@ next_bytes-batched_int width key fill b is below =
     ∙ ap (keystream key (32 + from)) len
 
 -- and what is left
-length_front : (from width : ℕ) (bytes : List ℕ) → from ≤ length bytes → length (take from bytes ++ replicate width 0) ≡ from + width
+length_front : (from width : ℕ) (bytes : List ℕ) → from ≤ length bytes →
+    length (take from bytes ++ replicate width 0) ≡ from + width
 length_front from width bytes within =
-    length-append (take from bytes) (replicate width 0) ∙ ap (λ (n : ℕ). n + length {A = ℕ} (replicate width 0)) (length-take-le from bytes within)
+    length-append (take from bytes) (replicate width 0)
+    ∙ ap (λ (n : ℕ). n + length {A = ℕ} (replicate width 0)) (length-take-le from bytes within)
     ∙ ap (λ (n : ℕ). from + n) (length-replicate width 0)
 
-drop-with_zeros : (from width : ℕ) (bytes : List ℕ) → from + width ≤ length bytes → drop (from + width) (with_zeros from width bytes) ≡ drop (from + width) bytes
+drop-with_zeros : (from width : ℕ) (bytes : List ℕ) → from + width ≤ length bytes →
+    drop (from + width) (with_zeros from width bytes) ≡ drop (from + width) bytes
 drop-with_zeros from width bytes within =
-    drop_at (take from bytes ++ replicate width 0) (drop (from + width) bytes) (from + width) (length_front from width bytes (omega arith))
+    drop_at (take from bytes ++ replicate width 0) (drop (from + width) bytes) (from + width)
+    (length_front from width bytes (omega arith))
 
-length-with_zeros : (from width : ℕ) (bytes : List ℕ) → from + width ≤ length bytes → length (with_zeros from width bytes) ≡ length bytes
+length-with_zeros : (from width : ℕ) (bytes : List ℕ) → from + width ≤ length bytes →
+    length (with_zeros from width bytes) ≡ length bytes
 length-with_zeros from width bytes within =
     let front = length_front from width bytes (omega arith) in
-    let behind : length (drop (from + width) bytes) ≡ length bytes - (from + width) = length-drop (from + width) bytes in
-    let both : length (with_zeros from width bytes) ≡ length (take from bytes ++ replicate width 0) + length (drop (from + width) bytes) =
+    let behind : length (drop (from + width) bytes) ≡ length bytes - (from + width) =
+    length-drop (from + width) bytes in
+    let both : length (with_zeros from width bytes) ≡ length (take from bytes ++ replicate width 0) + length
+    (drop (from + width) bytes) =
     length-append (take from bytes ++ replicate width 0) (drop (from + width) bytes) in
     omega arith
 
-pub IsBatchOf-after_serving : (width : ℕ) (key : List ℕ) (fill : Fill) (b : BatchValue) → IsBatchOf width key fill b → fill.count < 96 / width → IsBatchOf width key (record fill { count = suc fill.count }) (after_serving width b)
+pub IsBatchOf-after_serving : (width : ℕ) (key : List ℕ) (fill : Fill) (b : BatchValue) → IsBatchOf width key fill b →
+    fill.count < 96 / width → IsBatchOf width key (record fill { count = suc fill.count }) (after_serving width b)
 IsBatchOf-after_serving width key fill b is below =
     let from = width * fill.count in
     let fits : from + width ≤ 96 = room width fill.count below in
@@ -76,18 +87,23 @@ IsBatchOf-after_serving width key fill b is below =
     }
 
 -- the bytes are those of the list
-pub after_serving-batch_step : (width look : ℕ) (refill : Option ℕ) (used : List ℕ) (fill : Fill) (b : BatchValue) → b.position ≡ fill.count → (after_serving width b).bytes ≡ batch_step width used (Some fill) b.bytes (Int look refill width false)
+pub after_serving-batch_step : (width look : ℕ) (refill : Option ℕ) (used : List ℕ) (fill : Fill) (b : BatchValue) →
+    b.position ≡ fill.count → (after_serving width b).bytes ≡ batch_step width used (Some fill) b.bytes
+    (Int look refill width false)
 after_serving-batch_step width look refill used fill b position =
     let same : (width == width) ≡ true = eq-eqb width width refl in
     ap (λ (p : ℕ). with_zeros (width * p) width b.bytes) position
     ∙ ap (λ (t : Bool). if t then with_zeros (width * fill.count) width b.bytes else b.bytes) (sym same)
 
-pub filled-batch_step : (width look : ℕ) (refill : Option ℕ) (used bytes : List ℕ) (last : Option Fill) → (after_serving width (filled (keystream used 32 96) look)).bytes ≡ batch_step width used last bytes (Int look refill width true)
+pub filled-batch_step : (width look : ℕ) (refill : Option ℕ) (used bytes : List ℕ) (last : Option Fill) →
+    (after_serving width (filled (keystream used 32 96) look)).bytes ≡ batch_step width used last bytes
+    (Int look refill width true)
 filled-batch_step width look refill used bytes last =
     let same : (width == width) ≡ true = eq-eqb width width refl in
     let none : width * 0 ≡ 0 = omega arith in
     ap (λ (n : ℕ). with_zeros n width (keystream used 32 96)) none
     ∙ ap (λ (t : Bool). if t then with_zeros 0 width (keystream used 32 96) else bytes) (sym same)
 
-pub start-batch_step : (width : ℕ) (used bytes : List ℕ) (last : Option Fill) → (start width).bytes ≡ batch_step width used last bytes Prepare
+pub start-batch_step : (width : ℕ) (used bytes : List ℕ) (last : Option Fill) →
+    (start width).bytes ≡ batch_step width used last bytes Prepare
 start-batch_step width used bytes last = refl

@@ -45,7 +45,14 @@ forks_of c = record { none = refl; more = λ xs ys. sum_by-append (λ e. cond (i
 pub total_split : (f : List Event → ℕ) → Adds f → (done later : List (List Event)) (events es : List Event)
     → sum_by f (done ++ (events ++ es) ∷ later) ≡ sum_by f (done ++ events ∷ []) + (f es + sum_by f later)
 total_split f adds done later events es =
-    omega (arith, sum_by-append f done ((events ++ es) ∷ later), sum_by-append f done (events ∷ []), sum_by-cons f (events ++ es) later, sum_by-cons f events [], adds.more events es)
+    omega (
+      arith,
+      sum_by-append f done ((events ++ es) ∷ later),
+      sum_by-append f done (events ∷ []),
+      sum_by-cons f (events ++ es) later,
+      sum_by-cons f events [],
+      adds.more events es,
+    )
 
 -- an empty block more
 pub total_block : (f : List Event → ℕ) → Adds f → (blocks : List (List Event)) → sum_by f (blocks ++ [] ∷ []) ≡
@@ -57,7 +64,10 @@ total_block f adds blocks = omega (arith, sum_by-append f blocks ([] ∷ []), su
 pub above_append : (c : ℕ) (xs ys : List (List Event)) → ForksAbove c xs → ForksAbove (c + length xs) ys →
     ForksAbove c (xs ++ ys)
 above_append c [] ys left right = subst (λ k. ForksAbove k ys) (omega arith) right
-above_append c (x ∷ xs) ys left right = (left.0, above_append (suc c) xs ys left.1 (subst (λ k. ForksAbove k ys) (omega arith) right))
+above_append c (x ∷ xs) ys left right = (
+  left.0,
+  above_append (suc c) xs ys left.1 (subst (λ k. ForksAbove k ys) (omega arith) right),
+)
 
 pub above_left : (c : ℕ) (xs ys : List (List Event)) → ForksAbove c (xs ++ ys) → ForksAbove c xs
 above_left c [] ys all = tt
@@ -150,8 +160,11 @@ pub event_fine : (d : Draft) (e : Event) → Fine d → InRange d.version d.cpus
     is_past_limits d e ≡ false
     → Fine (with_event d e)
 event_fine d e fine range good within =
-    let limit = or_parts (leb 65536 (sum_by length (blocks_of d)) || ltb 16777216 (sum_by (sum_by bytes_read) (blocks_of d) + bytes_read e)) (ltb 8 (acts_after (fold acts_after 0 d.events) e)) within in
-    let counts = or_parts (leb 65536 (sum_by length (blocks_of d))) (ltb 16777216 (sum_by (sum_by bytes_read) (blocks_of d) + bytes_read e)) limit.0 in
+    let limit = or_parts (leb 65536 (sum_by length (blocks_of d)) || ltb 16777216
+    (sum_by (sum_by bytes_read) (blocks_of d) + bytes_read e)) (ltb 8 (acts_after (fold acts_after 0 d.events) e))
+    within in
+    let counts = or_parts (leb 65536 (sum_by length (blocks_of d)))
+    (ltb 16777216 (sum_by (sum_by bytes_read) (blocks_of d) + bytes_read e)) limit.0 in
     let Rows : Event → Type 0 = InRange d.version d.cpus in
     let many = leb-false _ _ counts.0 in
     let much = ltb-false _ _ counts.1 in
@@ -161,15 +174,25 @@ event_fine d e fine range good within =
       version = fine.version;
       cpus = fine.cpus;
       callers = fine.callers;
-      ranges = all_append (AllByRecursion Rows) d.done ((d.events ++ e ∷ []) ∷ []) (all_left (AllByRecursion Rows) d.done (d.events ∷ []) fine.ranges)
-          (all_append Rows d.events (e ∷ []) (all_right (AllByRecursion Rows) d.done (d.events ∷ []) fine.ranges).0 (range, tt), tt);
+      ranges = all_append (AllByRecursion Rows) d.done ((d.events ++ e ∷ []) ∷ [])
+          (all_left (AllByRecursion Rows) d.done (d.events ∷ []) fine.ranges) (
+            all_append Rows d.events (e ∷ []) (all_right (AllByRecursion Rows) d.done (d.events ∷ []) fine.ranges).0
+                (range, tt),
+            tt,
+          );
       once = λ c. once_with d e c fine good;
       begun = λ c. begun_with d e c fine good;
       first = first_with d e fine good;
-      above = above_append 0 d.done ((d.events ++ e ∷ []) ∷ []) (above_left 0 d.done (d.events ∷ []) fine.above)
-          (all_append (IsForkAbove (0 + length d.done)) d.events (e ∷ []) (above_right 0 d.done (d.events ∷ []) fine.above).0 (fork_above d e good, tt), tt);
-      acts = all_append (FewActs 0) d.done ((d.events ++ e ∷ []) ∷ []) (all_left (FewActs 0) d.done (d.events ∷ []) fine.acts)
-          (few_push 0 d.events e (all_right (FewActs 0) d.done (d.events ∷ []) fine.acts).0 (ltb-false _ _ limit.1), tt);
+      above = above_append 0 d.done ((d.events ++ e ∷ []) ∷ []) (above_left 0 d.done (d.events ∷ []) fine.above) (
+        all_append (IsForkAbove (0 + length d.done)) d.events (e ∷ [])
+            (above_right 0 d.done (d.events ∷ []) fine.above).0 (fork_above d e good, tt),
+        tt,
+      );
+      acts = all_append (FewActs 0) d.done ((d.events ++ e ∷ []) ∷ [])
+          (all_left (FewActs 0) d.done (d.events ∷ []) fine.acts) (
+            few_push 0 d.events e (all_right (FewActs 0) d.done (d.events ∷ []) fine.acts).0 (ltb-false _ _ limit.1),
+            tt,
+          );
       events = omega arith;
       reads = omega arith;
     }
@@ -229,7 +252,12 @@ pub no_orphan : (n c : ℕ) (callers : List (List Event)) → n ≤ c → list_a
 no_orphan n c [] high e = refl
 no_orphan n c (events ∷ callers) high e =
     let parts = or_parts (list_any (is_fork_from n) events) (list_any (list_any (is_fork_from n)) callers) e in
-    omega (arith, sum_by-cons (count_by (is_fork_of c)) events callers, none_of n c events high parts.0, no_orphan n c callers high parts.1)
+    omega (
+      arith,
+      sum_by-cons (count_by (is_fork_of c)) events callers,
+      none_of n c events high parts.0,
+      no_orphan n c callers high parts.1,
+    )
 
 abbrev NoneFrom : ℕ → (ℕ → ℕ) → Type 0
 NoneFrom n count = (c : ℕ) → n ≤ c → count c ≡ 0
@@ -316,7 +344,8 @@ none_low : (k c : ℕ) (events : List Event) → c ≤ k → AllByRecursion (IsF
     count_by (is_fork_of c) events ≡ 0
 none_low k c [] low above = refl
 none_low k c (Fork child ∷ events) low above =
-    let here : count_by (is_fork_of c) (Fork child ∷ []) ≡ 0 = let high = above.0 in rw (ne_eqb child c (λ e. omega arith)) refl in
+    let here : count_by (is_fork_of c) (Fork child ∷ []) ≡ 0 = let high = above.0 in
+    rw (ne_eqb child c (λ e. omega arith)) refl in
     omega (arith, (forks_of c).more (Fork child ∷ []) events, none_low k c events low above.1)
 none_low k c (e ∷ events) low above = omega (arith, (forks_of c).more (e ∷ []) events, none_low k c events low above.1)
 
@@ -324,7 +353,12 @@ none_low k c (e ∷ events) low above = omega (arith, (forks_of c).more (e ∷ [
 none_forked_low : (k c : ℕ) (callers : List (List Event)) → c ≤ k → ForksAbove k callers → times_forked callers c ≡ 0
 none_forked_low k c [] low above = refl
 none_forked_low k c (events ∷ callers) low above =
-    omega (arith, sum_by-cons (count_by (is_fork_of c)) events callers, none_low k c events low above.0, none_forked_low (suc k) c callers (omega arith) above.1)
+    omega (
+      arith,
+      sum_by-cons (count_by (is_fork_of c)) events callers,
+      none_low k c events low above.0,
+      none_forked_low (suc k) c callers (omega arith) above.1,
+    )
 
 good_fork : (d : Draft) (e : Event) (es : List Event) (later : List (List Event))
     → Whole d.version d.cpus (d.done ++ (d.events ++ e ∷ es) ∷ later) → is_bad_fork d e ≡ false
@@ -336,7 +370,8 @@ good_fork d (Fork child) es later whole =
     let all = forked_most child (length (d.done ++ (d.events ++ Fork child ∷ es) ∷ later)) in
     let split = total_split (count_by (is_fork_of child)) (forks_of child) d.done later d.events (Fork child ∷ es) in
     let new : times_forked (blocks_of d) child ≡ 0 = omega (arith, (forks_of child).more (Fork child ∷ []) es) in
-    or_from (leb child (length d.done)) (ltb 0 (times_forked (blocks_of d) child)) (lt-leb _ _ (omega arith)) (le-ltb _ _ (omega arith))
+    or_from (leb child (length d.done)) (ltb 0 (times_forked (blocks_of d) child)) (lt-leb _ _ (omega arith))
+    (le-ltb _ _ (omega arith))
 good_fork d e es later whole = refl
 
 within_limits : (d : Draft) (e : Event) (es : List Event) (later : List (List Event))
@@ -348,7 +383,8 @@ within_limits d e es later whole =
     let most = whole.events in
     let most_read = whole.reads in
     let few : leb 65536 (sum_by length (blocks_of d)) ≡ false = lt-leb _ _ (omega arith) in
-    let little : ltb 16777216 (sum_by (sum_by bytes_read) (blocks_of d) + bytes_read e) ≡ false = le-ltb _ _ (omega (arith, sum_by-cons bytes_read e es)) in
+    let little : ltb 16777216 (sum_by (sum_by bytes_read) (blocks_of d) + bytes_read e) ≡ false =
+    le-ltb _ _ (omega (arith, sum_by-cons bytes_read e es)) in
     or_from _ _ (or_from _ _ few little) (le-ltb _ _ acts)
 
 pub record EventFits (d : Draft) (e : Event) : Type 0 where
@@ -375,7 +411,8 @@ whole_block d es later whole =
     let all = length-append (blocks_of d) (es ∷ later) in
     let few = whole.callers.1 in
     let c = length (blocks_of d) in
-    let behind = none_forked_low (0 + c) c (es ∷ later) (omega arith) (above_right 0 (blocks_of d) (es ∷ later) whole.above) in
+    let behind = none_forked_low (0 + c) c (es ∷ later) (omega arith)
+    (above_right 0 (blocks_of d) (es ∷ later) whole.above) in
     let once = whole.forked c ∙ forked_low c (length (blocks_of d ++ es ∷ later)) (omega arith) (omega arith) in
     (omega arith, omega (arith, sum_by-append (count_by (is_fork_of c)) (blocks_of d) (es ∷ later)))
 

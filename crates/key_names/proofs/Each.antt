@@ -1,5 +1,5 @@
--- What holds of each element of a list, as the list grows.
-use Rattle.std.proofs.Common.{List, [], ◌∷◌, ◌++◌}
+-- What holds of each element of a list, as the list grows or changes.
+use Rattle.std.proofs.Common.{ℕ, zero, suc, set, List, [], ◌∷◌, ◌++◌}
 use Rattle.std.specs.List.{AllByRecursion}
 
 -- one more element at the end
@@ -7,6 +7,13 @@ pub each_more : {X : Type 0} (P : X → Type 0) (xs : List X) (x : X) → AllByR
     AllByRecursion P (xs ++ x ∷ [])
 each_more P [] x all here = (here, tt)
 each_more P (y ∷ ys) x all here = (all.0, each_more P ys x all.1 here)
+
+-- another element in the place of one
+pub each_set : {X : Type 0} (P : X → Type 0) (xs : List X) (i : ℕ) (x : X) → AllByRecursion P xs → P x →
+    AllByRecursion P (set xs i x)
+each_set P [] i x all here = tt
+each_set P (y ∷ ys) zero x all here = (here, all.1)
+each_set P (y ∷ ys) (suc i) x all here = (all.0, each_set P ys i x all.1 here)
 
 pub each_append : {X : Type 0} (P : X → Type 0) (xs ys : List X) → AllByRecursion P xs → AllByRecursion P ys →
     AllByRecursion P (xs ++ ys)

@@ -21,15 +21,24 @@ clean_arguments version cpus (On cpu) few range = (clean_decimal cpu (omega arit
 clean_arguments version cpus (Hw bytes) few range = (clean_hex bytes range.0, tt)
 clean_arguments version cpus (Device word text) few range = (clean_decimal word range.0, (clean_hex text range.1, tt))
 clean_arguments version cpus (Write text) few range = (clean_hex text range, tt)
-clean_arguments version cpus (Add text bits) few range = (clean_hex text range.0, (clean_decimal bits (omega arith), tt))
+clean_arguments version cpus (Add text bits) few range =
+    (clean_hex text range.0, (clean_decimal bits (omega arith), tt))
 clean_arguments version cpus (Credit bits) few range = (clean_decimal bits (omega arith), tt)
 clean_arguments version cpus (Irq v1 v2) few range = (clean_decimal v1 range.0, (clean_decimal v2 range.1, tt))
-clean_arguments version cpus (Input word kind code value) few range =
-    (clean_decimal word range.0, (clean_decimal kind (omega arith), (clean_decimal code (omega arith), (clean_decimal value (omega arith), tt))))
-clean_arguments version cpus (Read len flags) few range = (clean_decimal len (omega arith), (clean_decimal flags (omega arith), tt))
-clean_arguments version cpus (Vread len flags) few range = (clean_decimal len (omega arith), (clean_decimal flags (omega arith), tt))
+clean_arguments version cpus (Input word kind code value) few range = (
+  clean_decimal word range.0,
+  (
+    clean_decimal kind (omega arith),
+    (clean_decimal code (omega arith), (clean_decimal value (omega arith), tt)),
+  ),
+)
+clean_arguments version cpus (Read len flags) few range =
+    (clean_decimal len (omega arith), (clean_decimal flags (omega arith), tt))
+clean_arguments version cpus (Vread len flags) few range =
+    (clean_decimal len (omega arith), (clean_decimal flags (omega arith), tt))
 clean_arguments version cpus (Kread len) few range = (clean_decimal len (omega arith), tt)
-clean_arguments version cpus (Dread len flag) few range = (clean_decimal len (omega arith), (clean_decimal flag (omega arith), tt))
+clean_arguments version cpus (Dread len flag) few range =
+    (clean_decimal len (omega arith), (clean_decimal flag (omega arith), tt))
 clean_arguments version cpus (Uread len) few range = (clean_decimal len (omega arith), tt)
 clean_arguments version cpus (Fork child) few range = (clean_decimal child (omega arith), tt)
 clean_arguments version cpus (Inside point act) few range = (clean_decimal point (omega arith), clean_act act range.2)

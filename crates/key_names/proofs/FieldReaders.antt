@@ -13,7 +13,8 @@ use Rattle.key_names.proofs.HexFields.{bytes_again, bytes_takes}
 use Rattle.key_names.proofs.Numbers.{number_again, number_takes}
 
 -- the value of a step that did not fail, and what the next step made of it
-pub step_ok : {A B E : Type 0} (r : Result A E) (f : A → Result B E) (y : B) → (r >>= f) ≡ Ok y → (x : A) × (r ≡ Ok x) × (f x ≡ Ok y)
+pub step_ok : {A B E : Type 0} (r : Result A E) (f : A → Result B E) (y : B) → (r >>= f) ≡ Ok y →
+    (x : A) × (r ≡ Ok x) × (f x ≡ Ok y)
 step_ok (Ok x) f y e = (x, refl, e)
 step_ok (Err k) f y e = absurd cc
 
@@ -28,13 +29,15 @@ found {A} {E} (Some y) k x e = ap (λ (z : A). Some z) (same_ok {A = A} {E = E} 
 found None k x e = absurd cc
 
 -- a reader of fields, and how what it reads is spelt
-pub record Spells {A : Type 0} (read : List ℕ → Result A FaultKind) (spell : A → List ℕ) (Fits : A → Type 0) : Type 0 where
+pub record Spells {A : Type 0} (read : List ℕ → Result A FaultKind) (spell : A → List ℕ) (Fits : A → Type 0)
+    : Type 0 where
   pub takes : (field : List ℕ) (a : A) → read field ≡ Ok a → (field ≡ spell a) × Fits a
   pub again : (a : A) → Fits a → read (spell a) ≡ Ok a
 
 pub numbers : (limit : ℕ) → limit ≤ 2 ^ 64 → Spells (number limit) decimal (λ n. n < limit)
 numbers limit wide = record {
-  takes = λ field n e. let is = number_takes limit n field (found (number_below limit field) BadNumber n e) in (is.1, is.0);
+  takes = λ field n e. let is = number_takes limit n field (found (number_below limit field) BadNumber n e) in
+      (is.1, is.0);
   again = λ n below. ap (λ o. ok_or o BadNumber) (number_again limit n below wide);
 }
 
@@ -105,7 +108,8 @@ Takes read P = (fields : List (List ℕ)) (event : Event) → read fields ≡ Ok
 pub plain_takes : (event : Event) (P : List (List ℕ) → Event → Type 0) → P [] event → Takes (plain event) P
 plain_takes event P holds fields e is =
     let step = step_ok (no_field fields) (λ none. Ok event) e is in
-    subst (λ x. P fields x) (same_ok {E = FaultKind} event e step.2) (subst (λ f. P f event) (sym (none_is fields step.0 step.1)) holds)
+    subst (λ x. P fields x) (same_ok {E = FaultKind} event e step.2)
+    (subst (λ f. P f event) (sym (none_is fields step.0 step.1)) holds)
 
 pub unary_takes : {A : Type 0} {first : List ℕ → Result A FaultKind} {spell : A → List ℕ} {Fits : A → Type 0}
     → Spells first spell Fits → (make : A → Event) (P : List (List ℕ) → Event → Type 0)
@@ -115,20 +119,24 @@ unary_takes {A} {first} {spell} spells make P holds fields e is =
     let value = step_ok (first step.0) (λ a. Ok (make a)) e step.2 in
     let a = spells.takes step.0 value.0 value.1 in
     subst (λ x. P fields x) (same_ok {E = FaultKind} (make value.0) e value.2)
-    (subst (λ f. P f (make value.0)) (sym (one_is fields step.0 step.1 ∙ ap (λ (f : List ℕ). f ∷ []) a.0)) (holds value.0 a.1))
+    (subst (λ f. P f (make value.0)) (sym (one_is fields step.0 step.1 ∙ ap (λ (f : List ℕ). f ∷ []) a.0))
+    (holds value.0 a.1))
 
 pub binary_takes : {A B : Type 0} {first : List ℕ → Result A FaultKind} {second : List ℕ →
     Result B FaultKind} {spell : A → List ℕ} {spell_second : B → List ℕ}
     {Fits : A → Type 0} {FitsSecond : B → Type 0} → Spells first spell Fits → Spells second spell_second FitsSecond
     → (make : A → B → Event) (P : List (List ℕ) → Event → Type 0)
-    → ((a : A) (b : B) → Fits a → FitsSecond b → P (spell a ∷ spell_second b ∷ []) (make a b)) → Takes (binary first second make) P
+    → ((a : A) (b : B) → Fits a → FitsSecond b → P (spell a ∷ spell_second b ∷ []) (make a b)) →
+    Takes (binary first second make) P
 binary_takes {A} {B} {first} {second} {spell} {spell_second} spells seconds make P holds fields e is =
     let step = step_ok (two_fields fields) (λ both. first both.0 >>= λ a. second both.1 >>= λ b. Ok (make a b)) e is in
     let one = step_ok (first step.0.0) (λ a. second step.0.1 >>= λ b. Ok (make a b)) e step.2 in
     let two = step_ok (second step.0.1) (λ b. Ok (make one.0 b)) e one.2 in
     let a = spells.takes step.0.0 one.0 one.1 in
     let b = seconds.takes step.0.1 two.0 two.1 in
-    let spelt : fields ≡ spell one.0 ∷ spell_second two.0 ∷ [] = two_are fields step.0 step.1 ∙ ap (λ (f : List ℕ). f ∷ step.0.1 ∷ []) a.0 ∙ ap (λ (f : List ℕ). spell one.0 ∷ f ∷ []) b.0 in
+    let spelt : fields ≡ spell one.0 ∷ spell_second two.0 ∷ [] =
+    two_are fields step.0 step.1 ∙ ap (λ (f : List ℕ). f ∷ step.0.1 ∷ []) a.0
+    ∙ ap (λ (f : List ℕ). spell one.0 ∷ f ∷ []) b.0 in
     subst (λ x. P fields x) (same_ok {E = FaultKind} (make one.0 two.0) e two.2)
     (subst (λ f. P f (make one.0 two.0)) (sym spelt) (holds one.0 two.0 a.1 b.1))
 
@@ -139,5 +147,6 @@ unary_again spells make a fits = rw (spells.again a fits) refl
 pub binary_again : {A B : Type 0} {first : List ℕ → Result A FaultKind} {second : List ℕ →
     Result B FaultKind} {spell : A → List ℕ} {spell_second : B → List ℕ}
     {Fits : A → Type 0} {FitsSecond : B → Type 0} → Spells first spell Fits → Spells second spell_second FitsSecond
-    → (make : A → B → Event) (a : A) (b : B) → Fits a → FitsSecond b → binary first second make (spell a ∷ spell_second b ∷ []) ≡ Ok (make a b)
+    → (make : A → B → Event) (a : A) (b : B) → Fits a → FitsSecond b →
+    binary first second make (spell a ∷ spell_second b ∷ []) ≡ Ok (make a b)
 binary_again spells seconds make a b fits fits_second = rw (spells.again a fits, seconds.again b fits_second) refl

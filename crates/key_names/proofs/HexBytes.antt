@@ -9,7 +9,8 @@ use Rattle.key_names.specs.ScriptFaults.{bytes_of}
 use Rattle.key_names.specs.Spelling.{AllLower, hex, is_lower_digit}
 use Rattle.key_names.proofs.HexFields.{bytes_again, spells_letter, spells_number}
 
-pub lower_at : (digits : List ℕ) (i : ℕ) → AllLower digits → i < length digits → is_lower_digit (get_or digits i 0) ≡ true
+pub lower_at : (digits : List ℕ) (i : ℕ) → AllLower digits → i < length digits →
+    is_lower_digit (get_or digits i 0) ≡ true
 lower_at [] i lower here = absurd (omega arith)
 lower_at (c ∷ digits) zero lower here = lower.0
 lower_at (c ∷ digits) (suc i) lower here = lower_at digits i lower.1 (omega arith)
@@ -53,7 +54,8 @@ no_bytes = refl
 -- one more byte, from the two digits behind those before
 pub byte_read : (out digits : List ℕ) (i high low : ℕ) → i < length out → length digits ≡ 2 * length out →
     encode_lower (take i out) ≡ take (2 * i) digits → high < 16 → low < 16 →
-    slice_index lower_digits high ≡ get_or digits (2 * i) 0 → slice_index lower_digits low ≡ get_or digits (2 * i + 1) 0 →
+    slice_index lower_digits high ≡ get_or digits (2 * i) 0 →
+    slice_index lower_digits low ≡ get_or digits (2 * i + 1) 0 →
     encode_lower (take (i + 1) (set out i (high * 16 + low))) ≡ take (2 * (i + 1)) digits
 byte_read out digits i high low here twice before small_high small_low at_high at_low =
     let byte = high * 16 + low in

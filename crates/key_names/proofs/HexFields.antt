@@ -18,10 +18,12 @@ spells : (d : ℕ) → d < 16 → is_lower_digit (slice_index lower_digits d) �
 spells d small = agree_below_at (λ k. is_lower_digit (slice_index lower_digits k)) (λ k. true) 16 d refl small
 
 pub spells_number : (d : ℕ) → d < 10 → slice_index lower_digits d ≡ 48 + d
-spells_number d small = eqb-true _ _ (agree_below_at (λ k. slice_index lower_digits k == 48 + k) (λ k. true) 10 d refl small)
+spells_number d small = eqb-true _ _ (agree_below_at (λ k. slice_index lower_digits k == 48 + k) (λ k. true) 10 d refl
+    small)
 
 pub spells_letter : (d : ℕ) → d < 6 → slice_index lower_digits (10 + d) ≡ 97 + d
-spells_letter d small = eqb-true _ _ (agree_below_at (λ k. slice_index lower_digits (10 + k) == 97 + k) (λ k. true) 6 d refl small)
+spells_letter d small = eqb-true _ _ (agree_below_at (λ k. slice_index lower_digits (10 + k) == 97 + k) (λ k. true) 6 d
+    refl small)
 
 -- the value of a digit of lower case spells the digit
 lower_value : (c v : ℕ) → is_lower_digit c ≡ true → hex_digit_value c ≡ Some v → (v < 16) ×
@@ -139,7 +141,8 @@ none_else field dash not (Some []) e =
 none_else field dash not (Some (b ∷ bytes)) e =
     let is = bytes_takes field (b ∷ bytes) e in
     let long : 0 < length field = rw (is.0) (omega (arith, length-encode_with lower_digits (b ∷ bytes))) in
-    absurd (not (b ∷ bytes) long (rw (is.0) (lower_encoded (b ∷ bytes) is.1)) (rw (is.0) (decode_of-encode_lower (b ∷ bytes) is.1)))
+    absurd (not (b ∷ bytes) long (rw (is.0) (lower_encoded (b ∷ bytes) is.1))
+    (rw (is.0) (decode_of-encode_lower (b ∷ bytes) is.1)))
 
 -- no digits, or digits of another case
 pub bytes_none : (field : List ℕ) → bytes_eq field (hex []) ≡ false

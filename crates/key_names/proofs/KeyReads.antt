@@ -86,8 +86,11 @@ module _ (cpus : ℕ → List CpuEntry) where
       IsKeyRead cpus answer → AllName rest → AfterKeyRead n c answer s rest attempt → Name attempt.entries
   key_read_names n c (read key None) s rest attempt takes names keyed = absurd takes
   key_read_names n c (read key (Some at)) s rest attempt takes names keyed =
-      subst (λ (a : Attempt). Name a.entries) (sym keyed.attempt_is)
-      (takes, point_names ServePoint (FromServe n c) _ rest keyed.attempt_after names (serve_names_all n c) keyed.goes_on)
+      subst (λ (a : Attempt). Name a.entries) (sym keyed.attempt_is) (
+        takes,
+        point_names ServePoint (FromServe n c) _ rest keyed.attempt_after names (serve_names_all n c)
+            keyed.goes_on,
+      )
   key_read_names n c (failed errno) s rest attempt takes names unkeyed =
       subst (λ (a : Attempt). Name a.entries) (sym unkeyed.attempt_is) tt
 
@@ -125,7 +128,8 @@ module _ (cpus : ℕ → List CpuEntry) where
 
   tried_names : (n flags c : ℕ) (IfOutdated : ℕ → VgetrandomState → List HostStep → Outcome → Type 0)
       (goes : (c : ℕ) (v : VgetrandomState) (rest : List HostStep) (after : Outcome) → AllName rest →
-      IfOutdated c v rest after → Name after.entries) (s : VgetrandomState) (steps : List HostStep) (outcome : Outcome) →
+      IfOutdated c v rest after → Name after.entries) (s : VgetrandomState) (steps : List HostStep)
+      (outcome : Outcome) →
       AllName steps → AttemptAndRest n flags IfOutdated (IsAttempt n c s) steps outcome → Name outcome.entries
   tried_names n flags c IfOutdated goes s steps outcome names by =
       let all = split_names by.tried by.rest (subst AllName by.steps_are names) in

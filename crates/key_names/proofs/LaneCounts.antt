@@ -86,7 +86,8 @@ within : {E : Type 0} (visits : List (Visit E)) (place : ℕ) (there : ℕ × Wh
 within visits place there at =
     let f = found visits place there.0 there.1 at in slice_get_within visits place f.visit f.is
 
-pub within_lane : (book : Book) (lane : LaneId) (place : ℕ) (there : ℕ × Who) → stamped_at book lane place ≡ Some there →
+pub within_lane : (book : Book) (lane : LaneId) (place : ℕ) (there : ℕ × Who) →
+    stamped_at book lane place ≡ Some there →
     place < lane_length book lane
 within_lane book PoolLane place there at = within book.pool place there at
 within_lane book BaseLane place there at = within book.base place there at

@@ -16,7 +16,8 @@ InOrder i (m ∷ ms) = (m.place ≡ i) × AllByRecursion (λ n. m.stamp < n.stam
 abbrev at_place : ℕ → Mark → Bool
 at_place p m = m.place == p
 
-count_more : (p : ℕ) (m : Mark) (ms : List Mark) → count_by (at_place p) (m ∷ ms) ≡ cond (m.place == p) 1 0 + count_by (at_place p) ms
+count_more : (p : ℕ) (m : Mark) (ms : List Mark) →
+    count_by (at_place p) (m ∷ ms) ≡ cond (m.place == p) 1 0 + count_by (at_place p) ms
 count_more p m ms = sum_by-cons (λ n. cond (at_place p n) 1 0) m ms
 
 -- a place below the first stands nowhere
@@ -33,10 +34,12 @@ once_at i p [] order from below = absurd (omega arith)
 once_at i p (m ∷ ms) order from below =
     by_test (λ at. once_at (suc i) p ms order.2 at (omega arith)) (m.place == p) refl
   where
-    by_test : (suc i ≤ p → count_by (at_place p) ms ≡ 1) → (b : Bool) → (m.place == p) ≡ b → count_by (at_place p) (m ∷ ms) ≡ 1
+    by_test : (suc i ≤ p → count_by (at_place p) ms ≡ 1) → (b : Bool) → (m.place == p) ≡ b →
+        count_by (at_place p) (m ∷ ms) ≡ 1
     by_test later true e =
         let here : m.place ≡ i = order.0 in let at : p < suc i = grind (arith, nat_tests) in
-        let rest : count_by (at_place p) ms ≡ 0 = none_below (suc i) p ms order.2 at in count_more p m ms ∙ rw (e, rest) refl
+        let rest : count_by (at_place p) ms ≡ 0 = none_below (suc i) p ms order.2 at in
+        count_more p m ms ∙ rw (e, rest) refl
     by_test later false e =
         let here : m.place ≡ i = order.0 in let at : suc i ≤ p = grind (arith, nat_tests) in
         let rest : count_by (at_place p) ms ≡ 1 = later at in count_more p m ms ∙ rw (e, rest) refl
@@ -54,11 +57,15 @@ Above a b = a.place < b.place → a.stamp < b.stamp
 each_from : (i : ℕ) (ms : List Mark) → InOrder i ms → AllByRecursion (λ m. i ≤ m.place) ms
 each_from i [] order = tt
 each_from i (m ∷ ms) order =
-    let here : m.place ≡ i = order.0 in
-    (omega arith, each_weaker (λ n. suc i ≤ n.place) (λ n. i ≤ n.place) ms (λ n h. omega arith) (each_from (suc i) ms order.2))
+    let here : m.place ≡ i = order.0 in (
+      omega arith,
+      each_weaker (λ n. suc i ≤ n.place) (λ n. i ≤ n.place) ms (λ n h. omega arith)
+          (each_from (suc i) ms order.2),
+    )
 
 with_first : (m : Mark) (ms others : List Mark) → AllByRecursion (λ a. m.place ≤ a.place) others →
-    AllByRecursion (λ a. AllByRecursion (Above a) ms) others → AllByRecursion (λ a. AllByRecursion (Above a) (m ∷ ms)) others
+    AllByRecursion (λ a. AllByRecursion (Above a) ms) others →
+    AllByRecursion (λ a. AllByRecursion (Above a) (m ∷ ms)) others
 with_first m ms [] from all = tt
 with_first m ms (a ∷ others) from all =
     let above : Above a m = (λ h. let le = from.0 in absurd (omega arith)) in
@@ -69,9 +76,11 @@ rise_from i [] order = tt
 rise_from i (m ∷ ms) order =
     let here : m.place ≡ i = order.0 in
     let self : Above m m = (λ h. absurd (omega arith)) in
-    let behind : AllByRecursion (Above m) ms = each_weaker (λ n. m.stamp < n.stamp) (Above m) ms (λ n h lt. h) order.1 in
+    let behind : AllByRecursion (Above m) ms = each_weaker (λ n. m.stamp < n.stamp) (Above m) ms (λ n h lt. h) order.1
+    in
     let from : AllByRecursion (λ a. m.place ≤ a.place) ms =
-    each_weaker (λ a. suc i ≤ a.place) (λ a. m.place ≤ a.place) ms (λ a h. omega arith) (each_from (suc i) ms order.2) in
+    each_weaker (λ a. suc i ≤ a.place) (λ a. m.place ≤ a.place) ms (λ a h. omega arith) (each_from (suc i) ms order.2)
+    in
     ((self, behind), with_first m ms ms from (rise_from (suc i) ms order.2))
 
 -- marks in order stand as they must
@@ -85,5 +94,8 @@ in_order_stand ms order = record {
 pub in_order_more : (i : ℕ) (ms : List Mark) (m : Mark) → InOrder i ms → AllByRecursion (λ n. n.stamp < m.stamp) ms →
     m.place ≡ i + length ms → InOrder i (ms ++ m ∷ [])
 in_order_more i [] m order below at = (omega arith, tt, tt)
-in_order_more i (n ∷ ms) m order below at =
-    (order.0, each_more (λ k. n.stamp < k.stamp) ms m order.1 below.0, in_order_more (suc i) ms m order.2 below.1 (omega arith))
+in_order_more i (n ∷ ms) m order below at = (
+  order.0,
+  each_more (λ k. n.stamp < k.stamp) ms m order.1 below.0,
+  in_order_more (suc i) ms m order.2 below.1 (omega arith),
+)

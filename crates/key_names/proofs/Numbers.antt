@@ -26,7 +26,11 @@ lead_of n small e =
     ]
 
 pub IsNumber-decimal : (n : ℕ) → n < 2 ^ 64 → IsNumber (decimal n)
-IsNumber-decimal n small = record { digits = digits_decimal own n small; some = decimal_nonempty n small; lead = lead_of n small }
+IsNumber-decimal n small = record {
+  digits = digits_decimal own n small;
+  some = decimal_nonempty n small;
+  lead = lead_of n small;
+}
 
 pub value_of_decimal : (n : ℕ) → n < 2 ^ 64 → digits_value 10 (decimal n) ≡ n
 value_of_decimal n small = digits_value-decimal own n small

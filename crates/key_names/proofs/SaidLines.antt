@@ -33,7 +33,8 @@ found_passes p (v ∷ ws) w e =
     ]
 
 word_takes : (field : List ℕ) (w : Word) → word_of field ≡ Some w → field ≡ word_text w
-word_takes field w e = sym ((bytes_eq-Decides (word_text w) field).0 (found_passes (λ v. bytes_eq (word_text v) field) all_words w e))
+word_takes field w e = sym ((bytes_eq-Decides (word_text w) field).0
+    (found_passes (λ v. bytes_eq (word_text v) field) all_words w e))
 
 word_again : (w : Word) → word_of (word_text w) ≡ Some w
 word_again w = elim w as (λ v. word_of (word_text v) ≡ Some v) [
@@ -113,7 +114,8 @@ pub record Says (version cpus : ℕ) (fields : List (List ℕ)) (what : Said) : 
   pub range : SaidInRange version cpus what
 
 event_says : (version cpus : ℕ) (word : Word) (fields : List (List ℕ)) (what : Said) → cpus ≤ 256
-    → (event_of version cpus word fields >>= λ event. Ok (SaysEvent event)) ≡ Ok what → Says version cpus (word_text word ∷ fields) what
+    → (event_of version cpus word fields >>= λ event. Ok (SaysEvent event)) ≡ Ok what →
+    Says version cpus (word_text word ∷ fields) what
 event_says version cpus word fields what few is =
     let step = step_ok (event_of version cpus word fields) (λ event. Ok (SaysEvent event)) what is in
     let e = event_takes version cpus word few fields step.0 step.1 in
@@ -135,7 +137,8 @@ by_first version cpus [] what few is = absurd cc
 by_first version cpus (first ∷ fields) what few is =
     elim (cases_Bool (bytes_eq first (codes "caller"))) [
       | inl caller ↦
-          let step = step_ok (one_field fields) (λ field. number 64 field >>= λ c. Ok (SaysCaller c)) what (rw caller at is) in
+          let step = step_ok (one_field fields) (λ field. number 64 field >>= λ c. Ok (SaysCaller c)) what
+          (rw caller at is) in
           let value = step_ok (number 64 step.0) (λ c. Ok (SaysCaller c)) what step.2 in
           let c = (numbers 64 (omega arith)).takes step.0 value.0 value.1 in
           let spelt = one_is fields step.0 step.1 in
@@ -143,9 +146,11 @@ by_first version cpus (first ∷ fields) what few is =
           subst (λ x. Says version cpus (first ∷ fields) x) (same_ok {E = FaultKind} (SaysCaller value.0) what value.2)
           (record { spelt = cc (first_is, spelt, c.0); range = c.1 })
       | inr not ↦
-          let step = step_ok (ok_or (word_of first) UnknownWord) (λ word. said_by_word version cpus fields word) what (rw not at is) in
+          let step = step_ok (ok_or (word_of first) UnknownWord) (λ word. said_by_word version cpus fields word) what
+          (rw not at is) in
           let word = word_takes first step.0 (found (word_of first) UnknownWord step.0 step.1) in
-          subst (λ f. Says version cpus (f ∷ fields) what) (sym word) (by_word version cpus fields step.0 what few step.2)
+          subst (λ f. Says version cpus (f ∷ fields) what) (sym word)
+          (by_word version cpus fields step.0 what few step.2)
     ]
 
 -- the line that says it
@@ -158,7 +163,8 @@ said_takes version cpus line what few is =
     let s = by_first version cpus (parts 32 line) what few is in
     (sym (spaced_parts line) ∙ ap spaced s.spelt, s.range)
 
-as_said : {r : Result Event FaultKind} {event : Event} → r ≡ Ok event → (r >>= λ e. Ok (SaysEvent e)) ≡ Ok (SaysEvent event)
+as_said : {r : Result Event FaultKind} {event : Event} → r ≡ Ok event →
+    (r >>= λ e. Ok (SaysEvent e)) ≡ Ok (SaysEvent event)
 as_said is = ap (λ r. r >>= λ e. Ok (SaysEvent e)) is
 
 event_by_word : (version cpus : ℕ) (event : Event) → cpus ≤ 256 → InRange version cpus event
@@ -195,4 +201,5 @@ said_again version cpus what few range =
 
 pub printable_said : (version cpus : ℕ) (what : Said) → cpus ≤ 256 → SaidInRange version cpus what →
     Printable (said_line what)
-printable_said version cpus what few range = printable_spaced (said_fields what) (clean_said version cpus what few range)
+printable_said version cpus what few range = printable_spaced (said_fields what)
+    (clean_said version cpus what few range)

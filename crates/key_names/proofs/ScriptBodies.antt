@@ -9,7 +9,7 @@ use Rattle.key_names.specs.declared.faults.FaultKind.{FaultKind}
 use Rattle.key_names.specs.declared.faults.FaultKind.TheVariants.{UnknownWord}
 use Rattle.key_names.specs.declared.faults.ScriptFault.{ScriptFault}
 use Rattle.key_names.specs.Spelling.{spaced}
-use Rattle.key_names.specs.ScriptGrammar.{Script, blocks, event_fields, most_cpus, times_forked}
+use Rattle.key_names.specs.ScriptGrammar.{Script, block_lines, event_fields, most_cpus, times_forked}
 use Rattle.key_names.specs.ScriptFaults.{◌>>=◌, Draft, Next, GoesOn, Ends, Said, SaysEvent, SaysCaller, SaysEnd, SaidInRange, after, at_line, blocks_of, by_next, has_orphan, is_bad_fork, is_past_limits, is_unprintable, line_of, nothing_behind, said, script_from, script_of_draft, with_block, with_event}
 use Rattle.key_names.proofs.Drafts.{EventFits, Fine, Whole, block_fine, end_whole, event_fine, whole_block, whole_end, whole_event}
 use Rattle.key_names.proofs.FieldReaders.{same_ok, step_ok}
@@ -46,13 +46,15 @@ nothing_takes n [] x e = absurd cc
 nothing_takes n ([] ∷ []) x e = refl
 nothing_takes n ((b ∷ tail) ∷ []) x e = absurd cc
 nothing_takes n ([] ∷ next ∷ more) x e = absurd (never (line_of ([] ∷ next ∷ more)) UnknownWord x (at_ok n _ x e))
-nothing_takes n ((b ∷ tail) ∷ next ∷ more) x e = absurd (never (line_of ((b ∷ tail) ∷ next ∷ more)) UnknownWord x (at_ok n _ x e))
+nothing_takes n ((b ∷ tail) ∷ next ∷ more) x e =
+    absurd (never (line_of ((b ∷ tail) ∷ next ∷ more)) UnknownWord x (at_ok n _ x e))
 
 -- ---- the lines that are left
 
 -- the lines behind those of a draft with c blocks done: more events, more blocks, and the end
 abbrev pub rest_lines : ℕ → List Event → List (List Event) → List (List ℕ)
-rest_lines c es later = map spaced ((map event_fields es ++ blocks (suc c) later) ++ (codes "end" ∷ []) ∷ []) ++ [] ∷ []
+rest_lines c es later = map spaced ((map event_fields es ++ block_lines (suc c) later) ++ (codes "end" ∷ []) ∷ [])
+    ++ [] ∷ []
 
 abbrev pub callers_with : Draft → List Event → List (List Event) → List (List Event)
 callers_with d es later = d.done ++ (d.events ++ es) ∷ later
@@ -81,7 +83,12 @@ event_after d e next is =
       | inr good ↦
           elim (cases_Bool (is_past_limits d e)) [
             | inl past ↦ let none = rw (good, past) at is in absurd cc
-            | inr within ↦ (good, within, same_ok {E = FaultKind} (GoesOn (with_event d e)) next (rw (good, within) at is))
+            | inr within ↦ (
+              good,
+              within,
+              same_ok {E = FaultKind} (GoesOn (with_event d e)) next
+                  (rw (good, within) at is),
+            )
           ]
     ]
 
@@ -93,7 +100,11 @@ block_after d c next is =
       | inl same ↦
           elim (cases_Bool (times_forked (blocks_of d) c == 0)) [
             | inl zero_is ↦ let none = rw (same, zero_is) at is in absurd cc
-            | inr some ↦ (eqb-true _ _ same, eqb-false _ _ some, same_ok {E = FaultKind} (GoesOn (with_block d)) next (rw (same, some) at is))
+            | inr some ↦ (
+              eqb-true _ _ same,
+              eqb-false _ _ some,
+              same_ok {E = FaultKind} (GoesOn (with_block d)) next (rw (same, some) at is),
+            )
           ]
     ]
 
@@ -133,7 +144,8 @@ block_continues d more s rest =
     record {
       es = [];
       later = rest.es ∷ rest.later;
-      script = rest.script ∙ ap (λ (callers : List (List Event)). record { version = d.version; cpus = d.cpus; callers = callers }) same;
+      script = rest.script ∙ ap (λ (callers : List (List Event)).
+          record { version = d.version; cpus = d.cpus; callers = callers }) same;
       spelt = ap (λ (lines : List (List ℕ)). said_line (SaysCaller (length (blocks_of d))) ∷ lines) rest.spelt
           ∙ ap (λ (k : ℕ). said_line (SaysCaller k) ∷ rest_lines k rest.es rest.later) n;
       whole = subst (Whole d.version d.cpus) same rest.whole;
@@ -155,11 +167,13 @@ end_continues d more s fine whole none is =
 by_said : (d : Draft) (n : ℕ) (more : List (List ℕ)) (s : Script) (what : Said) (next : Next) → Fine d →
     SaidInRange d.version d.cpus what
     → after d what ≡ Ok next
-    → by_next (λ later. script_from later (n + 1) more) (nothing_behind (n + 1) more >>= λ none. Ok (script_of_draft d)) next ≡ Ok s
+    → by_next (λ later. script_from later (n + 1) more)
+    (nothing_behind (n + 1) more >>= λ none. Ok (script_of_draft d)) next ≡ Ok s
     → Behind more s → Continues d (said_line what ∷ more) s
 by_said d n more s (SaysEvent e) next fine range is follows behind =
     let a = event_after d e next is in
-    event_continues d e more s (behind (with_event d e) (n + 1) (event_fine d e fine range a.0 a.1) (rw (← a.2) at follows))
+    event_continues d e more s (behind (with_event d e) (n + 1) (event_fine d e fine range a.0 a.1)
+    (rw (← a.2) at follows))
 by_said d n more s (SaysCaller c) next fine range is follows behind =
     let a = block_after d c next is in
     let few : length (blocks_of d) < 64 = rw a.0 at range in
@@ -169,7 +183,8 @@ by_said d n more s (SaysCaller c) next fine range is follows behind =
 by_said d n more s SaysEnd next fine range is follows behind =
     let a = end_after d next is in
     let step = step_ok (nothing_behind (n + 1) more) (λ none. Ok (script_of_draft d)) s (rw (← a.1) at follows) in
-    end_continues d more s fine a.0 (nothing_takes (n + 1) more step.0 step.1) (same_ok {E = ScriptFault} (script_of_draft d) s step.2)
+    end_continues d more s fine a.0 (nothing_takes (n + 1) more step.0 step.1)
+    (same_ok {E = ScriptFault} (script_of_draft d) s step.2)
 
 pub from_takes : (d : Draft) (n : ℕ) (lines : List (List ℕ)) (s : Script) → Fine d → script_from d n lines ≡ Ok s →
     Continues d lines s
@@ -177,7 +192,8 @@ unfolding script_from
 from_takes d n [] s fine e = absurd cc
 from_takes d n (line ∷ more) s fine e =
     let next = step_ok (at_line n (line_of (line ∷ more) >>= λ whole. said d.version d.cpus whole >>= after d)) _ s e in
-    let whole = step_ok (line_of (line ∷ more)) (λ whole. said d.version d.cpus whole >>= after d) next.0 (at_ok n _ next.0 next.1) in
+    let whole = step_ok (line_of (line ∷ more)) (λ whole. said d.version d.cpus whole >>= after d) next.0
+    (at_ok n _ next.0 next.1) in
     let what = step_ok (said d.version d.cpus whole.0) (after d) next.0 whole.2 in
     let says = said_takes d.version d.cpus whole.0 what.0 (few_cpus d.version d.cpus fine.cpus.1) what.1 in
     let is = line_takes line more whole.0 whole.1 ∙ says.0 in
@@ -195,10 +211,15 @@ step_again : (d : Draft) (n : ℕ) (what : Said) (more : List (List ℕ)) (next 
     SaidInRange d.version d.cpus what
     → HasFirst more → after d what ≡ Ok next
     → script_from d n (said_line what ∷ more)
-    ≡ by_next (λ later. script_from later (n + 1) more) (nothing_behind (n + 1) more >>= λ none. Ok (script_of_draft d)) next
+    ≡ by_next (λ later. script_from later (n + 1) more)
+    (nothing_behind (n + 1) more >>= λ none. Ok (script_of_draft d)) next
 unfolding script_from
 step_again d n what more next few range some is =
-    rw (line_again (said_line what) more some (printable_said d.version d.cpus what few range), said_again d.version d.cpus what few range, is) refl
+    rw (
+      line_again (said_line what) more some (printable_said d.version d.cpus what few range),
+      said_again d.version d.cpus what few range,
+      is,
+    ) refl
 
 event_next : (d : Draft) (e : Event) → EventFits d e → after d (SaysEvent e) ≡ Ok (GoesOn (with_event d e))
 event_next d e fits = rw (fits.fork, fits.limits) refl
@@ -214,14 +235,16 @@ with_events d es = record d { events = d.events ++ es }
 events_again : (d : Draft) (n : ℕ) (es : List Event) (later : List (List Event)) (line : List ℕ)
     (more : List (List ℕ)) (s : Script)
     → d.cpus ≤ 256 → Whole d.version d.cpus (callers_with d es later)
-    → ((m : ℕ) → script_from (with_events d es) m (line ∷ more) ≡ Ok s) → script_from d n (event_lines es ++ line ∷ more) ≡ Ok s
+    → ((m : ℕ) → script_from (with_events d es) m (line ∷ more) ≡ Ok s) →
+    script_from d n (event_lines es ++ line ∷ more) ≡ Ok s
 events_again d n [] later line more s few whole ends =
     let same = append-nil d.events in
     rw same at (ends n)
 events_again d n (e ∷ es) later line more s few whole ends =
     let fits = whole_event d e es later whole in
     let same = append_assoc d.events (e ∷ []) es in
-    step_again d n (SaysEvent e) (event_lines es ++ line ∷ more) (GoesOn (with_event d e)) few fits.range (first_behind (event_lines es) line more) (event_next d e fits)
+    step_again d n (SaysEvent e) (event_lines es ++ line ∷ more) (GoesOn (with_event d e)) few fits.range
+    (first_behind (event_lines es) line more) (event_next d e fits)
     ∙ events_again (with_event d e) (n + 1) es later line more s few (rw same whole) (λ m. rw same (ends m))
 
 -- the lines behind those of a block's events
@@ -238,7 +261,8 @@ rest_split c (e ∷ es) later = ap (λ (lines : List (List ℕ)). said_line (Say
 end_again : (d : Draft) (m : ℕ) → d.cpus ≤ 256 → Whole d.version d.cpus (blocks_of d)
     → script_from d m (codes "end" ∷ [] ∷ []) ≡ Ok (script_of_draft d)
 end_again d m few whole =
-    step_again d m SaysEnd ([] ∷ []) Ends few tt (record { first = []; others = []; is = refl }) (rw (whole_end d whole) refl)
+    step_again d m SaysEnd ([] ∷ []) Ends few tt (record { first = []; others = []; is = refl })
+    (rw (whole_end d whole) refl)
 
 block_next : (d : Draft) → times_forked (blocks_of d) (length (blocks_of d)) ≡ 1
     → after d (SaysCaller (suc (length d.done))) ≡ Ok (GoesOn (with_block d))
@@ -246,25 +270,32 @@ block_next d forked = subst (λ k. after d (SaysCaller k) ≡ Ok (GoesOn (with_b
     (rw (eq-eqb (length (blocks_of d)) (length (blocks_of d)) refl, forked) refl)
 
 first_rest : (c : ℕ) (es : List Event) (later : List (List Event)) → HasFirst (rest_lines c es later)
-first_rest c es later = first_behind (map spaced ((map event_fields es ++ blocks (suc c) later) ++ (codes "end" ∷ []) ∷ [])) [] []
+first_rest c es later = first_behind (map spaced
+    ((map event_fields es ++ block_lines (suc c) later) ++ (codes "end" ∷ []) ∷ [])) [] []
 
 pub from_again : (d : Draft) (n : ℕ) (es : List Event) (later : List (List Event)) → d.cpus ≤ 256
     → Whole d.version d.cpus (callers_with d es later)
     → script_from d n (rest_lines (length d.done) es later) ≡ Ok (script_with d es later)
 from_again d n es [] few whole =
     ap (script_from d n) (rest_split (length d.done) es [])
-    ∙ events_again d n es [] (codes "end") ([] ∷ []) (script_with d es []) few whole (λ m. end_again (with_events d es) m few whole)
+    ∙ events_again d n es [] (codes "end") ([] ∷ []) (script_with d es []) few whole
+    (λ m. end_again (with_events d es) m few whole)
 from_again d n es (next ∷ later) few whole =
     let b = with_events d es in
     let c = length d.done in
-    let same : callers_with (with_block b) next later ≡ callers_with d es (next ∷ later) = append_assoc d.done ((d.events ++ es) ∷ []) (next ∷ later) in
+    let same : callers_with (with_block b) next later ≡ callers_with d es (next ∷ later) =
+    append_assoc d.done ((d.events ++ es) ∷ []) (next ∷ later) in
     let whole_later : Whole d.version d.cpus (callers_with (with_block b) next later) = rw same whole in
     let fits = whole_block b next later whole_later in
     let long = length_blocks b in
     let more = rest_lines (suc c) next later in
-    let on = λ (m : ℕ). subst (λ k. script_from (with_block b) m (rest_lines k next later) ≡ Ok (script_with (with_block b) next later)) long
+    let on = λ (m : ℕ). subst (λ k. script_from (with_block b) m (rest_lines k next later) ≡ Ok
+    (script_with (with_block b) next later)) long
     (from_again (with_block b) m next later few whole_later) in
     ap (script_from d n) (rest_split c es (next ∷ later))
-    ∙ events_again d n es (next ∷ later) (said_line (SaysCaller (suc c))) more (script_with d es (next ∷ later)) few whole (λ m.
-    step_again b m (SaysCaller (suc c)) more (GoesOn (with_block b)) few (omega (arith, fits.0)) (first_rest (suc c) next later) (block_next b fits.1)
-    ∙ on (m + 1) ∙ ap (λ (callers : List (List Event)). Ok (record { version = d.version; cpus = d.cpus; callers = callers })) same)
+    ∙ events_again d n es (next ∷ later) (said_line (SaysCaller (suc c))) more (script_with d es (next ∷ later)) few
+    whole (λ m.
+    step_again b m (SaysCaller (suc c)) more (GoesOn (with_block b)) few (omega (arith, fits.0))
+    (first_rest (suc c) next later) (block_next b fits.1)
+    ∙ on (m + 1) ∙ ap (λ (callers : List (List Event)). Ok
+    (record { version = d.version; cpus = d.cpus; callers = callers })) same)

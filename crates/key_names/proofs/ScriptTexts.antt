@@ -9,7 +9,7 @@ use Rattle.std.proofs.lemmas.Slice.Eq.{bytes_eq-Decides}
 use Rattle.key_names.specs.declared.events.Event.{Event}
 use Rattle.key_names.specs.declared.faults.FaultKind.{FaultKind}
 use Rattle.key_names.specs.Spelling.{spaced}
-use Rattle.key_names.specs.ScriptGrammar.{Script, InRange, IsScript, WellFormed, blocks, event_fields, most_cpus, script_lines, script_text}
+use Rattle.key_names.specs.ScriptGrammar.{Script, InRange, IsScript, WellFormed, block_lines, event_fields, most_cpus, script_lines, script_text}
 use Rattle.key_names.specs.ScriptFaults.{◌>>=◌, Draft, Said, SaysEvent, SaysCaller, SaysEnd, at_line, behind, cpus_by, cpus_from, first_block, line_of, number_below, parts, said, script_of, script_of_lines, version_of}
 use Rattle.key_names.proofs.Drafts.{Fine, Whole}
 use Rattle.key_names.proofs.EventLines.{clean_event}
@@ -138,23 +138,31 @@ lines_take lines s e =
     let c = step_ok (at_line 3 (line_of third >>= λ line. said a.0 b.0 line >>= first_block a.0 b.0)) _ s b.2 in
     let first_line = step_ok (line_of lines) version_of a.0 (at_ok 1 _ a.0 a.1) in
     let second_line = step_ok (line_of second) (λ line. cpus_by a.0 (parts 32 line)) b.0 (at_ok 2 _ b.0 b.1) in
-    let third_line = step_ok (line_of third) (λ line. said a.0 b.0 line >>= first_block a.0 b.0) c.0 (at_ok 3 _ c.0 c.1) in
+    let third_line = step_ok (line_of third) (λ line. said a.0 b.0 line >>= first_block a.0 b.0) c.0
+    (at_ok 3 _ c.0 c.1) in
     let what = step_ok (said a.0 b.0 third_line.0) (first_block a.0 b.0) c.0 third_line.2 in
     let version = version_takes first_line.0 a.0 first_line.2 in
     let cpus = cpus_take a.0 b.0 (parts 32 second_line.0) second_line.2 in
     let begins = start_takes a.0 b.0 what.0 c.0 what.2 in
     let small = most_small a.0 in
     let says = said_takes a.0 b.0 third_line.0 what.0 (omega (arith, cpus.1.1)) what.1 in
-    let rest = from_takes (start a.0 b.0) 4 (behind third) s (start_fine a.0 b.0 version.1 cpus.1) (rw begins.1 at c.2) in
+    let rest = from_takes (start a.0 b.0) 4 (behind third) s (start_fine a.0 b.0 version.1 cpus.1) (rw begins.1 at c.2)
+    in
     let one = first_is lines first_line.0 first_line.1 ∙ ap (λ (l : List ℕ). l ∷ second) version.0 in
-    let two = first_is second second_line.0 second_line.1 ∙ ap (λ (l : List ℕ). l ∷ third) (sym (spaced_parts second_line.0) ∙ ap spaced cpus.0) in
-    let three = first_is third third_line.0 third_line.1 ∙ ap (λ (l : List ℕ). l ∷ behind third) (says.0 ∙ ap said_line begins.0) in
-    let all : lines ≡ spaced (codes "rngscript" ∷ decimal a.0 ∷ []) ∷ spaced (codes "cpus" ∷ decimal b.0 ∷ []) ∷ said_line (SaysCaller 0) ∷ rest_lines 0 rest.es rest.later =
-    one ∙ ap (λ (ls : List (List ℕ)). spaced (codes "rngscript" ∷ decimal a.0 ∷ []) ∷ ls) (two ∙ ap (λ (ls : List (List ℕ)). spaced (codes "cpus" ∷ decimal b.0 ∷ []) ∷ ls) (three ∙ ap (λ (ls : List (List ℕ)). said_line (SaysCaller 0) ∷ ls) rest.spelt)) in
+    let two = first_is second second_line.0 second_line.1
+    ∙ ap (λ (l : List ℕ). l ∷ third) (sym (spaced_parts second_line.0) ∙ ap spaced cpus.0) in
+    let three = first_is third third_line.0 third_line.1
+    ∙ ap (λ (l : List ℕ). l ∷ behind third) (says.0 ∙ ap said_line begins.0) in
+    let all : lines ≡ spaced (codes "rngscript" ∷ decimal a.0 ∷ []) ∷ spaced (codes "cpus" ∷ decimal b.0 ∷ [])
+    ∷ said_line (SaysCaller 0) ∷ rest_lines 0 rest.es rest.later =
+    one ∙ ap (λ (ls : List (List ℕ)). spaced (codes "rngscript" ∷ decimal a.0 ∷ []) ∷ ls)
+    (two ∙ ap (λ (ls : List (List ℕ)). spaced (codes "cpus" ∷ decimal b.0 ∷ []) ∷ ls)
+    (three ∙ ap (λ (ls : List (List ℕ)). said_line (SaysCaller 0) ∷ ls) rest.spelt)) in
     subst (λ (x : Script). AreLines lines x) (sym rest.script) (record { spelt = all; whole = rest.whole })
 
 head_clean : (version : ℕ) → version ≤ 3 → Printable (spaced (codes "rngscript" ∷ decimal version ∷ []))
-head_clean version low = printable_spaced (codes "rngscript" ∷ decimal version ∷ []) (clean_by (codes "rngscript") refl, (clean_decimal version (omega arith), tt))
+head_clean version low = printable_spaced (codes "rngscript" ∷ decimal version ∷ [])
+    (clean_by (codes "rngscript") refl, (clean_decimal version (omega arith), tt))
 
 cpus_clean : (cpus : ℕ) → cpus ≤ 256 → AllByRecursion Clean (codes "cpus" ∷ decimal cpus ∷ [])
 cpus_clean cpus low = (clean_by (codes "cpus") refl, (clean_decimal cpus (omega arith), tt))
@@ -167,7 +175,8 @@ more_lines [] line = record { first = line; others = []; is = refl }
 more_lines (l ∷ lines) line = record { first = l; others = lines ++ line ∷ []; is = refl }
 
 pub lines_again : (version cpus : ℕ) (es : List Event) (later : List (List Event)) → Whole version cpus (es ∷ later)
-    → script_of_lines (map spaced (script_lines (record { version = version; cpus = cpus; callers = es ∷ later })) ++ [] ∷ [])
+    → script_of_lines (map spaced (script_lines (record { version = version; cpus = cpus; callers = es ∷ later }))
+    ++ [] ∷ [])
     ≡ Ok (record { version = version; cpus = cpus; callers = es ∷ later })
 lines_again version cpus es later whole =
     let small = most_small version in
@@ -177,31 +186,41 @@ lines_again version cpus es later whole =
     let second = spaced (codes "cpus" ∷ decimal cpus ∷ []) ∷ third in
     let clean = cpus_clean cpus few in
     rw (
-      line_again (spaced (codes "rngscript" ∷ decimal version ∷ [])) second (record { first = spaced (codes "cpus" ∷ decimal cpus ∷ []); others = third; is = refl }) (head_clean version whole.versions.1),
+      line_again (spaced (codes "rngscript" ∷ decimal version ∷ [])) second
+          (record { first = spaced (codes "cpus" ∷ decimal cpus ∷ []); others = third; is = refl })
+          (head_clean version whole.versions.1),
       version_again version whole.versions.0 whole.versions.1,
-      line_again (spaced (codes "cpus" ∷ decimal cpus ∷ [])) third (record { first = said_line (SaysCaller 0); others = rest; is = refl }) (printable_spaced (codes "cpus" ∷ decimal cpus ∷ []) clean),
+      line_again (spaced (codes "cpus" ∷ decimal cpus ∷ [])) third
+          (record { first = said_line (SaysCaller 0); others = rest; is = refl })
+          (printable_spaced (codes "cpus" ∷ decimal cpus ∷ []) clean),
       parts_spaced (codes "cpus") (decimal cpus ∷ []) clean.0 clean.1,
       cpus_again version cpus whole.few_cpus.0 whole.few_cpus.1,
-      line_again (said_line (SaysCaller 0)) rest (more_lines _ []) (printable_spaced (codes "caller" ∷ decimal 0 ∷ []) (caller_clean 0 (omega arith))),
+      line_again (said_line (SaysCaller 0)) rest (more_lines _ [])
+          (printable_spaced (codes "caller" ∷ decimal 0 ∷ []) (caller_clean 0 (omega arith))),
       said_again version cpus (SaysCaller 0) few (omega arith),
     )
     (from_again (start version cpus) 4 es later few whole)
 
 printable_events : (version cpus : ℕ) (events : List Event) (tail : List (List (List ℕ))) → cpus ≤ 256 →
     AllByRecursion (InRange version cpus) events
-    → AllByRecursion Printable (map spaced tail) → AllByRecursion Printable (map spaced (map event_fields events ++ tail))
+    → AllByRecursion Printable (map spaced tail) →
+    AllByRecursion Printable (map spaced (map event_fields events ++ tail))
 printable_events version cpus [] tail few ranges rest = rest
-printable_events version cpus (e ∷ events) tail few ranges rest =
-    (printable_spaced (event_fields e) (clean_event version cpus e few ranges.0), printable_events version cpus events tail few ranges.1 rest)
+printable_events version cpus (e ∷ events) tail few ranges rest = (
+  printable_spaced (event_fields e) (clean_event version cpus e few ranges.0),
+  printable_events version cpus events tail few ranges.1 rest,
+)
 
 printable_blocks : (version cpus c : ℕ) (callers : List (List Event)) → cpus ≤ 256 → c + length callers ≤ 64
-    → AllByRecursion (AllByRecursion (InRange version cpus)) callers → AllByRecursion Printable (map spaced (blocks c callers ++ (codes "end" ∷ []) ∷ []))
+    → AllByRecursion (AllByRecursion (InRange version cpus)) callers →
+    AllByRecursion Printable (map spaced (block_lines c callers ++ (codes "end" ∷ []) ∷ []))
 printable_blocks version cpus c [] few low ranges = ((refl, (refl, (refl, tt))), tt)
 printable_blocks version cpus c (events ∷ callers) few low ranges =
     let others = printable_blocks version cpus (suc c) callers few (omega arith) ranges.1 in
-    let same = append_assoc (map event_fields events) (blocks (suc c) callers) ((codes "end" ∷ []) ∷ []) in (
+    let same = append_assoc (map event_fields events) (block_lines (suc c) callers) ((codes "end" ∷ []) ∷ []) in (
       printable_spaced (codes "caller" ∷ decimal c ∷ []) (caller_clean c (omega arith)),
-      rw same (printable_events version cpus events (blocks (suc c) callers ++ (codes "end" ∷ []) ∷ []) few ranges.0 others),
+      rw same (printable_events version cpus events (block_lines (suc c) callers ++ (codes "end" ∷ []) ∷ []) few
+          ranges.0 others),
     )
 
 printable_script : (s : Script) → Whole s.version s.cpus s.callers →
@@ -262,7 +281,8 @@ whole_again : (s : Script) (callers : List (List Event)) → callers ≡ s.calle
     → script_of_lines (map spaced (script_lines s) ++ [] ∷ []) ≡ Ok s
 whole_again s [] e whole = absurd (omega (arith, whole.callers.0, ap length e))
 whole_again s (es ∷ later) e whole =
-    subst (λ callers. script_of_lines (map spaced (script_lines (record s { callers = callers })) ++ [] ∷ []) ≡ Ok (record s { callers = callers })) e
+    subst (λ callers. script_of_lines (map spaced (script_lines (record s { callers = callers })) ++ [] ∷ []) ≡ Ok
+    (record s { callers = callers })) e
     (lines_again s.version s.cpus es later (subst (Whole s.version s.cpus) (sym e) whole))
 
 -- a script's text gives it
@@ -270,6 +290,8 @@ pub script_again : (text : List ℕ) (s : Script) → IsScript s text → script
 unfolding script_of
 script_again text s is =
     let whole = whole_of s is.well_formed in
-    let short : ltb 16777216 (length text) ≡ false = le-ltb _ _ (omega (arith, is.well_formed.text, ap length is.spelt)) in
-    let falls : parts 10 text ≡ map spaced (script_lines s) ++ [] ∷ [] = ap (parts 10) is.spelt ∙ parts_lined (map spaced (script_lines s)) (printable_script s whole) in
+    let short : ltb 16777216 (length text) ≡ false =
+    le-ltb _ _ (omega (arith, is.well_formed.text, ap length is.spelt)) in
+    let falls : parts 10 text ≡ map spaced (script_lines s) ++ [] ∷ [] =
+    ap (parts 10) is.spelt ∙ parts_lined (map spaced (script_lines s)) (printable_script s whole) in
     rw (short, falls) (whole_again s s.callers refl whole)

@@ -17,6 +17,7 @@ use Rattle.key_names.specs.Deeds.{Deed, at_pool, at_base, at_cpu, deed_or, deed_
 use Rattle.key_names.specs.SeenLine.{SeenLine}
 use Rattle.key_names.specs.IsTranscript.{MarkBy, marks_from, line_marks, all_marks, is_same_lane, lane_marks, PlacesStand}
 use Rattle.key_names.proofs.KeyTakes.{is_here, deed_takes}
+use Rattle.key_names.proofs.TranscriptBooks.{lt_or_le}
 
 abbrev hit : Bool → ℕ
 hit b = cond b 1 0
@@ -187,16 +188,12 @@ no_room n q (m ∷ ms) le =
     let rest : below n ms + at_place q ms ≤ length ms = no_room n q ms le in
     let one : cond (nat_lt m.place n) 1 0 + cond (m.place == q) 1 0 ≤ 1 = one_of_both m.place n q le in omega arith
 
-pub from_range : (P : ℕ → Type 0) (from n : ℕ) → AllByRecursion P (range_with_len from n) → (i : ℕ) → i < n → P (from + i)
+pub from_range : (P : ℕ → Type 0) (from n : ℕ) → AllByRecursion P (range_with_len from n) → (i : ℕ) → i < n →
+    P (from + i)
 from_range P from zero all i lt = absurd (omega arith)
 from_range P from (suc n) all zero lt = let p : from ≡ from + 0 = omega arith in subst P p all.0
 from_range P from (suc n) all (suc i) lt =
     let p : (from + 1) + i ≡ from + suc i = omega arith in subst P p (from_range P (from + 1) n all.1 i (omega arith))
-
-lt_or_le : (a b : ℕ) → (a < b) ⊎ (b ≤ a)
-lt_or_le a zero = inr (omega arith)
-lt_or_le zero (suc b) = inl (omega arith)
-lt_or_le (suc a) (suc b) = elim (lt_or_le a b) [ inl lt ↦ inl (omega arith) | inr le ↦ inr (omega arith) ]
 
 -- where each place below their number stands once among marks, no place stands twice
 at_most_once : (q : ℕ) (ms : List Mark) → PlacesStand ms → at_place q ms ≤ 1

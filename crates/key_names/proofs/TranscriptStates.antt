@@ -260,7 +260,8 @@ module _ (lists : Lists) (caller k : ℕ) (below : k < 16) where
       let leaves : Leaves t m = call_leaves t call m (ap (λ (x : CallerState). length x.states) mean.0 ∙ len)
       (subst P (sym mean.0) h) deeds.0 mean.1 in
       let rest : CallsLeave (fold (state_step caller k) t es) (entries_of_state k ms) =
-      calls_leave (fold (state_step caller k) t es) m.after calls ms leaves.length_is leaves.keeps.after deeds.1 mean.2 in
+      calls_leave (fold (state_step caller k) t es) m.after calls ms leaves.length_is leaves.keeps.after deeds.1 mean.2
+      in
       record {
         keeps = keeps_append caller k (λ u. u.expected ≡ anything) t es (entries_of_state k ms)
             (record { lawful = leaves.keeps.lawful; after = rest.keeps });

@@ -5,7 +5,7 @@ use Rattle.key_names.specs.declared.events.Event.{Event}
 use Rattle.key_names.specs.declared.events.Event.TheVariants.{Drop, State}
 use Rattle.key_names.specs.Calls.{setting_after}
 use Rattle.key_names.specs.VgetrandomState.{VgetrandomState, wiped_state}
-use Rattle.key_names.specs.Meaning.{CallerState, state_after, current_state, with_state}
+use Rattle.key_names.specs.Meaning.{CallerState, caller_after, current_state, with_state}
 use Rattle.key_names.proofs.UniqueStates.{SameState, same_itself}
 
 module _ (H : Type 0) where
@@ -70,7 +70,7 @@ module _ (H : Type 0) where
   }
 
   pub same_after : (event : Event) (s s' : CallerState) → SameCaller s s' →
-      SameCaller (state_after s event) (state_after s' event)
+      SameCaller (caller_after s event) (caller_after s' event)
   same_after Drop s s' same = same_with_state s s' same wiped_state wiped_state (same_itself H wiped_state)
   same_after (State number) s s' same = record {
     setting = same.setting;

@@ -14,7 +14,7 @@ use Rattle.key_names.specs.Deeds.{deeds_of}
 use Rattle.key_names.specs.Forms.{Form}
 use Rattle.key_names.specs.Answers.{answer_of, shown_of, system_answer, served_bytes}
 use Rattle.key_names.specs.SeenLine.{SeenLine, bytes_or_none}
-use Rattle.key_names.specs.Meaning.{LineMeaning, CallMeaning, state_after, AloneMeans, unused_line, UnboundMeans}
+use Rattle.key_names.specs.Meaning.{LineMeaning, CallMeaning, caller_after, AloneMeans, unused_line, UnboundMeans}
 use Rattle.key_names.specs.Meaning.{EndingMeans, ActMeans, ActsMean}
 use Rattle.key_names.specs.IsTranscript.{EachAct}
 use Rattle.key_names.proofs.TwoBooks.{SameSteps, AllTold, same_at, told_at}
@@ -80,7 +80,7 @@ module _ (book book' : Book) (samples : LawfulSamples book) (samples' : LawfulSa
             let shown : m.own.shown ≡ m'.own.shown = a.shown ∙ ap (shown_of event) d ∙ sym a'.shown in
             let acts : m.acts ≡ m'.acts = a.no_acts ∙ sym a'.no_acts in
             let entries : m.entries ≡ m'.entries = a.entries ∙ sym a'.entries in
-            let after : m.after ≡ m'.after = a.after ∙ ap (λ s. state_after s event) (before.equal h) ∙ sym a'.after in
+            let after : m.after ≡ m'.after = a.after ∙ ap (λ s. caller_after s event) (before.equal h) ∙ sym a'.after in
             λ i. record {
               own = record { deeds = d i; answer = answer i; shown = shown i };
               acts = acts i;

@@ -80,7 +80,7 @@ abbrev pub cpu_after : List BaseEntry → ℕ → List CpuEntry → CpuState
 cpu_after base c = fold (cpu_step base c) cpu_start
 
 -- a look found a generation, and none that is behind the CPU's
-pub record LookStands (s : CpuState) (look : ℕ) : Type 0 where
+pub record LookFitsCpu (s : CpuState) (look : ℕ) : Type 0 where
   pub known : 1 ≤ look
   pub not_back : s.generation ≤ look
 
@@ -97,11 +97,11 @@ abbrev pub FillStands : CpuState → ℕ → ℕ → Bool → Type 0
 FillStands s look width filled = filled ≡ must_fill look width (s.fills width)
 
 pub record ReadFits (s : CpuState) (look : ℕ) (refill : Option ℕ) : Type 0 where
-  pub looks : LookStands s look
+  pub looks : LookFitsCpu s look
   pub names : ReadNames s look refill
 
 pub record IntFits (s : CpuState) (look : ℕ) (refill : Option ℕ) (width : ℕ) (filled : Bool) : Type 0 where
-  pub looks : LookStands s look
+  pub looks : LookFitsCpu s look
   pub fills : FillStands s look width filled
   pub names : IntNames s look refill filled
 

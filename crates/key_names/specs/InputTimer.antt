@@ -20,8 +20,8 @@ delta2 t now = delta t now -ℤ t.last_delta
 abbrev pub delta3 : InputTimer → ℕ → ℤ
 delta3 t now = delta2 t now -ℤ t.last_delta2
 
-abbrev pub timer_after : InputTimer → ℕ → InputTimer
-timer_after t now = record { last_time = now; last_delta = delta t now; last_delta2 = delta2 t now }
+abbrev pub input_timer_after : InputTimer → ℕ → InputTimer
+input_timer_after t now = record { last_time = now; last_delta = delta t now; last_delta2 = delta2 t now }
 
 -- the number of binary digits (fls)
 abbrev pub binary_digits : ℕ → ℕ

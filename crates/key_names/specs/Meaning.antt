@@ -90,10 +90,10 @@ event_entries (Vmfork word text) = []
 event_entries (State number) = []
 
 -- where the caller stands after an event by itself
-abbrev pub state_after : CallerState → Event → CallerState
-state_after s Drop = with_state s wiped_state
-state_after s (State number) = record s { current = number }
-state_after s event = record s { setting = setting_after s.setting event }
+abbrev pub caller_after : CallerState → Event → CallerState
+caller_after s Drop = with_state s wiped_state
+caller_after s (State number) = record s { current = number }
+caller_after s event = record s { setting = setting_after s.setting event }
 
 -- an event by itself
 pub record AloneMeans (event : Event) (m : CallMeaning) : Type 0 where
@@ -102,7 +102,7 @@ pub record AloneMeans (event : Event) (m : CallMeaning) : Type 0 where
   pub shown : m.own.shown ≡ shown_of event m.own.deeds
   pub no_acts : m.acts ≡ []
   pub entries : m.entries ≡ event_entries event
-  pub after : m.after ≡ state_after m.before event
+  pub after : m.after ≡ caller_after m.before event
 
 -- what is not done has no steps
 abbrev pub unused_line : LineMeaning

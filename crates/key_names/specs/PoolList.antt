@@ -7,7 +7,7 @@ use Rattle.std.specs.List.{fold}
 use Rattle.key_names.specs.declared.entries.PoolEntry.{PoolEntry}
 use Rattle.key_names.specs.declared.entries.PoolEntry.TheVariants.{Mix, Input, Bits, Extract}
 use Rattle.key_names.specs.Blake2s.{blake2s}
-use Rattle.key_names.specs.InputTimer.{InputTimer, timer_start, timer_after, timer_bits, input_number}
+use Rattle.key_names.specs.InputTimer.{InputTimer, timer_start, input_timer_after, timer_bits, input_number}
 
 -- the hash's key and the bytes mixed since the last extraction, the bits, and the last input value with its timer
 pub record PoolState : Type 0 where
@@ -38,7 +38,7 @@ pool_after_input s word kind code value now = record s {
   text = s.text ++ to_le_bytes w64 word ++ to_le_bytes w32 (input_number kind code value);
   value = value;
   bits = if nat_lt s.bits 256 then credit s.bits (timer_bits s.timer now) else s.bits;
-  timer = if nat_lt s.bits 256 then timer_after s.timer now else s.timer;
+  timer = if nat_lt s.bits 256 then input_timer_after s.timer now else s.timer;
 }
 
 -- the hash of the pool, from which an extraction makes the root and the next key

@@ -93,15 +93,16 @@ abbrev pub event_fields : Event → List (List ℕ)
 event_fields event = word_text (event_word event) ∷ arguments event
 
 -- the lines of the callers' blocks, c being the number of the first
-abbrev pub blocks : ℕ → List (List Event) → List (List (List ℕ))
-blocks c [] = []
-blocks c (events ∷ callers) = (codes "caller" ∷ decimal c ∷ []) ∷ (map event_fields events ++ blocks (suc c) callers)
+abbrev pub block_lines : ℕ → List (List Event) → List (List (List ℕ))
+block_lines c [] = []
+block_lines c (events ∷ callers) = (codes "caller" ∷ decimal c ∷ [])
+    ∷ (map event_fields events ++ block_lines (suc c) callers)
 
 -- the fields of each line
 abbrev pub script_lines : Script → List (List (List ℕ))
 script_lines s =
     (codes "rngscript" ∷ decimal s.version ∷ []) ∷ (codes "cpus" ∷ decimal s.cpus ∷ [])
-    ∷ (blocks 0 s.callers ++ (codes "end" ∷ []) ∷ [])
+    ∷ (block_lines 0 s.callers ++ (codes "end" ∷ []) ∷ [])
 
 abbrev pub script_text : Script → List ℕ
 script_text s = lined (map spaced (script_lines s))

@@ -43,13 +43,13 @@ abbrev pub seen_lines : List ℕ → List Line → List SeenLine
 seen_lines kept lines = map (seen_line kept) lines
 
 -- the bytes that a line shows
-abbrev pub bytes_of : Shown → List ℕ
-bytes_of (bytes shown) = shown
-bytes_of _ = []
+abbrev pub bytes_in : Shown → List ℕ
+bytes_in (bytes shown) = shown
+bytes_in _ = []
 
 -- those of all lines, one line's behind the other's
 abbrev pub bytes_shown : List SeenLine → List ℕ
-bytes_shown lines = flat_map (λ line. bytes_of line.shown) lines
+bytes_shown lines = flat_map (λ line. bytes_in line.shown) lines
 
 -- the data that show these bytes
 abbrev pub bytes_or_none : List ℕ → Shown

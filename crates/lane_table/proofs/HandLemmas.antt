@@ -28,7 +28,7 @@ held_same v w h e same k = record {
   stage = ap (λ (a : LaneView). a.stage) e ∙ k.stage;
   owed = ap (λ (a : LaneView). a.owes) e ∙ k.owed;
   raise = λ one. subst (λ (l : ℕ). at l w ≡ at l v → (at 1 w).raised ≡ (at 1 v).raised) (sym one)
-    (λ q. ap (λ (a : LaneView). a.raised) q) e ∙ k.raise one;
+      (λ q. ap (λ (a : LaneView). a.raised) q) e ∙ k.raise one;
   next = k.next ∙ ap (λ (a : LaneView). length a.known) (sym e);
   last = k.last ∙ (λ q. last_stamp (sym same.first q) (sym e q).known);
 }
@@ -66,25 +66,31 @@ pub has_taken : (t : Lanes) (caller : ℕ) (hands : List Hand) (lane : ℕ) (h :
     NotIn lane hands → Has t caller hands p → IsSamePass t p p' → Taken lane h p.seat.me p'.seat.me
     → Has t caller (hand h.turn None 0 ∷ hands) p'
 has_taken t caller hands lane h p p' near not k is taken =
-    subst (λ (l : ℕ). Has t caller (record { lane = l; ticket = h.turn.ticket; place = h.turn.place;
-    stamp = h.turn.stamp; owes = None; raised = 0 } ∷ hands) p') (sym taken.of_lane) record {
-  pass = is.pass;
-  own = is.caller ∙ k.own;
-  out = taken.slots ∙ ap (λ (l : List (ℕ × Option Content)). (lane, None) ∷ l) k.out;
-  held = (
-    record {
-      near = (let a = k.pass.sized in let b = taken.same.sized in omega arith);
-      stage = taken.holding;
-      owed = taken.free.0;
-      raise = taken.free.1;
-      next = taken.stands.place;
-      last = taken.stands.stamp;
-    },
-    not,
-    all_same lane (view p) (view p') hands taken.keeps taken.same not k.held,
-  );
-  away = λ j low no. (taken.aside j (let a = k.pass.sized in omega arith) no.0).stage ∙ k.away j low no.1;
-}
+    subst (λ (l : ℕ). Has t caller (record {
+      lane = l;
+      ticket = h.turn.ticket;
+      place = h.turn.place;
+      stamp = h.turn.stamp;
+      owes = None;
+      raised = 0;
+    } ∷ hands) p') (sym taken.of_lane) record {
+      pass = is.pass;
+      own = is.caller ∙ k.own;
+      out = taken.slots ∙ ap (λ (l : List (ℕ × Option Content)). (lane, None) ∷ l) k.out;
+      held = (
+        record {
+          near = (let a = k.pass.sized in let b = taken.same.sized in omega arith);
+          stage = taken.holding;
+          owed = taken.free.0;
+          raise = taken.free.1;
+          next = taken.stands.place;
+          last = taken.stands.stamp;
+        },
+        not,
+        all_same lane (view p) (view p') hands taken.keeps taken.same not k.held,
+      );
+      away = λ j low no. (taken.aside j (let a = k.pass.sized in omega arith) no.0).stage ∙ k.away j low no.1;
+    }
 
 pub has_tried : (t : Lanes) (caller : ℕ) (hands : List Hand) (lane : ℕ) (p p' : Pass) → NotIn lane hands →
     Has t caller hands p → IsSamePass t p p' → Tried lane p.seat.me p'.seat.me → Has t caller hands p'
@@ -100,18 +106,21 @@ pub has_looked : (t : Lanes) (caller : ℕ) (hands : List Hand) (g : ℕ) (p p' 
     IsSamePass t p p' → Looked g p.seat.me p'.seat.me → Has t caller hands p'
 has_looked t caller hands g p p' k is looked = let same : (j : ℕ) → at j (view p') ≡ at j (view p) =
     λ j. ap (λ (l : List LaneView). get_or l j blank) looked.lanes in record {
-  pass = is.pass;
-  own = is.caller ∙ k.own;
-  out = looked.slots ∙ k.out;
-  held = every same hands k.held;
-  away = λ j low no. ap (λ (a : LaneView). a.stage) (same j) ∙ k.away j low no;
-}
+      pass = is.pass;
+      own = is.caller ∙ k.own;
+      out = looked.slots ∙ k.out;
+      held = every same hands k.held;
+      away = λ j low no. ap (λ (a : LaneView). a.stage) (same j) ∙ k.away j low no;
+    }
   where
     every : ((j : ℕ) → at j (view p') ≡ at j (view p)) → (hs : List Hand) → AllInHand (view p) hs →
-      AllInHand (view p') hs
+        AllInHand (view p') hs
     every same [] all = tt
-    every same (x ∷ xs) all = (held_same (view p) (view p') x (same x.lane) looked.same all.0, all.1,
-      every same xs all.2)
+    every same (x ∷ xs) all = (
+      held_same (view p) (view p') x (same x.lane) looked.same all.0,
+      all.1,
+      every same xs all.2,
+    )
 
 -- the lane that was taken last was visited, and its entry names none ahead
 pub has_put : (t : Lanes) (caller : ℕ) (h : Hand) (hands : List Hand) (x : Visit) (p p' : Pass) →
@@ -119,14 +128,14 @@ pub has_put : (t : Lanes) (caller : ℕ) (h : Hand) (hands : List Hand) (x : Vis
     Has t caller hands p'
 has_put t caller h hands x p p' none k is added = let others : (j : ℕ) → j ≢ h.lane → at j (view p') ≡ at j (view p) =
     λ j ne. added.others j ne (λ l b e. absurd (names_none (ahead_of x.entry) l b none e)) in record {
-  pass = is.pass;
-  own = is.caller ∙ k.own;
-  out = added.slots ∙ ap rest k.out;
-  held = all_but h.lane h.lane (view p) (view p') hands (λ j ne _. others j ne) added.same k.held.1 k.held.1 k.held.2;
-  away = λ j low no. dite (ℕ_discrete j h.lane) (λ e. subst (λ (l : ℕ). IsAway l (view p')) (sym e)
-    (ap (λ (a : LaneView). a.stage) added.here)) (λ ne. ap (λ (a : LaneView). a.stage) (others j ne)
-    ∙ k.away j low (ne, no));
-}
+      pass = is.pass;
+      own = is.caller ∙ k.own;
+      out = added.slots ∙ ap rest k.out;
+      held = all_but h.lane h.lane (view p) (view p') hands (λ j ne _. others j ne) added.same k.held.1 k.held.1 k.held.2;
+      away = λ j low no. dite (ℕ_discrete j h.lane) (λ e. subst (λ (l : ℕ). IsAway l (view p')) (sym e)
+          (ap (λ (a : LaneView). a.stage) added.here)) (λ ne. ap (λ (a : LaneView). a.stage) (others j ne)
+          ∙ k.away j low (ne, no));
+    }
 
 -- its entry names the place of the lane that was taken before it
 pub has_put_naming : (t : Lanes) (caller : ℕ) (h o : Hand) (hands : List Hand) (x : Visit) (b : ℕ) (p p' : Pass) →
@@ -135,7 +144,7 @@ pub has_put_naming : (t : Lanes) (caller : ℕ) (h o : Hand) (hands : List Hand)
     → Has t caller (record o { owes = Some h.place } ∷ hands) p'
 has_put_naming t caller h o hands x b p p' names k is added =
     let others : (j : ℕ) → j ≢ h.lane → j ≢ o.lane → at j (view p') ≡ at j (view p) =
-      λ j ne no. added.others j ne (λ l z e q. no (q ∙ names_one (ahead_of x.entry) o.lane b l z names e)) in
+    λ j ne no. added.others j ne (λ l z e q. no (q ∙ names_one (ahead_of x.entry) o.lane b l z names e)) in
     let outer = k.held.2.0 in let here = added.ahead o.lane b names outer.near in record {
       pass = is.pass;
       own = is.caller ∙ k.own;
@@ -146,8 +155,8 @@ has_put_naming t caller h o hands x b p p' names k is added =
           stage = ap (λ (z : LaneView). z.stage) here ∙ outer.stage;
           owed = ap (λ (z : LaneView). z.owes) here ∙ ap Some (sym k.held.0.next);
           raise = λ one. subst (λ (l : ℕ). (at l (view p')).raised ≡ (at l (view p)).raised →
-            (at 1 (view p')).raised ≡ (at 1 (view p)).raised) (sym one) (λ q. q) (ap (λ (z : LaneView). z.raised) here)
-            ∙ outer.raise one;
+              (at 1 (view p')).raised ≡ (at 1 (view p)).raised) (sym one) (λ q. q) (ap (λ (z : LaneView). z.raised) here)
+              ∙ outer.raise one;
           next = outer.next ∙ ap (λ (z : LaneView). length z.known) (sym here);
           last = outer.last ∙ (λ q. last_stamp (sym added.same.first q) (sym here q).known);
         },
@@ -155,8 +164,8 @@ has_put_naming t caller h o hands x b p p' names k is added =
         all_but h.lane o.lane (view p) (view p') hands others added.same k.held.1.1 k.held.2.1 k.held.2.2,
       );
       away = λ j low no. dite (ℕ_discrete j h.lane) (λ e. subst (λ (l : ℕ). IsAway l (view p')) (sym e)
-        (ap (λ (a : LaneView). a.stage) added.here)) (λ ne. ap (λ (a : LaneView). a.stage) (others j ne no.0)
-        ∙ k.away j low (ne, no));
+          (ap (λ (a : LaneView). a.stage) added.here)) (λ ne. ap (λ (a : LaneView). a.stage) (others j ne no.0)
+          ∙ k.away j low (ne, no));
     }
 
 -- the generation was raised while the base alone is held
@@ -166,23 +175,23 @@ has_raised t caller h g p p' base k is raised =
     let here : at h.lane (view p') ≡ record (at h.lane (view p)) { raised = 1 } =
     subst (λ (z : ℕ). at z (view p') ≡ record (at z (view p)) { raised = 1 }) (sym base) raised.here in let outer =
     k.held.0 in record {
-  pass = is.pass;
-  own = is.caller ∙ k.own;
-  out = raised.slots ∙ k.out;
-  held = (
-    record {
-      near = (let n = outer.near in let e = raised.same.sized in omega arith);
-      stage = ap (λ (z : LaneView). z.stage) here ∙ outer.stage;
-      owed = ap (λ (z : LaneView). z.owes) here ∙ outer.owed;
-      raise = λ _. ap (λ (z : LaneView). z.raised) raised.here;
-      next = outer.next ∙ ap (λ (z : LaneView). length z.known) (sym here);
-      last = outer.last ∙ (λ q. last_stamp (sym raised.same.first q) (sym here q).known);
-    },
-    tt,
-    tt,
-  );
-  away = λ j low no. ap (λ (a : LaneView). a.stage) (raised.others j (λ e. no.0 (e ∙ sym base))) ∙ k.away j low no;
-}
+      pass = is.pass;
+      own = is.caller ∙ k.own;
+      out = raised.slots ∙ k.out;
+      held = (
+        record {
+          near = (let n = outer.near in let e = raised.same.sized in omega arith);
+          stage = ap (λ (z : LaneView). z.stage) here ∙ outer.stage;
+          owed = ap (λ (z : LaneView). z.owes) here ∙ outer.owed;
+          raise = λ _. ap (λ (z : LaneView). z.raised) raised.here;
+          next = outer.next ∙ ap (λ (z : LaneView). length z.known) (sym here);
+          last = outer.last ∙ (λ q. last_stamp (sym raised.same.first q) (sym here q).known);
+        },
+        tt,
+        tt,
+      );
+      away = λ j low no. ap (λ (a : LaneView). a.stage) (raised.others j (λ e. no.0 (e ∙ sym base))) ∙ k.away j low no;
+    }
 
 pub has_left : (t : Lanes) (caller : ℕ) (h : Hand) (hands : List Hand) (p p' : Pass) → Has t caller (h ∷ hands) p →
     IsSamePass t p p' → Left h.lane p.seat.me p'.seat.me → Has t caller hands p'
@@ -191,9 +200,9 @@ has_left t caller h hands p p' k is left = record {
   own = is.caller ∙ k.own;
   out = left.slots ∙ ap rest k.out;
   held = all_but h.lane h.lane (view p) (view p') hands (λ j ne _. left.others j ne) left.same k.held.1 k.held.1
-    k.held.2;
+      k.held.2;
   away = λ j low no. dite (ℕ_discrete j h.lane) (λ e. subst (λ (l : ℕ). IsAway l (view p')) (sym e) left.stage)
-    (λ ne. ap (λ (a : LaneView). a.stage) (left.others j ne) ∙ k.away j low (ne, no));
+      (λ ne. ap (λ (a : LaneView). a.stage) (left.others j ne) ∙ k.away j low (ne, no));
 }
 
 -- Passes that begin, are split and are joined
@@ -203,13 +212,13 @@ pub has_new : (t : Lanes) (caller : ℕ) (plan : Plan) (p : Pass) → IsPassOf t
     p.seat.me ≡ (newcomer plan, []) → Has t caller [] p
 has_new t caller plan p is own e = let long : length (view p).lanes ≡ plan.count =
     ap (λ (m : Seated). length m.0.lanes) e ∙ length-replicate plan.count blank in record {
-  pass = is;
-  own = own;
-  out = ap (λ (m : Seated). m.1) e;
-  held = tt;
-  away = λ j low _. ap (λ (m : Seated). (at j m.0).stage) e
-    ∙ ap (λ (a : LaneView). a.stage) (get_or-replicate plan.count j blank blank (let s = is.sized in omega arith));
-}
+      pass = is;
+      own = own;
+      out = ap (λ (m : Seated). m.1) e;
+      held = tt;
+      away = λ j low _. ap (λ (m : Seated). (at j m.0).stage) e
+          ∙ ap (λ (a : LaneView). a.stage) (get_or-replicate plan.count j blank blank (let s = is.sized in omega arith));
+    }
 
 -- a pass with empty hands that another one was split off from
 pub has_halved : (t : Lanes) (caller : ℕ) (p p' : Pass) → Has t caller [] p → IsSamePass t p p' →
@@ -231,7 +240,7 @@ has_child t caller v p is own e = record {
   out = ap (λ (m : Seated). m.1) e;
   held = tt;
   away = λ j low _. ap (λ (m : Seated). (at j m.0).stage) e
-    ∙ ap (λ (a : LaneView). a.stage) (get_or-map told v.lanes j blank);
+      ∙ ap (λ (a : LaneView). a.stage) (get_or-map told v.lanes j blank);
 }
 
 -- a pass with empty hands that took in another one
@@ -243,7 +252,7 @@ has_joined t caller w p p' long k is e = record {
   out = ap (λ (m : Seated). m.1) e ∙ k.out;
   held = tt;
   away = λ j low no. ap (λ (m : Seated). (at j m.0).stage) e
-    ∙ ap (λ (a : LaneView). a.stage) (merged_at (view p).lanes w.lanes j long) ∙ k.away j low no;
+      ∙ ap (λ (a : LaneView). a.stage) (merged_at (view p).lanes w.lanes j long) ∙ k.away j low no;
 }
 
 -- a view has nothing of a lane beyond the last

@@ -61,7 +61,7 @@ module _ {first : ℕ} {s : St} {id : ℕ} {v : View} (h : Here first s id v) (i
   owes_nothing away = (
     none_if (at i v).owes (λ p e. let o = (h.rule.views id v h.is).owed i near p e in away o.0.0 o.0.1),
     (λ one. ⊎_elim (λ z. z) (λ (k : ((at 1 v).raised ≡ 1) × IsHolding (at 1 v)). absurd
-      (away k.1.0 (ap (λ (z : ℕ). (at z v).stage) one ∙ k.1.1))) (h.rule.seen id v h.is).1),
+        (away k.1.0 (ap (λ (z : ℕ). (at z v).stage) one ∙ k.1.1))) (h.rule.seen id v h.is).1),
   )
 
   module _ {w : View} {a' : LaneView} (p : Plain i v w a') where
@@ -76,7 +76,7 @@ module _ {first : ℕ} {s : St} {id : ℕ} {v : View} (h : Here first s id v) (i
 
     field : {X : Type 0} (f : LaneView → X) → f a' ≡ f (at i v) → (j : ℕ) → f (at j w) ≡ f (at j v)
     field f e j = dite (ℕ_discrete j i) (λ q. ap (λ (k : ℕ). f (at k w)) q ∙ ap f w_here ∙ e
-      ∙ ap (λ (k : ℕ). f (at k v)) (sym q)) (λ ne. ap f (w_there j ne))
+        ∙ ap (λ (k : ℕ). f (at k v)) (sym q)) (λ ne. ap f (w_there j ne))
 
     pub w_known : (j : ℕ) → known_of w j ≡ known_of v j
     w_known = field (λ (a : LaneView). a.known) p.known
@@ -92,16 +92,16 @@ module _ {first : ℕ} {s : St} {id : ℕ} {v : View} (h : Here first s id v) (i
 
     w_owed : Owed (length s.homes) w
     w_owed l hi = let was = (h.rule.views id v h.is).owed l hi in let more =
-      subst (Begins (known_of v (parent l))) (sym (w_known (parent l))) (begins_refl (known_of v (parent l))) in
+        subst (Begins (known_of v (parent l))) (sym (w_known (parent l))) (begins_refl (known_of v (parent l))) in
         let keeps : (at l w).stage ≡ (at l v).stage → OwedAt l (at l w) (known_of w (parent l)) =
-          λ st. owed_more l (at l v) (at l w) (known_of v (parent l)) (known_of w (parent l)) was st (w_owes l)
-          (λ _ _. w_known l) more in
+        λ st. owed_more l (at l v) (at l w) (known_of v (parent l)) (known_of w (parent l)) was st (w_owes l)
+        (λ _ _. w_known l) more in
         dite (ℕ_discrete l i)
         (λ e. ⊎_elim (λ (st : a'.stage ≡ (at i v).stage). keeps
-          (ap (λ (k : ℕ). (at k w).stage) e ∙ ap (λ (a : LaneView). a.stage) w_here ∙ st
-          ∙ ap (λ (k : ℕ). (at k v).stage) (sym e)))
+        (ap (λ (k : ℕ). (at k w).stage) e ∙ ap (λ (a : LaneView). a.stage) w_here ∙ st
+        ∙ ap (λ (k : ℕ). (at k v).stage) (sym e)))
         (λ (none : OwesNothing i v). owed_none l (at l w) (known_of w (parent l))
-          (w_owes l ∙ ap (λ (k : ℕ). (at k v).owes) e ∙ none.0)) p.stage)
+        (w_owes l ∙ ap (λ (k : ℕ). (at k v).owes) e ∙ none.0)) p.stage)
         (λ ne. keeps (ap (λ (a : LaneView). a.stage) (w_there l ne)))
 
     pub w_raised : a'.raised ≡ (at i v).raised → (at 1 w).raised ≡ (at 1 v).raised
@@ -110,71 +110,74 @@ module _ {first : ℕ} {s : St} {id : ℕ} {v : View} (h : Here first s id v) (i
     -- where it is raised as before
     pub w_raised_ok : a'.raised ≡ (at i v).raised → RaisedOk (at 1 w)
     w_raised_ok e = let was = (h.rule.seen id v h.is).1 in let keeps : (at 1 w).stage ≡ (at 1 v).stage →
-      RaisedOk (at 1 w) = λ st. ⊎_elim (λ (z : (at 1 v).raised ≡ 0). inl (w_raised e ∙ z))
-      (λ (z : ((at 1 v).raised ≡ 1) × IsHolding (at 1 v)). inr (w_raised e ∙ z.0, (z.1.0, st ∙ z.1.1))) was in
+        RaisedOk (at 1 w) = λ st. ⊎_elim (λ (z : (at 1 v).raised ≡ 0). inl (w_raised e ∙ z))
+        (λ (z : ((at 1 v).raised ≡ 1) × IsHolding (at 1 v)). inr (w_raised e ∙ z.0, (z.1.0, st ∙ z.1.1))) was in
         dite (ℕ_discrete 1 i)
         (λ one. ⊎_elim (λ (st : a'.stage ≡ (at i v).stage). keeps
-          (ap (λ (k : ℕ). (at k w).stage) one ∙ ap (λ (a : LaneView). a.stage) w_here ∙ st
-          ∙ ap (λ (k : ℕ). (at k v).stage) (sym one)))
+        (ap (λ (k : ℕ). (at k w).stage) one ∙ ap (λ (a : LaneView). a.stage) w_here ∙ st
+        ∙ ap (λ (k : ℕ). (at k v).stage) (sym one)))
         (λ (none : OwesNothing i v). inl (w_raised e ∙ none.1 (sym one))) p.stage)
         (λ ne. keeps (ap (λ (a : LaneView). a.stage) (w_there 1 ne)))
 
     -- the rule is kept where it is for the lane, and the generation rises with what is raised
     pub plainly : {k y : ℕ} (homes' : List (maybe.Option (Option Content))) (owner' : ℕ → ℕ) → WordStep h i k y →
-      length homes' ≡ length s.homes → ((j : ℕ) → j ≢ i → get_elem? homes' j ≡ get_elem? s.homes j)
+        length homes' ≡ length s.homes → ((j : ℕ) → j ≢ i → get_elem? homes' j ≡ get_elem? s.homes j)
         → LaneOk i first (get_or (set s.words k y) (ticket_word i) 0) (get_or (set s.words k y) (serving_word i) 0)
-          (get_elem? homes' i) (set (column i s.views) id a') (h.rule.logs i) owner'
+        (get_elem? homes' i) (set (column i s.views) id a') (h.rule.logs i) owner'
         → get_or (set s.words k y) 0 0 + (at 1 v).raised ≡ get_or s.words 0 0 + (at 1 w).raised →
-          w.seen ≤ get_or (set s.words k y) 0 0 → RaisedOk (at 1 w)
+        w.seen ≤ get_or (set s.words k y) 0 0 → RaisedOk (at 1 w)
         → WorldRule first record { words = set s.words k y; homes = homes'; views = set s.views id w }
     plainly {k} {y} homes' owner' word long apart ok count saw raised' =
-      world.moved h {log' = h.rule.logs i} {lists' = h.rule.carried i} record {
-      word = word;
-      long = long;
-      apart = apart;
-      lanes = w_long;
-      here = w_here;
-      others = λ j below ne. same_at (h.rule.logs j) (at j v) (at j w) (w_there j ne) (world.begun h j below);
-      share = p.share;
-      halvings = p.halvings;
-      firsts = p.first;
-      stamped = subst (λ (z : ℕ × List ℕ). All (λ n. n ≤ z.0) z.1) (λ q. (sym p.stamp q, sym p.stamps q))
-        (h.rule.views id v h.is).stamped;
-      more = begins_refl (h.rule.logs i);
-      lane = ok;
-      lawful = h.rule.lawful i near;
-      carries = world.carries_same h i near;
-      closed = w_closed;
-      owed = w_owed;
-      pending = world.pending_same h i w (λ l _. w_owes l);
-      generation = (let e = ap raises (pick_same i 1 h.rule.logs) in omega arith);
-      seen = saw;
-      raised = raised';
-    }
+        world.moved h {log' = h.rule.logs i} {lists' = h.rule.carried i} record {
+          word = word;
+          long = long;
+          apart = apart;
+          lanes = w_long;
+          here = w_here;
+          others = λ j below ne. same_at (h.rule.logs j) (at j v) (at j w) (w_there j ne) (world.begun h j below);
+          share = p.share;
+          halvings = p.halvings;
+          firsts = p.first;
+          stamped = subst (λ (z : ℕ × List ℕ). All (λ n. n ≤ z.0) z.1) (λ q. (sym p.stamp q, sym p.stamps q))
+              (h.rule.views id v h.is).stamped;
+          more = begins_refl (h.rule.logs i);
+          lane = ok;
+          lawful = h.rule.lawful i near;
+          carries = world.carries_same h i near;
+          closed = w_closed;
+          owed = w_owed;
+          pending = world.pending_same h i w (λ l _. w_owes l);
+          generation = (let e = ap raises (pick_same i 1 h.rule.logs) in omega arith);
+          seen = saw;
+          raised = raised';
+        }
 
     -- a load keeps the rule where it is kept for the lane
     pub reads : (k : ℕ) → WordStep h i k (get_or s.words k 0)
         → LaneOk i first (get_or s.words (ticket_word i) 0) (get_or s.words (serving_word i) 0) (get_elem? s.homes i)
-          (set (column i s.views) id a') (h.rule.logs i) (h.rule.owners i)
+        (set (column i s.views) id a') (h.rule.logs i) (h.rule.owners i)
         → a'.raised ≡ (at i v).raised → w.seen ≡ v.seen →
-          WorldRule first record { words = set s.words k (get_or s.words k 0); homes = s.homes;
-          views = set s.views id w }
+        WorldRule first record {
+          words = set s.words k (get_or s.words k 0);
+          homes = s.homes;
+          views = set s.views id w;
+        }
     reads k word ok same saw = let e = set-get_or s.words k 0 in let e₀ = ap (λ (ws : List ℕ). get_or ws 0 0) e in
         plainly s.homes (h.rule.owners i) word refl (λ _ _. refl)
         (subst (λ (ws : List ℕ). LaneOk i first (get_or ws (ticket_word i) 0) (get_or ws (serving_word i) 0)
-          (get_elem? s.homes i) (set (column i s.views) id a') (h.rule.logs i) (h.rule.owners i)) (sym e) ok)
+        (get_elem? s.homes i) (set (column i s.views) id a') (h.rule.logs i) (h.rule.owners i)) (sym e) ok)
         (let r = w_raised same in omega arith) (let o = (h.rule.seen id v h.is).0 in omega arith) (w_raised_ok same)
 
   -- who is served at the base, and has not raised: nobody has
   pub none_raised : (t : ℕ) → i ≡ 1 → t ≡ get_or s.words (serving_word 1) 0 → h.rule.owners 1 t ≡ id →
-    (at 1 v).raised ≡ 0 → sum_by (λ (a : LaneView). a.raised) (column 1 s.views) ≡ 0
+      (at 1 v).raised ≡ 0 → sum_by (λ (a : LaneView). a.raised) (column 1 s.views) ≡ 0
   none_raised t one now mine none' = all_zero (λ (a : LaneView). a.raised) (column 1 s.views) (λ j a e.
       let u = at_unmap (at 1) s.views j a e in
       let zero' : (at 1 u.0).raised ≡ 0 = ⊎_elim (λ z. z)
       (λ (k : ((at 1 u.0).raised ≡ 1) × IsHolding (at 1 u.0)).
       let there = lane.holds_turn (h.rule.lane 1 (let n = near in omega arith)) j (at_map (at 1) s.views j u.0 u.1)
-        k.1.0 k.1.1 in
+      k.1.0 k.1.1 in
       let same : j ≡ id = sym there.2 ∙ ap (h.rule.owners 1) (there.0 ∙ sym now) ∙ mine in let is' : u.0 ≡ v =
-        some-injective u.0 v (sym u.1 ∙ ap (λ (q : ℕ). get_elem? s.views q) same ∙ h.is) in
+      some-injective u.0 v (sym u.1 ∙ ap (λ (q : ℕ). get_elem? s.views q) same ∙ h.is) in
       ap (λ (z : View). (at 1 z).raised) is' ∙ none') (h.rule.seen j u.0 u.1).1 in
       ap (λ (z : LaneView). z.raised) (sym u.2) ∙ zero')

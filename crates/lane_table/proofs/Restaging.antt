@@ -63,7 +63,7 @@ module _ {i : ℕ} {m m' : Seated} (r : Restages i m m') (near : i < length m.0.
 
   field : {X : Type 0} (f : LaneView → X) → f r.to ≡ f (at i m.0) → (j : ℕ) → f (at j m'.0) ≡ f (at j m.0)
   field f e j = dite (ℕ_discrete j i) (λ q. ap (λ (k : ℕ). f (at k m'.0)) q ∙ ap f to_here ∙ e
-    ∙ ap (λ (k : ℕ). f (at k m.0)) (sym q)) (λ ne. ap f (to_there j ne))
+      ∙ ap (λ (k : ℕ). f (at k m.0)) (sym q)) (λ ne. ap f (to_there j ne))
 
   pub to_known : (j : ℕ) → known_of m'.0 j ≡ known_of m.0 j
   to_known = field (λ (a : LaneView). a.known) r.known
@@ -73,19 +73,19 @@ module _ {i : ℕ} {m m' : Seated} (r : Restages i m m') (near : i < length m.0.
 
   -- the pass is still one of the table
   pub to_pass : (t : Lanes) (p q : Pass) → IsPassOf t p → p.seat.me ≡ m → q.seat.me ≡ m' →
-    q.seat.table_id ≡ p.seat.table_id → q.stamp ≡ p.stamp → q.caller ≡ p.caller → IsSamePass t p q
+      q.seat.table_id ≡ p.seat.table_id → q.stamp ≡ p.stamp → q.caller ≡ p.caller → IsSamePass t p q
   to_pass t p q h is is' table stamp caller = let v₀ : view p ≡ m.0 = ap (λ (z : Seated). z.0) is in
-    let v₁ : view q ≡ m'.0 = ap (λ (z : Seated). z.0) is' in record {
-    pass = record {
-      table = table ∙ h.table;
-      share = (let a = h.share in let b = ap (λ (z : View). z.share) v₀ in let c = ap (λ (z : View). z.share) v₁ in
-        let d = r.share in omega arith);
-      stamp = stamp ∙ h.stamp ∙ ap (λ (z : View). z.stamp) v₀ ∙ sym r.stamp ∙ ap (λ (z : View). z.stamp) (sym v₁);
-      sized = ap (λ (z : View). length z.lanes) v₁ ∙ to_long ∙ ap (λ (z : View). length z.lanes) (sym v₀) ∙ h.sized;
-      first = ap (λ (z : View). z.first) v₁ ∙ r.first ∙ ap (λ (z : View). z.first) (sym v₀) ∙ h.first;
-    };
-    caller = caller;
-  }
+      let v₁ : view q ≡ m'.0 = ap (λ (z : Seated). z.0) is' in record {
+        pass = record {
+          table = table ∙ h.table;
+          share = (let a = h.share in let b = ap (λ (z : View). z.share) v₀ in let c = ap (λ (z : View). z.share) v₁ in
+              let d = r.share in omega arith);
+          stamp = stamp ∙ h.stamp ∙ ap (λ (z : View). z.stamp) v₀ ∙ sym r.stamp ∙ ap (λ (z : View). z.stamp) (sym v₁);
+          sized = ap (λ (z : View). length z.lanes) v₁ ∙ to_long ∙ ap (λ (z : View). length z.lanes) (sym v₀) ∙ h.sized;
+          first = ap (λ (z : View). z.first) v₁ ∙ r.first ∙ ap (λ (z : View). z.first) (sym v₀) ∙ h.first;
+        };
+        caller = caller;
+      }
 
   -- it did not get the lane
   pub to_tried : (at i m'.0).stage ≡ (at i m.0).stage → Tried i m m'
@@ -112,24 +112,84 @@ module _ {i : ℕ} {m m' : Seated} (r : Restages i m m') (near : i < length m.0.
   }
 
 abbrev pub restages_loaded : (i n : ℕ) (m : Seated) → Restages i m (loaded i n m)
-restages_loaded i n m = record { to = record (at i m.0) { loaded = n }; lanes = refl; known = refl; owed = refl;
-    raise = refl; made = refl; places = refl; heard = refl; slots = refl; first = refl; share = refl; halvings = refl;
-    stamp = refl; stamps = refl; seen = refl; looks = refl }
+restages_loaded i n m = record {
+  to = record (at i m.0) { loaded = n };
+  lanes = refl;
+  known = refl;
+  owed = refl;
+  raise = refl;
+  made = refl;
+  places = refl;
+  heard = refl;
+  slots = refl;
+  first = refl;
+  share = refl;
+  halvings = refl;
+  stamp = refl;
+  stamps = refl;
+  seen = refl;
+  looks = refl;
+}
 
 abbrev pub restages_found : (i n : ℕ) (m : Seated) → Restages i m (found i n m)
-restages_found i n m = record { to = record (at i m.0) { found = n }; lanes = refl; known = refl; owed = refl;
-    raise = refl; made = refl; places = refl; heard = refl; slots = refl; first = refl; share = refl; halvings = refl;
-    stamp = refl; stamps = refl; seen = refl; looks = refl }
+restages_found i n m = record {
+  to = record (at i m.0) { found = n };
+  lanes = refl;
+  known = refl;
+  owed = refl;
+  raise = refl;
+  made = refl;
+  places = refl;
+  heard = refl;
+  slots = refl;
+  first = refl;
+  share = refl;
+  halvings = refl;
+  stamp = refl;
+  stamps = refl;
+  seen = refl;
+  looks = refl;
+}
 
 abbrev pub restages_queued : (i t : ℕ) (m : Seated) → Restages i m (queued i t m)
-restages_queued i t m = record { to = record (at i m.0) { stage = Queued t }; lanes = refl; known = refl; owed = refl;
-    raise = refl; made = refl; places = refl; heard = refl; slots = refl; first = refl; share = refl; halvings = refl;
-    stamp = refl; stamps = refl; seen = refl; looks = refl }
+restages_queued i t m = record {
+  to = record (at i m.0) { stage = Queued t };
+  lanes = refl;
+  known = refl;
+  owed = refl;
+  raise = refl;
+  made = refl;
+  places = refl;
+  heard = refl;
+  slots = refl;
+  first = refl;
+  share = refl;
+  halvings = refl;
+  stamp = refl;
+  stamps = refl;
+  seen = refl;
+  looks = refl;
+}
 
 abbrev pub restages_queued_found : (i t : ℕ) (m : Seated) → Restages i m (queued_found i t m)
-restages_queued_found i t m = record { to = record (at i m.0) { stage = Queued t; found = t }; lanes = refl;
-    known = refl; owed = refl; raise = refl; made = refl; places = refl; heard = refl; slots = refl; first = refl;
-    share = refl; halvings = refl; stamp = refl; stamps = refl; seen = refl; looks = refl }
+restages_queued_found i t m = record {
+  to = record (at i m.0) { stage = Queued t; found = t };
+  lanes = refl;
+  known = refl;
+  owed = refl;
+  raise = refl;
+  made = refl;
+  places = refl;
+  heard = refl;
+  slots = refl;
+  first = refl;
+  share = refl;
+  halvings = refl;
+  stamp = refl;
+  stamps = refl;
+  seen = refl;
+  looks = refl;
+}
 
 -- one after the other
 pub restages_both : {i : ℕ} {m m' m'' : Seated} → i < length m.0.lanes → Restages i m m' → Restages i m' m'' →

@@ -15,7 +15,7 @@ pub weight_up : (top : ℕ) (u : View) → u.halvings ≤ top → weight (top + 
 weight_up top u below = let d : ℕ = top - u.halvings in let e : top + 1 - u.halvings ≡ d + 1 = omega arith in
     let p : 2 ^ (top + 1 - u.halvings) ≡ 2 ^ d * 2 = ap (λ (k : ℕ). 2 ^ k) e ∙ pow-add 2 d 1 in
     let a : ℕ = u.share in let x : ℕ = 2 ^ (top + 1 - u.halvings) in let y : ℕ = 2 ^ d in let p' : x ≡ y * 2 = p in
-      let g : a * x ≡ a * (y * 2) = ap (λ (z : ℕ). a * z) p' in omega (arith, g)
+    let g : a * x ≡ a * (y * 2) = ap (λ (z : ℕ). a * z) p' in omega (arith, g)
 
 pub weights_up : (top : ℕ) (l : List View) → ((j : ℕ) (u : View) → get_elem? l j ≡ some u → u.halvings ≤ top) →
     sum_by (weight (top + 1)) l ≡ 2 * sum_by (weight top) l
@@ -29,7 +29,7 @@ weight_more : (a h m top : ℕ) → h ≤ m → m ≤ top → a * 2 ^ (m - h) * 
 weight_more a h m top le le' = let e : m - h + (top - m) ≡ top - h = omega arith in
     let p : 2 ^ (top - h) ≡ 2 ^ (m - h) * 2 ^ (top - m) = ap (λ (k : ℕ). 2 ^ k) (sym e) ∙ pow-add 2 (m - h) (top - m) in
     let x : ℕ = 2 ^ (m - h) in let y : ℕ = 2 ^ (top - m) in let z : ℕ = 2 ^ (top - h) in let p' : z ≡ x * y = p in
-      let g : a * z ≡ a * (x * y) = ap (λ (k : ℕ). a * k) p' in omega (arith, g)
+    let g : a * z ≡ a * (x * y) = ap (λ (k : ℕ). a * k) p' in omega (arith, g)
 
 pub weight_both : (top : ℕ) (v w : View) → v.halvings ≤ top → w.halvings ≤ top →
     weight top (both_of v w) ≡ weight top v + weight top w
@@ -37,7 +37,7 @@ weight_both top v w le le' = let m : ℕ = max v.halvings w.halvings in let a =
     weight_more v.share v.halvings m top (omega arith) (omega arith) in let b =
     weight_more w.share w.halvings m top (omega arith) (omega arith) in
     let p : ℕ = v.share * 2 ^ (m - v.halvings) in let q : ℕ = w.share * 2 ^ (m - w.halvings) in let y : ℕ =
-      2 ^ (top - m) in let c : ℕ = v.share * 2 ^ (top - v.halvings) in let d : ℕ = w.share * 2 ^ (top - w.halvings) in
+    2 ^ (top - m) in let c : ℕ = v.share * 2 ^ (top - v.halvings) in let d : ℕ = w.share * 2 ^ (top - w.halvings) in
     let a' : p * y ≡ c = a in let b' : q * y ≡ d = b in let g : (p + q) * y ≡ c + d = omega arith in g
 
 pub merged_at : (rest bs : List LaneView) (i : ℕ) → length rest ≡ length bs →

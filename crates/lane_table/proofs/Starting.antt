@@ -57,20 +57,20 @@ module _ (first count : ℕ) (two : 2 ≤ count) where
   -- each word but the first
   word_at : (k : ℕ) → k < words_of count → ¬ (k ≡ 0) → get_or words k 0 ≡ first
   word_at k low ne = get_or-set_other (replicate (words_of count) first) 0 k 0 0 ne
-    ∙ get_or-replicate (words_of count) k first 0 low
+      ∙ get_or-replicate (words_of count) k first 0 low
 
   blank_at : (i : ℕ) → i < count → at i new ≡ blank
   blank_at i low = get_or-replicate count i blank blank low
 
   first_lane : (i : ℕ) (c : Content) → Replays i first [] c →
-    LaneOk i first first first (some (some (Some c))) (blank ∷ []) [] (λ _. 0)
+      LaneOk i first first first (some (some (Some c))) (blank ∷ []) [] (λ _. 0)
   first_lane i c plays = record {
     ordered = omega arith;
     counted = omega arith;
     passes = λ j a e. ⊎_elim (λ (h : get_elem? [] j ≡ some a). absurd (some-ne-none a (sym h)))
         (λ (h : blank ≡ a). subst (PassOk first first (λ _. 0) (some (some (Some c))) [] j) h
-          record { begins = ([], refl); heard = tt; stands = tt; loaded = omega arith; found = omega arith })
-          (at_snoc [] blank a j e);
+        record { begins = ([], refl); heard = tt; stands = tt; loaded = omega arith; found = omega arith })
+        (at_snoc [] blank a j e);
     whereabouts = inl (c, refl, plays);
     made = refl;
     placed = λ q. sym (none_below q);
@@ -81,15 +81,15 @@ module _ (first count : ℕ) (two : 2 ≤ count) where
   -- the pass is the only one
   only : (P : View → Type 0) (j : ℕ) (u : View) → P new → get_elem? (new ∷ []) j ≡ some u → P u
   only P j u mine e = ⊎_elim (λ (h : get_elem? [] j ≡ some u). absurd (some-ne-none u (sym h)))
-    (λ (h : new ≡ u). subst P h mine) (at_snoc [] new u j e)
+      (λ (h : new ≡ u). subst P h mine) (at_snoc [] new u j e)
 
   starts : (contents : List (Option Content)) → AreStarts first count contents →
-    WorldRule first (opening words contents new)
+      WorldRule first (opening words contents new)
   starts contents at_start = let n : ℕ = length (map some contents) in let size : n ≡ count =
-    length-map contents some ∙ at_start.0 in let wide' : length words ≡ words_of count =
-    length-set (replicate (words_of count) first) 0 0 ∙ length-replicate (words_of count) first in
+      length-map contents some ∙ at_start.0 in let wide' : length words ≡ words_of count =
+      length-set (replicate (words_of count) first) 0 0 ∙ length-replicate (words_of count) first in
       let zero' : get_or words 0 0 ≡ 0 = get_or-set_same (replicate (words_of count) first) 0 0 0
-        (omega (arith, length-replicate (words_of count) first)) in record {
+      (omega (arith, length-replicate (words_of count) first)) in record {
         wide = omega arith;
         two = omega arith;
         logs = λ _. [];
@@ -100,14 +100,17 @@ module _ (first count : ℕ) (two : 2 ≤ count) where
         pending = λ l lo hi p b x e. absurd (some-ne-none x (sym e));
         lane = λ i near. (let low : i < count = omega arith in let here = at_start.1 i low in
             subst (λ (z : ℕ × ℕ × Home × List LaneView). LaneOk i first z.0 z.1 z.2 z.3 [] (λ _. 0))
-            (λ k. (sym (word_at (ticket_word i) (omega arith) (λ e. omega arith)) k,
+            (λ k. (
+              sym (word_at (ticket_word i) (omega arith) (λ e. omega arith)) k,
               sym (word_at (serving_word i) (omega arith) (λ e. omega arith)) k,
-              sym (get_some contents i (Some here.0) here.1) k, sym (blank_at i low) k ∷ []))
+              sym (get_some contents i (Some here.0) here.1) k,
+              sym (blank_at i low) k ∷ [],
+            ))
             (first_lane i here.0 here.2));
         generation = (let e = ap (λ (a : LaneView). a.raised) (blank_at 1 (omega arith)) in omega arith);
         small = omega arith;
         seen = λ j v e. only (λ (z : View). (z.seen ≤ get_or words 0 0) × RaisedOk (at 1 z)) j v
-          (omega arith, inl (ap (λ (a : LaneView). a.raised) (blank_at 1 (omega arith)))) e;
+            (omega arith, inl (ap (λ (a : LaneView). a.raised) (blank_at 1 (omega arith)))) e;
         top = 0;
         views = λ j v e. only (ViewOk first n 0) j v record {
           sized = λ _. (length-replicate count blank ∙ sym size, refl);
@@ -115,15 +118,15 @@ module _ (first count : ℕ) (two : 2 ≤ count) where
           below = omega arith;
           stamped = (λ k d low. absurd (omega arith));
           closed = λ l lo hi. (let low = parent_within l count two in
-            subst (λ (z : LaneView × LaneView). Pointed l z.0.known z.1.known)
-            (λ k. (sym (blank_at (parent l) low) k, sym (blank_at l (omega arith)) k)) (none_pointed l));
+              subst (λ (z : LaneView × LaneView). Pointed l z.0.known z.1.known)
+              (λ k. (sym (blank_at (parent l) low) k, sym (blank_at l (omega arith)) k)) (none_pointed l));
           owed = λ l hi. owed_none l (at l new) (known_of new (parent l))
-            (ap (λ (a : LaneView). a.owes) (blank_at l (omega arith)));
+              (ap (λ (a : LaneView). a.owes) (blank_at l (omega arith)));
         } e;
         whole = refl;
       }
 
   pub starts_with : (ws : List ℕ) (contents : List (Option Content)) → ws ≡ words → AreStarts first count contents →
-    WorldRule first (opening ws contents new)
+      WorldRule first (opening ws contents new)
   starts_with ws contents is at_start = subst (λ (z : List ℕ). WorldRule first (opening z contents new)) (sym is)
-    (starts contents at_start)
+      (starts contents at_start)

@@ -43,7 +43,7 @@ found_or_nobody : (t : ℕ) (col : List LaneView) → Found t col ⊎ Nobody t c
 found_or_nobody t [] = inr (λ j a e. absurd (some-ne-none a (sym e)))
 found_or_nobody t (x ∷ xs) = ⊎_elim (λ (h : HasTicket x.stage t). inl (0, x, refl, h))
     (λ (lacks : ¬ HasTicket x.stage t). ⊎_elim (λ (f : Found t xs). inl (suc f.0, f.1, f.2, f.3))
-      (λ (none' : Nobody t xs). inr (nobody_more t x xs lacks none')) (found_or_nobody t xs)) (has_or_not x.stage t)
+    (λ (none' : Nobody t xs). inr (nobody_more t x xs lacks none')) (found_or_nobody t xs)) (has_or_not x.stage t)
 
 -- these tickets are from lo on, so many, and one each
 abbrev Within : ℕ → ℕ → List LaneView → Type 0
@@ -61,18 +61,18 @@ no_blank a t e = subst (λ (z : LaneView). ¬ HasTicket z.stage t) e (λ h. h)
 
 module _ (col : List LaneView) (id : ℕ) where
   within_less : (n lo : ℕ) (v : LaneView) → get_elem? col id ≡ some v → HasTicket v.stage (lo + n) →
-    Within (suc n) lo col → OneEach col → Within n lo (set col id blank)
+      Within (suc n) lo col → OneEach col → Within n lo (set col id blank)
   within_less n lo v at' has within one j t a e h = ⊎_elim (λ (o : (j ≡ id) × (blank ≡ a)). absurd (no_blank a t o.1 h))
       (λ (o : (j ≢ id) × (get_elem? col j ≡ some a)). let w = within j t a o.1 h in let low = w.0 in let high = w.1 in
       let ne : t ≢ lo + n = λ q. o.0 (one j id (lo + n) a v o.1 at' (subst (HasTicket a.stage) q h) has) in
-        (low, omega arith)) (at_set col id j blank a e)
+      (low, omega arith)) (at_set col id j blank a e)
 
   one_less : OneEach col → OneEach (set col id blank)
   one_less one j k t a b e f h i = ⊎_elim (λ (o : (j ≡ id) × (blank ≡ a)). absurd (no_blank a t o.1 h))
       (λ (o : (j ≢ id) × (get_elem? col j ≡ some a)). ⊎_elim
-        (λ (q : (k ≡ id) × (blank ≡ b)). absurd (no_blank b t q.1 i))
+      (λ (q : (k ≡ id) × (blank ≡ b)). absurd (no_blank b t q.1 i))
       (λ (q : (k ≢ id) × (get_elem? col k ≡ some b)). one j k t a b o.1 q.1 h i) (at_set col id k blank b f))
-        (at_set col id j blank a e)
+      (at_set col id j blank a e)
 
 few : (n lo : ℕ) (col : List LaneView) → Within n lo col → OneEach col → count_in col ≤ n
 few zero lo col within one = let e = all_zero (λ (a : LaneView). has_ticket a.stage) col
@@ -80,13 +80,13 @@ few zero lo col within one = let e = all_zero (λ (a : LaneView). has_ticket a.s
     in omega arith
 few (suc n) lo col within one = ⊎_elim
     (λ (f : Found (lo + n) col). let less = few n lo (set col f.0 blank)
-      (within_less col f.0 n lo f.1 f.2 f.3 within one) (one_less col f.0 one) in
+    (within_less col f.0 n lo f.1 f.2 f.3 within one) (one_less col f.0 one) in
     let s = sum_at_set (λ (a : LaneView). has_ticket a.stage) col f.0 f.1 blank f.2 in let small =
-      has_small f.1.stage in omega arith)
+    has_small f.1.stage in omega arith)
     (λ (none' : Nobody (lo + n) col). let less = few n lo col
-      (λ j t a at' h. let w = within j t a at' h in let low = w.0 in let high = w.1 in
-      let ne : t ≢ lo + n = λ q. none' j a at' (subst (HasTicket a.stage) q h) in (low, omega arith)) one in
-      omega arith)
+    (λ j t a at' h. let w = within j t a at' h in let low = w.0 in let high = w.1 in
+    let ne : t ≢ lo + n = λ q. none' j a at' (subst (HasTicket a.stage) q h) in (low, omega arith)) one in
+    omega arith)
     (found_or_nobody (lo + n) col)
 
 abbrev waiting : ℕ → LaneView
@@ -96,23 +96,23 @@ module _ (col : List LaneView) (t : ℕ) where
   within_more : (n lo : ℕ) → lo ≤ t → t < lo + n → Within n lo col → Within n lo (col ++ waiting t ∷ [])
   within_more n lo low high within j u a e h = ⊎_elim (λ (o : get_elem? col j ≡ some a). within j u a o h)
       (λ (o : (j ≡ length col) × (waiting t ≡ a)). subst (λ (z : ℕ). (lo ≤ z) × (z < lo + n))
-        (subst (λ (z : LaneView). HasTicket z.stage u) (sym o.1) h) (low, high)) (at_push col (waiting t) a j e)
+      (subst (λ (z : LaneView). HasTicket z.stage u) (sym o.1) h) (low, high)) (at_push col (waiting t) a j e)
 
   one_more : Nobody t col → OneEach col → OneEach (col ++ waiting t ∷ [])
   one_more none' one j k u a b e f h i = ⊎_elim
       (λ (o : get_elem? col j ≡ some a). ⊎_elim (λ (q : get_elem? col k ≡ some b). one j k u a b o q h i)
       (λ (q : (k ≡ length col) × (waiting t ≡ b)). let same : t ≡ u = subst (λ (z : LaneView). HasTicket z.stage u)
-        (sym q.1) i in absurd (none' j a o (subst (HasTicket a.stage) (sym same) h))) (at_push col (waiting t) b k f))
+      (sym q.1) i in absurd (none' j a o (subst (HasTicket a.stage) (sym same) h))) (at_push col (waiting t) b k f))
       (λ (o : (j ≡ length col) × (waiting t ≡ a)). let same : t ≡ u = subst (λ (z : LaneView). HasTicket z.stage u)
-        (sym o.1) h in
+      (sym o.1) h in
       ⊎_elim (λ (q : get_elem? col k ≡ some b). absurd (none' k b q (subst (HasTicket b.stage) (sym same) i)))
-        (λ (q : (k ≡ length col) × (waiting t ≡ b)). o.0 ∙ sym q.0) (at_push col (waiting t) b k f))
-        (at_push col (waiting t) a j e)
+      (λ (q : (k ≡ length col) × (waiting t ≡ b)). o.0 ∙ sym q.0) (at_push col (waiting t) b k f))
+      (at_push col (waiting t) a j e)
 
 pub each_found : (n lo t : ℕ) (col : List LaneView) → Within n lo col → OneEach col → count_in col ≡ n → lo ≤ t →
     t < lo + n → Found t col
 each_found n lo t col within one full low high = ⊎_elim (λ (f : Found t col). f)
     (λ (none' : Nobody t col). let more = few n lo (col ++ waiting t ∷ []) (within_more col t n lo low high within)
-      (one_more col t none' one) in
+    (one_more col t none' one) in
     let s = sum_by_push (λ (a : LaneView). has_ticket a.stage) col (waiting t) in absurd (omega arith))
-      (found_or_nobody t col)
+    (found_or_nobody t col)

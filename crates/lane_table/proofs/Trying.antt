@@ -27,7 +27,7 @@ module _ (i n k : ℕ) (m m₁ m₂ : Seated) (near : i < length m.0.lanes) (at�
 
   here₂ : at i m₂.0 ≡ record (at i m.0) { loaded = n; found = k }
   here₂ = ap (λ (z : Seated). at i z.0) at₂ ∙ to_here (restages_found i k m₁) near₁
-    ∙ ap (λ (a : LaneView). record a { found = k }) here₁
+      ∙ ap (λ (a : LaneView). record a { found = k }) here₁
 
   -- the serving number that was loaded is no more than a ticket number that is found later
   pub loaded_below : (r : ℕ) → (at i m₁.0).loaded ≤ r → n ≤ r
@@ -50,23 +50,26 @@ module _ (i n k : ℕ) (m m₁ m₂ : Seated) (near : i < length m.0.lanes) (at�
     module _ (at₃ : m₃ ≡ found i q m₂) where
       missed : at i m₃.0 ≡ record (at i m.0) { loaded = n; found = q }
       missed = ap (λ (z : Seated). at i z.0) at₃ ∙ to_here (restages_found i q m₂) near₂
-        ∙ ap (λ (a : LaneView). record a { found = q }) here₂
+          ∙ ap (λ (a : LaneView). record a { found = q }) here₂
 
       pub missed_tried : Tried i m m₃
       missed_tried = to_tried (restages_both near two (restages_to (restages_found i q m₂) at₃)) near
-        (ap (λ (a : LaneView). a.stage) missed)
+          (ap (λ (a : LaneView). a.stage) missed)
 
       not_drawn : m₃.0.drawn ≡ m.0.drawn
       not_drawn = ap (λ (z : Seated). z.0.drawn) at₃ ∙ ap (λ (z : Seated). z.0.drawn) at₂
-        ∙ ap (λ (z : Seated). z.0.drawn) at₁
+          ∙ ap (λ (z : Seated). z.0.drawn) at₁
 
       pub missed_spent : 2 ^ 62 ≤ q → IsSpent i m m₃
       missed_spent high = inr (inl (let e = ap (λ (a : LaneView). a.found) missed in omega arith))
 
       pub missed_busy : m.0.stamp < 2 ^ 62 → q < 2 ^ 62 → n ≤ q → n ≢ q → IsBusy i n q m m₃
       missed_busy stamp low above ne = let e = ap (λ (a : LaneView). a.found) missed in record {
-        unspent = record { stamp = stamp; ticket = omega arith;
-          last = λ d. (let f = not_drawn in absurd (omega arith)) };
+        unspent = record {
+          stamp = stamp;
+          ticket = omega arith;
+          last = λ d. (let f = not_drawn in absurd (omega arith));
+        };
         above = omega arith;
         loaded = ap (λ (a : LaneView). a.loaded) missed;
         found = e;
@@ -79,8 +82,8 @@ module _ (i n k : ℕ) (m m₁ m₂ : Seated) (near : i < length m.0.lanes) (at�
 
       pub three_drawn : m₃.0.drawn ≡ m.0.drawn + 1
       three_drawn = ap (λ (z : Seated). z.0.drawn) at₃ ∙ ap (λ (z : Seated). z.0.drawn + 1) at₂
-        ∙ ap (λ (z : Seated). z.0.drawn + 1) at₁
+          ∙ ap (λ (z : Seated). z.0.drawn + 1) at₁
 
       pub three_here : at i m₃.0 ≡ record (at i m.0) { loaded = n; found = q; stage = Queued q }
       three_here = ap (λ (z : Seated). at i z.0) at₃ ∙ to_here (restages_queued_found i q m₂) near₂
-        ∙ ap (λ (a : LaneView). record a { found = q; stage = Queued q }) here₂
+          ∙ ap (λ (a : LaneView). record a { found = q; stage = Queued q }) here₂

@@ -62,13 +62,13 @@ module _ (xs ys log : List Visit) (h : Begins xs log) (k : Begins ys log) where
 
   pub longer_left : (p : ℕ) (y : Visit) → get_elem? xs p ≡ some y → get_elem? (longer xs ys) p ≡ some y
   longer_left p y e = bool_cases lt (λ b. get_elem? (cond b ys xs) p ≡ some y)
-    (λ is. let l = ltb-true (length xs) (length ys) is in
-    at_begun_back ys log p y k (let m = at_below xs p y e in omega arith) (at_begun xs log p y h e)) (λ is. e)
+      (λ is. let l = ltb-true (length xs) (length ys) is in
+      at_begun_back ys log p y k (let m = at_below xs p y e in omega arith) (at_begun xs log p y h e)) (λ is. e)
 
   pub longer_right : (p : ℕ) (y : Visit) → get_elem? ys p ≡ some y → get_elem? (longer xs ys) p ≡ some y
   longer_right p y e = bool_cases lt (λ b. get_elem? (cond b ys xs) p ≡ some y) (λ is. e)
-    (λ is. let l = ltb-false (length xs) (length ys) is in
-    at_begun_back xs log p y h (let m = at_below ys p y e in omega arith) (at_begun ys log p y k e))
+      (λ is. let l = ltb-false (length xs) (length ys) is in
+      at_begun_back xs log p y h (let m = at_below ys p y e in omega arith) (at_begun ys log p y k e))
 
 pub longer_is : (xs ys : List Visit) → (longer xs ys ≡ xs) ⊎ (longer xs ys ≡ ys)
 longer_is xs ys = bool_cases (ltb (length xs) (length ys)) (λ b. (cond b ys xs ≡ xs) ⊎ (cond b ys xs ≡ ys))
@@ -119,10 +119,10 @@ pub placed_push : (ps : List ℕ) (xs : List Visit) (x : Visit) (p : ℕ) →
 placed_push ps xs x p = let s = sum_by_push (λ (y : ℕ). cond (eqb y p) 1 0) ps (length xs) in let t =
     once_step p (length xs) in
     let e : once_below p (length (xs ++ x ∷ [])) ≡ once_below p (length xs + 1) =
-      ap (once_below p) (length-append xs (x ∷ [])) in
+    ap (once_below p) (length-append xs (x ∷ [])) in
     let a : ℕ = times p (ps ++ length xs ∷ []) in let b : ℕ = times p ps in let c : ℕ = cond (eqb (length xs) p) 1 0 in
-      let d : ℕ = once_below p (length xs) in let f : ℕ = once_below p (length xs + 1) in let h : ℕ =
-      once_below p (length (xs ++ x ∷ [])) in
+    let d : ℕ = once_below p (length xs) in let f : ℕ = once_below p (length xs + 1) in let h : ℕ =
+    once_below p (length (xs ++ x ∷ [])) in
     let s' : a ≡ b + c = s in let t' : f ≡ d + c = t in let e' : h ≡ f = e in let g : a + d ≡ b + h = omega arith in g
 
 pub none_below : (p : ℕ) → once_below p 0 ≡ 0

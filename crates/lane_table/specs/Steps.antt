@@ -239,7 +239,7 @@ merged_lanes (a ∷ rest) (b ∷ bs) = merged a b ∷ merged_lanes rest bs
 abbrev pub both_of : View → View → View
 both_of v w = record v {
   share = v.share * 2 ^ (max v.halvings w.halvings - v.halvings) + w.share * 2 ^
-    (max v.halvings w.halvings - w.halvings);
+      (max v.halvings w.halvings - w.halvings);
   halvings = max v.halvings w.halvings;
   stamp = max v.stamp w.stamp;
   stamps = v.stamps ++ w.stamps;
@@ -248,8 +248,17 @@ both_of v w = record v {
 }
 
 abbrev pub nobody : View
-nobody = record { first = 0; share = 0; halvings = 0; stamp = 0; stamps = []; drawn = 0; seen = 0; looks = [];
-    lanes = [] }
+nobody = record {
+  first = 0;
+  share = 0;
+  halvings = 0;
+  stamp = 0;
+  stamps = [];
+  drawn = 0;
+  seen = 0;
+  looks = [];
+  lanes = [];
+}
 
 abbrev pub newcomer : Plan → View
 newcomer plan = record {

@@ -111,8 +111,8 @@ module _ (ticket serving : ℕ) (owner : ℕ → ℕ) (home : Home) (log : List 
   Stands (Queued t) = (serving ≤ t) × (t < ticket) × (owner t ≡ j)
   Stands (Holding t) = (t ≡ serving) × (t < ticket) × (owner t ≡ j) × (known ≡ log) × (home ≡ some none)
 
-pub record PassOk (ticket serving : ℕ) (owner : ℕ → ℕ) (home : Home) (log : List Visit) (j : ℕ) (a : LaneView) : Type 0
-    where
+pub record PassOk (ticket serving : ℕ) (owner : ℕ → ℕ) (home : Home) (log : List Visit) (j : ℕ) (a : LaneView)
+    : Type 0 where
   pub begins : Begins a.known log
   pub heard : AllBegin a.heard log
   pub stands : Stands ticket serving owner home log j a.known a.stage
@@ -219,7 +219,7 @@ pub record WorldRule (first : ℕ) (s : St) : Type 0 where
   pub generation : slice_index_or s.words 0 0 ≡ raises (logs 1) + sum_by (λ a. a.raised) (column 1 s.views)
   pub small : slice_index_or s.words 0 0 < 2 ^ 63
   pub seen : (j : ℕ) (v : View) → get_elem? s.views j ≡ some v →
-    (v.seen ≤ slice_index_or s.words 0 0) × RaisedOk (at 1 v)
+      (v.seen ≤ slice_index_or s.words 0 0) × RaisedOk (at 1 v)
   pub top : ℕ
   pub views : (j : ℕ) (v : View) → get_elem? s.views j ≡ some v → ViewOk first (length s.homes) top v
   pub whole : sum_by (weight top) s.views ≡ 2 ^ top

@@ -55,8 +55,11 @@ impl Lanes {
             (known_of (view pass.old) lane ++ filled lane (visit_by _who content.stamp (E.entry _entry))
             (view pass.old) ∷ []) content }
         ensures pass { IsSamePass self.now pass.old pass.new }
-        ensures seat { pass.new.seat.me ≡ (after lane (filled lane (visit_by _who content.stamp (E.entry _entry))
-            (view pass.old)) (view pass.old), rest (slots pass.old)) }
+        ensures seat { pass.new.seat.me ≡ (
+          after lane (filled lane (visit_by _who content.stamp (E.entry _entry))
+              (view pass.old)) (view pass.old),
+          rest (slots pass.old),
+        ) }
         ensures consistent { Consistent (view pass.new) }
     {
         let stamp = content.stamp;

@@ -29,7 +29,7 @@ pub read_done : (set : Setting) (n len : ℕ) (result : Result (Unit {0}) Errno)
     Did (λ deeds. ActMeans (setting_of set) (Vread n) (done_line deeds result out)) set l m
 read_done set n len result out l m same k = did_map set l m (λ deeds h. (h.form, h.answers, h.shows))
     (subst (λ (z : ℕ). Did (Fulfils (setting_of set) (Read z 0) (result_answer result)
-      (bytes_or_none (given result out))) set l m) same k)
+    (bytes_or_none (given result out))) set l m) same k)
 
 pub reseed_done : (set : Setting) (result : Result (Unit {0}) Errno) (out : List ℕ) (l m : Moment) → length out ≡ 0 →
     Did (Fulfils (setting_of set) ReseedEvent (result_answer result) no_data) set l m →

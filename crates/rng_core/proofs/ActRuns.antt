@@ -30,8 +30,11 @@ pub record Onward (v w : View) : Type 0 where
   pub floors : floor v ≤ floor w
 
 pub onward_same : (v : View) → Onward v v
-onward_same v = record { sized = refl; grows = λ lane low. ([], sym (append-nil (known_of v lane)));
-    floors = omega arith }
+onward_same v = record {
+  sized = refl;
+  grows = λ lane low. ([], sym (append-nil (known_of v lane)));
+  floors = omega arith;
+}
 
 pub onward_is : (v w : View) → w ≡ v → Onward v w
 onward_is v w same = subst (Onward v) (sym same) (onward_same v)
@@ -50,8 +53,11 @@ onward_then u v w a b = record {
 
 pub did_onward : {P : (ℕ → List Visit) → List Deed → Type 0} (set : Setting) (l m : Moment) → DidIn P set l m →
     Onward l.view m.view
-did_onward set l m k = record { sized = k.told.went.same.sized; grows = k.told.went.grows;
-    floors = did_floor set l m k }
+did_onward set l m k = record {
+  sized = k.told.went.same.sized;
+  grows = k.told.went.grows;
+  floors = did_floor set l m k;
+}
 
 module _ (set : Setting) (point : Point) where
   pub at_onward : (a : Ask) (v w : View) (x y : ActOutcome) → ActAt set point a v w x y → Onward v w
@@ -62,14 +68,14 @@ module _ (set : Setting) (point : Point) where
       go false h = onward_is v w h.1
 
   pub acts_onward : (asks : List Ask) (v w : View) (xs ys : List ActOutcome) → ActsAt set point asks v w xs ys →
-    Onward v w
+      Onward v w
   acts_onward [] v w [] [] k = onward_is v w k
   acts_onward [] v w [] (y ∷ ys) k = absurd k
   acts_onward [] v w (x ∷ xs) ys k = absurd k
   acts_onward (a ∷ asks) v w [] ys k = absurd k
   acts_onward (a ∷ asks) v w (x ∷ xs) [] k = absurd k
   acts_onward (a ∷ asks) v w (x ∷ xs) (y ∷ ys) k =
-    onward_then v k.0 w (at_onward a v k.0 x y k.1) (acts_onward asks k.0 w xs ys k.2)
+      onward_then v k.0 w (at_onward a v k.0 x y k.1) (acts_onward asks k.0 w xs ys k.2)
 
 -- Looks that rise, from the first number to the last
 
@@ -123,8 +129,15 @@ own_did set l m k = record {
 
 pub own_map : {set : Setting} {Alone : Type 0} {P Q : List Deed → Type 0} (l m : Moment) →
     ((deeds : List Deed) → P deeds → Q deeds) → Own set Alone P l m → Own set Alone Q l m
-own_map l m f k = record { deals = k.deals; trace = k.trace; fits = k.fits; rises = k.rises; onward = k.onward;
-    alone = k.alone; stands = λ lanes visits callers c. f _ (k.stands lanes visits callers c) }
+own_map l m f k = record {
+  deals = k.deals;
+  trace = k.trace;
+  fits = k.fits;
+  rises = k.rises;
+  onward = k.onward;
+  alone = k.alone;
+  stands = λ lanes visits callers c. f _ (k.stands lanes visits callers c);
+}
 
 pub own_then : {set : Setting} {Alone : Type 0} {P Q : List Deed → Type 0} (l m n : Moment) → Own set Alone P l m →
     Own set Alone Q m n → Own set Alone (After P Q) l n
@@ -133,7 +146,7 @@ own_then {set} l m n a b = record {
   trace = trace_then l m n a.deals b.deals a.trace b.trace;
   fits = fits_then a.deals b.deals a.fits b.fits;
   rises = subst (λ (looks : List ℕ). Risen (floor l.view) looks (floor n.view)) (sym (looks_append a.deals b.deals))
-    (risen_then (floor l.view) (floor m.view) (floor n.view) (looks_in a.deals) (looks_in b.deals) a.rises b.rises);
+      (risen_then (floor l.view) (floor m.view) (floor n.view) (looks_in a.deals) (looks_in b.deals) a.rises b.rises);
   onward = onward_then l.view m.view n.view a.onward b.onward;
   alone = λ e. told_then set l m n a.deals b.deals (a.alone e) (b.alone e);
   stands = λ lanes visits callers c. let book = book_lists lanes visits callers in record {
@@ -141,7 +154,7 @@ own_then {set} l m n a b = record {
     rest = deeds_of book (map step_of b.deals);
     deeds_are = deeds_then book a.deals b.deals;
     before = a.stands lanes visits callers (continues_before lanes m.view n.view visits b.onward.sized b.onward.grows
-      c);
+        c);
     behind = b.stands lanes visits callers c;
   };
 }
@@ -156,7 +169,7 @@ own_behind {set} l m n same onward idle k = record {
   rises = risen_lower (floor l.view) (floor m.view) (floor n.view) (looks_in k.deals) onward.floors k.rises;
   onward = onward_then l.view m.view n.view onward k.onward;
   alone = λ e. subst (λ (z : Moment). Told set z n k.deals) (λ i. record { view = idle e i; steps = same i })
-    (k.alone e);
+      (k.alone e);
   stands = k.stands;
 }
 
@@ -178,7 +191,7 @@ AllMeant set w (a ∷ asks) (z ∷ zs) = Meant set w a z × AllMeant set w asks 
 meant_onward : (set : Setting) (v w : View) (a : Ask) (z : ActOutcome) → Onward v w → Meant set v a z → Meant set w a z
 meant_onward set v w a z onward k = record {
   done = λ e lanes visits callers c. k.done e lanes visits callers
-    (continues_before lanes v w visits onward.sized onward.grows c);
+      (continues_before lanes v w visits onward.sized onward.grows c);
   idle = k.idle;
   fits = k.fits;
 }
@@ -194,8 +207,8 @@ all_onward set v w (a ∷ asks) (z ∷ zs) onward k =
 ran_means : (set : Setting) (a : Ask) (v w : View) (y : ActOutcome) → ActRan set a v w y → Meant set w a y
 ran_means set a v w y k = record {
   done = λ e lanes visits callers c. subst (λ (l : List Step). ActMeans (setting_of set) a.act
-    (done_line (deeds_of (book_lists lanes visits callers) l) y.answer y.bytes)) (sym k.did.told.trace)
-    (k.did.stands lanes visits callers c);
+      (done_line (deeds_of (book_lists lanes visits callers) l) y.answer y.bytes)) (sym k.did.told.trace)
+      (k.did.stands lanes visits callers c);
   idle = λ e. let f : true ≡ false = sym k.done ∙ e in absurd (cc f);
   fits = subst (AllByRecursion StepFits) (sym k.did.told.trace) k.did.told.fits;
 }
@@ -209,7 +222,7 @@ module _ (set : Setting) (point : Point) where
       go false h = subst (Meant set w a) (sym h.0) (meant_onward set v w a x (onward_is v w h.1) m)
 
   pub meant_at : (asks : List Ask) (v w : View) (xs ys : List ActOutcome) → ActsAt set point asks v w xs ys →
-    AllMeant set v asks xs → AllMeant set w asks ys
+      AllMeant set v asks xs → AllMeant set w asks ys
   meant_at [] v w [] [] k all = tt
   meant_at [] v w [] (y ∷ ys) k all = absurd k
   meant_at [] v w (x ∷ xs) ys k all = absurd k
@@ -252,18 +265,18 @@ module _ (set : Setting) (point : Point) (wiped : Bool) (points : List PointReac
   or_more false y z e rest f g = f ∙ ap (λ (b : Bool). b || rest) g
 
   one_done : (a : Ask) (v w : View) (x y : ActOutcome) → ActAt set point a v w x y →
-    y.done ≡ (x.done || (number_of point == number_of a.point))
+      y.done ≡ (x.done || (number_of point == number_of a.point))
   one_done a v w x y k = go (number_of point == number_of a.point) x.done refl k
     where
       go : (e d : Bool) → x.done ≡ d → MatchBool (e && not d) (ActRan set a v w y) ((y ≡ x) × (w ≡ v)) →
-        y.done ≡ (d || e)
+          y.done ≡ (d || e)
       go true true is h = ap (λ (z : ActOutcome). z.done) h.0 ∙ is
       go true false is h = h.done
       go false true is h = ap (λ (z : ActOutcome). z.done) h.0 ∙ is
       go false false is h = ap (λ (z : ActOutcome). z.done) h.0 ∙ is
 
   pub done_at : (asks : List Ask) (v w : View) (xs ys zs : List ActOutcome) → ActsAt set point asks v w xs ys →
-    AllDone points asks ys zs → AllDone (here ∷ points) asks xs zs
+      AllDone points asks ys zs → AllDone (here ∷ points) asks xs zs
   done_at [] v w [] [] [] k rest = tt
   done_at [] v w [] [] (z ∷ zs) k rest = absurd rest
   done_at [] v w [] (y ∷ ys) zs k rest = absurd k
@@ -273,12 +286,12 @@ module _ (set : Setting) (point : Point) (wiped : Bool) (points : List PointReac
   done_at (a ∷ asks) v w (x ∷ xs) (y ∷ ys) [] k rest = absurd rest
   done_at (a ∷ asks) v w (x ∷ xs) (y ∷ ys) (z ∷ zs) k rest = (
     or_more x.done y.done z.done (number_of point == number_of a.point) (came points a) rest.0
-      (one_done a v k.0 x y k.1),
+        (one_done a v k.0 x y k.1),
     done_at asks k.0 w xs ys zs k.2 rest.1,
   )
 
   pub long_at : (asks : List Ask) (v w : View) (xs ys : List ActOutcome) → ActsAt set point asks v w xs ys →
-    length ys ≡ length asks
+      length ys ≡ length asks
   long_at [] v w [] [] k = refl
   long_at [] v w [] (y ∷ ys) k = absurd k
   long_at [] v w (x ∷ xs) ys k = absurd k

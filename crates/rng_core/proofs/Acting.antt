@@ -52,8 +52,11 @@ ran_none set point true v w (x ∷ xs) ys k = absurd k
 ran_none set point false v w xs ys k = k.1
 
 step_onward : (s t : ActStand) (step : HostStep) → Does acting s step t → Onward s.core.moment.view t.core.moment.view
-step_onward s t (publishes g) k = record { sized = k.core.told.went.same.sized; grows = k.core.told.went.grows;
-    floors = let a = k.core.above in let b = k.core.known in omega arith }
+step_onward s t (publishes g) k = record {
+  sized = k.core.told.went.same.sized;
+  grows = k.core.told.went.grows;
+  floors = let a = k.core.above in let b = k.core.known in omega arith;
+}
 step_onward s t (system_call n flags answer) k = did_onward _ _ _ k.core.did
 step_onward s t (at_point point wiped) k = ran_onward s.core.set point s.asks (is_first t.attempt) _ _ _ _ k.ran
 
@@ -92,7 +95,7 @@ acted_up_to [] s t does = tt
 acted_up_to (publishes g ∷ steps) s t does =
     let p = does.1.core in
     let more = published_more p.found (floor t.core.moment.view)
-      (let a = p.known in let b = (acted_onward steps does.0 t does.2).floors in omega arith) in
+    (let a = p.known in let b = (acted_onward steps does.0 t does.2).floors in omega arith) in
     (let e = p.is in omega arith, acted_up_to steps does.0 t does.2)
 acted_up_to (system_call n flags answer ∷ steps) s t does = acted_up_to steps does.0 t does.2
 acted_up_to (at_point point wiped ∷ steps) s t does = acted_up_to steps does.0 t does.2
@@ -107,30 +110,40 @@ acted_own [] set asks s t same is_asks two does =
 acted_own (publishes g ∷ steps) set asks s t same is_asks two does =
     let k = does.1 in
     let looks = subst (λ (z : Setting). Told z s.core.moment does.0.core.moment (looked k.core.found ∷ [])) same
-      k.core.told in
+    k.core.told in
     let own = acted_own steps set asks does.0 t (k.core.same ∙ same) (k.acts.asks ∙ is_asks)
-      (let e = looks.went.same.sized in omega arith) does.2 in
-    own_map _ _ (λ deeds a. (k.core.found, a.rest, a.deeds_are ∙ ap (λ (l : List Deed). l ++ a.rest) a.before,
-      (k.core.is, a.behind)))
+    (let e = looks.went.same.sized in omega arith) does.2 in
+    own_map _ _ (λ deeds a. (
+      k.core.found,
+      a.rest,
+      a.deeds_are ∙ ap (λ (l : List Deed). l ++ a.rest) a.before,
+      (k.core.is, a.behind),
+    ))
     (own_then _ _ _ (own_did set _ _ (did_look set _ _ k.core.found looks)) own)
 acted_own (system_call n flags answer ∷ steps) set asks s t same is_asks two does =
     let k = does.1 in
     let did = subst (λ (z : Setting). Did (SystemCall (setting_of z) n flags answer) z s.core.moment
-      does.0.core.moment) same k.core.did in
+    does.0.core.moment) same k.core.did in
     let own = acted_own steps set asks does.0 t (k.core.same ∙ same) (k.acts.asks ∙ is_asks)
-      (let e = did.told.went.same.sized in omega arith) does.2 in
-    own_map _ _ (λ deeds a. record { call = a.first; rest = a.rest; deeds_are = a.deeds_are; form = a.before.form;
-      answers = a.before.answers; goes_on = a.behind })
+    (let e = did.told.went.same.sized in omega arith) does.2 in
+    own_map _ _ (λ deeds a. record {
+      call = a.first;
+      rest = a.rest;
+      deeds_are = a.deeds_are;
+      form = a.before.form;
+      answers = a.before.answers;
+      goes_on = a.behind;
+    })
     (own_then _ _ _ (own_did set _ _ did) own)
 acted_own (at_point point wiped ∷ steps) set asks s t same is_asks two does =
     let k = does.1 in
     let onward = step_onward s does.0 (at_point point wiped) k in
     let own = acted_own steps set asks does.0 t (k.set ∙ same) (k.asks ∙ is_asks) (let e = onward.sized in omega arith)
-      does.2 in
+    does.2 in
     own_behind _ _ _ k.steps onward
     (λ none. ran_none s.core.set point (is_first does.0.attempt) _ _ _ _
-      (subst (λ (l : List Ask). Ran s.core.set point l (is_first does.0.attempt) s.core.moment.view
-      does.0.core.moment.view s.outcomes does.0.outcomes) (is_asks ∙ none) k.ran)) own
+    (subst (λ (l : List Ask). Ran s.core.set point l (is_first does.0.attempt) s.core.moment.view
+    does.0.core.moment.view s.outcomes does.0.outcomes) (is_asks ∙ none) k.ran)) own
 
 -- the first attempt wipes as its acts do, and no other
 abbrev AsAsked : List Ask → PointReached → Type 0
@@ -146,12 +159,12 @@ WipedSo asks attempt points = AllByRecursion (AsAsked asks) (active attempt poin
 wiped_more : (asks : List Ask) (attempt : Attempt) (point : Point) (wiped : Bool) (points : List PointReached) →
     wiped ≡ (is_first (attempt_at attempt point) && wipes_at asks point) →
     WipedSo asks (attempt_at attempt point) points →
-      WipedSo asks attempt (record { point = point; wiped = wiped } ∷ points)
+    WipedSo asks attempt (record { point = point; wiped = wiped } ∷ points)
 wiped_more asks Before point wiped points e rest = ((e, rest.0), rest.1)
 wiped_more asks First point wiped points e rest = go (number_of point == 1) e rest
   where
     go : (b : Bool) → wiped ≡ (is_first (if b then Later else First) && wipes_at asks point) →
-      WipedSo asks (if b then Later else First) points →
+        WipedSo asks (if b then Later else First) points →
         AllByRecursion (AsAsked asks) (if b then [] else record { point = point; wiped = wiped } ∷ before_start points)
         × AllByRecursion IsUnwiped (if b then record { point = point; wiped = wiped } ∷ points else from_start points)
     go true e rest = (tt, (e, rest.1))
@@ -171,7 +184,7 @@ acted_wipes (at_point point wiped ∷ steps) asks attempt s t same now does =
     let k = does.1 in
     let next = k.attempt ∙ ap (λ (a : Attempt). attempt_at a point) now in
     wiped_more asks attempt point wiped (points_of steps)
-      (k.wipes ∙ (λ i. is_first (next i) && wipes_at (same i) point))
+    (k.wipes ∙ (λ i. is_first (next i) && wipes_at (same i) point))
     (acted_wipes steps asks (attempt_at attempt point) does.0 t (k.asks ∙ same) next does.2)
 
 -- an act is done exactly where the first attempt came to its point
@@ -189,13 +202,13 @@ ran_long set point false asks v w xs ys long k = ap length k.0 ∙ long
 
 active_more : (attempt : Attempt) (point : Point) (wiped : Bool) (points : List PointReached) →
     (if is_first (attempt_at attempt point) then record { point = point; wiped = wiped } ∷ active
-      (attempt_at attempt point) points else active (attempt_at attempt point) points)
+    (attempt_at attempt point) points else active (attempt_at attempt point) points)
     ≡ active attempt (record { point = point; wiped = wiped } ∷ points)
 active_more Before point wiped points = refl
 active_more First point wiped points = go (number_of point == 1)
   where
     go : (b : Bool) → (if is_first (if b then Later else First) then record { point = point; wiped = wiped } ∷ active
-      (if b then Later else First) points else active (if b then Later else First) points)
+        (if b then Later else First) points else active (if b then Later else First) points)
         ≡ (if b then [] else record { point = point; wiped = wiped } ∷ before_start points)
     go true = refl
     go false = refl
@@ -223,18 +236,18 @@ acted_done (at_point point wiped ∷ steps) asks attempt s t same now long does 
     let k = does.1 in
     let next = k.attempt ∙ ap (λ (a : Attempt). attempt_at a point) now in
     let ran : Ran s.core.set point asks (is_first (attempt_at attempt point)) s.core.moment.view
-      does.0.core.moment.view s.outcomes does.0.outcomes =
+    does.0.core.moment.view s.outcomes does.0.outcomes =
     subst (λ (b : Bool). Ran s.core.set point asks b s.core.moment.view does.0.core.moment.view s.outcomes
-      does.0.outcomes) (ap is_first next)
+    does.0.outcomes) (ap is_first next)
     (subst (λ (l : List Ask). Ran s.core.set point l (is_first does.0.attempt) s.core.moment.view
-      does.0.core.moment.view s.outcomes does.0.outcomes) same k.ran) in
+    does.0.core.moment.view s.outcomes does.0.outcomes) same k.ran) in
     subst (λ (l : List PointReached). AllDone l asks s.outcomes t.outcomes)
-      (active_more attempt point wiped (points_of steps))
+    (active_more attempt point wiped (points_of steps))
     (ran_done s.core.set point wiped (is_first (attempt_at attempt point)) asks _ _
-      (active (attempt_at attempt point) (points_of steps)) s.outcomes does.0.outcomes t.outcomes ran
+    (active (attempt_at attempt point) (points_of steps)) s.outcomes does.0.outcomes t.outcomes ran
     (acted_done steps asks (attempt_at attempt point) does.0 t (k.asks ∙ same) next
-      (ran_long s.core.set point (is_first (attempt_at attempt point)) asks _ _ s.outcomes does.0.outcomes long ran)
-      does.2))
+    (ran_long s.core.set point (is_first (attempt_at attempt point)) asks _ _ s.outcomes does.0.outcomes long ran)
+    does.2))
 
 -- what was done means what its act means
 ran_meant : (set : Setting) (point : Point) (b : Bool) (asks : List Ask) (v w : View) (xs ys : List ActOutcome) →
@@ -252,42 +265,50 @@ acted_meant (publishes g ∷ steps) set asks s t is_set is_asks does all =
     let k = does.1 in
     acted_meant steps set asks does.0 t (k.core.same ∙ is_set) (k.acts.asks ∙ is_asks) does.2
     (subst (AllMeant set does.0.core.moment.view asks) (sym k.acts.outcomes)
-      (all_onward set _ _ asks s.outcomes (step_onward s does.0 (publishes g) k) all))
+    (all_onward set _ _ asks s.outcomes (step_onward s does.0 (publishes g) k) all))
 acted_meant (system_call n flags answer ∷ steps) set asks s t is_set is_asks does all =
     let k = does.1 in
     acted_meant steps set asks does.0 t (k.core.same ∙ is_set) (k.acts.asks ∙ is_asks) does.2
     (subst (AllMeant set does.0.core.moment.view asks) (sym k.acts.outcomes)
-      (all_onward set _ _ asks s.outcomes (step_onward s does.0 (system_call n flags answer) k) all))
+    (all_onward set _ _ asks s.outcomes (step_onward s does.0 (system_call n flags answer) k) all))
 acted_meant (at_point point wiped ∷ steps) set asks s t is_set is_asks does all =
     let k = does.1 in
     let ran : Ran set point asks (is_first does.0.attempt) s.core.moment.view does.0.core.moment.view s.outcomes
-      does.0.outcomes =
+    does.0.outcomes =
     subst (λ (z : Setting). Ran z point asks (is_first does.0.attempt) s.core.moment.view does.0.core.moment.view
-      s.outcomes does.0.outcomes) is_set
+    s.outcomes does.0.outcomes) is_set
     (subst (λ (l : List Ask). Ran s.core.set point l (is_first does.0.attempt) s.core.moment.view
-      does.0.core.moment.view s.outcomes does.0.outcomes) is_asks k.ran) in
+    does.0.core.moment.view s.outcomes does.0.outcomes) is_asks k.ran) in
     acted_meant steps set asks does.0 t (k.set ∙ is_set) (k.asks ∙ is_asks) does.2
     (ran_meant set point (is_first does.0.attempt) asks s.core.moment.view does.0.core.moment.view s.outcomes
-      does.0.outcomes ran all)
+    does.0.outcomes ran all)
 
 -- The host over the lanes
 
 module _ {R : Type 0} where
   loans_then : (h i j : LaneHost R) → SameLoans h i → SameLoans i j → SameLoans h j
-  loans_then h i j a b = record { pass = b.pass ∙ a.pass; trace = b.trace ∙ a.trace; acts = b.acts ∙ a.acts;
-    out = b.out ∙ a.out; lanes = b.lanes ∙ a.lanes }
+  loans_then h i j a b = record {
+    pass = b.pass ∙ a.pass;
+    trace = b.trace ∙ a.trace;
+    acts = b.acts ∙ a.acts;
+    out = b.out ∙ a.out;
+    lanes = b.lanes ∙ a.lanes;
+  }
 
   host_step : (h next : LaneHost R) (step : HostStep) → Does hosting h step next →
-    Does acting (standing h) step (standing next) × SameLoans h next
+      Does acting (standing h) step (standing next) × SameLoans h next
   host_step h next (publishes g) does = does
   host_step h next (system_call n flags answer) does = does
   host_step h next (at_point point wiped) does = does
 
   -- its steps are those of the caller itself
   pub host_acts : (steps : List HostStep) (h last : LaneHost R) → DoesAll hosting h steps last →
-    DoesAll acting (standing h) steps (standing last) × SameLoans h last
-  host_acts [] h last does = (ap standing does, subst (SameLoans h) does
-    (record { pass = refl; trace = refl; acts = refl; out = refl; lanes = refl }))
+      DoesAll acting (standing h) steps (standing last) × SameLoans h last
+  host_acts [] h last does = (
+    ap standing does,
+    subst (SameLoans h) does
+        (record { pass = refl; trace = refl; acts = refl; out = refl; lanes = refl }),
+  )
   host_acts (step ∷ steps) h last does =
       let first = host_step h does.0 step does.1 in
       let rest = host_acts steps does.0 last does.2 in

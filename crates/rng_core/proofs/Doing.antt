@@ -44,8 +44,11 @@ did_floor set m n k = sees_up n.view (floor m.view) (floor n.view) k.deals k.tol
 pub did_in_map : {P Q : (ℕ → List Visit) → List Deed → Type 0} (set : Setting) (m n : Moment) →
     ((visits : ℕ → List Visit) (deeds : List Deed) → P visits deeds → Q visits deeds) → DidIn P set m n →
     DidIn Q set m n
-did_in_map set m n f k = record { deals = k.deals; told = k.told;
-    stands = λ lanes visits callers c. f visits _ (k.stands lanes visits callers c) }
+did_in_map set m n f k = record {
+  deals = k.deals;
+  told = k.told;
+  stands = λ lanes visits callers c. f visits _ (k.stands lanes visits callers c);
+}
 
 pub did_map : {P Q : List Deed → Type 0} (set : Setting) (m n : Moment) → ((deeds : List Deed) → P deeds → Q deeds) →
     Did P set m n → Did Q set m n
@@ -84,8 +87,11 @@ serving_looked set l m n g a k = record {
   deals = went.looked g ∷ k.deals;
   told = told_then set l m n (went.looked g ∷ []) k.deals a k.told;
   stands = λ lanes visits callers c. let h = k.stands lanes visits callers c in
-    record { form = (g, _, refl, h.form); bytes_are = h.bytes_are
-    ∙ sym (served_behind_look g (deeds_of (book_lists lanes visits callers) (map step_of k.deals))) };
+      record {
+        form = (g, _, refl, h.form);
+        bytes_are = h.bytes_are
+            ∙ sym (served_behind_look g (deeds_of (book_lists lanes visits callers) (map step_of k.deals)));
+      };
 }
 
 -- one visit of the pool, the base or a CPU
@@ -95,7 +101,7 @@ did_pool set m n place s e got x = record {
   deals = visited x.mark (Pool e) ∷ [];
   told = x.told;
   stands = λ lanes visits callers c. let f = found_pool lanes visits callers set m n place s got c e x in
-    record { pool = f.visit; deeds_are = ap (λ (d : Deed). d ∷ []) f.deed_is; is = f.is };
+      record { pool = f.visit; deeds_are = ap (λ (d : Deed). d ∷ []) f.deed_is; is = f.is };
 }
 
 pub did_base : (set : Setting) (m n : Moment) (place : ℕ) (e : BaseEntry) (bytes : List ℕ) →
@@ -104,10 +110,10 @@ did_base set m n place e bytes x = record {
   deals = visited x.visited.mark (Base e) ∷ [];
   told = x.visited.told;
   stands = λ lanes visits callers c. let f = found_base lanes visits callers set m n place x.model x.got c e x.visited
-    in record {
-    form = record { base = f.visit; deeds_are = ap (λ (d : Deed). d ∷ []) f.deed_is; is = f.is };
-    bytes_are = x.serves ∙ sym f.serves ∙ ap deed_bytes (sym f.deed_is);
-  };
+      in record {
+        form = record { base = f.visit; deeds_are = ap (λ (d : Deed). d ∷ []) f.deed_is; is = f.is };
+        bytes_are = x.serves ∙ sym f.serves ∙ ap deed_bytes (sym f.deed_is);
+      };
 }
 
 pub did_cpu : (set : Setting) (m n : Moment) (cpu place : ℕ) (e : CpuEntry) (bytes : List ℕ) → IsIntOfBatch e →
@@ -116,10 +122,10 @@ did_cpu set m n cpu place e bytes fits x = record {
   deals = visited x.visited.mark (Cpu e) ∷ [];
   told = x.visited.told;
   stands = λ lanes visits callers c. let f = found_cpu lanes visits callers set m n place x.model x.got c cpu e
-    x.visited fits in record {
-    form = record { visit = f.visit; deeds_are = ap (λ (d : Deed). d ∷ []) f.deed_is; on = f.on; is = f.is };
-    bytes_are = x.serves ∙ sym f.serves ∙ ap deed_bytes (sym f.deed_is);
-  };
+      x.visited fits in record {
+        form = record { visit = f.visit; deeds_are = ap (λ (d : Deed). d ∷ []) f.deed_is; on = f.on; is = f.is };
+        bytes_are = x.serves ∙ sym f.serves ∙ ap deed_bytes (sym f.deed_is);
+      };
 }
 
 -- a root, and a visit of the base that names it
@@ -130,11 +136,11 @@ pub did_rooted : (set : Setting) (l m n : Moment) (root base : ℕ) (s : Model) 
 did_rooted set l m n root base s got entry bytes x y = record {
   deals = visited x.mark (Pool (Extract set.hw base)) ∷ visited y.visited.mark (Base (entry root)) ∷ [];
   told = told_then set l m n (visited x.mark (Pool (Extract set.hw base)) ∷ [])
-    (visited y.visited.mark (Base (entry root)) ∷ []) x.told y.visited.told;
+      (visited y.visited.mark (Base (entry root)) ∷ []) x.told y.visited.told;
   stands = λ lanes visits callers c.
       let f = found_pool lanes visits callers set l m root s got
-        (continues_before lanes _ _ visits y.visited.told.went.same.sized y.visited.told.went.grows c)
-        (Extract set.hw base) x in
+      (continues_before lanes _ _ visits y.visited.told.went.same.sized y.visited.told.went.grows c)
+      (Extract set.hw base) x in
       let g = found_base lanes visits callers set m n base y.model y.got c (entry root) y.visited in record {
         form = record {
           pool = f.visit;
@@ -154,32 +160,32 @@ pub did_plain_read : (set : Setting) (l m n : Moment) (g place : ℕ) (taken : T
 did_plain_read set l m n g place taken bytes a x = record {
   deals = went.looked g ∷ visited x.visited.mark (Cpu (Read g None taken)) ∷ [];
   told = told_then set l m n (went.looked g ∷ []) (visited x.visited.mark (Cpu (Read g None taken)) ∷ []) a
-    x.visited.told;
+      x.visited.told;
   stands = λ lanes visits callers c. let f = found_cpu lanes visits callers set m n place x.model x.got c set.cpu
-    (Read g None taken) x.visited tt in record {
-    form = record { look = g; cpu = f.visit; deeds_are = (λ i. looked g ∷ f.deed_is i ∷ []); on = f.on; reads = f.is };
-    bytes_are = x.serves ∙ sym f.serves ∙ ap deed_bytes (sym f.deed_is);
-  };
+      (Read g None taken) x.visited tt in record {
+        form = record { look = g; cpu = f.visit; deeds_are = (λ i. looked g ∷ f.deed_is i ∷ []); on = f.on; reads = f.is };
+        bytes_are = x.serves ∙ sym f.serves ∙ ap deed_bytes (sym f.deed_is);
+      };
 }
 
 pub did_refilled_read : (set : Setting) (k l m n : Moment) (g base place : ℕ) (s : Model) (got : Handed)
     (taken : Taken) (bytes : List ℕ) → Told set k l (went.looked g ∷ []) →
     Visited set l m 1 base s (Base (Refill set.cpu place)) got
     → Served set m n (set.cpu + 2) place (Cpu (Read g (Some base) taken)) bytes →
-      Did (Serving (RefilledRead (setting_of set) taken) bytes) set k n
+    Did (Serving (RefilledRead (setting_of set) taken) bytes) set k n
 did_refilled_read set k l m n g base place s got taken bytes a x y = record {
   deals = went.looked g ∷ visited x.mark (Base (Refill set.cpu place)) ∷ visited y.visited.mark
-    (Cpu (Read g (Some base) taken)) ∷ [];
+      (Cpu (Read g (Some base) taken)) ∷ [];
   told = told_then set k l n (went.looked g ∷ [])
-    (visited x.mark (Base (Refill set.cpu place)) ∷ visited y.visited.mark (Cpu (Read g (Some base) taken)) ∷ []) a
+      (visited x.mark (Base (Refill set.cpu place)) ∷ visited y.visited.mark (Cpu (Read g (Some base) taken)) ∷ []) a
       (told_then set l m n (visited x.mark (Base (Refill set.cpu place)) ∷ [])
-        (visited y.visited.mark (Cpu (Read g (Some base) taken)) ∷ []) x.told y.visited.told);
+      (visited y.visited.mark (Cpu (Read g (Some base) taken)) ∷ []) x.told y.visited.told);
   stands = λ lanes visits callers c.
       let f = found_base lanes visits callers set l m base s got
-        (continues_before lanes _ _ visits y.visited.told.went.same.sized y.visited.told.went.grows c)
-        (Refill set.cpu place) x in
+      (continues_before lanes _ _ visits y.visited.told.went.same.sized y.visited.told.went.grows c)
+      (Refill set.cpu place) x in
       let h = found_cpu lanes visits callers set m n place y.model y.got c set.cpu (Read g (Some base) taken) y.visited
-        tt in record {
+      tt in record {
         form = record {
           look = g;
           base = f.visit;
@@ -198,9 +204,9 @@ pub did_nothing : {P : List Deed → Type 0} (set : Setting) (m : Moment) → 1 
 did_nothing set m two p = record {
   deals = [];
   told = told_idly set m m refl (went_idly set.caller set.event (length m.steps) m.view m.view
-    (record { first = refl; share = refl; halvings = refl; sized = refl })
+      (record { first = refl; share = refl; halvings = refl; sized = refl })
       (λ lane low. ([], sym (append-nil (known_of m.view lane)))) refl refl refl two (omega arith)
-        (λ lane low. record { made = refl; places = refl; heard = refl }));
+      (λ lane low. record { made = refl; places = refl; heard = refl }));
   stands = λ lanes visits callers c. p;
 }
 
@@ -219,14 +225,14 @@ did_credit set l m n place s e got crossed x is k = record {
   told = told_then set l m n (visited x.mark (Pool e) ∷ []) k.deals x.told k.told;
   stands = λ lanes visits callers c.
       let f = found_pool lanes visits callers set l m place s got
-        (continues_before lanes _ _ visits k.told.went.same.sized k.told.went.grows c) e x in
+      (continues_before lanes _ _ visits k.told.went.same.sized k.told.went.grows c) e x in
       let rest = deeds_of (book_lists lanes visits callers) (map step_of k.deals) in record {
         pool = f.visit;
         rest = rest;
         deeds_are = ap (λ (d : Deed). d ∷ rest) f.deed_is;
         credits = f.is;
         crosses = subst (λ (z : Crossing). Cross (setting_of set) z rest)
-          (is ∙ (λ i. crossing (sym f.before i).bits (sym f.after i).bits)) (k.stands lanes visits callers c);
+            (is ∙ (λ i. crossing (sym f.before i).bits (sym f.after i).bits)) (k.stands lanes visits callers c);
       };
 }
 
@@ -241,7 +247,7 @@ did_bits set m n place b s got x is = record {
     form = record { pool = f.visit; deeds_are = ap (λ (d : Deed). d ∷ []) f.deed_is; is = f.is };
     answers = refl;
     shows = ap count (is ∙ ap (λ (z : PoolState). z.bits) (sym f.before))
-      ∙ ap (λ (d : Deed). bits_read (d ∷ [])) (sym f.deed_is);
+        ∙ ap (λ (d : Deed). bits_read (d ∷ [])) (sym f.deed_is);
   };
 }
 
@@ -268,7 +274,7 @@ did_in_then set l m n a b = record {
     rest = deeds_of book (map step_of b.deals);
     deeds_are = deeds_then book a.deals b.deals;
     before = a.stands lanes visits callers (continues_before lanes _ _ visits b.told.went.same.sized b.told.went.grows
-      c);
+        c);
     behind = b.stands lanes visits callers c;
   };
 }
@@ -288,6 +294,9 @@ pub did_behind : {P : List Deed → Type 0} (set : Setting) (l m n : Moment) (g 
 did_behind set l m n g a k = record {
   deals = went.looked g ∷ k.deals;
   told = told_then set l m n (went.looked g ∷ []) k.deals a k.told;
-  stands = λ lanes visits callers c. record { rest = deeds_of (book_lists lanes visits callers) (map step_of k.deals);
-    deeds_are = refl; holds = k.stands lanes visits callers c };
+  stands = λ lanes visits callers c. record {
+    rest = deeds_of (book_lists lanes visits callers) (map step_of k.deals);
+    deeds_are = refl;
+    holds = k.stands lanes visits callers c;
+  };
 }

@@ -60,14 +60,14 @@ in_list : (lanes : ℕ) (v : View) (visits : ℕ → List Visit) (mark : Mark) (
     InList (visits lane) mark.place s e got
 in_list lanes v visits mark lane s e got on m k = subst (λ (l : ℕ). InList (visits l) mark.place s e got) on (
     let l : ℕ = index_of mark.lane in let b = k.begins l (let n = m.near in let f = k.long in omega arith) in let low =
-      at_below (known_of v l) mark.place m.visit m.there in record {
+    at_below (known_of v l) mark.place m.visit m.there in record {
       visit = m.visit;
       there = ap (λ (xs : List Visit). slice_get xs mark.place) b.1
-        ∙ stands_at (known_of v l ++ b.0) mark.place m.visit (at_longer (known_of v l) b.0 mark.place m.visit m.there);
+          ∙ stands_at (known_of v l ++ b.0) mark.place m.visit (at_longer (known_of v l) b.0 mark.place m.visit m.there);
       is = m.is;
       was_handed = m.was_handed;
       before = ap (λ (xs : List Visit). replay (take mark.place xs)) b.1
-        ∙ ap replay (take-append-le mark.place (known_of v l) b.0 (omega arith)) ∙ m.before;
+          ∙ ap replay (take-append-le mark.place (known_of v l) b.0 (omega arith)) ∙ m.before;
     })
 
 pub record FoundPool (deed : Deed) (place : ℕ) (s : PoolState) (e : PoolEntry) : Type 0 where
@@ -101,33 +101,33 @@ module _ (lanes : ℕ) (visits : ℕ → List Visit) (callers : List (List (List
   book = book_lists lanes visits callers
 
   pub found_pool : (e : PoolEntry) (x : Visited set m n 0 place s (Pool e) got) →
-    FoundPool (deed_of book (Marked x.mark)) place s.pool e
+      FoundPool (deed_of book (Marked x.mark)) place s.pool e
   found_pool e x = let h = in_list lanes n.view visits x.mark 0 s (Pool e) got x.lane_is x.met k in let d =
-    pool_deed lanes visits callers k.closed x.mark.place h.visit e h.there h.is in record {
-    visit = pool_visit book x.mark.place e;
-    deed_is = ap (λ (l : LaneId). deed_at book l x.mark.place) (lane_pool x.mark.lane x.lane_is) ∙ d.deed;
-    at = x.place_is;
-    is = refl;
-    before = d.before ∙ ap (λ (z : Model). z.pool) h.before;
-    after = d.after ∙ ap (λ (z : Model). pool_step z.pool e) h.before;
-  }
+      pool_deed lanes visits callers k.closed x.mark.place h.visit e h.there h.is in record {
+        visit = pool_visit book x.mark.place e;
+        deed_is = ap (λ (l : LaneId). deed_at book l x.mark.place) (lane_pool x.mark.lane x.lane_is) ∙ d.deed;
+        at = x.place_is;
+        is = refl;
+        before = d.before ∙ ap (λ (z : Model). z.pool) h.before;
+        after = d.after ∙ ap (λ (z : Model). pool_step z.pool e) h.before;
+      }
 
   pub found_base : (e : BaseEntry) (x : Visited set m n 1 place s (Base e) got) →
-    FoundBase (deed_of book (Marked x.mark)) place s e got
+      FoundBase (deed_of book (Marked x.mark)) place s e got
   found_base e x = let h = in_list lanes n.view visits x.mark 1 s (Base e) got x.lane_is x.met k in let d =
-    base_deed lanes visits callers k.closed x.mark.place h.visit e h.there h.is in record {
-    visit = base_visit book x.mark.place e;
-    deed_is = ap (λ (l : LaneId). deed_at book l x.mark.place) (lane_base x.mark.lane x.lane_is) ∙ d.deed;
-    at = x.place_is;
-    is = refl;
-    serves = d.serves ∙ (λ i. base_serving (h.before i).base (h.was_handed i) e);
-  }
+      base_deed lanes visits callers k.closed x.mark.place h.visit e h.there h.is in record {
+        visit = base_visit book x.mark.place e;
+        deed_is = ap (λ (l : LaneId). deed_at book l x.mark.place) (lane_base x.mark.lane x.lane_is) ∙ d.deed;
+        at = x.place_is;
+        is = refl;
+        serves = d.serves ∙ (λ i. base_serving (h.before i).base (h.was_handed i) e);
+      }
 
   pub found_cpu : (c : ℕ) (e : CpuEntry) (x : Visited set m n (c + 2) place s (Cpu e) got) → IsIntOfBatch e →
-    FoundCpu visits (deed_of book (Marked x.mark)) c place s e got
+      FoundCpu visits (deed_of book (Marked x.mark)) c place s e got
   found_cpu c e x fits = let h = in_list lanes n.view visits x.mark (c + 2) s (Cpu e) got x.lane_is x.met k in
       let d = cpu_deed lanes visits callers k.closed c x.mark.place h.visit e
-        (let a = x.met.near in let b = x.lane_is in let f = k.long in omega arith) h.there h.is fits in record {
+      (let a = x.met.near in let b = x.lane_is in let f = k.long in omega arith) h.there h.is fits in record {
         visit = cpu_visit book c x.mark.place e;
         deed_is = ap (λ (l : LaneId). deed_at book l x.mark.place) (lane_cpu x.mark.lane c x.lane_is) ∙ d.deed;
         on = refl;

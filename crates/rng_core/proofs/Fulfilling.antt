@@ -28,20 +28,29 @@ user_none set (b ∷ bs) e = absurd (omega arith)
 
 pub kernel_some : (set : Setting) (n m : ℕ) (bytes : List ℕ) (deeds : List Deed) → m ≡ n → 0 < n →
     Serving (Looked (ReadForm set (Kernel m))) bytes deeds → Fulfils set (Kread n) Done (bytes_or_none bytes) deeds
-kernel_some set n m bytes deeds e some h = record { form = match_some _ _ n some
-    (subst (λ (k : ℕ). Looked (ReadForm set (Kernel k)) deeds) e h.form); answers = refl;
-    shows = ap bytes_or_none h.bytes_are }
+kernel_some set n m bytes deeds e some h = record {
+  form = match_some _ _ n some
+      (subst (λ (k : ℕ). Looked (ReadForm set (Kernel k)) deeds) e h.form);
+  answers = refl;
+  shows = ap bytes_or_none h.bytes_are;
+}
 
 pub user_some : (set : Setting) (n m : ℕ) (bytes : List ℕ) (deeds : List Deed) → m ≡ n → 0 < n →
     Serving (Looked (ReadForm set (User m))) bytes deeds → Fulfils set (Uread n) Done (bytes_or_none bytes) deeds
-user_some set n m bytes deeds e some h = record { form = match_some _ _ n some
-    (subst (λ (k : ℕ). Looked (ReadForm set (User k)) deeds) e h.form); answers = refl;
-    shows = ap bytes_or_none h.bytes_are }
+user_some set n m bytes deeds e some h = record {
+  form = match_some _ _ n some
+      (subst (λ (k : ℕ). Looked (ReadForm set (User k)) deeds) e h.form);
+  answers = refl;
+  shows = ap bytes_or_none h.bytes_are;
+}
 
 pub reseed_unready : (set : Setting) (g : ℕ) (deeds : List Deed) → g ≡ 0 → deeds ≡ looked g ∷ [] →
     Fulfils set Reseed NoData no_data deeds
-reseed_unready set zero deeds z e = record { form = (zero, [], e, inl (refl, refl));
-    answers = ap (answer_of Reseed) (sym e); shows = refl }
+reseed_unready set zero deeds z e = record {
+  form = (zero, [], e, inl (refl, refl));
+  answers = ap (answer_of Reseed) (sym e);
+  shows = refl;
+}
 reseed_unready set (suc g) deeds z e = absurd (omega arith)
 
 pub reseed_ready : (set : Setting) (g : ℕ) (deeds rest : List Deed) → 1 ≤ g → deeds ≡ looked g ∷ rest →

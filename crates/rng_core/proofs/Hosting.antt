@@ -14,7 +14,7 @@ use Rattle.key_names.specs.declared.events.Event.TheVariants.{Read}
 use Rattle.key_names.specs.Deeds.{Deed, deed_or, deed_at, deed_of, deeds_of, at_pool, at_base, at_cpu, pool_visit, base_visit, cpu_visit}
 use Rattle.key_names.specs.Book.{Lists, cpu_list}
 use Rattle.key_names.specs.Answers.{system_answer, served_bytes}
-use Rattle.key_names.specs.SeenLine.{bytes_or_none, bytes_of}
+use Rattle.key_names.specs.SeenLine.{bytes_or_none, bytes_in}
 use Rattle.key_names.specs.Vgetrandom.{CpuPlace, SystemAnswer, read, failed}
 use Rattle.key_names.specs.VreadSteps.{published_by, place_of, last_place, errno_of, answer_with, answer_behind}
 use Rattle.lane_table.specs.declared.view.Visit.{Visit}
@@ -91,57 +91,57 @@ module _ (lanes : ℕ) (v : View) (visits : ℕ → List Visit) (callers : List 
   book = book_lists lanes visits callers
 
   no_place : {E : Type 0} (deed : E → Deed) → ((e : E) → place_of (deed e) ≡ None) → (o : Option E) →
-    place_of (deed_or deed o) ≡ None
+      place_of (deed_or deed o) ≡ None
   no_place deed none None = refl
   no_place deed none (Some e) = none e
 
   some_place : {E : Type 0} (deed : E → Deed) (place : CpuPlace) → ((e : E) → place_of (deed e) ≡ Some place) →
-    (o : Option E) (e : E) → o ≡ Some e → place_of (deed_or deed o) ≡ Some place
+      (o : Option E) (e : E) → o ≡ Some e → place_of (deed_or deed o) ≡ Some place
   some_place deed place is None e there = absurd (cc there)
   some_place deed place is (Some x) e there = is x
 
   cpu_there : (c place : ℕ) (visit : Visit) → c + 2 < length v.lanes →
-    slice_get (known_of v (c + 2)) place ≡ Some visit → slice_get (visits (c + 2)) place ≡ Some visit →
-    place_of (deed_at book (CpuLaneId c) place) ≡ Some (record { cpu = c; place = place })
+      slice_get (known_of v (c + 2)) place ≡ Some visit → slice_get (visits (c + 2)) place ≡ Some visit →
+      place_of (deed_at book (CpuLaneId c) place) ≡ Some (record { cpu = c; place = place })
   cpu_there c place visit near known there =
       let lane : CpuLane lanes c book (visits (c + 2)) =
-        cpu_lane_of lanes visits callers k.closed c (let f = k.long in omega arith) in
+      cpu_lane_of lanes visits callers k.closed c (let f = k.long in omega arith) in
       let at = lane_at (cpu_kind c) lanes (visits (c + 2)) lane.lawful place visit there in
       some_place (λ e. at_cpu (cpu_visit book c place e)) (record { cpu = c; place = place }) (λ e. refl)
-        (slice_get (cpu_list book c) place) at.entry (ap (λ es. slice_get es place) lane.listed ∙ at.stands)
+      (slice_get (cpu_list book c) place) at.entry (ap (λ es. slice_get es place) lane.listed ∙ at.stands)
 
   mark_place : (l : LaneId) (place : ℕ) (visit : Visit) → index_of l < length v.lanes →
-    get_elem? (known_of v (index_of l)) place ≡ some visit → place_of (deed_at book l place) ≡ cpu_place l place
+      get_elem? (known_of v (index_of l)) place ≡ some visit → place_of (deed_at book l place) ≡ cpu_place l place
   mark_place PoolLane place visit near there = no_place (λ e. at_pool (pool_visit book place e)) (λ e. refl)
-    (slice_get book.pool place)
+      (slice_get book.pool place)
   mark_place BaseLane place visit near there = no_place (λ e. at_base (base_visit book place e)) (λ e. refl)
-    (slice_get book.base place)
+      (slice_get book.base place)
   mark_place (CpuLaneId c) place visit near there =
       let b = k.begins (c + 2) (let f = k.long in omega arith) in
       cpu_there c place visit near (stands_at (known_of v (c + 2)) place visit there)
       (ap (λ (xs : List Visit). slice_get xs place) b.1
-        ∙ stands_at (known_of v (c + 2) ++ b.0) place visit (at_longer (known_of v (c + 2)) b.0 place visit there))
+      ∙ stands_at (known_of v (c + 2) ++ b.0) place visit (at_longer (known_of v (c + 2)) b.0 place visit there))
 
   deal_place : (caller event n : ℕ) (deal : Deal) → AllStand v caller event n (deal ∷ []) →
-    place_of (deed_of book (step_of deal)) ≡ place_in deal
+      place_of (deed_of book (step_of deal)) ≡ place_in deal
   deal_place caller event n (looked g) stand = refl
   deal_place caller event n (visited mark e) stand =
-    mark_place mark.lane mark.place stand.0.visit stand.0.near stand.0.there
+      mark_place mark.lane mark.place stand.0.visit stand.0.near stand.0.there
 
   pub last_found : (caller event n : ℕ) (deals : List Deal) → AllStand v caller event n deals →
-    last_place (deeds_of book (map step_of deals)) ≡ visit_of deals
+      last_place (deeds_of book (map step_of deals)) ≡ visit_of deals
   last_found caller event n [] stand = refl
   last_found caller event n (deal ∷ []) stand = deal_place caller event n deal stand
   last_found caller event n (looked g ∷ next ∷ deals) stand = last_found caller event (suc n) (next ∷ deals) stand
   last_found caller event n (visited mark e ∷ next ∷ deals) stand =
-    last_found caller event (suc n) (next ∷ deals) stand.1
+      last_found caller event (suc n) (next ∷ deals) stand.1
 
-shown_bytes : (xs : List ℕ) → bytes_of (bytes_or_none xs) ≡ xs
+shown_bytes : (xs : List ℕ) → bytes_in (bytes_or_none xs) ≡ xs
 shown_bytes [] = refl
 shown_bytes (x ∷ xs) = refl
 
 same_bytes : (xs ys : List ℕ) → bytes_or_none xs ≡ bytes_or_none ys → xs ≡ ys
-same_bytes xs ys e = sym (shown_bytes xs) ∙ ap bytes_of e ∙ shown_bytes ys
+same_bytes xs ys e = sym (shown_bytes xs) ∙ ap bytes_in e ∙ shown_bytes ys
 
 -- what was answered, by what was returned
 abbrev pub answer_by : Result (Unit {0}) Errno → List ℕ → Option CpuPlace → SystemAnswer
@@ -181,8 +181,8 @@ system_called set n flags result bytes l m k = record {
   stands = λ lanes visits callers c. let h = k.stands lanes visits callers c in record {
     form = h.form;
     answers = answered_behind flags result bytes (visit_of k.deals)
-      (deeds_of (book_lists lanes visits callers) (map step_of k.deals)) h.answers h.shows
-      (sym (last_found lanes m.view visits callers c set.caller set.event (length l.steps) k.deals k.told.went.stand));
+        (deeds_of (book_lists lanes visits callers) (map step_of k.deals)) h.answers h.shows
+        (sym (last_found lanes m.view visits callers c set.caller set.event (length l.steps) k.deals k.told.went.stand));
   };
 }
 
@@ -190,4 +190,4 @@ pub has_again : (t t' : Lanes) (set set' : Setting) (p : Pass) → t' ≡ t → 
     Has t set.caller [] p
 has_again t t' set set' p same_table same_set k =
     free_has t set.caller p (subst (λ (z : Lanes). IsFree z set.caller p) same_table
-      (subst (λ (z : Setting). IsFree t' z.caller p) same_set k))
+    (subst (λ (z : Setting). IsFree t' z.caller p) same_set k))

@@ -1,7 +1,7 @@
 -- An input event in the pool and its timer.
 use Rattle.std.proofs.Common.{◌≡◌, ◌≢◌, ℕ, ◌<◌, ◌≤◌, List, sym, ap, ◌∙◌, subst, arith}
 use Rattle.key_names.specs.declared.entries.PoolEntry.TheVariants.{Input}
-use Rattle.key_names.specs.InputTimer.{InputTimer, timer_after, timer_bits}
+use Rattle.key_names.specs.InputTimer.{InputTimer, input_timer_after, timer_bits}
 use Rattle.key_names.specs.PoolList.{PoolState, crossing, credit, pool_step}
 use Rattle.input_pool.specs.PoolStands.{PoolParts, PoolStands}
 use Rattle.input_pool.proofs.Callers.{mixed, mixed_and_credited, input_bytes, credit-none, crossing-mix, PoolStands-timed, PoolStands-untimed, pool_step-timed, pool_step-untimed}
@@ -32,16 +32,16 @@ module _ (s : PoolState) (word kind code value now : ℕ) (before between : Pool
   -- where the pool is full, nothing is credited
   pub untimed : 256 ≤ between.bits → InputStands between kept (pool_step s (Input word kind code value now))
   untimed full = let full' : 256 ≤ s.bits = (let u = uncredited in omega arith) in let e =
-    pool_step-untimed s word kind code value now differs full' in record {
-    pool = PoolStands-untimed before between s word kind code value now differs m.stood.pool full'
-      (subst (λ (t : List ℕ). PoolStands between (mixed s t)) m.bytes m.mixes);
-    value = ap (λ (k : LastInput). k.value) m.keeps ∙ sym (ap (λ (z : PoolState). z.value) e);
-    timer = ap (λ (k : LastInput). k.timer) m.keeps ∙ m.stood.timer ∙ sym (ap (λ (z : PoolState). z.timer) e);
-  }
+      pool_step-untimed s word kind code value now differs full' in record {
+        pool = PoolStands-untimed before between s word kind code value now differs m.stood.pool full'
+            (subst (λ (t : List ℕ). PoolStands between (mixed s t)) m.bytes m.mixes);
+        value = ap (λ (k : LastInput). k.value) m.keeps ∙ sym (ap (λ (z : PoolState). z.value) e);
+        timer = ap (λ (k : LastInput). k.timer) m.keeps ∙ m.stood.timer ∙ sym (ap (λ (z : PoolState). z.timer) e);
+      }
 
   -- and where it is not, what the timer gives
   module _ (after : PoolParts) (next : LastInput) (bits : ℕ) (room : between.bits < 256)
-    (worth : bits ≡ timer_bits kept.timer now) (credits : PoolStands after (mixed_and_credited s text bits)) where
+      (worth : bits ≡ timer_bits kept.timer now) (credits : PoolStands after (mixed_and_credited s text bits)) where
     room' : s.bits < 256
     room' = let u = uncredited in omega arith
 
@@ -51,19 +51,19 @@ module _ (s : PoolState) (word kind code value now : ℕ) (before between : Pool
     worth' : bits ≡ timer_bits s.timer now
     worth' = worth ∙ ap (λ (t : InputTimer). timer_bits t now) timer_is
 
-    pub timed : next ≡ record kept { timer = timer_after kept.timer now } →
-      InputStands after next (pool_step s (Input word kind code value now))
+    pub timed : next ≡ record kept { timer = input_timer_after kept.timer now } →
+        InputStands after next (pool_step s (Input word kind code value now))
     timed times = let e = pool_step-timed s word kind code value now differs room' in record {
       pool = PoolStands-timed after s word kind code value now differs room'
-        (subst (λ (b : ℕ). PoolStands after (mixed_and_credited s (input_bytes word kind code value) b)) worth'
-        (subst (λ (t : List ℕ). PoolStands after (mixed_and_credited s t bits)) m.bytes credits));
+          (subst (λ (b : ℕ). PoolStands after (mixed_and_credited s (input_bytes word kind code value) b)) worth'
+          (subst (λ (t : List ℕ). PoolStands after (mixed_and_credited s t bits)) m.bytes credits));
       value = ap (λ (k : LastInput). k.value) times ∙ ap (λ (k : LastInput). k.value) m.keeps
-        ∙ sym (ap (λ (z : PoolState). z.value) e);
-      timer = ap (λ (k : LastInput). k.timer) times ∙ ap (λ (t : InputTimer). timer_after t now) timer_is
-        ∙ sym (ap (λ (z : PoolState). z.timer) e);
+          ∙ sym (ap (λ (z : PoolState). z.value) e);
+      timer = ap (λ (k : LastInput). k.timer) times ∙ ap (λ (t : InputTimer). input_timer_after t now) timer_is
+          ∙ sym (ap (λ (z : PoolState). z.timer) e);
     }
 
     pub crosses : crossing between.bits after.bits ≡ crossing s.bits (pool_step s (Input word kind code value now)).bits
     crosses = crossing-mix before between after s text bits m.stood.pool m.mixes credits
-      ∙ ap (λ (b : ℕ). crossing s.bits (credit s.bits b)) worth'
-      ∙ ap (λ (z : PoolState). crossing s.bits z.bits) (sym (pool_step-timed s word kind code value now differs room'))
+        ∙ ap (λ (b : ℕ). crossing s.bits (credit s.bits b)) worth'
+        ∙ ap (λ (z : PoolState). crossing s.bits z.bits) (sym (pool_step-timed s word kind code value now differs room'))

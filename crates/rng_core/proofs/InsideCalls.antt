@@ -2,6 +2,7 @@
 use Rattle.std.proofs.Common.{◌≡◌, ℕ, ◌<◌, ◌≤◌, Bool, true, false, not, List, [], ◌∷◌, length, map, drop, refl, sym, ap, ◌∙◌, subst, arith}
 use Rattle.std.specs.Prelude.{MatchBool, ◌==◌, ◌&&◌, ◌||◌, ◌^◌, if◌then◌else◌}
 use Rattle.std.specs.List.{AllByRecursion}
+use Rattle.std.proofs.lemmas.List.{length-map}
 use Rattle.std.proofs.lemmas.Bool.{le-leb, ne_eqb}
 use Rattle.key_names.specs.declared.events.Answer.{Answer}
 use Rattle.key_names.specs.declared.point.Point.{Point}
@@ -31,7 +32,7 @@ use Rattle.rng_core.specs.declared.setting.Setting.{Setting}
 use Rattle.rng_core.specs.Did.{setting_of, result_answer, given}
 use Rattle.rng_core.specs.VreadDid.{done_of, Called}
 use Rattle.rng_core.specs.Hosted.{stand}
-use Rattle.rng_core.specs.Acts.{Ask, ActOutcome, wants, asks_of, outcomes_of, is_ready, all_ready, wipes_at, done_line}
+use Rattle.rng_core.specs.Acts.{Ask, ActOutcome, wants, ask_of, asks_of, outcomes_of, is_ready, all_ready, wipes_at, done_line}
 use Rattle.rng_core.specs.Acting.{ActStand, act_stand, acting, InsideRan}
 use Rattle.rng_core.specs.Hosting.{standing, SameLoans, hosting}
 use Rattle.rng_core.specs.InsideDid.{IsFresh, bound_acts, outcome_line, inside_meaning, InsideDid}
@@ -51,29 +52,37 @@ pub fresh_ready : (bounds : List Bound) → AllByRecursion IsFresh bounds → al
 fresh_ready [] all = refl
 fresh_ready (b ∷ bounds) all = ap (λ (x : Bool). x && all_ready bounds) (fresh_one b all.0) ∙ fresh_ready bounds all.1
 
-fresh_meant : (set : Setting) (w : View) (bounds : List Bound) (out : List ℕ) → AllByRecursion IsFresh bounds →
-    AllMeant set w (asks_of bounds) (outcomes_of bounds out)
-fresh_meant set w [] out all = tt
-fresh_meant set w (b ∷ bounds) out all = (
+-- an act that was not done
+pub record IsUndone (x : ActOutcome) : Type 0 where
+  pub idle : x.done ≡ false
+  pub empty : x.steps ≡ []
+
+pub fresh_undone : (bounds : List Bound) (out : List ℕ) → AllByRecursion IsFresh bounds →
+    AllByRecursion IsUndone (outcomes_of bounds out)
+fresh_undone [] out all = tt
+fresh_undone (b ∷ bounds) out all = (
+  record { idle = all.0.idle; empty = all.0.empty },
+  fresh_undone bounds (drop (wants b.act) out) all.1,
+)
+
+pub outcomes_long : (bounds : List Bound) (out : List ℕ) → length (outcomes_of bounds out) ≡ length (asks_of bounds)
+outcomes_long [] out = refl
+outcomes_long (b ∷ bounds) out = let e = outcomes_long bounds (drop (wants b.act) out) in omega arith
+
+-- they mean nothing yet
+pub undone_meant : (set : Setting) (v : View) (asks : List Ask) (xs : List ActOutcome) → AllByRecursion IsUndone xs →
+    length xs ≡ length asks → AllMeant set v asks xs
+undone_meant set v [] [] all long = tt
+undone_meant set v [] (x ∷ xs) all long = absurd (omega arith)
+undone_meant set v (a ∷ asks) [] all long = absurd (omega arith)
+undone_meant set v (a ∷ asks) (x ∷ xs) all long = (
   record {
-    done = λ e lanes visits callers c. let f : true ≡ false = sym e ∙ all.0.idle in absurd (cc f);
+    done = λ e lanes visits callers c. let no : true ≡ false = sym e ∙ all.0.idle in absurd (cc no);
     idle = λ e. all.0.empty;
     fits = subst (AllByRecursion StepFits) (sym all.0.empty) tt;
   },
-  fresh_meant set w bounds (drop (wants b.act) out) all.1,
+  undone_meant set v asks xs all.1 (omega arith),
 )
-
-abbrev IsIdle : ActOutcome → Type 0
-IsIdle x = x.done ≡ false
-
-fresh_idle : (bounds : List Bound) (out : List ℕ) → AllByRecursion IsFresh bounds →
-    AllByRecursion IsIdle (outcomes_of bounds out)
-fresh_idle [] out all = tt
-fresh_idle (b ∷ bounds) out all = (all.0.idle, fresh_idle bounds (drop (wants b.act) out) all.1)
-
-fresh_long : (bounds : List Bound) (out : List ℕ) → length (outcomes_of bounds out) ≡ length (asks_of bounds)
-fresh_long [] out = refl
-fresh_long (b ∷ bounds) out = let e = fresh_long bounds (drop (wants b.act) out) in omega arith
 
 -- What the acts mean
 
@@ -85,28 +94,35 @@ all_fit set w (a ∷ asks) [] all = absurd all
 all_fit set w (a ∷ asks) (z ∷ zs) all = (all.0.fits, all_fit set w asks zs all.1)
 
 wiped_is : (set : Setting) (w : View) (point : Point) (asks : List Ask) (zs : List ActOutcome) →
-    AllMeant set w asks zs → is_wiped (bound_acts set asks zs) point ≡ wipes_at asks point
+    AllMeant set w asks zs →
+    is_wiped (bound_acts set asks zs) point ≡ wipes_at asks point
 wiped_is set w point [] [] all = refl
 wiped_is set w point [] (z ∷ zs) all = absurd all
 wiped_is set w point (a ∷ asks) [] all = absurd all
 wiped_is set w point (a ∷ asks) (z ∷ zs) all =
-    ap (λ (b : Bool). (number_of a.point == number_of point && is_wipe a.act) || b) (wiped_is set w point asks zs all.1)
+    ap (λ (b : Bool). (number_of a.point == number_of point && is_wipe a.act) || b)
+    (wiped_is set w point asks zs all.1)
 
 module _ (set : Setting) (w : View) (lanes : ℕ) (visits : ℕ → List Visit) (callers : StateLists)
-    (c : Continues lanes w visits) (points : List PointReached) where
+    (c : Continues lanes w visits)
+    (points : List PointReached) where
   abbrev lists : Lists
   lists = book_lists lanes visits callers
 
-  one_means : (a : Ask) (z : ActOutcome) (done : z.done ≡ true →
-    ActMeans (setting_of set) a.act (done_line (deeds_of lists z.steps) z.answer z.bytes)) (b : Bool) → z.done ≡ b →
+  one_means : (a : Ask) (z : ActOutcome)
+      (done : z.done ≡ true → ActMeans (setting_of set) a.act (done_line (deeds_of lists z.steps) z.answer z.bytes))
+      (b : Bool) →
+      z.done ≡ b →
       MatchBool b (ActMeans (setting_of set) a.act (outcome_line lists z)) (outcome_line lists z ≡ unused_line)
   one_means a z done true e = subst (ActMeans (setting_of set) a.act)
-    (sym (ap (λ (d : Bool). if d then done_line (deeds_of lists z.steps) z.answer z.bytes else unused_line) e)) (done e)
+      (sym (ap (λ (d : Bool). if d then done_line (deeds_of lists z.steps) z.answer z.bytes else unused_line) e))
+      (done e)
   one_means a z done false e = ap (λ (d : Bool). if d then done_line (deeds_of lists z.steps) z.answer z.bytes else
-    unused_line) e
+      unused_line) e
 
-  acts_mean : (asks : List Ask) (xs zs : List ActOutcome) → AllByRecursion IsIdle xs →
-    AllDone (first_points points) asks xs zs → AllMeant set w asks zs →
+  acts_mean : (asks : List Ask) (xs zs : List ActOutcome) → AllByRecursion IsUndone xs →
+      AllDone (first_points points) asks xs zs →
+      AllMeant set w asks zs →
       ActsMean (setting_of set) (is_reached points) (bound_acts set asks zs) (map (outcome_line lists) zs)
   acts_mean [] [] [] idle done all = tt
   acts_mean [] [] (z ∷ zs) idle done all = absurd all
@@ -115,21 +131,18 @@ module _ (set : Setting) (w : View) (lanes : ℕ) (visits : ℕ → List Visit) 
   acts_mean (a ∷ asks) (x ∷ xs) [] idle done all = absurd all
   acts_mean (a ∷ asks) (x ∷ xs) (z ∷ zs) idle done all = (
     one_means a z (λ e. all.0.done e lanes visits callers c) (came (first_points points) a)
-      (done.0 ∙ ap (λ (b : Bool). b || came (first_points points) a) idle.0),
+        (done.0 ∙ ap (λ (b : Bool). b || came (first_points points) a) idle.0.idle),
     acts_mean asks xs zs idle.1 done.1 all.1,
   )
 
 no_local : (n flags : ℕ) (set : Setting) (w : View) (asks : List Ask) (zs : List ActOutcome) → 0 < length asks →
-    AllMeant set w asks zs → tries_local n flags (bound_acts set asks zs) ≡ false
+    AllMeant set w asks zs →
+    tries_local n flags (bound_acts set asks zs) ≡ false
 no_local n flags set w [] zs some all = absurd (omega arith)
 no_local n flags set w (a ∷ asks) [] some all = absurd all
 no_local n flags set w (a ∷ asks) (z ∷ zs) some all =
     ap (λ (b : Bool). b && (not (n == 0) && not (is_bad flags)))
-      (ne_eqb (length (bound_acts set (a ∷ asks) (z ∷ zs))) 0 (λ e. absurd (omega arith)))
-
-asks_long : (bounds : List Bound) → length (asks_of bounds) ≡ length bounds
-asks_long [] = refl
-asks_long (b ∷ bounds) = let e = asks_long bounds in omega arith
+    (ne_eqb (length (bound_acts set (a ∷ asks) (z ∷ zs))) 0 (λ e. absurd (omega arith)))
 
 -- a call on the host over the lanes, h being where it began
 module _ {R : Type 0} {h last : LaneHost R} {finish : Finish} (n flags : ℕ) (s : VgetrandomState)
@@ -154,8 +167,8 @@ module _ {R : Type 0} {h last : LaneHost R} {finish : Finish} (n flags : ℕ) (s
 
   -- each step is one of the caller itself
   pub inside_ran : InsideRan n flags s finish.state from
-    (λ attempt. act_stand (stand h.set.now last.pass.now last.trace.now) attempt (asks_of last.acts.now)
-    (outcomes_of last.acts.now last.out.now))
+      (λ attempt. act_stand (stand h.set.now last.pass.now last.trace.now) attempt
+      (asks_of last.acts.now) (outcomes_of last.acts.now last.out.now))
   inside_ran = record {
     steps = runs.steps;
     outcome = runs.outcome;
@@ -163,23 +176,24 @@ module _ {R : Type 0} {h last : LaneHost R} {finish : Finish} (n flags : ℕ) (s
     state = runs.state;
     last = last.attempt;
     does = subst (λ (z : Setting). DoesAll acting from runs.steps
-      (act_stand (stand z last.pass.now last.trace.now) last.attempt (asks_of last.acts.now)
-      (outcomes_of last.acts.now last.out.now))) same_set does;
+        (act_stand (stand z last.pass.now last.trace.now) last.attempt (asks_of last.acts.now)
+        (outcomes_of last.acts.now last.out.now))) same_set does;
   }
 
   module _ (low : s.generation ≤ published_by (floor (view h.pass.now))) where
     ended : EndsWell (published_by (floor (view last.pass.now))) n runs.outcome
     ended =
         let more = published_more (floor (view h.pass.now)) (floor (view last.pass.now))
-          (acted_onward runs.steps from to does).floors in
+        (acted_onward runs.steps from to does).floors in
         call_ends (published_by (floor (view last.pass.now))) n flags s runs.steps runs.outcome (omega arith)
-          (acted_up_to runs.steps from to does) runs.relates
+        (acted_up_to runs.steps from to does) runs.relates
 
     pub still_current : finish.state.generation ≤ published_by (floor (view last.pass.now))
     still_current = let a = ended.low in let e = ap (λ (z : VgetrandomState). z.generation) runs.state in omega arith
 
     module _ (two : 1 < length (view h.pass.now).lanes) (fresh : AllByRecursion IsFresh h.acts.now)
-      (before_all : h.attempt ≡ Before) (long : length finish.buf ≡ n) where
+        (before_all : h.attempt ≡ Before)
+        (long : length finish.buf ≡ n) where
       abbrev set : Setting
       set = h.set.now
 
@@ -191,10 +205,12 @@ module _ {R : Type 0} {h last : LaneHost R} {finish : Finish} (n flags : ℕ) (s
 
       meant : AllMeant set (view last.pass.now) asks zs
       meant = acted_meant runs.steps set asks from to refl refl does
-        (fresh_meant set (view h.pass.now) h.acts.now h.out.now fresh)
+          (undone_meant set (view h.pass.now) asks (outcomes_of h.acts.now h.out.now)
+          (fresh_undone h.acts.now h.out.now fresh)
+          (outcomes_long h.acts.now h.out.now))
 
       done : AllDone (first_points (points_of runs.steps)) asks (outcomes_of h.acts.now h.out.now) zs
-      done = acted_done runs.steps asks Before from to refl before_all (fresh_long h.acts.now h.out.now) does
+      done = acted_done runs.steps asks Before from to refl before_all (outcomes_long h.acts.now h.out.now) does
 
       own : Own set (asks ≡ []) (Shows (setting_of set) runs.steps) from.core.moment to.core.moment
       own = acted_own runs.steps set asks from to refl refl two does
@@ -202,9 +218,9 @@ module _ {R : Type 0} {h last : LaneHost R} {finish : Finish} (n flags : ℕ) (s
       wipes : WipesStand (bound_acts set asks zs) (points_of runs.steps)
       wipes = let k = acted_wipes runs.steps asks Before from to refl before_all does in record {
         first = each_weaker (λ (reached : PointReached). reached.wiped ≡ wipes_at asks reached.point)
-          (λ (reached : PointReached). reached.wiped ≡ is_wiped (bound_acts set asks zs) reached.point)
-            (first_points (points_of runs.steps)) (λ reached e. e
-              ∙ sym (wiped_is set (view last.pass.now) reached.point asks zs meant)) k.0;
+            (λ (reached : PointReached). reached.wiped ≡ is_wiped (bound_acts set asks zs) reached.point)
+            (first_points (points_of runs.steps))
+            (λ reached e. e ∙ sym (wiped_is set (view last.pass.now) reached.point asks zs meant)) k.0;
         second = k.1;
       }
 
@@ -218,7 +234,7 @@ module _ {R : Type 0} {h last : LaneHost R} {finish : Finish} (n flags : ℕ) (s
       ends = ending_is n runs.outcome.ending finish.result finish.buf long ended.none runs.ends
 
       pub called : length h.acts.now ≡ 0 → Called n flags s finish.state answer shown set from.core.moment
-        to.core.moment
+          to.core.moment
       called idle = let none = ap asks_of (none_left h.acts.now idle) in record {
         steps = runs.steps;
         outcome = runs.outcome;
@@ -231,8 +247,8 @@ module _ {R : Type 0} {h last : LaneHost R} {finish : Finish} (n flags : ℕ) (s
       }
 
       module _ (lanes : ℕ) (visits : ℕ → List Visit) (callers : StateLists)
-        (c : Continues lanes (view last.pass.now) visits) (before : CallerState)
-        (set_is : before.setting ≡ setting_of set) (state_is : current_state before ≡ s) where
+          (c : Continues lanes (view last.pass.now) visits)
+          (before : CallerState) (set_is : before.setting ≡ setting_of set) (state_is : current_state before ≡ s) where
         abbrev book : Lists
         book = book_lists lanes visits callers
 
@@ -247,13 +263,14 @@ module _ {R : Type 0} {h last : LaneHost R} {finish : Finish} (n flags : ℕ) (s
           steps = runs.steps;
           outcome = runs.outcome;
           is_call = subst (λ (z : VgetrandomState). IsCall n flags z runs.steps runs.outcome) (sym state_is)
-            runs.relates;
+              runs.relates;
           shows = subst (λ z. Shows z runs.steps deeds) (sym set_is) (own.stands lanes visits callers c);
           wipes = wipes;
           inside = subst (λ z. ActsMean z (is_reached (points_of runs.steps)) (bound_acts set asks zs)
-            (map (outcome_line book) zs)) (sym set_is)
+              (map (outcome_line book) zs))
+              (sym set_is)
               (acts_mean set (view last.pass.now) lanes visits callers c (points_of runs.steps) asks
-                (outcomes_of h.acts.now h.out.now) zs (fresh_idle h.acts.now h.out.now fresh) done meant);
+              (outcomes_of h.acts.now h.out.now) zs (fresh_undone h.acts.now h.out.now fresh) done meant);
           answer = ends.0;
           shown = ends.1;
           entries = refl;
@@ -263,14 +280,14 @@ module _ {R : Type 0} {h last : LaneHost R} {finish : Finish} (n flags : ℕ) (s
         line : 0 < length h.acts.now → VreadMeans n flags (bound_acts set asks zs) meaning
         line some = record {
           looks = subst NeverFall (sym (same_looks book own.deals))
-            (never_fall (floor (view h.pass.now)) (looks_in own.deals) (floor (view last.pass.now)) own.rises);
+              (never_fall (floor (view h.pass.now)) (looks_in own.deals) (floor (view last.pass.now)) own.rises);
           ways = match_false _ _ (tries_local n flags (bound_acts set asks zs))
-              (no_local n flags set (view last.pass.now) asks zs (let e = asks_long h.acts.now in omega arith) meant)
-                by_call;
+              (no_local n flags set (view last.pass.now) asks zs (let e = length-map h.acts.now ask_of in omega arith)
+              meant) by_call;
         }
 
       pub inside_did : 0 < length h.acts.now → InsideDid n flags s finish.state answer shown set from.core.moment
-        to.core.moment asks zs
+          to.core.moment asks zs
       inside_did some = record {
         entries = runs.outcome.entries;
         deals = own.deals;
@@ -278,5 +295,5 @@ module _ {R : Type 0} {h last : LaneHost R} {finish : Finish} (n flags : ℕ) (s
         fits = own.fits;
         acts_fit = all_fit set (view last.pass.now) asks zs meant;
         stands = λ lanes visits callers c before set_is state_is. line lanes visits callers c before set_is state_is
-          some;
+            some;
       }

@@ -66,12 +66,17 @@ pub did_batch : (set : Setting) (l m n : Moment) (g place width : ℕ) (fills : 
     → Did (Serving (BatchForm (setting_of set) width) bytes) set l n
 did_batch set l m n g place width fills bytes fits a x =
     did_map set l n (λ deeds h. let f = h.form.3 in record {
-      form = record { look = h.form.0; cpu = f.visit; filled = fills;
-        deeds_are = h.form.2 ∙ ap (λ (rest : List Deed). looked h.form.0 ∷ rest) f.deeds_are; on = f.on;
-        serves = f.is };
+      form = record {
+        look = h.form.0;
+        cpu = f.visit;
+        filled = fills;
+        deeds_are = h.form.2 ∙ ap (λ (rest : List Deed). looked h.form.0 ∷ rest) f.deeds_are;
+        on = f.on;
+        serves = f.is;
+      };
       bytes_are = h.bytes_are;
     }) (serving_looked {P = λ (look : ℕ). CpuOnly set.cpu (Int look None width fills)} set l m n g a
-      (did_cpu set m n set.cpu place (Int g None width fills) bytes fits x))
+    (did_cpu set m n set.cpu place (Int g None width fills) bytes fits x))
 
 -- an entry of the base, and one of a CPU, at a place
 record BaseAt (place : ℕ) (entry : BaseEntry) (deeds : List Deed) : Type 0 where
@@ -94,7 +99,7 @@ did_base_at set m n place s e got x = record {
   deals = visited x.mark (Base e) ∷ [];
   told = x.told;
   stands = λ lanes visits callers c. let f = found_base lanes visits callers set m n place s got c e x in
-    record { visit = f.visit; deeds_are = ap (λ (d : Deed). d ∷ []) f.deed_is; at = f.at; is = f.is };
+      record { visit = f.visit; deeds_are = ap (λ (d : Deed). d ∷ []) f.deed_is; at = f.at; is = f.is };
 }
 
 did_cpu_at : (set : Setting) (m n : Moment) (cpu place : ℕ) (e : CpuEntry) (bytes : List ℕ) → IsIntOfBatch e →
@@ -103,26 +108,26 @@ did_cpu_at set m n cpu place e bytes fits x = record {
   deals = visited x.visited.mark (Cpu e) ∷ [];
   told = x.visited.told;
   stands = λ lanes visits callers c. let f = found_cpu lanes visits callers set m n place x.model x.got c cpu e
-    x.visited fits in record {
-    visit = f.visit;
-    deeds_are = ap (λ (d : Deed). d ∷ []) f.deed_is;
-    on = f.on;
-    at = f.at;
-    is = f.is;
-    serves = x.serves ∙ sym f.serves;
-  };
+      x.visited fits in record {
+        visit = f.visit;
+        deeds_are = ap (λ (d : Deed). d ∷ []) f.deed_is;
+        on = f.on;
+        at = f.at;
+        is = f.is;
+        serves = x.serves ∙ sym f.serves;
+      };
 }
 
 pub did_refilled_batch : (set : Setting) (k l m n : Moment) (g base place width : ℕ) (s : Model) (got : Handed)
     (bytes : List ℕ) → FitsBatch width → Told set k l (went.looked g ∷ []) →
     Visited set l m 1 base s (Base (Refill set.cpu place)) got
     → Served set m n (set.cpu + 2) place (Cpu (Int g (Some base) width true)) bytes →
-      Did (Serving (RefilledBatch (setting_of set) width) bytes) set k n
+    Did (Serving (RefilledBatch (setting_of set) width) bytes) set k n
 did_refilled_batch set k l m n g base place width s got bytes fits a x y =
     did_map set k n (λ deeds h. let b = h.holds.before in let v = h.holds.behind in
     let is : deeds ≡ looked g ∷ at_base b.visit ∷ at_cpu v.visit ∷ [] =
-      h.deeds_are ∙ ap (λ (rest : List Deed). looked g ∷ rest)
-      (h.holds.deeds_are ∙ (λ i. b.deeds_are i ++ v.deeds_are i)) in record {
+    h.deeds_are ∙ ap (λ (rest : List Deed). looked g ∷ rest)
+    (h.holds.deeds_are ∙ (λ i. b.deeds_are i ++ v.deeds_are i)) in record {
       form = record {
         look = g;
         base = b.visit;
@@ -134,7 +139,7 @@ did_refilled_batch set k l m n g base place width s got bytes fits a x y =
       };
       bytes_are = v.serves ∙ ap served_bytes (sym is);
     }) (did_behind set k l n g a (did_then set l m n (did_base_at set l m base s (Refill set.cpu place) got x)
-      (did_cpu_at set m n set.cpu place (Int g (Some base) width true) bytes fits y)))
+    (did_cpu_at set m n set.cpu place (Int g (Some base) width true) bytes fits y)))
 
 pub fits_batch : (width : ℕ) → IsWidth width → FitsBatch width
 fits_batch width (inl e) = record { some = omega arith; within = omega arith }
@@ -159,11 +164,20 @@ pub int_fulfils : (set : FormSetting) (width : ℕ) (bytes : List ℕ) (deeds : 
 int_fulfils set width bytes deeds (inl e) h = at_width set bytes deeds width 1 e
     (λ k. record { form = k.form; answers = refl; shows = ap bytes_or_none k.bytes_are }) h
 int_fulfils set width bytes deeds (inr (inl e)) h =
-    at_width set bytes deeds width 2 e (λ k. record { form = k.form; answers = refl;
-    shows = ap bytes_or_none k.bytes_are }) h
+    at_width set bytes deeds width 2 e (λ k. record {
+      form = k.form;
+      answers = refl;
+      shows = ap bytes_or_none k.bytes_are;
+    }) h
 int_fulfils set width bytes deeds (inr (inr (inl e))) h =
-    at_width set bytes deeds width 4 e (λ k. record { form = k.form; answers = refl;
-    shows = ap bytes_or_none k.bytes_are }) h
+    at_width set bytes deeds width 4 e (λ k. record {
+      form = k.form;
+      answers = refl;
+      shows = ap bytes_or_none k.bytes_are;
+    }) h
 int_fulfils set width bytes deeds (inr (inr (inr e))) h =
-    at_width set bytes deeds width 8 e (λ k. record { form = k.form; answers = refl;
-    shows = ap bytes_or_none k.bytes_are }) h
+    at_width set bytes deeds width 8 e (λ k. record {
+      form = k.form;
+      answers = refl;
+      shows = ap bytes_or_none k.bytes_are;
+    }) h

@@ -63,7 +63,7 @@ told_rise : (lists : Lists) (set : Setting) (l m : Moment) (deals : List Deal) �
     Risen (floor l.view) (looks_of (deeds_of lists (map step_of deals))) (floor m.view)
 told_rise lists set l m deals told =
     subst (λ (looks : List ℕ). Risen (floor l.view) looks (floor m.view)) (sym (same_looks lists deals))
-      (sees_risen m.view (floor l.view) (floor m.view) deals told.went.sees)
+    (sees_risen m.view (floor l.view) (floor m.view) deals told.went.sees)
 
 -- A batch that did not serve does not serve later either
 
@@ -108,15 +108,19 @@ ending_is n (by_system (failed errno)) result buf long none e =
 -- Reads
 
 pub glanced_nothing : (v : View) → Glanced v v
-glanced_nothing v = record { same = record { first = refl; share = refl; halvings = refl; sized = refl }; lanes = refl;
-    stamp = refl; floors = omega arith }
+glanced_nothing v = record {
+  same = record { first = refl; share = refl; halvings = refl; sized = refl };
+  lanes = refl;
+  stamp = refl;
+  floors = omega arith;
+}
 
 -- out of the batch
 module _ (n flags : ℕ) (s t : VgetrandomState) (out : List ℕ) (set : Setting) (l m : Moment)
     (k : LocallyServed n flags s t out set l m) where
   local_line : (before : CallerState) → current_state before ≡ s →
-    ByLocalCopy n [] (vread_meaning (deed.looked k.found ∷ []) (result_answer {T = Unit {0}} (Ok tt))
-    (bytes_or_none out) (copy_entries s 0 n) before t)
+      ByLocalCopy n [] (vread_meaning (deed.looked k.found ∷ []) (result_answer {T = Unit {0}} (Ok tt))
+      (bytes_or_none out) (copy_entries s 0 n) before t)
   local_line before is = record {
     no_more = refl;
     answer = refl;
@@ -142,7 +146,7 @@ module _ (n flags : ℕ) (s t : VgetrandomState) (out : List ℕ) (set : Setting
           refl,
           match_true _ _ (serves_locally (published_by k.found) (current_state before) n)
               (ap (λ (z : VgetrandomState). serves_locally (published_by k.found) z n) state_is ∙ k.serves)
-                (local_line before state_is),
+              (local_line before state_is),
         );
       };
     };
@@ -157,79 +161,81 @@ good_flags x false e = refl
 module _ (n flags : ℕ) (s t : VgetrandomState) (answer : Answer) (shown : Shown) (set : Setting) (l m o : Moment)
     (low : s.generation ≤ published_by (floor l.view))
     (left : tries_local n flags [] ≡ true → Refused n s l.view m.view) (k : Called n flags s t answer shown set m o)
-      where
-  module _ (deeds : List Deed) (shows : Shows (setting_of set) k.steps deeds)
-    (rise : Risen (floor m.view) (looks_of deeds) (floor o.view)) (before : CallerState)
-    (set_is : before.setting ≡ setting_of set) (state_is : current_state before ≡ s) where
-    abbrev meant : CallMeaning
-    meant = vread_meaning deeds answer shown k.outcome.entries before t
+  where
+    module _ (deeds : List Deed) (shows : Shows (setting_of set) k.steps deeds)
+        (rise : Risen (floor m.view) (looks_of deeds) (floor o.view)) (before : CallerState)
+        (set_is : before.setting ≡ setting_of set) (state_is : current_state before ≡ s) where
+      abbrev meant : CallMeaning
+      meant = vread_meaning deeds answer shown k.outcome.entries before t
 
-    by_call : ByVgetrandom n flags [] meant
-    by_call = record {
-      steps = k.steps;
-      outcome = k.outcome;
-      is_call = subst (λ (z : VgetrandomState). IsCall n flags z k.steps k.outcome) (sym state_is) k.is_call;
-      shows = subst (λ z. Shows z k.steps deeds) (sym set_is) shows;
-      wipes = k.wipes;
-      inside = tt;
-      answer = k.answers;
-      shown = k.shows;
-      entries = refl;
-      after = ap (with_state before) k.state;
-    }
+      by_call : ByVgetrandom n flags [] meant
+      by_call = record {
+        steps = k.steps;
+        outcome = k.outcome;
+        is_call = subst (λ (z : VgetrandomState). IsCall n flags z k.steps k.outcome) (sym state_is) k.is_call;
+        shows = subst (λ z. Shows z k.steps deeds) (sym set_is) shows;
+        wipes = k.wipes;
+        inside = tt;
+        answer = k.answers;
+        shown = k.shows;
+        entries = refl;
+        after = ap (with_state before) k.state;
+      }
 
-    -- the call begins with a look, which is no earlier than the one that found that the batch cannot serve
-    behind_look : (refused : Refused n s l.view m.view) → FromLook n flags s k.steps k.outcome →
-      Looked (LocalOrCall n flags [] meant) deeds
-    behind_look refused from =
-        let shown = subst (λ (z : List HostStep). Shows (setting_of set) z deeds) from.steps_are shows in
-        let rises = subst (λ (z : List Deed). Risen (floor m.view) (looks_of z) (floor o.view)) shown.2 rise in
-        let a = published_more (floor l.view) refused.found refused.above in
-        let b = published_more refused.found shown.0 (let x = refused.known in let y = rises.0 in omega arith) in (
-          shown.0,
-          shown.1,
-          shown.2,
-          match_false _ _ (serves_locally (published_by shown.0) (current_state before) n)
-              (ap (λ (z : VgetrandomState). serves_locally (published_by shown.0) z n) state_is
+      -- the call begins with a look, which is no earlier than the one that found that the batch cannot serve
+      behind_look : (refused : Refused n s l.view m.view) → FromLook n flags s k.steps k.outcome →
+          Looked (LocalOrCall n flags [] meant) deeds
+      behind_look refused from =
+          let shown = subst (λ (z : List HostStep). Shows (setting_of set) z deeds) from.steps_are shows in
+          let rises = subst (λ (z : List Deed). Risen (floor m.view) (looks_of z) (floor o.view)) shown.2 rise in
+          let a = published_more (floor l.view) refused.found refused.above in
+          let b = published_more refused.found shown.0 (let x = refused.known in let y = rises.0 in omega arith) in (
+            shown.0,
+            shown.1,
+            shown.2,
+            match_false _ _ (serves_locally (published_by shown.0) (current_state before) n)
+                (ap (λ (z : VgetrandomState). serves_locally (published_by shown.0) z n) state_is
                 ∙ refused_later (published_by refused.found) (published_by shown.0) n s (omega arith) b
                 refused.refuses) by_call,
-        )
+          )
 
-    ways : (b : Bool) → tries_local n flags [] ≡ b →
-      MatchBool b (Looked (LocalOrCall n flags [] meant) deeds) (ByVgetrandom n flags [] meant)
-    ways false e = by_call
-    ways true e = behind_look (left e) (subst (λ (b : Bool). MatchBool b (BySystem n flags s k.steps k.outcome)
-      (FromLook n flags s k.steps k.outcome)) (good_flags (not (n == 0)) (is_bad flags) e) k.is_call)
+      ways : (b : Bool) → tries_local n flags [] ≡ b →
+          MatchBool b (Looked (LocalOrCall n flags [] meant) deeds) (ByVgetrandom n flags [] meant)
+      ways false e = by_call
+      ways true e = behind_look (left e) (subst (λ (b : Bool). MatchBool b (BySystem n flags s k.steps k.outcome)
+          (FromLook n flags s k.steps k.outcome)) (good_flags (not (n == 0)) (is_bad flags) e) k.is_call)
 
-    line : VreadMeans n flags [] meant
-    line = record { looks = never_fall (floor m.view) (looks_of deeds) (floor o.view) rise;
-      ways = ways (tries_local n flags []) refl }
+      line : VreadMeans n flags [] meant
+      line = record {
+        looks = never_fall (floor m.view) (looks_of deeds) (floor o.view) rise;
+        ways = ways (tries_local n flags []) refl;
+      }
 
-  called_did : Did (VreadLine (setting_of set) n flags s t answer shown k.outcome.entries) set m o
-  called_did = record {
-    deals = k.did.deals;
-    told = k.did.told;
-    stands = λ lanes visits callers c. λ before set_is state_is. line
-      (deeds_of (book_lists lanes visits callers) (map step_of k.did.deals)) (k.did.stands lanes visits callers c)
-        (told_rise (book_lists lanes visits callers) set m o k.did.deals k.did.told) before set_is state_is;
-  }
+    called_did : Did (VreadLine (setting_of set) n flags s t answer shown k.outcome.entries) set m o
+    called_did = record {
+      deals = k.did.deals;
+      told = k.did.told;
+      stands = λ lanes visits callers c. λ before set_is state_is. line
+          (deeds_of (book_lists lanes visits callers) (map step_of k.did.deals)) (k.did.stands lanes visits callers c)
+          (told_rise (book_lists lanes visits callers) set m o k.did.deals k.did.told) before set_is state_is;
+    }
 
-  pub called_read : Glanced l.view m.view → m.steps ≡ l.steps → VreadDid n flags s t answer shown set l o
-  called_read glanced same = record {
-    looked = m.view;
-    glanced = glanced;
-    entries = k.outcome.entries;
-    did = subst (λ (z : List Step). Did (VreadLine (setting_of set) n flags s t answer shown k.outcome.entries) set
-      (record { view = m.view; steps = z }) o) same called_did;
-  }
+    pub called_read : Glanced l.view m.view → m.steps ≡ l.steps → VreadDid n flags s t answer shown set l o
+    called_read glanced same = record {
+      looked = m.view;
+      glanced = glanced;
+      entries = k.outcome.entries;
+      did = subst (λ (z : List Step). Did (VreadLine (setting_of set) n flags s t answer shown k.outcome.entries) set
+          (record { view = m.view; steps = z }) o) same called_did;
+    }
 
 -- where the batch did not serve and nothing was done
 pub left_read : (n n' flags : ℕ) (s s' t : VgetrandomState) (answer : Answer) (shown : Shown) (set : Setting)
     (l m o : Moment) → s.generation ≤ published_by (floor l.view) → n' ≡ n →
     LeftToSystem n flags s s' l m → Called n' flags s' t answer shown set m o →
-      VreadDid n flags s t answer shown set l o
+    VreadDid n flags s t answer shown set l o
 left_read n n' flags s s' t answer shown set l m o low same left k =
     called_read n flags s t answer shown set l m o low left.refused
     (subst (λ (z : VgetrandomState). Called n flags z t answer shown set m o) left.state
-      (subst (λ (z : ℕ). Called z flags s' t answer shown set m o) same k))
+    (subst (λ (z : ℕ). Called z flags s' t answer shown set m o) same k))
     left.glanced left.steps

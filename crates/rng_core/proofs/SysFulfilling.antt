@@ -1,5 +1,5 @@
 -- The system call that deeds of a form fulfil.
-use Rattle.std.proofs.Common.{◌≡◌, ℕ, ◌<◌, List, [], ◌∷◌, ◌++◌, refl, sym, ap, ◌∙◌, subst, inl, inr, ◌⊎◌, ⊎_elim, arith, append-nil, length, Bool, true, false, cond}
+use Rattle.std.proofs.Common.{◌≡◌, ℕ, ◌<◌, List, [], ◌∷◌, ◌++◌, refl, sym, ap, ◌∙◌, subst, inl, inr, ◌⊎◌, ⊎_elim, arith, append-nil, Bool, true, false, cond}
 use Rattle.std.specs.Prelude.{MatchBool, ◌==◌, ◌&&◌, not}
 use Rattle.std.proofs.lemmas.Bool.{ne_eqb, eq-eqb}
 use Rattle.key_names.specs.declared.entries.Taken.TheVariants.{User}
@@ -34,94 +34,94 @@ pub sys_invalid : (set : Setting) (n flags : ℕ) → is_bad flags ≡ true →
     Fulfils set (Read n flags) Invalid (bytes_or_none []) []
 sys_invalid set n flags bad = record {
   form = subst (λ (b : Bool). MatchBool b (◌≡◌ {A = List Deed} [] []) (Looked (LookedForm set n flags) [])) (sym bad)
-    refl;
+      refl;
   answers = ap (λ (b : Bool). cond b Invalid (cond false Again (cond false Interrupted Done))) (sym bad);
   shows = refl;
 }
 
 module _ (set : Setting) (n flags g : ℕ) (good : is_bad flags ≡ false) where
   form_of : (rest deeds : List Deed) → deeds ≡ looked g ∷ rest → LookedForm set n flags g rest →
-    SysForm set n flags deeds
+      SysForm set n flags deeds
   form_of rest deeds e h = subst (λ (b : Bool). MatchBool b (deeds ≡ []) (Looked (LookedForm set n flags) deeds))
-    (sym good) (g, rest, e, h)
+      (sym good) (g, rest, e, h)
 
   answer_is : (rest deeds : List Deed) (b c : Bool) → deeds ≡ looked g ∷ rest →
-    (g == 0 && (is_nonblock flags && not (is_insecure flags))) ≡ b → was_interrupted (looked g ∷ rest) ≡ c →
-    cond b Again (cond c Interrupted Done) ≡ system_answer flags deeds
+      (g == 0 && (is_nonblock flags && not (is_insecure flags))) ≡ b → was_interrupted (looked g ∷ rest) ≡ c →
+      cond b Again (cond c Interrupted Done) ≡ system_answer flags deeds
   answer_is rest deeds b c e is was = (λ i. cond (sym good i) Invalid
-    (cond (sym is i) Again (cond (sym was i) Interrupted Done))) ∙ ap (system_answer flags) (sym e)
+      (cond (sym is i) Again (cond (sym was i) Interrupted Done))) ∙ ap (system_answer flags) (sym e)
 
   -- the core was found not ready, and the caller wants what counts
   module _ (must : (g == 0 && not (is_insecure flags)) ≡ true) where
     waits_form : (rest : List Deed) → MatchBool (is_nonblock flags) (rest ≡ [])
-      (WaitedInVain rest ⊎ Waited set n rest) → LookedForm set n flags g rest
+        (WaitedInVain rest ⊎ Waited set n rest) → LookedForm set n flags g rest
     waits_form rest h = subst (λ (b : Bool). MatchBool b
-      (MatchBool (is_nonblock flags) (rest ≡ []) (WaitedInVain rest ⊎ Waited set n rest))
-      (MatchBool (n == 0) (rest ≡ []) (ReadForm set (User n) g rest))) (sym must) h
+        (MatchBool (is_nonblock flags) (rest ≡ []) (WaitedInVain rest ⊎ Waited set n rest))
+        (MatchBool (n == 0) (rest ≡ []) (ReadForm set (User n) g rest))) (sym must) h
 
     pub sys_again : is_nonblock flags ≡ true → (deeds : List Deed) → deeds ≡ looked g ∷ [] →
-      Fulfils set (Read n flags) Again (bytes_or_none []) deeds
+        Fulfils set (Read n flags) Again (bytes_or_none []) deeds
     sys_again now deeds e = record {
       form = form_of [] deeds e (waits_form [] (subst
-        (λ (b : Bool). MatchBool b (◌≡◌ {A = List Deed} [] []) (WaitedInVain [] ⊎ Waited set n [])) (sym now) refl));
+          (λ (b : Bool). MatchBool b (◌≡◌ {A = List Deed} [] []) (WaitedInVain [] ⊎ Waited set n [])) (sym now) refl));
       answers = answer_is [] deeds true false e (all_true (g == 0) (is_nonblock flags) (is_insecure flags) must now)
-        refl;
+          refl;
       shows = ap (λ (d : List Deed). bytes_or_none (served_bytes d)) (sym e);
     }
 
     module _ (patient : is_nonblock flags ≡ false) where
       waited_form : (rest : List Deed) → WaitedInVain rest ⊎ Waited set n rest → LookedForm set n flags g rest
       waited_form rest h = waits_form rest (subst (λ (b : Bool). MatchBool b (rest ≡ [])
-        (WaitedInVain rest ⊎ Waited set n rest)) (sym patient) h)
+          (WaitedInVain rest ⊎ Waited set n rest)) (sym patient) h)
 
       not_again : (g == 0 && (is_nonblock flags && not (is_insecure flags))) ≡ false
       not_again = not_all (g == 0) (is_nonblock flags) (is_insecure flags) patient
 
       -- a wait, and what ended it
       ended_is : (first second deeds rest : List Deed) (e : BaseEntry) (w : BaseOnly Wait first)
-        (x : BaseOnly e second) → deeds ≡ looked g ∷ (first ++ (second ++ rest)) →
-        deeds ≡ looked g ∷ (at_base w.base ∷ at_base x.base ∷ rest)
+          (x : BaseOnly e second) → deeds ≡ looked g ∷ (first ++ (second ++ rest)) →
+          deeds ≡ looked g ∷ (at_base w.base ∷ at_base x.base ∷ rest)
       ended_is first second deeds rest e w x is = is ∙ (λ i. looked g ∷ (w.deeds_are i ++ (x.deeds_are i ++ rest)))
 
       shows_none : (first second deeds : List Deed) (e : BaseEntry) (w : BaseOnly Wait first)
-        (x : Serving (BaseOnly e) [] second) → deeds ≡ looked g ∷ (at_base w.base ∷ at_base x.form.base ∷ []) →
-        bytes_or_none [] ≡ bytes_or_none (served_bytes deeds)
+          (x : Serving (BaseOnly e) [] second) → deeds ≡ looked g ∷ (at_base w.base ∷ at_base x.form.base ∷ []) →
+          bytes_or_none [] ≡ bytes_or_none (served_bytes deeds)
       shows_none first second deeds e w x is = ap bytes_or_none
-        (x.bytes_are ∙ ap served_bytes x.form.deeds_are ∙ ap served_bytes (sym is))
+          (x.bytes_are ∙ ap served_bytes x.form.deeds_are ∙ ap served_bytes (sym is))
 
       pub sys_interrupted : (first second deeds : List Deed) → BaseOnly Wait first →
-        Serving (BaseOnly Interrupt) [] second → deeds ≡ looked g ∷ (first ++ second) →
-        Fulfils set (Read n flags) Interrupted (bytes_or_none []) deeds
+          Serving (BaseOnly Interrupt) [] second → deeds ≡ looked g ∷ (first ++ second) →
+          Fulfils set (Read n flags) Interrupted (bytes_or_none []) deeds
       sys_interrupted first second deeds w x is = let e =
-        ended_is first second deeds [] Interrupt w x.form
-        (is ∙ ap (λ (l : List Deed). looked g ∷ (first ++ l)) (sym (append-nil second))) in let rest : List Deed =
-        at_base w.base ∷ at_base x.form.base ∷ [] in record {
-        form = form_of rest deeds e (waited_form rest (inl
-          record { wait = w.base; interrupt = x.form.base; deeds_are = refl; waits = w.is; interrupts = x.form.is }));
-        answers = answer_is rest deeds false true e not_again (ap is_interrupt x.form.is);
-        shows = shows_none first second deeds Interrupt w x e;
-      }
+          ended_is first second deeds [] Interrupt w x.form
+          (is ∙ ap (λ (l : List Deed). looked g ∷ (first ++ l)) (sym (append-nil second))) in let rest : List Deed =
+          at_base w.base ∷ at_base x.form.base ∷ [] in record {
+            form = form_of rest deeds e (waited_form rest (inl
+                record { wait = w.base; interrupt = x.form.base; deeds_are = refl; waits = w.is; interrupts = x.form.is }));
+            answers = answer_is rest deeds false true e not_again (ap is_interrupt x.form.is);
+            shows = shows_none first second deeds Interrupt w x e;
+          }
 
       pub sys_waited_none : n ≡ 0 → (first second deeds : List Deed) → BaseOnly Wait first →
-        Serving (BaseOnly Resume) [] second → deeds ≡ looked g ∷ (first ++ second) →
-        Fulfils set (Read n flags) Done (bytes_or_none []) deeds
+          Serving (BaseOnly Resume) [] second → deeds ≡ looked g ∷ (first ++ second) →
+          Fulfils set (Read n flags) Done (bytes_or_none []) deeds
       sys_waited_none none first second deeds w x is = let e =
-        ended_is first second deeds [] Resume w x.form
-        (is ∙ ap (λ (l : List Deed). looked g ∷ (first ++ l)) (sym (append-nil second))) in let rest : List Deed =
-        at_base w.base ∷ at_base x.form.base ∷ [] in record {
-        form = form_of rest deeds e (waited_form rest (inr record {
-          wait = w.base;
-          resume = x.form.base;
-          rest = [];
-          deeds_are = refl;
-          waits = w.is;
-          resumes = x.form.is;
-          reads = subst (λ (b : Bool). MatchBool b (◌≡◌ {A = List Deed} [] []) (CpuReadForm set (User n) []))
-            (sym (eq-eqb n 0 none)) refl;
-        }));
-        answers = answer_is rest deeds false false e not_again (ap is_interrupt x.form.is);
-        shows = shows_none first second deeds Resume w x e;
-      }
+          ended_is first second deeds [] Resume w x.form
+          (is ∙ ap (λ (l : List Deed). looked g ∷ (first ++ l)) (sym (append-nil second))) in let rest : List Deed =
+          at_base w.base ∷ at_base x.form.base ∷ [] in record {
+            form = form_of rest deeds e (waited_form rest (inr record {
+              wait = w.base;
+              resume = x.form.base;
+              rest = [];
+              deeds_are = refl;
+              waits = w.is;
+              resumes = x.form.is;
+              reads = subst (λ (b : Bool). MatchBool b (◌≡◌ {A = List Deed} [] []) (CpuReadForm set (User n) []))
+                  (sym (eq-eqb n 0 none)) refl;
+            }));
+            answers = answer_is rest deeds false false e not_again (ap is_interrupt x.form.is);
+            shows = shows_none first second deeds Resume w x e;
+          }
 
       three : (a b c : Deed) (rest : List Deed) → was_interrupted (looked g ∷ a ∷ b ∷ c ∷ rest) ≡ false
       three (looked h) b c rest = refl
@@ -135,23 +135,23 @@ module _ (set : Setting) (n flags g : ℕ) (good : is_bad flags ≡ false) where
       three nothing_there b c rest = refl
 
       cpu_read_on : (a b : Deed) (reads : List Deed) → CpuReadForm set (User n) reads →
-        (was_interrupted (looked g ∷ a ∷ b ∷ reads) ≡ false)
-        × (served_bytes (looked g ∷ a ∷ b ∷ reads) ≡ served_bytes reads)
+          (was_interrupted (looked g ∷ a ∷ b ∷ reads) ≡ false)
+          × (served_bytes (looked g ∷ a ∷ b ∷ reads) ≡ served_bytes reads)
       cpu_read_on a b reads h = ⊎_elim (λ (p : PlainRead set (User n) reads). subst
-        (λ (z : List Deed). (was_interrupted (looked g ∷ a ∷ b ∷ z) ≡ false)
-        × (served_bytes (looked g ∷ a ∷ b ∷ z) ≡ served_bytes z)) (sym p.deeds_are)
-        (three a b (looked p.look) (at_cpu p.cpu ∷ []), refl))
+          (λ (z : List Deed). (was_interrupted (looked g ∷ a ∷ b ∷ z) ≡ false)
+          × (served_bytes (looked g ∷ a ∷ b ∷ z) ≡ served_bytes z)) (sym p.deeds_are)
+          (three a b (looked p.look) (at_cpu p.cpu ∷ []), refl))
           (λ (p : RefilledRead set (User n) reads). subst
-            (λ (z : List Deed). (was_interrupted (looked g ∷ a ∷ b ∷ z) ≡ false)
-            × (served_bytes (looked g ∷ a ∷ b ∷ z) ≡ served_bytes z)) (sym p.deeds_are)
-            (three a b (looked p.look) (at_base p.base ∷ at_cpu p.cpu ∷ []), refl)) h
+          (λ (z : List Deed). (was_interrupted (looked g ∷ a ∷ b ∷ z) ≡ false)
+          × (served_bytes (looked g ∷ a ∷ b ∷ z) ≡ served_bytes z)) (sym p.deeds_are)
+          (three a b (looked p.look) (at_base p.base ∷ at_cpu p.cpu ∷ []), refl)) h
 
       pub sys_waited : 0 < n → (first second reads deeds : List Deed) (bytes : List ℕ) → BaseOnly Wait first →
-        BaseOnly Resume second → Serving (CpuReadForm set (User n)) bytes reads →
-        deeds ≡ looked g ∷ (first ++ (second ++ reads)) → Fulfils set (Read n flags) Done (bytes_or_none bytes) deeds
+          BaseOnly Resume second → Serving (CpuReadForm set (User n)) bytes reads →
+          deeds ≡ looked g ∷ (first ++ (second ++ reads)) → Fulfils set (Read n flags) Done (bytes_or_none bytes) deeds
       sys_waited some first second reads deeds bytes w x r is = let e =
-        ended_is first second deeds reads Resume w x is in let rest : List Deed =
-        at_base w.base ∷ at_base x.base ∷ reads in
+          ended_is first second deeds reads Resume w x is in let rest : List Deed =
+          at_base w.base ∷ at_base x.base ∷ reads in
           let on = cpu_read_on (at_base w.base) (at_base x.base) reads r.form in record {
             form = form_of rest deeds e (waited_form rest (inr record {
               wait = w.base;
@@ -161,7 +161,7 @@ module _ (set : Setting) (n flags g : ℕ) (good : is_bad flags ≡ false) where
               waits = w.is;
               resumes = x.is;
               reads = subst (λ (b : Bool). MatchBool b (reads ≡ []) (CpuReadForm set (User n) reads))
-                (sym (ne_eqb n 0 (λ z. omega arith))) r.form;
+                  (sym (ne_eqb n 0 (λ z. omega arith))) r.form;
             }));
             answers = answer_is rest deeds false false e not_again on.0;
             shows = ap bytes_or_none (r.bytes_are ∙ sym on.1 ∙ ap served_bytes (sym e));
@@ -170,47 +170,43 @@ module _ (set : Setting) (n flags g : ℕ) (good : is_bad flags ≡ false) where
   -- the core was found ready, or the caller takes what there is
   module _ (takes : (g == 0 && not (is_insecure flags)) ≡ false) where
     takes_form : (rest : List Deed) → MatchBool (n == 0) (rest ≡ []) (ReadForm set (User n) g rest) →
-      LookedForm set n flags g rest
+        LookedForm set n flags g rest
     takes_form rest h = subst (λ (b : Bool). MatchBool b
-      (MatchBool (is_nonblock flags) (rest ≡ []) (WaitedInVain rest ⊎ Waited set n rest))
-      (MatchBool (n == 0) (rest ≡ []) (ReadForm set (User n) g rest))) (sym takes) h
+        (MatchBool (is_nonblock flags) (rest ≡ []) (WaitedInVain rest ⊎ Waited set n rest))
+        (MatchBool (n == 0) (rest ≡ []) (ReadForm set (User n) g rest))) (sym takes) h
 
     no_again : (g == 0 && (is_nonblock flags && not (is_insecure flags))) ≡ false
     no_again = not_both (g == 0) (is_nonblock flags) (is_insecure flags) takes
 
     pub sys_none : n ≡ 0 → (deeds : List Deed) → deeds ≡ looked g ∷ [] →
-      Fulfils set (Read n flags) Done (bytes_or_none []) deeds
+        Fulfils set (Read n flags) Done (bytes_or_none []) deeds
     sys_none none deeds e = record {
       form = form_of [] deeds e (takes_form [] (subst
-        (λ (b : Bool). MatchBool b (◌≡◌ {A = List Deed} [] []) (ReadForm set (User n) g [])) (sym (eq-eqb n 0 none))
-        refl));
+          (λ (b : Bool). MatchBool b (◌≡◌ {A = List Deed} [] []) (ReadForm set (User n) g [])) (sym (eq-eqb n 0 none))
+          refl));
       answers = answer_is [] deeds false false e no_again refl;
       shows = ap (λ (d : List Deed). bytes_or_none (served_bytes d)) (sym e);
     }
 
     read_on : (rest : List Deed) → ReadForm set (User n) g rest →
-      (was_interrupted (looked g ∷ rest) ≡ false) × (served_bytes (looked g ∷ rest) ≡ served_bytes rest)
+        (was_interrupted (looked g ∷ rest) ≡ false) × (served_bytes (looked g ∷ rest) ≡ served_bytes rest)
     read_on rest h = ⊎_elim (λ (d : (g ≡ 0) × DrawForm set (User n) rest). ⊎_elim
-      (λ p. subst (λ (z : List Deed). (was_interrupted (looked g ∷ z) ≡ false)
-      × (served_bytes (looked g ∷ z) ≡ served_bytes z)) (sym p.deeds_are) (refl, refl))
-      (λ p. subst (λ (z : List Deed). (was_interrupted (looked g ∷ z) ≡ false)
-      × (served_bytes (looked g ∷ z) ≡ served_bytes z)) (sym p.deeds_are) (refl, refl)) d.1)
+        (λ p. subst (λ (z : List Deed). (was_interrupted (looked g ∷ z) ≡ false)
+        × (served_bytes (looked g ∷ z) ≡ served_bytes z)) (sym p.deeds_are) (refl, refl))
+        (λ p. subst (λ (z : List Deed). (was_interrupted (looked g ∷ z) ≡ false)
+        × (served_bytes (looked g ∷ z) ≡ served_bytes z)) (sym p.deeds_are) (refl, refl)) d.1)
         (λ (r : CpuReadForm set (User n) rest). ⊎_elim
-          (λ p. subst (λ (z : List Deed). (was_interrupted (looked g ∷ z) ≡ false)
-          × (served_bytes (looked g ∷ z) ≡ served_bytes z)) (sym p.deeds_are) (refl, refl))
-          (λ p. subst (λ (z : List Deed). (was_interrupted (looked g ∷ z) ≡ false)
-          × (served_bytes (looked g ∷ z) ≡ served_bytes z)) (sym p.deeds_are) (refl, refl)) r) h
+        (λ p. subst (λ (z : List Deed). (was_interrupted (looked g ∷ z) ≡ false)
+        × (served_bytes (looked g ∷ z) ≡ served_bytes z)) (sym p.deeds_are) (refl, refl))
+        (λ p. subst (λ (z : List Deed). (was_interrupted (looked g ∷ z) ≡ false)
+        × (served_bytes (looked g ∷ z) ≡ served_bytes z)) (sym p.deeds_are) (refl, refl)) r) h
 
     pub sys_read : 0 < n → (rest deeds : List Deed) (bytes : List ℕ) → Serving (ReadForm set (User n) g) bytes rest →
-      deeds ≡ looked g ∷ rest → Fulfils set (Read n flags) Done (bytes_or_none bytes) deeds
+        deeds ≡ looked g ∷ rest → Fulfils set (Read n flags) Done (bytes_or_none bytes) deeds
     sys_read some rest deeds bytes r e = let on = read_on rest r.form in record {
       form = form_of rest deeds e (takes_form rest (subst
-        (λ (b : Bool). MatchBool b (rest ≡ []) (ReadForm set (User n) g rest)) (sym (ne_eqb n 0 (λ z. omega arith)))
-        r.form));
+          (λ (b : Bool). MatchBool b (rest ≡ []) (ReadForm set (User n) g rest)) (sym (ne_eqb n 0 (λ z. omega arith)))
+          r.form));
       answers = answer_is rest deeds false false e no_again on.0;
       shows = ap bytes_or_none (r.bytes_are ∙ sym on.1 ∙ ap served_bytes (sym e));
     }
-
-pub nil_of : (xs : List ℕ) → length xs ≡ 0 → xs ≡ []
-nil_of [] e = refl
-nil_of (x ∷ xs) e = absurd (omega arith)

@@ -47,8 +47,8 @@ pub told_then : (set : Setting) (l m n : Moment) (xs ys : List Deal) → Told se
 told_then set l m n xs ys a b = record {
   trace = trace_then l m n xs ys a.trace b.trace;
   went = went_then set.caller set.event (length l.steps) (length m.steps) l.view m.view n.view xs ys
-    (ap length a.trace ∙ (let e = length_map xs in omega (arith, length-append l.steps (map step_of xs)))) a.went
-    b.went;
+      (ap length a.trace ∙ (let e = length_map xs in omega (arith, length-append l.steps (map step_of xs)))) a.went
+      b.went;
   fits = fits_then xs ys a.fits b.fits;
 }
 
@@ -76,9 +76,9 @@ pub visited_by_put : (set : Setting) (m m' : Seated) (told told' : List Step) (m
     (lane : ℕ) → index_of mark.lane ≡ lane → mark.place ≡ length (known_of m.0 lane) → lane < length m.0.lanes →
     1 < length m.0.lanes → who ≡ maker set.caller set.event (length told)
     → told' ≡ told ++ Marked mark ∷ [] → MarkFits mark →
-      Added lane (filled lane (visit_by who mark.stamp e) m.0) m m' →
-      Visited set (record { view = m.0; steps = told }) (record { view = m'.0; steps = told' }) lane mark.place
-      (replay (known_of m.0 lane)) e (handed lane e m.0)
+    Added lane (filled lane (visit_by who mark.stamp e) m.0) m m' →
+    Visited set (record { view = m.0; steps = told }) (record { view = m'.0; steps = told' }) lane mark.place
+    (replay (known_of m.0 lane)) e (handed lane e m.0)
 visited_by_put set m m' told told' mark who e lane on there near two by trace fits k = record {
   mark = mark;
   lane_is = on;
@@ -86,24 +86,24 @@ visited_by_put set m m' told told' mark who e lane on there near two by trace fi
   told = record {
     trace = trace;
     went = subst (λ (l : ℕ). mark.place ≡ length (known_of m.0 l) → l < length m.0.lanes →
-      Added l (filled l (visit_by who mark.stamp e) m.0) m m' →
-      Went set.caller set.event (length told) m.0 m'.0 (visited mark e ∷ [])) on
+        Added l (filled l (visit_by who mark.stamp e) m.0) m m' →
+        Went set.caller set.event (length told) m.0 m'.0 (visited mark e ∷ [])) on
         (λ t n a. went_put set.caller set.event (length told) m m' two
-          (filled (index_of mark.lane) (visit_by who mark.stamp e) m.0) mark e n t refl by refl a) there near k;
+        (filled (index_of mark.lane) (visit_by who mark.stamp e) m.0) mark e n t refl by refl a) there near k;
     fits = (fits, tt);
   };
   met = record {
     near = (let s = k.same.sized in omega arith);
     visit = filled lane (visit_by who mark.stamp e) m.0;
     there = ap (λ (l : ℕ). get_elem? (known_of m'.0 l) mark.place) on
-      ∙ ap (λ (a : LaneView). get_elem? a.known mark.place) k.here
-      ∙ at_last (known_of m.0 lane) (filled lane (visit_by who mark.stamp e) m.0) mark.place (sym there);
+        ∙ ap (λ (a : LaneView). get_elem? a.known mark.place) k.here
+        ∙ at_last (known_of m.0 lane) (filled lane (visit_by who mark.stamp e) m.0) mark.place (sym there);
     is = refl;
     was_handed = refl;
     before = ap (λ (l : ℕ). replay (take mark.place (known_of m'.0 l))) on
-      ∙ ap (λ (a : LaneView). replay (take mark.place a.known)) k.here
+        ∙ ap (λ (a : LaneView). replay (take mark.place a.known)) k.here
         ∙ ap (λ (p : ℕ). replay (take p (known_of m.0 lane ++ filled lane (visit_by who mark.stamp e) m.0 ∷ []))) there
-          ∙ ap replay (take-append_seam (known_of m.0 lane) (filled lane (visit_by who mark.stamp e) m.0 ∷ []));
+        ∙ ap replay (take-append_seam (known_of m.0 lane) (filled lane (visit_by who mark.stamp e) m.0 ∷ []));
   };
 }
 
@@ -111,8 +111,13 @@ visited_by_put set m m' told told' mark who e lane on there near two by trace fi
 pub visited_after : (set : Setting) (l m n : Moment) (lane place : ℕ) (s : Model) (e : LaneEntry) (got : Handed) →
     Told set l m [] → Visited set m n lane place s e got → Visited set l n lane place s e got
 visited_after set l m n lane place s e got a b =
-    record { mark = b.mark; lane_is = b.lane_is; place_is = b.place_is;
-    told = told_then set l m n [] (visited b.mark e ∷ []) a b.told; met = b.met }
+    record {
+      mark = b.mark;
+      lane_is = b.lane_is;
+      place_is = b.place_is;
+      told = told_then set l m n [] (visited b.mark e ∷ []) a b.told;
+      met = b.met;
+    }
 
 pub visited_is : (set : Setting) (m n : Moment) (lane place : ℕ) (s : Model) (e e' : LaneEntry) (got : Handed) →
     e ≡ e' → Visited set m n lane place s e got → Visited set m n lane place s e' got
@@ -123,13 +128,13 @@ pub visited_at : (set : Setting) (m m' : Seated) (told told' : List Step) (mark 
     (held lane : ℕ) → held ≡ lane → index_of mark.lane ≡ held → mark.place ≡ length (known_of m.0 held) →
     held < length m.0.lanes → 1 < length m.0.lanes
     → who ≡ maker set.caller set.event (length told) → told' ≡ told ++ Marked mark ∷ [] → MarkFits mark →
-      Added held (filled held (visit_by who mark.stamp e) m.0) m m'
+    Added held (filled held (visit_by who mark.stamp e) m.0) m m'
     → Visited set (record { view = m.0; steps = told }) (record { view = m'.0; steps = told' }) lane mark.place
-      (replay (known_of m.0 lane)) e (handed lane e m.0)
+    (replay (known_of m.0 lane)) e (handed lane e m.0)
 visited_at set m m' told told' mark who e held lane same on there near two by trace fits k =
     subst (λ (l : ℕ). Visited set (record { view = m.0; steps = told }) (record { view = m'.0; steps = told' }) l
-      mark.place (replay (known_of m.0 l)) e (handed l e m.0)) same
-      (visited_by_put set m m' told told' mark who e held on there near two by trace fits k)
+    mark.place (replay (known_of m.0 l)) e (handed l e m.0)) same
+    (visited_by_put set m m' told told' mark who e held on there near two by trace fits k)
 
 -- by the place as it was taken
 pub visited_place : (set : Setting) (m n : Moment) (lane p q : ℕ) (s : Model) (e : LaneEntry) (got : Handed) → p ≡ q →

@@ -43,8 +43,8 @@ pub record Met (v : View) (mark : Mark) (s : Model) (e : LaneEntry) (got : Hande
   pub before : replay (take mark.place (known_of v (index_of mark.lane))) ≡ s
 
 -- one visit was made, of this lane and at this place
-pub record Visited (set : Setting) (m n : Moment) (lane place : ℕ) (s : Model) (e : LaneEntry) (got : Handed) : Type 0
-    where
+pub record Visited (set : Setting) (m n : Moment) (lane place : ℕ) (s : Model) (e : LaneEntry) (got : Handed)
+    : Type 0 where
   pub mark : Mark
   pub lane_is : index_of mark.lane ≡ lane
   pub place_is : mark.place ≡ place

@@ -58,7 +58,7 @@ module _ (left left_after held held_after : Option (List ℕ)) (input bytes : Li
   -- what a run of the input leaves
   pub was_run : (length input ≤ 16777216 → IsAtEnd left_after) →
       (output : List ℕ) × CallsForRun bytes output × Appends held held_after output →
-        WasRun left left_after held held_after
+      WasRun left left_after held held_after
   was_run whole ran = let run : CallsForRun input ran.0 = subst (λ text. CallsForRun text ran.0) same ran.1 in record {
     input = input;
     output = ran.0;

@@ -72,7 +72,7 @@ none_between number = grind (arith, nat_tests)
 
 none_forked : (events : List Event) (number : ℕ) →
     times_forked (events ∷ []) number ≡ (if nat_lt 0 number && nat_lt number 1 then 1 else 0) →
-      count_by (is_fork_of number) events ≡ 0
+    count_by (is_fork_of number) events ≡ 0
 none_forked events number times = sym (sum_one (count_by (is_fork_of number)) events) ∙ times ∙ none_between number
 
 pub runnable : (script : Script) (events : List Event) → WellFormed script → HasOneCaller script →

@@ -7,12 +7,12 @@ use Rattle.std.proofs.lemmas.List.Sums.{sum_by-cons}
 use Rattle.key_names.specs.declared.lines.Data.{Data}
 use Rattle.key_names.specs.declared.lines.Data.TheVariants.{None as NoData, Bytes, Count}
 use Rattle.key_names.specs.declared.lines.Line.{Line}
-use Rattle.key_names.specs.SeenLine.{SeenLine, bytes_of, bytes_shown, shown_in, seen_lines}
+use Rattle.key_names.specs.SeenLine.{SeenLine, bytes_in, bytes_shown, shown_in, seen_lines}
 use Rattle.transcript_text.specs.Gathered.{IsWithin}
 use Rattle.rng_tool.specs.LoadOutcome.{data_len}
 
 length-shown : (kept : List ℕ) (shown : Data) → IsWithin (length kept) shown
-    → length (bytes_of (shown_in kept shown)) ≡ data_len shown
+    → length (bytes_in (shown_in kept shown)) ≡ data_len shown
 length-shown kept NoData within = refl
 length-shown kept (Count n) within = refl
 length-shown kept (Bytes start len) within =
@@ -25,7 +25,7 @@ length-shown_lines kept [] within = refl
 length-shown_lines kept (line ∷ lines) within = omega (
   arith,
   sum_by-cons (λ (l : Line). data_len l.shown) line lines,
-  length-append (bytes_of (shown_in kept line.shown)) (bytes_shown (seen_lines kept lines)),
+  length-append (bytes_in (shown_in kept line.shown)) (bytes_shown (seen_lines kept lines)),
   length-shown kept line.shown within.0,
   length-shown_lines kept lines within.1,
 )

@@ -52,6 +52,25 @@ const TWO_CPUS_TRANSCRIPT: &[u8] = b"rngtranscript 1\n\
     0.7 end ok b:5@13 -\n\
     end\n";
 
+const INSIDE_SCRIPT: &[u8] = b"rngscript 1\n\
+    cpus 1\n\
+    caller 0\n\
+    credit 256\n\
+    inside 3 wipe\n\
+    inside 3 vread 8\n\
+    vread 64 0\n\
+    end\n";
+
+const INSIDE_TRANSCRIPT: &[u8] = b"rngtranscript 1\n\
+    0.0 credit ok p:0@1,p:1@2,b:0@3 -\n\
+    0.1 inside ok - -\n\
+    0.2 inside ok ~1,~1,c0:1@6 8c6732d0757d0137\n\
+    0.3 vread ok ~1,~1,~1,~1,b:1@4,c0:0@5,~1,~1,~1,~1,c0:2@7,~1 \
+6b3f20176e87f14e2880b5c67c73fa828684d2606bceeb4cf36707c408334da3\
+9f8db9206e972b3eedd3dceefb469cd71aef71cf2521737255286e558c1ad8ae\n\
+    0.4 end ok b:2@8 -\n\
+    end\n";
+
 // Of `load 1 1 8`.
 const LOAD_LINE: &[u8] = b"callers 1 events 10 bytes 137\n";
 
@@ -122,6 +141,14 @@ fn transcripts_of_the_worked_cases(rt: HostRuntime) -> Result<(), Fail> {
 }
 
 #[test]
+fn acts_happen_inside_a_vread(rt: HostRuntime) -> Result<(), Fail> {
+    let (status, _, sink) = run_over(&rt, rt.alloc(), &["run"], INSIDE_SCRIPT, WHOLE)?;
+    assert_eq!(rt; status, Status::Done);
+    assert_eq!(rt; sink.held(), INSIDE_TRANSCRIPT);
+    Ok(())
+}
+
+#[test]
 fn faults_are_told(rt: HostRuntime) -> Result<(), Fail> {
     let alloc = rt.alloc();
     let rows: [(&[u8], &[u8]); 8] = [
@@ -155,12 +182,11 @@ fn faults_are_told(rt: HostRuntime) -> Result<(), Fail> {
 }
 
 #[test]
-fn scripts_of_other_forms_have_no_fault(rt: HostRuntime) -> Result<(), Fail> {
+fn scripts_of_more_callers_have_no_fault(rt: HostRuntime) -> Result<(), Fail> {
     let alloc = rt.alloc();
-    let scripts: [&[u8]; 3] = [
-        b"rngscript 1\ncpus 1\ncaller 0\ninside 1 wipe\nvread 16 0\nend\n",
+    let scripts: [&[u8]; 2] = [
         b"rngscript 1\ncpus 1\ncaller 0\nfork 1\ncaller 1\nend\n",
-        b"rngscript 1\ncpus 1\ncaller 0\nvread 8 0\ninside 3 reseed\ndrop\nvread 8 0\nend\n",
+        b"rngscript 1\ncpus 1\ncaller 0\nfork 1\ninside 1 wipe\nvread 16 0\ncaller 1\nend\n",
     ];
     for (row, script) in scripts.iter().enumerate() {
         let (status, _, sink) = run_over(&rt, alloc, &["run"], script, WHOLE)?;

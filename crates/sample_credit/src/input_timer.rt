@@ -2,7 +2,7 @@
 
 ghost use Rattle.std.specs.Prelude.{◌≡◌, ◌≢◌, ◌↔◌, ◌/◌, ◌%◌, ◌^◌, ◌<◌, ◌++◌, IsTrue, min, nat_abs};
 ghost use Rattle.std.specs.Int.{w32, w64, to_le_bytes};
-ghost use Rattle.key_names.specs.InputTimer.{binary_digits, input_number, timer_after, timer_bits, timer_start};
+ghost use Rattle.key_names.specs.InputTimer.{binary_digits, input_number, input_timer_after, timer_bits, timer_start};
 
 use std::marker::Model;
 
@@ -64,7 +64,7 @@ impl InputTimer {
     pub fn bits(&mut self, now: u64) -> u32
         requires { now < 2 ^ 40 }
         ensures bits { result ≡ timer_bits self.old.timer now }
-        ensures kept { self.new ≡ record self.old { timer = timer_after self.old.timer now } }
+        ensures kept { self.new ≡ record self.old { timer = input_timer_after self.old.timer now } }
     {
         let delta = now as i64 - self.last_time as i64;
         let delta2 = delta - self.last_delta;

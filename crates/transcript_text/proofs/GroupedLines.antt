@@ -3,7 +3,7 @@ use Rattle.std.proofs.Common.{◌≡◌, ℕ, suc, ◌+◌, ◌<◌, List, [], �
 use Rattle.std.proofs.lemmas.List.{flat_map_more, map_push}
 use Rattle.key_names.specs.SeenLine.{SeenLine}
 use Rattle.key_names.specs.TranscriptGrammar.{all_lines, LastHasLines, TranscriptFits, UnderOwnNumber}
-use Rattle.transcript_text.proofs.Keeping.{AllByRecursion-push}
+use Rattle.key_names.proofs.Each.{each_more}
 use Rattle.transcript_text.specs.Grouping.{OfCaller, Groups, Gives, seen_callers}
 use Rattle.transcript_text.specs.declared.gathered.CallerLines.{CallerLines}
 
@@ -38,7 +38,7 @@ pub groups_push : (done : List (List SeenLine)) (current lines new : List SeenLi
     → Groups done current lines → Groups done new (lines ++ line ∷ [])
 groups_push done current lines new line is own g = record {
   done_own = g.done_own;
-  current_own = rw is (AllByRecursion-push (λ l. l.caller ≡ length done) current line g.current_own own);
+  current_own = rw is (each_more (λ l. l.caller ≡ length done) current line g.current_own own);
   whole = ap (λ (x : List SeenLine). all_lines done ++ x) is ∙ sym (append_assoc (all_lines done) current (line ∷ []))
       ∙ ap (λ (x : List SeenLine). x ++ line ∷ []) g.whole;
 }

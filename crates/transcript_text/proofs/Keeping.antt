@@ -1,19 +1,15 @@
 -- Another line of a caller, at the end or in the place of one, leaves the others, and shows the bytes that were added.
-use Rattle.std.proofs.Common.{◌≡◌, ℕ, zero, suc, ◌≤◌, List, [], ◌∷◌, ◌++◌, length, take, drop, set, refl, ap, ◌∙◌, All, arith}
+use Rattle.std.proofs.Common.{◌≡◌, ℕ, ◌≤◌, List, [], ◌∷◌, ◌++◌, length, take, drop, set, refl, ap, ◌∙◌, All, arith}
 use Rattle.std.specs.List.{AllByRecursion}
 use Rattle.std.proofs.lemmas.List.{length-append, length-drop, take-append-le, drop-append-le, take_all, drop_at, map_push, map-set}
 use Rattle.std.proofs.lemmas.List.Elements.{All-from_recursion}
+use Rattle.key_names.proofs.Each.{each_more, each_set}
 use Rattle.key_names.specs.declared.lines.Data.{Data}
 use Rattle.key_names.specs.declared.lines.Data.TheVariants.{None as NoData, Bytes, Count}
 use Rattle.key_names.specs.declared.lines.Line.{Line}
 use Rattle.key_names.specs.SeenLine.{bytes, shown_in, seen_line, seen_lines, bytes_or_none, showing}
 use Rattle.key_names.specs.TranscriptGrammar.{LineFits}
 use Rattle.transcript_text.specs.Gathered.{IsWithin, IsKept, data_from}
-
-pub AllByRecursion-push : {A : Type 0} (P : A → Type 0) (xs : List A) (x : A) → AllByRecursion P xs → P x
-    → AllByRecursion P (xs ++ x ∷ [])
-AllByRecursion-push P [] x all here = (here, tt)
-AllByRecursion-push P (y ∷ xs) x all here = (all.0, AllByRecursion-push P xs x all.1 here)
 
 shown_in-more : (kept more : List ℕ) (shown : Data) → IsWithin (length kept) shown
     → shown_in (kept ++ more) shown ≡ shown_in kept shown
@@ -72,18 +68,12 @@ pub kept_after : (kept shown : List ℕ) (lines : List Line) (line : Line) → I
     → LineFits (showing shown (seen_line [] line))
     → IsKept (kept ++ shown) (lines ++ with_data line (data_from (length kept) shown) ∷ [])
 kept_after kept shown lines line old fits = record {
-  within = AllByRecursion-push (λ l. IsWithin (length (kept ++ shown)) l.shown) lines
+  within = each_more (λ l. IsWithin (length (kept ++ shown)) l.shown) lines
       (with_data line (data_from (length kept) shown)) (all_within_more kept shown lines old.within)
       (data_from_within kept shown);
-  fits = rw (seen_after kept shown lines line old) (AllByRecursion-push LineFits (seen_lines kept lines)
+  fits = rw (seen_after kept shown lines line old) (each_more LineFits (seen_lines kept lines)
       (showing shown (seen_line [] line)) old.fits fits);
 }
-
-AllByRecursion-set : {A : Type 0} (P : A → Type 0) (xs : List A) (i : ℕ) (x : A) → AllByRecursion P xs → P x
-    → AllByRecursion P (set xs i x)
-AllByRecursion-set P [] i x all here = tt
-AllByRecursion-set P (y ∷ xs) zero x all here = (here, all.1)
-AllByRecursion-set P (y ∷ xs) (suc i) x all here = (all.0, AllByRecursion-set P xs i x all.1 here)
 
 -- another line stands in the place of line `number`, and names what was kept for it
 module _ (kept shown after : List ℕ) (named : Data) (number : ℕ) (lines : List Line) (line : Line)
@@ -95,10 +85,10 @@ module _ (kept shown after : List ℕ) (named : Data) (number : ℕ) (lines : Li
 
   pub kept_replaced : LineFits (showing shown (seen_line [] line)) → IsKept after (set lines number (with_data line named))
   kept_replaced fits = record {
-    within = rw (longer, there) (AllByRecursion-set (λ l. IsWithin (length (kept ++ shown)) l.shown) lines number
+    within = rw (longer, there) (each_set (λ l. IsWithin (length (kept ++ shown)) l.shown) lines number
         (with_data line (data_from (length kept) shown)) (all_within_more kept shown lines old.within)
         (data_from_within kept shown));
-    fits = rw seen_replaced (AllByRecursion-set LineFits (seen_lines kept lines) number
+    fits = rw seen_replaced (each_set LineFits (seen_lines kept lines) number
         (showing shown (seen_line [] line)) old.fits fits);
   }
 

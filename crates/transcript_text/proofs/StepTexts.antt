@@ -4,7 +4,7 @@ use Rattle.std.specs.Prelude.{codes, decimal}
 use Rattle.std.specs.List.{flat_map, AllByRecursion}
 use Rattle.std.proofs.lemmas.Bool.{eqb-true, false_from_ne_true}
 use Rattle.std.proofs.lemmas.List.{take_all, length_push, length-append}
-use Rattle.transcript_text.proofs.Keeping.{AllByRecursion-push}
+use Rattle.key_names.proofs.Each.{each_more}
 use Rattle.std.proofs.lemmas.Fmt.{decimal_injective}
 use Rattle.key_names.specs.declared.names.LaneId.{LaneId}
 use Rattle.key_names.specs.declared.names.LaneId.TheVariants.{Pool, Base, Cpu}
@@ -341,7 +341,7 @@ pub reads_last : (text rest : List ℕ) (read new : List Step) (step : Step) →
 reads_last text rest read new step so_far fits e is few = (
   record {
     few = omega (arith, ap length is, length_push read step);
-    each = rw is (AllByRecursion-push StepFits read step so_far.each fits);
+    each = rw is (each_more StepFits read step so_far.each fits);
   },
   so_far.whole ∙ ap (λ (x : List ℕ). commas read ++ x) e ∙ sym (ap steps_text is ∙ steps_text-push read step),
 )

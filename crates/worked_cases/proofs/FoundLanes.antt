@@ -13,7 +13,7 @@ use Rattle.key_names.specs.PoolList.{extraction_at, base_place_of}
 use Rattle.key_names.specs.BaseList.{Phase, empty, early, ready, BaseState, BaseFits, LawfulBase, RootStands, IsDue}
 use Rattle.key_names.specs.BaseList.{base_step, base_start, root_of, root_at, refill_of, refill_at, generation_at}
 use Rattle.key_names.specs.Batches.{must_fill}
-use Rattle.key_names.specs.CpuList.{CpuState, CpuFits, LawfulCpu, LookStands, RefillNames, RefillStands, cpu_step}
+use Rattle.key_names.specs.CpuList.{CpuState, CpuFits, LawfulCpu, LookFitsCpu, RefillNames, RefillStands, cpu_step}
 use Rattle.key_names.specs.CpuList.{cpu_start, base_refill_at}
 use Rattle.key_names.specs.Book.{Lists, LawfulLanes, ExtractionAnswered, RefillAnswered, cpu_list, list_at}
 use Rattle.worked_cases.proofs.Decided.{Decided, yes, no, both, either, negated, likewise, found, found_by, found_both}
@@ -87,7 +87,7 @@ iff (no p) (yes q) = None
 abbrev is_none : (o : Option ℕ) → Decided (o ≡ None)
 is_none o = same_option same_number o None
 
-abbrev looks_found : (s : CpuState) (look : ℕ) → Option (LookStands s look)
+abbrev looks_found : (s : CpuState) (look : ℕ) → Option (LookFitsCpu s look)
 looks_found s look =
     found_both (λ k n. record { known = k; not_back = n }) (found (at_most 1 look)) (found (at_most s.generation look))
 

@@ -19,7 +19,7 @@ use Rattle.key_names.specs.VreadSteps.{NeverFall, looks_of, WipesStand, PointRea
 use Rattle.key_names.specs.VreadSteps.{second_points, is_wiped, is_reached, ending_answer, ending_shown, published_by}
 use Rattle.key_names.specs.Meaning.{CallerState, LineMeaning, CallMeaning, Means, ByVgetrandom, ByLocalCopy}
 use Rattle.key_names.specs.Meaning.{LocalOrCall, ActMeans, ActsMean, unused_line, tries_local, current_state}
-use Rattle.key_names.specs.Meaning.{with_state, state_after, event_entries}
+use Rattle.key_names.specs.Meaning.{with_state, caller_after, event_entries}
 use Rattle.key_names.specs.IsTranscript.{EachOfCall, EachAct, EachLine, CallsMean}
 use Rattle.worked_cases.proofs.Decided.{found, found_by, found_both, same_bool, at_most, each}
 use Rattle.worked_cases.proofs.FoundForms.{no_steps, form_found, end_form, system_call_found}
@@ -46,7 +46,7 @@ alone_found lists before event line =
         acts = [];
         entries = event_entries event;
         before = before;
-        after = state_after before event;
+        after = caller_after before event;
       };
       begins = refl;
       means = record { form = form; answer = refl; shown = refl; no_acts = refl; entries = refl; after = refl };

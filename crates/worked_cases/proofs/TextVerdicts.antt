@@ -116,7 +116,9 @@ number_of None v = 1
 
 -- worked out with all that it takes
 unfoldable pub text_verdict : (input output : List ℕ) (lanes : Lanes) → ℕ
-unfolding blake2s compressed folded start_vector round mixed_at mixed u32_at keystream_byte block_word double_rounds column_round diagonal_round quarter_round sip_round word_mixed script_of script_from digits decode_pairs encode_with transcript_text line_text steps_text step_text lane_text shown_text answer_text
+unfolding blake2s compressed folded start_vector round mixed_at mixed u32_at keystream_byte block_word double_rounds
+    column_round diagonal_round quarter_round sip_round word_mixed script_of script_from digits decode_pairs
+    encode_with transcript_text line_text steps_text step_text lane_text shown_text answer_text
 text_verdict input output lanes =
     number_of (texts_found input output) (verdict (script_in input) (lines_in input output) lanes)
 

@@ -63,7 +63,8 @@ act_before_a_fork = record {
   near_misses =
       left_out 1
       ∷ instead 4 (codes "0.4 end ok b:6@11 -") marks_clause
-      ∷ instead 3 (codes "0.3 vread EINTR ~1,~1,~2,~2,b:4@8,c0:0@9,~2,~2,~2,~2,c0:1@10,~2 162e568aee35a6aa") answers_clause
+      ∷ instead 3 (codes "0.3 vread EINTR ~1,~1,~2,~2,b:4@8,c0:0@9,~2,~2,~2,~2,c0:1@10,~2 162e568aee35a6aa")
+      answers_clause
       ∷ instead 3 (codes "0.3 vread ok ~1,~1,~2,~2,b:4@8,c0:0@9,~2,~2,~2,~2,c0:1@10,~2 162e568aee35a6ab") data_clause
       ∷ instead 5 (codes "1.0 read ok ~0 -") answers_clause
       ∷ instead 5 (codes "1.0 read ok ~3 -") looks_clause

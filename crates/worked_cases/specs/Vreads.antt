@@ -169,5 +169,6 @@ load_1_1_8 = record {
       left_out 1
       ∷ instead 10 (codes "0.10 end ok b:5@15 -") marks_clause
       ∷ instead 2 (codes "0.2 vread EINTR ~1,~1,~1,~1,b:1@4,c0:0@5,~1 3acc") answers_clause
-      ∷ instead 9 (codes "0.9 read ok ~2,~2,b:3@13,c0:5@14 4933a5d31556f60a44d12b3fc7355f18936a16970d") data_clause ∷ [];
+      ∷ instead 9 (codes "0.9 read ok ~2,~2,b:3@13,c0:5@14 4933a5d31556f60a44d12b3fc7355f18936a16970d") data_clause
+      ∷ [];
 }

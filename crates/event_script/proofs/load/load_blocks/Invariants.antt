@@ -6,4 +6,4 @@ use Rattle.event_script.proofs.load.load_blocks.Given as goal
 abbrev pub invariant-loop-caller : goal.invariant-loop-caller
 invariant-loop-caller l =
     map (λ events. events.items) l.blocks.items ≡ map (load_events l.start l.callers l.count)
-      (range_with_len 0 l.caller)
+    (range_with_len 0 l.caller)

@@ -12,18 +12,18 @@ use Rattle.event_script.proofs.numbers.number_up_to.Goals.{else-field-eq48-via-t
 pub returns-then-is_empty-clause-value : goal.returns-then-is_empty-clause-value
 returns-then-is_empty-clause-value c =
     sym (number_none (c.args.most + 1) c.args.field.now (omega arith)
-      (λ good below. let some = good.some in grind arith))
+    (λ good below. let some = good.some in grind arith))
 
 pub returns-then-field-gt1-clause-value : goal.returns-then-field-gt1-clause-value
 returns-then-field-gt1-clause-value c =
     sym (number_none (c.args.most + 1) c.args.field.now (omega arith)
-      (λ good below. let lead = good.lead c.if-field-eq48.true in omega arith))
+    (λ good below. let lead = good.lead c.if-field-eq48.true in omega arith))
 
 pub returns-in_default-clause-value : goal.returns-in_default-clause-value
 returns-in_default-clause-value c =
     sym (number_none (c.args.most + 1) c.args.field.now (omega arith)
     (λ good below. c.in_default.ensures.none (rw c.split_at.ensures.front
-      (digits_take c.min.result c.args.field.now good.digits))))
+    (digits_take c.min.result c.args.field.now good.digits))))
 
 pub loop-byte-init : goal.loop-byte-init
 loop-byte-init c =
@@ -45,7 +45,7 @@ returns-in_default-checked_mul-clause-value c =
     let large = lt_of_not-le c.in_default-checked_mul.ensures in
     let n : min (length c.args.field.now) 19 ≡ c.min.result = omega arith in
     too_large c.args.most (c.min.result + c.loop-byte.byte-index) c.loop-byte.value c.args.field.now (omega arith)
-      (omega arith)
+    (omega arith)
     (rw n at c.loop-byte.invariant.value) (omega arith)
 
 pub returns-in_default-checked_add-clause-value : goal.returns-in_default-checked_add-clause-value
@@ -55,7 +55,7 @@ returns-in_default-checked_add-clause-value c =
     let n : min (length c.args.field.now) 19 ≡ c.min.result = omega arith in
     let later = later_digit c.min.result i c.args.field.now c.split_at.result.1.now c.split_at.ensures.back in
     let digit : c.in-Some-to_digit.digit ≡ digit_value (get_or c.args.field.now (c.min.result + i) 0) =
-      rw (← later, ← c.from.ensures) c.in-Some-to_digit.ensures.value.1 in
+    rw (← later, ← c.from.ensures) c.in-Some-to_digit.ensures.value.1 in
     let tens = c.in-Some-checked_mul.ensures.1 in
     too_large c.args.most (c.min.result + i) c.loop-byte.value c.args.field.now (omega arith) (omega arith)
     (rw n at c.loop-byte.invariant.value) (omega arith)
@@ -67,7 +67,7 @@ loop-byte-preserved c =
     let next : min (length c.args.field.now) 19 + (i + 1) ≡ c.min.result + i + 1 = omega arith in
     let later = later_digit c.min.result i c.args.field.now c.split_at.result.1.now c.split_at.ensures.back in
     let digit : c.in-Some-to_digit.digit ≡ digit_value (get_or c.args.field.now (c.min.result + i) 0) =
-      rw (← later, ← c.from.ensures) c.in-Some-to_digit.ensures.value.1 in
+    rw (← later, ← c.from.ensures) c.in-Some-to_digit.ensures.value.1 in
     let small = rw (c.from.ensures, later) at c.in-Some-to_digit.ensures.value.0 in
     let tens = c.in-Some-checked_mul.ensures.1 in
     let sum = c.in-Some-checked_add.ensures.1 in
@@ -75,7 +75,7 @@ loop-byte-preserved c =
     let value = rw n at c.loop-byte.invariant.value in
     rw next (record {
       digits = digits_more 10 c.args.field.now (c.min.result + i) (omega arith) (rw n at c.loop-byte.invariant.digits)
-        (omega arith);
+          (omega arith);
       value = omega arith;
     })
 
@@ -92,4 +92,4 @@ returns-then-value-most-clause-value c =
       | else-field-eq48-via-else-field-eq48 w ↦ absurd (w.if-field-eq48.false e)
     ] in
     rw value (sym (number_good (c.args.most + 1) c.args.field.now
-      (record { digits = digits; some = some; lead = lead }) (omega arith) (omega arith)))
+    (record { digits = digits; some = some; lead = lead }) (omega arith) (omega arith)))

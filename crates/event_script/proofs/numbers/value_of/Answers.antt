@@ -12,25 +12,25 @@ returns-in_default-clause-none c = λ all.
 pub overflow_mul-value : goal.overflow_mul-value
 overflow_mul-value c =
     let small = few_digits c.loop-byte.byte-index c.args.digits.now c.loop-byte.invariant.digits (omega arith) in
-      omega arith
+    omega arith
 
 pub overflow_add-value : goal.overflow_add-value
 overflow_add-value c =
     let small = few_digits c.loop-byte.byte-index c.args.digits.now c.loop-byte.invariant.digits (omega arith) in
     let digit = rw c.from.ensures at c.in-Some.ensures.value.0 in
     let is : c.in-Some.digit ≡ digit_value (get_or c.args.digits.now c.loop-byte.byte-index 0) =
-      rw (← c.from.ensures) c.in-Some.ensures.value.1 in
+    rw (← c.from.ensures) c.in-Some.ensures.value.1 in
     omega arith
 
 pub loop-byte-preserved : goal.loop-byte-preserved
 loop-byte-preserved c =
     let digits = c.args.digits.now in
     let digit : c.in-Some.digit ≡ digit_value (get_or digits c.loop-byte.byte-index 0) =
-      rw (← c.from.ensures) c.in-Some.ensures.value.1 in
+    rw (← c.from.ensures) c.in-Some.ensures.value.1 in
     let small = rw c.from.ensures at c.in-Some.ensures.value.0 in
     let more = digits_value_more 10 digits c.loop-byte.byte-index c.loop-byte-test.true in
     record {
       digits = digits_more 10 digits c.loop-byte.byte-index c.loop-byte-test.true c.loop-byte.invariant.digits
-        (omega arith);
+          (omega arith);
       value = omega arith;
     }

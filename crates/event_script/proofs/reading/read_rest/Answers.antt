@@ -21,7 +21,7 @@ returns-in-Ok-check_end c =
     let kept = OnFalse_at c.if-not-more.true c.in-Ok.ensures.kept in
     sym c.loop-both.invariant.same
     ∙ ends d c.loop-both.number c.loop-both.left.now c.in-Ok.both.1.now next c.in-Ok.ensures.rest
-      c.in-Ok-check_end.ensures
+    c.in-Ok-check_end.ensures
     ∙ ap (λ (x : Draft). Ok (script_of_draft x)) (sym kept)
 
 pub returns-in-Err-check_end : goal.returns-in-Err-check_end
@@ -30,7 +30,7 @@ returns-in-Err-check_end c =
     let next = rw c.if-not-more.true at c.in-Ok.ensures.next in
     sym c.loop-both.invariant.same
     ∙ ends_early d c.loop-both.number c.loop-both.left.now c.in-Ok.both.1.now _ next c.in-Ok.ensures.rest
-      (c.in-Err-check_end.ensures (c.loop-both.number + 1))
+    (c.in-Err-check_end.ensures (c.loop-both.number + 1))
     ∙ ap (λ (f : ScriptFault). Err f) (sym c.fault.ensures)
 
 pub loop-both-preserved : goal.loop-both-preserved
@@ -41,7 +41,7 @@ loop-both-preserved c =
     let small = c.loop-both.invariant.small in
     record {
       same = sym (goes_on d (draft_as c.read_line.new.draft) c.loop-both.number c.loop-both.left.now c.in-Ok.both.1.now
-        next c.in-Ok.ensures.rest)
+          next c.in-Ok.ensures.rest)
           ∙ c.loop-both.invariant.same;
       some = rw c.in-Ok.ensures.same c.loop-both.invariant.some;
       few = rw c.in-Ok.ensures.same c.loop-both.invariant.few;

@@ -14,12 +14,12 @@ returns-in_err-draft-clause-only c = λ script is.
 pub invariant_of-result : goal.invariant_of-result
 invariant_of-result c =
     rw c.in_ok-callers.ensures (script_takes c.args.text.now (script_of_draft (draft_as c.in_ok-draft.draft))
-      c.in_ok-draft.ensures).well_formed
+    c.in_ok-draft.ensures).well_formed
 
 pub returns-clause-found : goal.returns-clause-found
 returns-clause-found c =
     rw c.in_ok-callers.ensures (script_takes c.args.text.now (script_of_draft (draft_as c.in_ok-draft.draft))
-      c.in_ok-draft.ensures)
+    c.in_ok-draft.ensures)
 
 pub returns-clause-only : goal.returns-clause-only
 returns-clause-only c = λ script is.

@@ -18,9 +18,11 @@ returns-then-not-is_lower_hex c =
 pub returns : goal.returns
 returns c =
     let out = c.write_bytes.new.out in
-    let same : length out ≡ length c.in_ok-bytes.bytes.items = c.write_bytes.auto.out ∙ ap length c.deref_mut.ensures.value in
+    let same : length out ≡ length c.in_ok-bytes.bytes.items =
+    c.write_bytes.auto.out ∙ ap length c.deref_mut.ensures.value in
     let whole = written out c.in_ok-bytes.bytes.items c.in_ok-bytes.bytes.len same c.in_ok-bytes.bytes.ok.0 in
     let twice = length-encode_with lower_digits out in
     let some : 0 < length c.args.field.now = grind arith in
     let lower = c.is_lower_hex.ensures.0 c.if-not-is_lower_hex.false in
-    ap Some whole ∙ bytes_spelt c.args.field.now out (omega (arith, ap length c.write_bytes.ensures)) lower c.write_bytes.ensures
+    ap Some whole ∙ bytes_spelt c.args.field.now out (omega (arith, ap length c.write_bytes.ensures)) lower
+    c.write_bytes.ensures

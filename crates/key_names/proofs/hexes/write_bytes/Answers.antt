@@ -16,8 +16,10 @@ digit_value-requires-in-loop-i c = lower_at c.args.digits.now (2 * c.loop-i.i + 
 pub loop-i-preserved : goal.loop-i-preserved
 loop-i-preserved c =
     byte_read c.loop-i.out c.args.digits.now c.loop-i.i _ _ (omega arith) (omega arith) c.loop-i.invariant
-    c.digit_value.ensures.small c.digit_value-in-loop-i.ensures.small c.digit_value.ensures.digit c.digit_value-in-loop-i.ensures.digit
+    c.digit_value.ensures.small c.digit_value-in-loop-i.ensures.small c.digit_value.ensures.digit
+    c.digit_value-in-loop-i.ensures.digit
 
 pub returns : goal.returns
 returns c =
-    sym (ap encode_lower (take_all c.loop-i.i c.loop-i.out (omega arith))) ∙ c.loop-i.invariant ∙ take_all (2 * c.loop-i.i) c.args.digits.now (omega arith)
+    sym (ap encode_lower (take_all c.loop-i.i c.loop-i.out (omega arith))) ∙ c.loop-i.invariant
+    ∙ take_all (2 * c.loop-i.i) c.args.digits.now (omega arith)

@@ -11,4 +11,4 @@ leave-requires-clause-makes g c = c.prepare.ensures _ _ nothing (omega arith)
 pub returns-clause-did : goal.returns-clause-did
 returns-clause-did g c = did_after _ _ _ _ c.enter-held.ensures.told
     (did_map _ _ _ (λ deeds h. record { form = h; answers = refl; shows = refl })
-      (formed _ _ _ (did_cpu _ _ _ _ _ _ _ tt (served_of _ _ _ _ _ _ _ _ c.leave.ensures.visited))))
+    (formed _ _ _ (did_cpu _ _ _ _ _ _ _ tt (served_of _ _ _ _ _ _ _ _ c.leave.ensures.visited))))

@@ -12,6 +12,9 @@ returns-clause-child g c = has_child _ _ (view c.tell.new.pass) _ c.split.ensure
     c.split.ensures.seat
 
 pub returns-clause-forked : goal.returns-clause-forked
-returns-clause-forked g c = record { before = _; did = c.tell.ensures.did;
-    pass_is = ap (λ (m : Seated). m.0) c.split.ensures.halved;
-    child_is = ap (λ (m : Seated). m.0) c.split.ensures.seat }
+returns-clause-forked g c = record {
+  before = _;
+  did = c.tell.ensures.did;
+  pass_is = ap (λ (m : Seated). m.0) c.split.ensures.halved;
+  child_is = ap (λ (m : Seated). m.0) c.split.ensures.seat;
+}

@@ -9,4 +9,4 @@ leave-requires-clause-makes g c = c.up.ensures _ (lent _ _ _ _ c.state_mut.ensur
 pub returns-clause-did : goal.returns-clause-did
 returns-clause-did g c = did_map _ _ _ (λ deeds h. record { form = inl h; answers = refl; shows = refl })
     (did_after _ _ _ _ c.enter-base.ensures.told (formed _ _ _
-      (did_base _ _ _ _ _ _ (served_of _ _ _ _ _ _ _ _ c.leave.ensures.visited))))
+    (did_base _ _ _ _ _ _ (served_of _ _ _ _ _ _ _ _ c.leave.ensures.visited))))

@@ -10,7 +10,7 @@ pub returns-clause-has : goal.returns-clause-has
 returns-clause-has g c = has_again _ _ _ _ _ (same_loans (length c.args.buf.now) c.args.flags c.args.st.now
     c.vgetrandom-ended.ensures).lanes
     (same_set (length c.args.buf.now) c.args.flags c.args.st.now c.vgetrandom-ended.ensures)
-      c.vgetrandom-ended.new.host.free
+    c.vgetrandom-ended.new.host.free
 
 pub returns-clause-current : goal.returns-clause-current
 returns-clause-current g c = still_current (length c.args.buf.now) c.args.flags c.args.st.now
@@ -23,14 +23,14 @@ pub returns-clause-called : goal.returns-clause-called
 returns-clause-called g c = rw c.done.ensures (called (length c.args.buf.now) c.args.flags c.args.st.now
     c.vgetrandom-ended.ensures c.requires.current
     (let a = c.args.host.now.free.pass.sized in let b = c.args.host.now.lanes.now.few in omega arith) c.requires.fresh
-      c.requires.before
+    c.requires.before
     (omega (arith, c.vgetrandom-ended.auto.buf)))
 
 pub returns-clause-did : goal.returns-clause-did
 returns-clause-did g c = rw c.done.ensures (inside_did (length c.args.buf.now) c.args.flags c.args.st.now
     c.vgetrandom-ended.ensures c.requires.current
     (let a = c.args.host.now.free.pass.sized in let b = c.args.host.now.lanes.now.few in omega arith) c.requires.fresh
-      c.requires.before
+    c.requires.before
     (omega (arith, c.vgetrandom-ended.auto.buf)))
 
 pub returns-clause-ran : goal.returns-clause-ran

@@ -21,5 +21,5 @@ returns-clause-did g c = let due = c.sample-due.ensures.due _ _ (omega arith)
     (lent _ _ _ _ c.state_mut.ensures.value c.enter-cpu.ensures.value) in
     did_after _ _ _ _ c.enter-cpu.ensures.told
     (did_in_map _ _ _ (λ visits deeds h. sample_dumped _ _ _ _ _ _ visits deeds (sym due ∙ c.if-not-due.false)
-      (visited_below _ _ _ _ _ _ _ _ c.leave.ensures.visited) h)
+    (visited_below _ _ _ _ _ _ _ _ c.leave.ensures.visited) h)
     (did_in_then _ _ _ _ (did_met _ _ _ _ _ _ _ _ tt c.leave.ensures.visited) c.dump.ensures.did))

@@ -11,6 +11,9 @@ leave_naming-place-requires-clause-makes g c =
     c.enter_under-pool.ensures.value)
 
 pub returns-clause-visited : goal.returns-clause-visited
-returns-clause-visited g c = (_, visited_is _ _ _ _ _ _ _ _ _
-    (ap (λ (p : ℕ). Pool (Extract c.args.set.now.hw p)) c.place.ensures)
-    (visited_after _ _ _ _ _ _ _ _ _ c.enter_under-pool.ensures.told c.leave_naming-place.ensures.visited))
+returns-clause-visited g c = (
+  _,
+  visited_is _ _ _ _ _ _ _ _ _
+      (ap (λ (p : ℕ). Pool (Extract c.args.set.now.hw p)) c.place.ensures)
+      (visited_after _ _ _ _ _ _ _ _ _ c.enter_under-pool.ensures.told c.leave_naming-place.ensures.visited),
+)

@@ -12,6 +12,9 @@ leave_naming-place-requires-clause-makes g c =
     (lent _ _ _ _ c.state_mut.ensures.value c.enter_under-base.ensures.value)
 
 pub returns-clause-visited : goal.returns-clause-visited
-returns-clause-visited g c = (_, visited_is _ _ _ _ _ _ _ _ _
-    (ap (λ (p : ℕ). Base (Refill c.args.set.now.cpu p)) c.place.ensures)
-    (visited_after _ _ _ _ _ _ _ _ _ c.enter_under-base.ensures.told c.leave_naming-place.ensures.visited))
+returns-clause-visited g c = (
+  _,
+  visited_is _ _ _ _ _ _ _ _ _
+      (ap (λ (p : ℕ). Base (Refill c.args.set.now.cpu p)) c.place.ensures)
+      (visited_after _ _ _ _ _ _ _ _ _ c.enter_under-base.ensures.told c.leave_naming-place.ensures.visited),
+)

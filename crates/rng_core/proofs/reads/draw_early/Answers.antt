@@ -9,5 +9,9 @@ leave-requires-clause-makes c = c.draw.ensures.made _ nothing (lent _ _ _ _ c.st
 
 pub returns-clause-did : goal.returns-clause-did
 returns-clause-did c = did_map _ _ _ (λ deeds h. record { form = inr h.form; bytes_are = h.bytes_are })
-    (did_base _ _ _ _ _ _ (record { model = _; got = _; visited = c.leave.ensures.visited;
-      serves = c.draw.ensures.bytes _ (lent _ _ _ _ c.state_mut.ensures.value c.requires.value) }))
+    (did_base _ _ _ _ _ _ (record {
+      model = _;
+      got = _;
+      visited = c.leave.ensures.visited;
+      serves = c.draw.ensures.bytes _ (lent _ _ _ _ c.state_mut.ensures.value c.requires.value);
+    }))

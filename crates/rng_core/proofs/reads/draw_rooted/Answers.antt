@@ -18,6 +18,10 @@ pub returns-clause-did : goal.returns-clause-did
 returns-clause-did g c = let v = c.extract-root.ensures.visited in
     did_map _ _ _ (λ deeds h. record { form = inl h.form; bytes_are = h.bytes_are })
     (did_rooted _ _ _ _ _ _ v.0 nothing (λ (r : ℕ). Draw (Some r) c.args.taken) c.draw_rooted.new.buf v.1
-    (record { model = _; got = _; visited = c.leave.ensures.visited;
+    (record {
+      model = _;
+      got = _;
+      visited = c.leave.ensures.visited;
       serves = c.draw_rooted.ensures.bytes ∙ ap (λ (k : List ℕ). taken_bytes k c.args.taken)
-      (sym c.extract-root.ensures.root) }))
+          (sym c.extract-root.ensures.root);
+    }))

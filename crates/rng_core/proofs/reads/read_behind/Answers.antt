@@ -15,4 +15,4 @@ returns-then-ne-clause-did g c = did_map _ _ _
 pub returns-clause-did : goal.returns-clause-did
 returns-clause-did g c = did_map _ _ _ (λ deeds h. record { form = inr h.form; bytes_are = h.bytes_are })
     (did_after _ _ _ _ (told_then _ _ _ _ [] [] c.enter-base.ensures.told c.give_back.ensures.told)
-      c.read_cpu-2.ensures.did)
+    c.read_cpu-2.ensures.did)

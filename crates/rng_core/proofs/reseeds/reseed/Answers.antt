@@ -15,5 +15,5 @@ pub returns-clause-did : goal.returns-clause-did
 returns-clause-did g c = did_map _ _ _ (λ deeds h. reseed_ready (setting_of c.args.set.now) h.0 deeds h.1
     (let e = h.3.0 in let n = c.if-look-eq0.false in omega arith) h.2 h.3.1)
     (did_looked {P = λ (n : ℕ) (rest : List Deed). (n ≡ c.look.result)
-      × Rooted (setting_of c.args.set.now) (λ (r : ℕ). Reseed r c.args.set.now.now) rest} _ _ _ _ c.look.result
-      c.look.ensures.told (did_map _ _ _ (λ rest h. (refl, h)) c.reseed_base.ensures.did))
+    × Rooted (setting_of c.args.set.now) (λ (r : ℕ). Reseed r c.args.set.now.now) rest} _ _ _ _ c.look.result
+    c.look.ensures.told (did_map _ _ _ (λ rest h. (refl, h)) c.reseed_base.ensures.did))

@@ -14,4 +14,4 @@ returns-clause-did g c = did_after _ _ _ _ c.enter-base.ensures.told
 pub returns-clause-reached : goal.returns-clause-reached
 returns-clause-reached g c = let seen = c.leave.ensures.seen in let fresh = c.enter-base.ensures.fresh refl in
     let rises = generation_begun _ _ (c.leave.ensures.visited.told.went.grows 1
-      (let a = c.enter-base.ensures.has.pass.sized in omega arith)) in omega arith
+    (let a = c.enter-base.ensures.has.pass.sized in omega arith)) in omega arith

@@ -11,5 +11,5 @@ pub returns-clause-did : goal.returns-clause-did
 returns-clause-did g c = did_map _ _ _ (λ deeds h. record { form = h; answers = refl; shows = refl })
     (did_after _ _ _ _ c.enter-pool.ensures.told
     (did_credit _ _ _ _ _ _ _ _ _ c.leave.ensures.visited
-      (c.mix_input-crossing.ensures.crossed _ (lent _ _ _ _ c.state_mut.ensures.value c.enter-pool.ensures.value))
-      c.cross.ensures.did))
+    (c.mix_input-crossing.ensures.crossed _ (lent _ _ _ _ c.state_mut.ensures.value c.enter-pool.ensures.value))
+    c.cross.ensures.did))

@@ -9,4 +9,4 @@ leave-requires-clause-makes g c = c.mix.ensures _ (lent _ _ _ _ c.state_mut.ensu
 pub returns-clause-did : goal.returns-clause-did
 returns-clause-did g c = did_after _ _ _ _ c.enter-pool.ensures.told
     (did_map _ _ _ (λ deeds h. record { form = h; answers = refl; shows = refl })
-      (did_pool _ _ _ _ _ _ _ c.leave.ensures.visited))
+    (did_pool _ _ _ _ _ _ _ c.leave.ensures.visited))

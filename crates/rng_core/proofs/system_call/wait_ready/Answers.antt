@@ -5,13 +5,17 @@ use Rattle.rng_core.proofs.Doing.{did_after}
 use Rattle.rng_core.proofs.system_call.wait_ready.Goals as goal
 
 pub returns-then-base_generation-ge1-clause-waited : goal.returns-then-base_generation-ge1-clause-waited
-returns-then-base_generation-ge1-clause-waited g c =
-    (c.resume.ensures.ready, did_after _ _ _ _ (told_then _ _ _ _ [] [] c.loop.invariant.told
-    c.enter-base.ensures.told) c.resume.ensures.did)
+returns-then-base_generation-ge1-clause-waited g c = (
+  c.resume.ensures.ready,
+  did_after _ _ _ _ (told_then _ _ _ _ [] [] c.loop.invariant.told
+      c.enter-base.ensures.told) c.resume.ensures.did,
+)
 
 pub returns-then-is_idle-clause-waited : goal.returns-then-is_idle-clause-waited
-returns-then-is_idle-clause-waited g c = (refl,
-    did_after _ _ _ _ (told_then _ _ _ _ [] [] c.loop.invariant.told c.enter-base.ensures.told) c.interrupt.ensures.did)
+returns-then-is_idle-clause-waited g c = (
+  refl,
+  did_after _ _ _ _ (told_then _ _ _ _ [] [] c.loop.invariant.told c.enter-base.ensures.told) c.interrupt.ensures.did,
+)
 
 pub returns-then-is_idle-clause-room : goal.returns-then-is_idle-clause-room
 returns-then-is_idle-clause-room g c = c.interrupt.ensures.room
@@ -22,5 +26,5 @@ loop-preserved g c = record {
   has = c.give_back.ensures.has;
   same = c.loop.invariant.same;
   told = told_then _ _ _ _ [] [] (told_then _ _ _ _ [] [] c.loop.invariant.told c.enter-base.ensures.told)
-    c.give_back.ensures.told;
+      c.give_back.ensures.told;
 }

@@ -21,4 +21,4 @@ returns-in-Err-clause-told g c = told_then _ _ _ _ [] []
     (told_idly _ _ _ refl (went_tried _ _ _ _ _ (let a = c.requires.has.pass.sized in omega arith) _
     c.in-Err.ensures.tried))
     (told_idly _ _ _ refl (went_taken _ _ _ _ _ (let a = c.in-Err.ensures.pass.pass.sized in omega arith) _ _
-      c.take.ensures.taken))
+    c.take.ensures.taken))

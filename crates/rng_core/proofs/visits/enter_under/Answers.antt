@@ -22,7 +22,7 @@ returns-in-Err-clause-told g c = told_then _ _ _ _ [] []
     (told_idly _ _ _ refl (went_tried _ _ _ _ _ (let a = c.requires.has.pass.sized in omega arith) _
     c.in-Err.ensures.tried))
     (told_idly _ _ _ refl (went_taken _ _ _ _ _ (let a = c.in-Err.ensures.pass.pass.sized in omega arith) _ _
-      c.take.ensures.taken))
+    c.take.ensures.taken))
 
 pub returns-in-Err-clause-has : goal.returns-in-Err-clause-has
 returns-in-Err-clause-has g c = has_taken _ _ _ _ _ c.try_take.new.pass _ c.requires.lane (c.requires.other, tt)

@@ -12,9 +12,9 @@ pub returns-in-NeedsSystem-clause-did : goal.returns-in-NeedsSystem-clause-did
 returns-in-NeedsSystem-clause-did g c = search (
   rules,
   left_read (length c.args.buf.now) (length c.vread_local.new.buf) c.args.flags c.args.st.now c.vread_local.new.st
-    c.call_host.new.st _ _ c.args.set.now
+      c.call_host.new.st _ _ c.args.set.now
       (moment c.args.pass.now c.args.trace.now) (moment c.vread_local.new.pass c.vread_local.new.trace)
-        (moment c.call_host.new.host.pass.now c.call_host.new.host.trace.now)
+      (moment c.call_host.new.host.pass.now c.call_host.new.host.trace.now)
       c.requires.current (omega (arith, c.vread_local.auto.buf)) (rw c.in-NeedsSystem.is at c.vread_local.ensures.read)
-        (c.call_host.ensures.called (omega arith)),
+      (c.call_host.ensures.called (omega arith)),
 )

@@ -10,7 +10,7 @@ pub run_alone-requires-clause-range : goal.run_alone-requires-clause-range
 run_alone-requires-clause-range g c = (
   c.args.script.now.version,
   rw c.cpus.ensures (runnable c.args.script.now c.events.result.now c.requires.well_formed c.requires.one
-    c.events.ensures).range,
+      c.events.ensures).range,
 )
 
 pub run_alone-requires-clause-few : goal.run_alone-requires-clause-few

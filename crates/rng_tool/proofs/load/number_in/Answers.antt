@@ -10,7 +10,7 @@ pub returns-then-number-from-clause-only : goal.returns-then-number-from-clause-
 returns-then-number-from-clause-only c n spelt low high =
     let same : c.in-Some.number ≡ n =
     cc (number_read c.args.most n c.args.word.now (omega arith) spelt high, c.in-Some.ensures.value) in
-      absurd (omega arith)
+    absurd (omega arith)
 
 pub returns-clause-only : goal.returns-clause-only
 returns-clause-only c n spelt low high =

@@ -20,7 +20,7 @@ both text bytes answer all is words test =
     let decides = bytes_eq-Decides text (codes "run") in (
       λ yes. words ∙ ap (λ t. t ∷ []) (sym is ∙ decides.0 (sym test ∙ yes)),
       λ run. (let same : bytes ≡ codes "run" = (let both : bytes ∷ [] ≡ codes "run" ∷ [] = sym words ∙ run in cc) in
-        test ∙ decides.1 (is ∙ same)),
+          test ∙ decides.1 (is ∙ same)),
     )
 
 pub returns-in-len1 : goal.returns-in-len1

@@ -39,6 +39,7 @@ returns g c =
     let kind = c.requires.kind in
     let is = by_width _ _ kind c.requires.len in
     by_does _ _ _ _ _ _ _ _ _ is c.requires.new refl c.int.ensures.has
-    _ (bytes_or_none c.int.new.out) (ap (λ (s : Said). s.answer) c.done.ensures) (ap (λ (s : Said). shown_by c.int.new.out s.shows) c.done.ensures)
+    _ (bytes_or_none c.int.new.out) (ap (λ (s : Said). s.answer) c.done.ensures)
+    (ap (λ (s : Said). shown_by c.int.new.out s.shows) c.done.ensures)
     (rw c.done.ensures (subst (λ (e : Event). event_word e ≡ Bits → ⊥) is (no_bits _ kind)))
     (quietly _ _ _ _ _ _ (subst IsNoInterrupt is (no_interrupt _ kind)) c.int.ensures.did)

@@ -10,19 +10,24 @@ use Rattle.caller_run.proofs.caller.Caller.read.Goals as goal
 
 pub returns-in-Kread : goal.returns-in-Kread
 returns-in-Kread g c =
-    by_does _ _ _ _ _ _ _ _ _ (c.in-Kread.is ∙ ap Kread (sym (c.requires.len ∙ ap most_shown c.in-Kread.is))) c.requires.new refl c.kernel_read.ensures.has
-    _ (bytes_or_none c.kernel_read.new.buf) (ap (λ (s : Said). s.answer) c.done.ensures) (ap (λ (s : Said). shown_by c.kernel_read.new.buf s.shows) c.done.ensures)
+    by_does _ _ _ _ _ _ _ _ _ (c.in-Kread.is ∙ ap Kread (sym (c.requires.len ∙ ap most_shown c.in-Kread.is)))
+    c.requires.new refl c.kernel_read.ensures.has
+    _ (bytes_or_none c.kernel_read.new.buf) (ap (λ (s : Said). s.answer) c.done.ensures)
+    (ap (λ (s : Said). shown_by c.kernel_read.new.buf s.shows) c.done.ensures)
     (rw c.done.ensures (λ same. cc)) (quietly _ _ _ _ _ _ tt c.kernel_read.ensures.did)
 
 pub returns-in-Uread : goal.returns-in-Uread
 returns-in-Uread g c =
-    by_does _ _ _ _ _ _ _ _ _ (c.in-Uread.is ∙ ap Uread (sym (c.requires.len ∙ ap most_shown c.in-Uread.is))) c.requires.new refl c.urandom_file.ensures.has
-    _ (bytes_or_none c.urandom_file.new.buf) (ap (λ (s : Said). s.answer) c.done-in-Uread.ensures) (ap (λ (s : Said). shown_by c.urandom_file.new.buf s.shows) c.done-in-Uread.ensures)
+    by_does _ _ _ _ _ _ _ _ _ (c.in-Uread.is ∙ ap Uread (sym (c.requires.len ∙ ap most_shown c.in-Uread.is)))
+    c.requires.new refl c.urandom_file.ensures.has
+    _ (bytes_or_none c.urandom_file.new.buf) (ap (λ (s : Said). s.answer) c.done-in-Uread.ensures)
+    (ap (λ (s : Said). shown_by c.urandom_file.new.buf s.shows) c.done-in-Uread.ensures)
     (rw c.done-in-Uread.ensures (λ same. cc)) (quietly _ _ _ _ _ _ tt c.urandom_file.ensures.did)
 
 pub returns-in-Read : goal.returns-in-Read
 returns-in-Read g c =
-    by_does _ _ _ _ _ _ _ _ _ (c.in-Read.is ∙ ap (λ n. Read n c.in-Read.flags) (sym (c.requires.len ∙ ap most_shown c.in-Read.is))) c.requires.new refl c.getrandom.ensures.has
+    by_does _ _ _ _ _ _ _ _ _ (c.in-Read.is ∙ ap (λ n. Read n c.in-Read.flags)
+    (sym (c.requires.len ∙ ap most_shown c.in-Read.is))) c.requires.new refl c.getrandom.ensures.has
     _ _ c.read.ensures.answer (c.read.ensures.shows c.getrandom.new.buf)
     (no_count _ _ (λ same. cc) c.read.ensures.bytes) (quietly _ _ _ _ _ _ tt c.getrandom.ensures.did)
 
@@ -34,7 +39,9 @@ flag_of (suc (suc flag)) low = absurd (omega arith)
 pub returns-in-Dread : goal.returns-in-Dread
 returns-in-Dread g c =
     let range = subst (InRange c.requires.range.0 c.args.lanes.now.cpus) c.in-Dread.is c.requires.range.1 in
-    by_does _ _ _ _ _ _ _ _ _ (c.in-Dread.is ∙ ap (λ n. Dread n c.in-Dread.flag) (sym (c.requires.len ∙ ap most_shown c.in-Dread.is))
-    ∙ ap (Dread (length c.args.served.now)) (sym (flag_of c.in-Dread.flag range.1))) c.requires.new refl c.random_file.ensures.has
+    by_does _ _ _ _ _ _ _ _ _ (c.in-Dread.is ∙ ap (λ n. Dread n c.in-Dread.flag)
+    (sym (c.requires.len ∙ ap most_shown c.in-Dread.is))
+    ∙ ap (Dread (length c.args.served.now)) (sym (flag_of c.in-Dread.flag range.1))) c.requires.new refl
+    c.random_file.ensures.has
     _ _ c.read-in-Dread.ensures.answer (c.read-in-Dread.ensures.shows c.random_file.new.buf)
     (no_count _ _ (λ same. cc) c.read-in-Dread.ensures.bytes) (quietly _ _ _ _ _ _ tt c.random_file.ensures.did)

@@ -1,4 +1,4 @@
-use Rattle.std.proofs.Common.{◌≡◌, ◌∷◌, ◌++◌, [], List, length, ℕ, take, drop, sym, subst, ap, ◌∙◌, arith, rules}
+use Rattle.std.proofs.Common.{◌≤◌, ◌≡◌, ◌∷◌, ◌++◌, [], List, length, ℕ, take, drop, sym, subst, ap, ◌∙◌, arith, rules}
 use Rattle.std.proofs.lemmas.List.{length-take-le}
 use Rattle.std.proofs.Math.Seq.{take-append_seam}
 use Rattle.rng_core.specs.declared.acts.Bound.{Bound}
@@ -37,19 +37,25 @@ returns-clause-act_room g c = search rules
 -- a list whose items were lent out, with those that came back
 put_back : (back items : List Bound) (n : ℕ) → length back ≡ n → take n (back ++ drop (length back) items) ≡ back
 put_back back items n long =
-    ap (λ (k : ℕ). take k (back ++ drop (length back) items)) (sym long) ∙ take-append_seam back (drop (length back) items)
+    ap (λ (k : ℕ). take k (back ++ drop (length back) items)) (sym long)
+    ∙ take-append_seam back (drop (length back) items)
 
-has_read : (g : _) (c : After-go_on g) → HasRead c.args.lanes.now c.args.event.now c.args.self.now c.vread-said.new.self c.go_on.new.self
+-- what the caller did for its event
+has_read : (g : _) (c : After-go_on g) → HasRead c.args.lanes.now c.args.event.now c.args.self.now
+    c.vread-said.new.self c.go_on.new.self
     c.args.room.now.lines c.tell.new.lines c.args.room.now.acts.items c.clear.new.self.items
 has_read g c =
     let acts = c.args.room.now.acts in let after = c.vread-said.new in let left = c.deref_mut-2.result.now in
     let len = c.requires.is.0 in
+    let low : c.most_shown.result ≤ length c.args.served.now =
+    (let e = c.most_shown.ensures in let l = c.requires.can.goes.longest.0 in omega arith) in
     let shown : c.most_shown.result ≡ len = c.most_shown.ensures ∙ ap most_shown c.requires.is.1 in
     let n_is : length (take c.most_shown.result c.args.served.now) ≡ len =
-    length-take-le c.most_shown.result c.args.served.now (let e = c.most_shown.ensures in let low = c.requires.can.goes.longest.0 in omega arith)
-    ∙ shown in
-    let left_is : left ≡ after.acts = c.deref_mut-2.ensures.value ∙ put_back after.acts acts.items acts.len (search rules) in
-    let asks_are : asks_of left ≡ asks_of acts.items = ap asks_of left_is ∙ c.vread-said.ensures.asks ∙ ap asks_of c.deref_mut.ensures.value in
+    length-take-le c.most_shown.result c.args.served.now low ∙ shown in
+    let left_is : left ≡ after.acts = c.deref_mut-2.ensures.value
+    ∙ put_back after.acts acts.items acts.len (search rules) in
+    let asks_are : asks_of left ≡ asks_of acts.items =
+    ap asks_of left_is ∙ c.vread-said.ensures.asks ∙ ap asks_of c.deref_mut.ensures.value in
     let zs = outcomes_of after.acts after.inside in
     let served : length after.served ≡ c.most_shown.result = search rules in
     let inside : length after.inside ≡ all_wanted (asks_of c.deref.result.now) = search rules in
@@ -62,16 +68,20 @@ has_read g c =
       served = after.served;
       steps = after.trace;
       zs = zs;
-      read = subst (λ (n : ℕ). StateRead c.args.lanes.now n c.args.flags c.args.self.now after.self c.vread-said.result after.served after.trace
-          (asks_of acts.items) zs) n_is
-          (subst (λ (bs : List Bound). StateRead c.args.lanes.now (length (take c.most_shown.result c.args.served.now)) c.args.flags
-          c.args.self.now after.self c.vread-said.result after.served after.trace (asks_of bs) zs) c.deref_mut.ensures.value
+      read = subst (λ (n : ℕ). StateRead c.args.lanes.now n c.args.flags c.args.self.now after.self c.vread-said.result
+          after.served after.trace (asks_of acts.items) zs) n_is
+          (subst (λ (bs : List Bound). StateRead c.args.lanes.now (length (take c.most_shown.result c.args.served.now))
+          c.args.flags
+          c.args.self.now after.self c.vread-said.result after.served after.trace (asks_of bs) zs)
+          c.deref_mut.ensures.value
           c.vread-said.ensures.read);
       on = c.go_on.ensures;
       lines = c.tell.ensures.lines
-          ∙ ap (λ (ls : List SeenLine). ls ++ line_of after.self.set VreadWord after.served c.vread-said.result after.trace ∷ [])
+          ∙ ap (λ (ls : List SeenLine). ls ++ line_of after.self.set VreadWord after.served c.vread-said.result
+          after.trace ∷ [])
           (c.tell_acts.ensures.lines
-          ∙ (λ i. told_anew c.args.room.now.lines.lines (asks_are i) (act_lines after.self.set (asks_are i) (outcomes_of (left_is i) after.inside))));
+          ∙ (λ i. told_anew c.args.room.now.lines.lines (asks_are i)
+          (act_lines after.self.set (asks_are i) (outcomes_of (left_is i) after.inside))));
       line_room = c.tell.ensures.line_room ∙ c.tell_acts.ensures.line_room;
       byte_room = (let a = c.tell.ensures.byte_room in let b = c.tell_acts.ensures.byte_room in omega arith);
       none = c.clear.ensures.items;
@@ -79,9 +89,9 @@ has_read g c =
 
 pub returns-clause-can : goal.returns-clause-can
 returns-clause-can g c rest can = record {
-  goes = can_read _ _ _ _ _ _ _ _ _ (has_read g c) _ _ rest can.goes;
+  goes = can_read (has_read g c) can.goes;
   act_room = (let e = returns-clause-act_room g c in let b = can.act_room in omega arith);
 }
 
 pub returns-clause-gone : goal.returns-clause-gone
-returns-clause-gone g c = gone_read _ _ _ _ _ _ _ _ _ (has_read g c)
+returns-clause-gone g c = gone_read (has_read g c)

@@ -14,5 +14,6 @@ push_showing-requires-clause-fits c = let e = c.line-in-Served.ensures in record
   few_steps = search rules;
   steps = subst (λ (l : Line). AllByRecursion StepFits l.trace) (sym e) c.requires.steps;
   shown = subst (λ (l : Line). ShownFits l.word (bytes_or_none c.args.served.now)) (sym e)
-      (bytes_fit c.args.word c.args.served.now (subst (ShowsFit c.args.word) c.in-Served.is c.requires.shows) c.type_inv.served);
+      (bytes_fit c.args.word c.args.served.now (subst (ShowsFit c.args.word) c.in-Served.is c.requires.shows)
+      c.type_inv.served);
 }

@@ -7,7 +7,9 @@ use Rattle.caller_run.proofs.ActWaits.{Keeps, can_keep, gone_keep}
 use Rattle.caller_run.proofs.caller.Caller.wait.Goals as goal
 use Rattle.caller_run.proofs.caller.Caller.wait.Goals.{After-go_on}
 
-kept : (c : After-go_on) → Keeps c.args.event.now c.args.self.now c.go_on.new.self c.args.room.now.lines c.tell.new.lines
+-- what the caller did for its event
+kept : (c : After-go_on) → Keeps c.args.event.now c.args.self.now c.go_on.new.self c.args.room.now.lines
+    c.tell.new.lines
     c.args.room.now.acts.items c.push_reserved.new.self.items
 kept c =
     let set = c.args.self.now.set in
@@ -21,14 +23,15 @@ kept c =
           ∙ (λ i. lines ++ line_of set InsideWord [] (c.only-unused.ensures i) (c.empty.ensures i) ∷ []);
       line_room = c.tell.ensures.line_room;
       byte_room = (let b = c.tell.ensures.byte_room in omega arith);
-      kept = c.push_reserved.ensures.items ∙ ap (λ (b : Bound). c.args.room.now.acts.items ++ b ∷ []) c.of-bound.ensures;
+      kept = c.push_reserved.ensures.items ∙ ap (λ (b : Bound). c.args.room.now.acts.items ++ b ∷ [])
+          c.of-bound.ensures;
     }
 
 pub returns-clause-can : goal.returns-clause-can
 returns-clause-can c t served inside rest can = record {
-  goes = can_keep _ _ _ _ _ _ _ (kept c) can.goes.at _ _ _ _ can.goes;
+  goes = can_keep (kept c) can.goes;
   act_room = (let a = c.push_reserved.ensures.capacity in let b = can.act_room in omega arith);
 }
 
 pub returns-clause-gone : goal.returns-clause-gone
-returns-clause-gone c = gone_keep _ _ _ _ _ _ _ (kept c) c.requires.can.3.goes.at
+returns-clause-gone c = gone_keep (kept c) c.requires.can.3.goes.at

@@ -6,7 +6,8 @@ use Rattle.chacha_blocks.proofs.reader.Reader.read.Goals as goal
 
 -- the generator and the view of a reader whose key stays, by the place after
 stands : (key k : List ℕ) (w : ℕ) (g : ChaCha) → k ≡ key → g ≡ generator_at key w → g ≡ generator_at k g.word_pos
-stands key k w g same after = let place : g.word_pos ≡ w = ap (λ (x : ChaCha). x.word_pos) after in after ∙ rw (same, place) refl
+stands key k w g same after = let place : g.word_pos ≡ w = ap (λ (x : ChaCha). x.word_pos) after in
+    after ∙ rw (same, place) refl
 
 pub invariant_of-self : goal.invariant_of-self
 invariant_of-self c =

@@ -7,5 +7,11 @@ pub invariant_of-self-2-clause-tallied : goal.invariant_of-self-2-clause-tallied
 invariant_of-self-2-clause-tallied c =
     let d = c.args.self.now in
     let t = tallied_block (draft_as d) d.event_count d.bytes_read d.acts d.forked d.tallied in
-    rw (c.replace-events.ensures.after, c.new.ensures.items, c.push_reserved.ensures.items,
-      c.replace-events.ensures.value, c.in_ok-reserve.ensures.items, map_push) t
+    rw (
+      c.replace-events.ensures.after,
+      c.new.ensures.items,
+      c.push_reserved.ensures.items,
+      c.replace-events.ensures.value,
+      c.in_ok-reserve.ensures.items,
+      map_push,
+    ) t

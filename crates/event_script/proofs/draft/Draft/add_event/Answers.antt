@@ -10,9 +10,9 @@ invariant_of-self-in-Some-clause-tallied c =
     let forks : fork_in c.args.event ≡ Some c.in-Some.child = sym c.fork_of-child.ensures ∙ c.in-Some.is in
     let within = sym c.is_past_limits.ensures ∙ c.if-is_past_limits.false in
     let t = tallied_event (draft_as d) c.args.event d.event_count d.bytes_read d.acts d.forked d.tallied c.requires
-      within in
-    rw (c.in_ok-push.ensures.items, c.from.ensures, c.bytes_of-bytes.ensures, c.waiting_after-acts.ensures)
-      (rw forks at t)
+    within in
+    rw (c.in_ok-push.ensures.items, c.from.ensures, c.bytes_read-bytes.ensures, c.waiting_after-acts.ensures)
+    (rw forks at t)
 
 pub invariant_of-self-in_default-clause-tallied : goal.invariant_of-self-in_default-clause-tallied
 invariant_of-self-in_default-clause-tallied c =
@@ -20,6 +20,6 @@ invariant_of-self-in_default-clause-tallied c =
     let forks : fork_in c.args.event ≡ None = sym c.fork_of-child.ensures ∙ c.in_default.is in
     let within = sym c.is_past_limits.ensures ∙ c.if-is_past_limits.false in
     let t = tallied_event (draft_as d) c.args.event d.event_count d.bytes_read d.acts d.forked d.tallied c.requires
-      within in
-    rw (c.in_ok-push.ensures.items, c.from.ensures, c.bytes_of-bytes.ensures, c.waiting_after-acts.ensures)
-      (rw forks at t)
+    within in
+    rw (c.in_ok-push.ensures.items, c.from.ensures, c.bytes_read-bytes.ensures, c.waiting_after-acts.ensures)
+    (rw forks at t)

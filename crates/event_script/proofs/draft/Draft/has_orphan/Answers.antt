@@ -13,8 +13,8 @@ returns c =
     let n = c.len.result + 1 in
     let long = d.tallied.long in
     let rest : take (64 - n) (drop n d.forked) ≡ drop n d.forked =
-      take_all _ _ (omega (arith, length-drop n d.forked)) in
+    take_all _ _ (omega (arith, length-drop n d.forked)) in
     let blocks : n ≡ length (blocks_of (draft_as d)) =
-      omega (arith, length_blocks (draft_as d), length-map d.done.items (λ block. block.items), d.done.ok.0) in
+    omega (arith, length_blocks (draft_as d), length-map d.done.items (λ block. block.items), d.done.ok.0) in
     c.is_any_set.ensures ∙ ap (list_any (λ flag. flag)) rest
     ∙ orphans (draft_as d) d.event_count d.bytes_read d.acts n d.forked d.tallied blocks

@@ -20,15 +20,15 @@ pub loop-lane-preserved : goal.loop-lane-preserved
 loop-lane-preserved c = let v = c.args.pass.seat.me.0 in let p = c.requires.pass in let i : ℕ = c.loop-lane.lane in
     let x : Content = c.in-Some.content in
     let t = stored_in _ _ v _ _ c.close_with-closed.ensures.values.2 p.share c.requires.whole c.requires.idle _
-      c.loop-lane.invariant.3 i (Some x) c.in-Some.ensures.value in
+    c.loop-lane.invariant.3 i (Some x) c.in-Some.ensures.value in
     let same : x ≡ t.0 = (let e : Some x ≡ Some t.0 = t.1 in cc e) in let made : x.place ≡ (at i v).made =
-      ap (λ (z : Content). z.place) same ∙ t.2 in
+    ap (λ (z : Content). z.place) same ∙ t.2 in
     let more : sum_by made_in (take (i + 1) v.lanes) ≡ sum_by made_in (take i v.lanes) + (at i v).made =
-      sum_by_more made_in v.lanes i blank (omega arith) in
+    sum_by_more made_in v.lanes i blank (omega arith) in
     let inv = c.loop-lane.invariant in let o = c.in-Some.ensures.others in (
       (λ k le lt. ap (λ (l : List Bool). get_or l k false) o.1
-        ∙ get_or-set_other c.loop-lane.closed.slots.filled i k false false (λ e. omega arith)
-        ∙ inv.0 k (omega arith) (omega arith)),
+          ∙ get_or-set_other c.loop-lane.closed.slots.filled i k false false (λ e. omega arith)
+          ∙ inv.0 k (omega arith) (omega arith)),
       (λ k lt. set_default_until c.loop-lane.closed.slots.filled c.take.new.self.slots.filled i k false o.1 inv.1 lt),
       omega arith,
       o.0 ∙ inv.3,
@@ -40,4 +40,4 @@ pub returns-clause-ended : goal.returns-clause-ended
 returns-clause-ended c = let p = c.requires.pass in let n = slots_counts c.close_with-closed.result.slots in let w =
     c.close_with-closed.ensures.counts in
     let done = ended _ _ c.args.pass.seat.me.0 _ _ c.close_with-closed.ensures.values.2 p.share c.requires.whole
-      c.requires.idle in subst (λ (z : ℕ). Ended z c.args.pass.seat.me.0) (omega arith) done
+    c.requires.idle in subst (λ (z : ℕ). Ended z c.args.pass.seat.me.0) (omega arith) done

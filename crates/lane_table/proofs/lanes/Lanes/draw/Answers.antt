@@ -3,5 +3,8 @@ use Rattle.lane_table.proofs.Drawing.{draws}
 use Rattle.lane_table.proofs.lanes.Lanes.draw.Goals as goal
 
 pub compare_exchange-requires : goal.compare_exchange-requires
-compare_exchange-requires g c = (search rules, omega arith,
-    draws _ _ _ c.args.lane _ (search rules) (search rules) _ (search rules))
+compare_exchange-requires g c = (
+  search rules,
+  omega arith,
+  draws _ _ _ c.args.lane _ (search rules) (search rules) _ (search rules),
+)

@@ -7,9 +7,12 @@ use Rattle.lane_table.proofs.lanes.Lanes.raise.Goals as goal
 
 pub store-requires : goal.store-requires
 store-requires c = let p = c.requires.pass in let h = c.requires.held in let v = c.args.pass.now.seat.me.0 in let e =
-    base_generation (known_of v 1) in let n = c.requires.next in
-    (search rules, omega arith, lifts _ _ _ c.args.held.now.turn.ticket _ _ (omega arith)
-      (ap (λ (z : ℕ). (at z v).stage) (sym c.requires.base) ∙ h.stage) c.requires.once (omega arith) c.requires.small)
+    base_generation (known_of v 1) in let n = c.requires.next in (
+      search rules,
+      omega arith,
+      lifts _ _ _ c.args.held.now.turn.ticket _ _ (omega arith)
+          (ap (λ (z : ℕ). (at z v).stage) (sym c.requires.base) ∙ h.stage) c.requires.once (omega arith) c.requires.small,
+    )
 
 pub returns-clause-raised : goal.returns-clause-raised
 returns-clause-raised c = let t = c.store.ensures.2 in

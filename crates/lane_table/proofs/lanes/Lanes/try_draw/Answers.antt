@@ -3,5 +3,8 @@ use Rattle.lane_table.proofs.Drawing.{tries}
 use Rattle.lane_table.proofs.lanes.Lanes.try_draw.Goals as goal
 
 pub compare_exchange-requires : goal.compare_exchange-requires
-compare_exchange-requires c = (search rules, omega arith,
-    tries _ _ _ c.args.lane _ (search rules) (search rules) _ (search rules))
+compare_exchange-requires c = (
+  search rules,
+  omega arith,
+  tries _ _ _ c.args.lane _ (search rules) (search rules) _ (search rules),
+)

@@ -5,8 +5,11 @@ use Rattle.lane_table.proofs.Telling.{got_pass}
 use Rattle.lane_table.proofs.lanes.Lanes.turn.Goals as goal
 
 pub load-serving-requires : goal.load-serving-requires
-load-serving-requires c = (search rules, omega arith,
-    serves _ _ _ c.args.lane c.args.ticket _ (search rules) (search rules) (search rules))
+load-serving-requires c = (
+  search rules,
+  omega arith,
+  serves _ _ _ c.args.lane c.args.ticket _ (search rules) (search rules) (search rules),
+)
 
 got : (c : goal.After-load-serving) → Got c.args.lane c.args.ticket c.args.pass.now.seat.me c.load-serving.new.seat.me
 got c = let t = c.load-serving.ensures.2 c.args.lane refl c.args.ticket c.requires.lane.1 in let a = t.0 in let b =

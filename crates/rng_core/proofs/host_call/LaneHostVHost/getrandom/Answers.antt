@@ -9,8 +9,11 @@ returns-clause-answers g c = let k = c.getrandom.ensures.did in (
   is_answer c.getrandom.result c.getrandom.new.buf (visit_of k.deals),
   (
     record {
-      core = record { same = refl; did = system_called _ (length c.args.buf.now) c.args.flags c.getrandom.result
-        c.getrandom.new.buf _ _ k };
+      core = record {
+        same = refl;
+        did = system_called _ (length c.args.buf.now) c.args.flags c.getrandom.result
+            c.getrandom.new.buf _ _ k;
+      };
       begins = c.getrandom.ensures.begins;
       acts = record { attempt = refl; asks = refl; outcomes = refl };
     },
