@@ -27,7 +27,7 @@ use Rattle.key_names.proofs.CpuUses as cpu_side
 use Rattle.key_names.proofs.StateUses as state_side
 
 -- a name that only this holder's entries can use
-abbrev Own : Lists → KeyHolder → KeyName → Type 0
+abbrev pub Own : Lists → KeyHolder → KeyName → Type 0
 Own lists base_key k = base_side.IsLater (refill_at lists.base) 0 0 k
 Own lists (cpu_key c) k = cpu_names.IsLater lists.base c (taken_at (cpu_list lists c)) 0 k
 Own lists (state_key caller state) k = state_side.IsLater caller state (rekey_at (state_list lists caller state)) 0 0 k
@@ -113,7 +113,7 @@ module _ (lists : Lists) (lanes : ForwardLawful lists) (states : LawfulStates li
       ap (λ (x : StatePlace). state_key x.caller x.state) same
 
   -- no two holders have a name in common
-  own_once : (a b : KeyHolder) (k : KeyName) → Own lists a k → Own lists b k → a ≡ b
+  pub own_once : (a b : KeyHolder) (k : KeyName) → Own lists a k → Own lists b k → a ≡ b
   own_once base_key base_key k a b = refl
   own_once base_key (cpu_key d) k a b = absurd (base_cpu_apart lists d k a b)
   own_once base_key (state_key caller state) k a b = absurd (base_state_apart lists caller state k a b)
@@ -138,13 +138,13 @@ module _ (lists : Lists) (lanes : ForwardLawful lists) (states : LawfulStates li
       (states.states caller state)
 
   -- the uses of a holder
-  abbrev uses_of : KeyHolder → List Use
+  abbrev pub uses_of : KeyHolder → List Use
   uses_of base_key = base_uses lists
   uses_of (cpu_key c) = cpu_uses lists c
   uses_of (state_key caller state) = state_uses lists caller state
 
   -- at the start of a list only later names may be used
-  own_uses : (h : KeyHolder) → Part (Own lists h) (uses_of h)
+  pub own_uses : (h : KeyHolder) → Part (Own lists h) (uses_of h)
   own_uses base_key = record {
     disjoint = base_walk.disjoint;
     within = λ k q h. elim (base_walk.within k q h) [ inl e ↦ cc | inr l ↦ l ];

@@ -32,7 +32,7 @@ pub match_cases : (A B C : Type 0) (b : Bool) → ((b ≡ true) → A → C) →
 match_cases A B C true f g h = f refl h
 match_cases A B C false f g h = g refl h
 
-some_bytes : (n : ℕ) → (n == 0) ≡ false → 1 ≤ n
+pub some_bytes : (n : ℕ) → (n == 0) ≡ false → 1 ≤ n
 some_bytes zero h = cc
 some_bytes (suc n) h = omega arith
 

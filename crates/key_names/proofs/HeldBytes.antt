@@ -66,7 +66,7 @@ less_rest at pos n key bytes zeros is =
     ∙ ap (λ f. keystream key f ((96 - pos) - n)) p ∙ ap (keystream key (at + (pos + n))) q
 
 -- the entry behind a front, and the front
-entry_behind : {A : Type 0} (xs front : List A) (e : A) (rest : List A) → xs ≡ (front ++ e ∷ []) ++ rest →
+pub entry_behind : {A : Type 0} (xs front : List A) (e : A) (rest : List A) → xs ≡ (front ++ e ∷ []) ++ rest →
     slice_get xs (length front) ≡ Some e
 entry_behind {A = A} xs front e rest is = ap (λ ys. slice_get ys (length front)) is ∙ go front
   where
@@ -74,7 +74,7 @@ entry_behind {A = A} xs front e rest is = ap (λ ys. slice_get ys (length front)
     go [] = refl
     go (x ∷ front) = go front
 
-front_of : {A : Type 0} (xs front : List A) (e : A) (rest : List A) → xs ≡ (front ++ e ∷ []) ++ rest →
+pub front_of : {A : Type 0} (xs front : List A) (e : A) (rest : List A) → xs ≡ (front ++ e ∷ []) ++ rest →
     take (length front) xs ≡ front
 front_of {A = A} xs front e rest is = ap (take (length front)) is ∙ go front
   where
@@ -177,7 +177,7 @@ module _ (lists : Lists) where
       (front_named_more c w lawful) (length (cpu_list lists c)))
 
   -- the rest of a state's batch is that of the key that its refill came from
-  abbrev StateRest : NamedState → StateBytes → Type 0
+  abbrev pub StateRest : NamedState → StateBytes → Type 0
   StateRest s b = (k : KeyName) → s.batch_key ≡ Some k →
       drop s.pos b.batch ≡ keystream (value_of lists k) (64 * s.batch_from + s.pos) (96 - s.pos)
 
@@ -203,11 +203,11 @@ module _ (lists : Lists) where
   state_bytes_key b [] = refl
   state_bytes_key b (e ∷ es) = state_bytes_key (state_bytes_step lists b e) es
 
-  abbrev StateFront : ℕ → ℕ → List VEntry → Type 0
+  abbrev pub StateFront : ℕ → ℕ → List VEntry → Type 0
   StateFront caller state front = StateRest (state_after caller state front)
       (fold (state_bytes_step lists) state_bytes_start front)
 
-  state_front_more : (caller state : ℕ) →
+  pub state_front_more : (caller state : ℕ) →
       LawfulStateList (cpu_list lists) caller state (state_list lists caller state) →
       (front : List VEntry) (e : VEntry) (rest : List VEntry) →
       state_list lists caller state ≡ (front ++ e ∷ []) ++ rest →

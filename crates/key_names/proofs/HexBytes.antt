@@ -6,7 +6,7 @@ use Rattle.std.proofs.lemmas.Bool.{and_parts, cases_lt, leb-true, or_cases}
 use Rattle.std.proofs.lemmas.List.{get_or_past, take_all, take_more, take_more_set, take-append-le}
 use Rattle.hex.specs.Hex.{IsBytes, encode_lower, encode_with, lower_digits}
 use Rattle.key_names.specs.ScriptFaults.{bytes_of}
-use Rattle.key_names.specs.Spelling.{AllLower, hex, is_lower_digit}
+use Rattle.key_names.specs.Spelling.{AllLower, is_lower_digit}
 use Rattle.key_names.proofs.HexFields.{bytes_again, spells_letter, spells_number}
 
 pub lower_at : (digits : List ℕ) (i : ℕ) → AllLower digits → i < length digits →

@@ -10,7 +10,7 @@ use Rattle.key_names.specs.Deeds.{Deed, looked, at_pool, at_base, at_cpu, nothin
 use Rattle.key_names.specs.Flags.{is_bad}
 use Rattle.key_names.specs.VgetrandomState.{VgetrandomState, state_left}
 use Rattle.key_names.specs.BatchCopy.{has_left, bytes_left, whole_blocks, new_batch_bytes, copy_bytes, state_after_copy, block_after_copy, serve_entry, refill_entries, copy_entries}
-use Rattle.key_names.specs.Vgetrandom.{CpuPlace, SystemAnswer, read, failed, HostStep, publishes, system_call, at_point, AttemptEnd, holds, outdated, not_keyed, Attempt, wipe_entry, rekey_entry, AtPoint, FromEnd, FromServe, AfterKeyRead, FromWritten, FromStart, IsAttempt, Outcome, BySystem, ByNothing, AfterAttempt, AttemptAndRest, AfterBoth, state_after_call, SecondAttempt, FirstAttempt, FromPublished, FromLook, IsCall}
+use Rattle.key_names.specs.Vgetrandom.{CpuPlace, SystemAnswer, read, failed, HostStep, publishes, system_call, at_point, AttemptEnd, holds, outdated, not_keyed, Attempt, Ending, no_bytes, by_batch, by_system, wipe_entry, rekey_entry, AtPoint, FromEnd, FromServe, AfterKeyRead, FromWritten, FromStart, IsAttempt, Outcome, BySystem, ByNothing, AfterAttempt, AttemptAndRest, AfterBoth, state_after_call, SecondAttempt, FirstAttempt, FromPublished, FromLook, IsCall}
 use Rattle.key_names.specs.VreadSteps.{place_of, last_place, answer_with, answer_behind, errno_of, Shows}
 use Rattle.key_names.specs.declared.errno.Errno.{Errno}
 use Rattle.key_names.specs.Answers.{system_answer}
@@ -39,11 +39,11 @@ module _ (c p : ℕ) where
   takes_append (Serve pos len ∷ xs) ys = takes_append xs ys
   takes_append (Wipe ∷ xs) ys = takes_append xs ys
 
-  abbrev place_takes : Option CpuPlace → ℕ
+  abbrev pub place_takes : Option CpuPlace → ℕ
   place_takes None = 0
   place_takes (Some at) = is_here at.cpu at.place
 
-  abbrev answer_takes : SystemAnswer → ℕ
+  abbrev pub answer_takes : SystemAnswer → ℕ
   answer_takes (failed errno) = 0
   answer_takes (read bytes visit) = place_takes visit
 
@@ -160,16 +160,29 @@ module _ (c p : ℕ) where
       (start_bounded n from is.published) is.goes_on in
       record { is = (let h = b.is in omega arith) }
 
-  -- nor do those of a call
-  record OutcomeBounded (steps : List HostStep) (outcome : Outcome) : Type 0 where
-    is : takes outcome.entries ≤ step_takes steps
+  -- the visit of a call's answer is not among those that its entries take
+  abbrev pub ending_takes : Ending → ℕ
+  ending_takes no_bytes = 0
+  ending_takes (by_batch out) = 0
+  ending_takes (by_system answer) = answer_takes answer
 
-  none_bounded : (steps : List HostStep) (outcome : Outcome) → outcome.entries ≡ [] → OutcomeBounded steps outcome
-  none_bounded steps outcome none = record { is = (let z : takes outcome.entries ≡ 0 = ap takes none in omega arith) }
+  -- nor do those of a call, its answer left out
+  record OutcomeBounded (steps : List HostStep) (outcome : Outcome) : Type 0 where
+    is : takes outcome.entries + ending_takes outcome.ending ≤ step_takes steps
+
+  abbrev outcome_takes : Outcome → ℕ
+  outcome_takes o = takes o.entries + ending_takes o.ending
+
+  none_bounded : (steps : List HostStep) (outcome by : Outcome) → outcome ≡ by → outcome_takes by ≤ step_takes steps →
+      OutcomeBounded steps outcome
+  none_bounded steps outcome by is le =
+      record { is = (let z : outcome_takes outcome ≡ outcome_takes by = ap outcome_takes is in omega arith) }
 
   system_bounded : (n flags : ℕ) (s : VgetrandomState) (steps : List HostStep) (outcome : Outcome) →
       BySystem n flags s steps outcome → OutcomeBounded steps outcome
-  system_bounded n flags s steps outcome by = none_bounded steps outcome (ap (λ (o : Outcome). o.entries) by.outcome_is)
+  system_bounded n flags s steps outcome by =
+      let same : step_takes steps ≡ answer_takes by.answer + 0 = ap step_takes by.steps_are in
+      none_bounded steps outcome _ by.outcome_is (omega arith)
 
   tried_bounded : (n flags : ℕ) (Outdated : ℕ → VgetrandomState → List HostStep → Outcome → Type 0)
       (Tried : List HostStep → Attempt → Type 0) (steps : List HostStep) (outcome : Outcome) →
@@ -189,12 +202,14 @@ module _ (c p : ℕ) where
             let t : step_takes steps ≡ step_takes (r.tried ++ r.rest) = ap step_takes r.steps_are in
             let u : step_takes (r.tried ++ r.rest) ≡ step_takes r.tried + step_takes r.rest =
             step_append r.tried r.rest in
+            let v : ending_takes outcome.ending ≡ ending_takes r.outcome_after.ending =
+            ap (λ (o : Outcome). ending_takes o.ending) r.outcome_is in
             let x = a.is in let y = b.is in omega arith);
       }
     where
       go : (end : AttemptEnd) → AfterAttempt n flags Outdated end r.attempt r.rest r.outcome_after →
           OutcomeBounded r.rest r.outcome_after
-      go holds by = none_bounded r.rest r.outcome_after (ap (λ (o : Outcome). o.entries) by.outcome_is)
+      go holds by = none_bounded r.rest r.outcome_after _ by.outcome_is (omega arith)
       go outdated by = goes_on r.attempt.next_block r.attempt.state r.rest r.outcome_after by
       go not_keyed by = system_bounded n flags (state_after_call r.attempt.state) r.rest r.outcome_after by
 
@@ -216,7 +231,7 @@ module _ (c p : ℕ) where
       match_cases (BySystem n flags s steps outcome) _ (OutcomeBounded steps outcome) (published == 0)
       (λ is by. system_bounded n flags s steps outcome by)
       (λ is. match_cases (ByNothing s steps outcome) _ (OutcomeBounded steps outcome) (n == 0)
-      (λ zero by. none_bounded steps outcome (ap (λ (o : Outcome). o.entries) by.outcome_is))
+      (λ zero by. none_bounded steps outcome _ by.outcome_is (omega arith))
       (λ some. match_cases (BySystem n flags s steps outcome)
       (FirstAttempt n flags (record s { in_use = true }) steps outcome) (OutcomeBounded steps outcome) s.in_use
       (λ inside by. system_bounded n flags s steps outcome by)
@@ -267,7 +282,7 @@ module _ (c p : ℕ) where
   one_takes (at_cpu v) = omega arith
   one_takes nothing_there = omega arith
 
-  last_takes : (ds : List Deed) → place_takes (last_place ds) ≤ deed_takes ds
+  pub last_takes : (ds : List Deed) → place_takes (last_place ds) ≤ deed_takes ds
   last_takes [] = omega arith
   last_takes (d ∷ []) = one_takes d
   last_takes (d ∷ e ∷ ds) = let rest : place_takes (last_place (e ∷ ds)) ≤ deed_takes (e ∷ ds) = last_takes (e ∷ ds) in
@@ -295,10 +310,11 @@ module _ (c p : ℕ) where
       let rest : step_takes steps ≤ deed_takes shows.rest = shown_takes set steps shows.rest shows.goes_on in
       omega arith
 
-  -- so a call takes no more than stands behind its line
+  -- so a call takes no more than stands behind its line without its answer
   pub call_takes : (set : Setting) (n flags : ℕ) (s : VgetrandomState) (steps : List HostStep) (outcome : Outcome)
       (ds : List Deed) →
-      IsCall n flags s steps outcome → Shows set steps ds → takes outcome.entries ≤ deed_takes ds
+      IsCall n flags s steps outcome → Shows set steps ds →
+      takes outcome.entries + ending_takes outcome.ending ≤ deed_takes ds
   call_takes set n flags s steps outcome ds is shows =
       let b : OutcomeBounded steps outcome = call_bounded n flags s steps outcome is in
       let a = b.is in let e : step_takes steps ≤ deed_takes ds = shown_takes set steps ds shows in omega arith

@@ -1,5 +1,5 @@
--- In a lawful transcript a system call for a new key took 32 bytes of a CPU.
-use Rattle.std.proofs.Common.{◌≡◌, ℕ, Bool, true, false, List, [], ◌∷◌, ◌++◌, ◌⊎◌, inl, inr, refl, sym, subst, ap, ◌∙◌, Some, None, Option}
+-- In a lawful transcript a system call for a new key took 32 bytes of a CPU, and read those that its visit hands over.
+use Rattle.std.proofs.Common.{◌≡◌, ℕ, Bool, true, false, List, [], ◌∷◌, ◌++◌, ◌⊎◌, inl, inr, refl, sym, subst, ap, ◌∙◌, Some, None, Option, take}
 use Rattle.std.specs.Prelude.{◌==◌, ◌&&◌, slice_get, option_and_then}
 use Rattle.key_names.specs.declared.names.LaneId.{LaneId}
 use Rattle.key_names.specs.declared.names.LaneId.TheVariants.{Pool as PoolLane, Base as BaseLane, Cpu as CpuLane}
@@ -20,7 +20,10 @@ use Rattle.key_names.specs.Forms.{SysForm, LookedForm, ReadForm, CpuReadForm, Wa
 use Rattle.key_names.specs.Answers.{found_unready, was_interrupted, is_interrupt, system_answer}
 use Rattle.key_names.specs.Vgetrandom.{SystemAnswer, HostStep, publishes, system_call, at_point}
 use Rattle.key_names.specs.VreadSteps.{answer_behind, answer_with, errno_of, Shows}
+use Rattle.key_names.specs.Keystream.{keystream}
+use Rattle.key_names.specs.KeyInUse.{cpu_call_value, cpu_used_at, cpu_value_at, cpu_value_after, cpu_value_in_use}
 use Rattle.key_names.proofs.CallsKeep.{match_cases}
+use Rattle.key_names.proofs.StatesReplay.{KeyIs}
 use Rattle.key_names.proofs.KeyReads.{IsKeyRead, KeyReads}
 
 -- a visit of a CPU stands in its list
@@ -28,7 +31,8 @@ abbrev pub IsThere : Lists → Deed → Type 0
 IsThere lists (looked g) = Unit {0}
 IsThere lists (at_pool v) = Unit {0}
 IsThere lists (at_base v) = Unit {0}
-IsThere lists (at_cpu v) = slice_get (cpu_list lists v.cpu) v.place ≡ Some v.entry
+IsThere lists (at_cpu v) = (slice_get (cpu_list lists v.cpu) v.place ≡ Some v.entry)
+    × (v.serves ≡ (cpu_visit lists v.cpu v.place v.entry).serves)
 IsThere lists nothing_there = Unit {0}
 
 abbrev pub AllThere : Lists → List Deed → Type 0
@@ -48,7 +52,7 @@ there_at_base lists place (Some e) = tt
 there_at_cpu : (lists : Lists) (c place : ℕ) (o : Option CpuEntry) → slice_get (cpu_list lists c) place ≡ o →
     IsThere lists (deed_or (λ e. at_cpu (cpu_visit lists c place e)) o)
 there_at_cpu lists c place None is = tt
-there_at_cpu lists c place (Some e) is = is
+there_at_cpu lists c place (Some e) is = (is, refl)
 
 there_at : (lists : Lists) (lane : LaneId) (place : ℕ) → IsThere lists (deed_at lists lane place)
 there_at lists PoolLane place = there_at_pool lists place (slice_get lists.pool place)
@@ -61,7 +65,7 @@ all_there lists [] = tt
 all_there lists (Look g ∷ steps) = (tt, all_there lists steps)
 all_there lists (Marked mark ∷ steps) = (there_at lists mark.lane mark.place, all_there lists steps)
 
-there_append : (lists : Lists) (xs ys : List Deed) → AllThere lists (xs ++ ys) → AllThere lists xs × AllThere lists ys
+pub there_append : (lists : Lists) (xs ys : List Deed) → AllThere lists (xs ++ ys) → AllThere lists xs × AllThere lists ys
 there_append lists [] ys h = (tt, h)
 there_append lists (x ∷ xs) ys h =
     let m : AllThere lists xs × AllThere lists ys = there_append lists xs ys h.1 in ((h.0, m.0), m.1)
@@ -81,22 +85,38 @@ answers_interrupted deeds is = go (found_unready deeds) refl
     go true at = rw (at, is) refl
     go false at = rw (at, is) refl
 
--- a visit of a CPU that took 32 bytes
+-- a key read took 32 bytes of a CPU, and read what its visit hands over
+abbrev WasRead : Lists → SystemAnswer → Type 0
+WasRead lists answer = IsKeyRead (cpu_list lists) answer × KeyIs lists answer
+
+-- a visit of a CPU that took 32 bytes, and served those that it hands over
 record Took32 (lists : Lists) (cpu : CpuVisit) : Type 0 where
-  is : taken_at (cpu_list lists cpu.cpu) cpu.place ≡ Some (User 32)
+  is : (taken_at (cpu_list lists cpu.cpu) cpu.place ≡ Some (User 32))
+      × (cpu.serves ≡ cpu_call_value lists cpu.cpu cpu.place)
 
 took : (lists : Lists) (cpu : CpuVisit) (look : ℕ) (refill : Option ℕ) → cpu.entry ≡ CpuRead look refill (User 32) →
     IsThere lists (at_cpu cpu) → Took32 lists cpu
-took lists cpu look refill reads there = record { is = ap (option_and_then taken_of) (there ∙ ap Some reads) }
+took lists cpu look refill reads there =
+    let e : CpuEntry = CpuRead look refill (User 32) in
+    let before : List ℕ = cpu_value_after lists (take cpu.place (cpu_list lists cpu.cpu)) in
+    let used : cpu_used_at lists cpu.cpu cpu.place ≡ cpu_value_in_use lists e before =
+    ap (cpu_value_at lists before) (there.0 ∙ ap Some reads) in
+    record {
+      is = (
+        ap (option_and_then taken_of) (there.0 ∙ ap Some reads),
+        there.1 ∙ ap (λ e. (cpu_visit lists cpu.cpu cpu.place e).serves) reads
+            ∙ ap (λ v. keystream v 32 32) (sym used),
+      );
+    }
 
 -- what a call answers that ends with such a visit
 abbrev Answered : Lists → List Deed → Type 0
-Answered lists call = IsKeyRead (cpu_list lists) (answer_behind 0 call)
+Answered lists call = WasRead lists (answer_behind 0 call)
 
 read_answered : (lists : Lists) (call : List Deed) → was_interrupted call ≡ false →
-    IsKeyRead (cpu_list lists) (answer_with None call) → Answered lists call
+    WasRead lists (answer_with None call) → Answered lists call
 read_answered lists call is read =
-    let P : Option Errno → Type 0 = λ e. IsKeyRead (cpu_list lists) (answer_with e call) in
+    let P : Option Errno → Type 0 = λ e. WasRead lists (answer_with e call) in
     subst P (sym (ap errno_of (answers_done call is))) read
 
 cpu_read_answered : (lists : Lists) (set : Setting) (g : ℕ) (call rest : List Deed) → call ≡ looked g ∷ rest →
@@ -152,11 +172,11 @@ vain_answered lists g call rest is vain =
     let all : call ≡ ds = is ∙ ap (λ ds. looked g ∷ ds) vain.deeds_are in
     let stopped : was_interrupted ds ≡ true = ap is_interrupt vain.interrupts in
     let Q : List Deed → Type 0 = λ ds. Answered lists ds in
-    let P : Option Errno → Type 0 = λ e. IsKeyRead (cpu_list lists) (answer_with e ds) in
-    subst Q (sym all) (subst P (sym (ap errno_of (answers_interrupted ds stopped))) tt)
+    let P : Option Errno → Type 0 = λ e. WasRead lists (answer_with e ds) in
+    subst Q (sym all) (subst P (sym (ap errno_of (answers_interrupted ds stopped))) (tt, tt))
 
 -- a system call of 32 bytes with no flags
-sys_answered : (lists : Lists) (set : Setting) (call : List Deed) → AllThere lists call → SysForm set 32 0 call →
+pub sys_answered : (lists : Lists) (set : Setting) (call : List Deed) → AllThere lists call → SysForm set 32 0 call →
     Answered lists call
 sys_answered lists set call there form = go form.0 form.1 form.2 form.3
   where
@@ -195,6 +215,6 @@ key_reads lists set (system_call n flags answer ∷ steps) deeds there shows =
           let Q : SystemAnswer → Type 0 = λ a. IsKeyRead (cpu_list lists) a in
           let same : answer ≡ answer_behind 0 shows.call = shows.answers
           ∙ ap (λ f. answer_behind f shows.call) no_flags in
-          subst Q (sym same) (sys_answered lists set shows.call h.0 form),
+          subst Q (sym same) (sys_answered lists set shows.call h.0 form).0,
       key_reads lists set steps shows.rest h.1 shows.goes_on,
     )

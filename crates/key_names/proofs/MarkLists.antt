@@ -1,22 +1,18 @@
 -- Marks of one lane in the order of their places, with rising stamps.
 use Rattle.std.proofs.Common.{ℕ, zero, suc, ◌+◌, ◌≡◌, ◌<◌, ◌≤◌, Bool, true, false, cond, List, [], ◌∷◌, ◌++◌, length, refl, ◌∙◌, arith}
-use Rattle.std.specs.Prelude.{count_by, ◌==◌, ⊤}
+use Rattle.std.specs.Prelude.{count_by, ◌==◌}
 use Rattle.std.specs.List.{AllByRecursion, range_with_len}
 use Rattle.std.proofs.lemmas.List.Sums.{sum_by-cons}
 use Rattle.std.proofs.lemmas.Bool.Decides.{nat_tests}
 use Rattle.key_names.specs.declared.names.Mark.{Mark}
 use Rattle.key_names.specs.IsTranscript.{PlacesStand}
+use Rattle.key_names.specs.PlacesInOrder.{InOrder}
 use Rattle.key_names.proofs.Each.{each_more, each_weaker}
 
--- the places count up from i, and each stamp is below those behind it
-abbrev pub InOrder : ℕ → List Mark → Type 0
-InOrder i [] = ⊤
-InOrder i (m ∷ ms) = (m.place ≡ i) × AllByRecursion (λ n. m.stamp < n.stamp) ms × InOrder (suc i) ms
-
-abbrev at_place : ℕ → Mark → Bool
+abbrev pub at_place : ℕ → Mark → Bool
 at_place p m = m.place == p
 
-count_more : (p : ℕ) (m : Mark) (ms : List Mark) →
+pub count_more : (p : ℕ) (m : Mark) (ms : List Mark) →
     count_by (at_place p) (m ∷ ms) ≡ cond (m.place == p) 1 0 + count_by (at_place p) ms
 count_more p m ms = sum_by-cons (λ n. cond (at_place p n) 1 0) m ms
 
@@ -50,7 +46,7 @@ each_once i zero ms once = tt
 each_once i (suc n) ms once =
     (once i (omega arith) (omega arith), each_once (i + 1) n ms (λ p from below. once p (omega arith) (omega arith)))
 
-abbrev Above : Mark → Mark → Type 0
+abbrev pub Above : Mark → Mark → Type 0
 Above a b = a.place < b.place → a.stamp < b.stamp
 
 -- places from i on

@@ -39,7 +39,7 @@ every_front P xs front (e ∷ rest) is now more (suc j) =
     subst P q (every_front P xs (front ++ e ∷ []) rest (is ∙ sym p) (more front e rest (is ∙ sym p) now) more j)
 
 -- the place after a list is its length
-place_after : {S E : Type 0} (place : S → ℕ) (step : S → E → S) → ((s : S) (e : E) → place (step s e) ≡ suc (place s)) →
+pub place_after : {S E : Type 0} (place : S → ℕ) (step : S → E → S) → ((s : S) (e : E) → place (step s e) ≡ suc (place s)) →
     (s : S) (xs : List E) → place (fold step s xs) ≡ place s + length xs
 place_after place step next s [] = omega arith
 place_after place step next s (x ∷ xs) =

@@ -1,5 +1,5 @@
--- How often the marks of some lines have a place of a CPU: at most once where the marks stand.
-use Rattle.std.proofs.Common.{◌≡◌, ℕ, zero, suc, ◌+◌, ◌<◌, ◌≤◌, Bool, true, false, cond, List, [], ◌∷◌, ◌++◌, ◌⊎◌, inl, inr, refl, sym, subst, ap, ◌∙◌, arith, Some, None, Option, length}
+-- How often the marks of some lines have a place of a lane: at most once where the marks stand.
+use Rattle.std.proofs.Common.{◌≡◌, ℕ, zero, suc, ◌+◌, ◌<◌, ◌≤◌, Bool, true, false, cond, List, [], ◌∷◌, ◌++◌, inl, inr, refl, sym, subst, ap, ◌∙◌, arith, Some, None, Option, length}
 use Rattle.std.specs.Prelude.{count_by, ◌==◌, ◌&&◌, nat_lt, if◌then◌else◌, slice_get}
 use Rattle.std.specs.List.{AllByRecursion, range_with_len, flat_map}
 use Rattle.std.proofs.lemmas.List.Sums.{sum_by-cons}
@@ -19,14 +19,13 @@ use Rattle.key_names.specs.IsTranscript.{MarkBy, marks_from, line_marks, all_mar
 use Rattle.key_names.proofs.KeyTakes.{is_here, deed_takes}
 use Rattle.key_names.proofs.TranscriptBooks.{lt_or_le}
 
-abbrev hit : Bool → ℕ
+abbrev pub hit : Bool → ℕ
 hit b = cond b 1 0
 
-module _ (c p : ℕ) where
-  abbrev lane_takes : LaneId → ℕ → ℕ
-  lane_takes PoolLane place = 0
-  lane_takes BaseLane place = 0
-  lane_takes (CpuLane d) place = is_here c p d place
+-- lane and p name a place of a lane
+module _ (lane : LaneId) (p : ℕ) where
+  abbrev pub lane_takes : LaneId → ℕ → ℕ
+  lane_takes other place = if is_same_lane other lane then hit (place == p) else 0
 
   -- how many marks of this place some steps have
   abbrev pub mark_takes : List Step → ℕ
@@ -34,65 +33,24 @@ module _ (c p : ℕ) where
   mark_takes (Look g ∷ steps) = mark_takes steps
   mark_takes (Marked mark ∷ steps) = lane_takes mark.lane mark.place + mark_takes steps
 
-  lane_deed : (lists : Lists) (lane : LaneId) (place : ℕ) (ds : List Deed) (n : ℕ) → deed_takes c p ds ≤ n →
-      deed_takes c p (deed_at lists lane place ∷ ds) ≤ lane_takes lane place + n
-  lane_deed lists PoolLane place ds n le = pool (slice_get lists.pool place)
-    where
-      pool : (o : Option PoolEntry) → deed_takes c p (deed_or (λ e. at_pool (pool_visit lists place e)) o ∷ ds) ≤ 0 + n
-      pool None = omega arith
-      pool (Some e) = omega arith
-  lane_deed lists BaseLane place ds n le = base (slice_get lists.base place)
-    where
-      base : (o : Option BaseEntry) → deed_takes c p (deed_or (λ e. at_base (base_visit lists place e)) o ∷ ds) ≤ 0 + n
-      base None = omega arith
-      base (Some e) = omega arith
-  lane_deed lists (CpuLane d) place ds n le = cpu (slice_get (cpu_list lists d) place)
-    where
-      cpu : (o : Option CpuEntry) → deed_takes c p (deed_or (λ e. at_cpu (cpu_visit lists d place e)) o ∷ ds)
-          ≤ is_here c p d place + n
-      cpu None = omega arith
-      cpu (Some e) = omega arith
-
-  -- no more visits stand behind steps than they have marks
-  pub deeds_within : (lists : Lists) (steps : List Step) → deed_takes c p (deeds_of lists steps) ≤ mark_takes steps
-  deeds_within lists [] = omega arith
-  deeds_within lists (Look g ∷ steps) = deeds_within lists steps
-  deeds_within lists (Marked mark ∷ steps) =
-      lane_deed lists mark.lane mark.place (deeds_of lists steps) (mark_takes steps) (deeds_within lists steps)
-
-  -- how many marks of the CPU's lane have this place
+  -- how many marks of the lane have this place
   abbrev place_count : List Mark → ℕ
   place_count marks = count_by (λ mark. mark.place == p) marks
 
   abbrev count_here : List MarkBy → ℕ
-  count_here marks = place_count (lane_marks (CpuLane c) marks)
+  count_here marks = place_count (lane_marks lane marks)
 
   count_cons : (m : Mark) (ms : List Mark) → place_count (m ∷ ms) ≡ cond (m.place == p) 1 0 + place_count ms
   count_cons m ms = sum_by-cons (λ mark. cond (mark.place == p) 1 0) m ms
 
-  abbrev lane_count : LaneId → ℕ → ℕ
-  lane_count lane place = if is_same_lane lane (CpuLane c) then cond (place == p) 1 0 else 0
-
-  lane_count_is : (lane : LaneId) (place : ℕ) → lane_count lane place ≡ lane_takes lane place
-  lane_count_is PoolLane place = refl
-  lane_count_is BaseLane place = refl
-  lane_count_is (CpuLane d) place = go (d == c) refl
-    where
-      go : (b : Bool) → (d == c) ≡ b →
-          (if d == c then hit (place == p) else 0) ≡ hit (b && place == p)
-      go true is = rw is refl
-      go false is = rw is refl
-
   here_cons : (by : MarkBy) (marks : List MarkBy) →
       count_here (by ∷ marks) ≡ lane_takes by.mark.lane by.mark.place + count_here marks
-  here_cons by marks = go (is_same_lane by.mark.lane (CpuLane c)) refl
-      ∙ ap (λ n. n + count_here marks) (lane_count_is by.mark.lane by.mark.place)
+  here_cons by marks = go (is_same_lane by.mark.lane lane)
     where
-      go : (b : Bool) → is_same_lane by.mark.lane (CpuLane c) ≡ b →
-          place_count (if b then by.mark ∷ lane_marks (CpuLane c) marks else lane_marks (CpuLane c) marks)
-          ≡ (if b then cond (by.mark.place == p) 1 0 else 0) + count_here marks
-      go true is = count_cons by.mark (lane_marks (CpuLane c) marks)
-      go false is = omega arith
+      go : (b : Bool) → place_count (if b then by.mark ∷ lane_marks lane marks else lane_marks lane marks)
+          ≡ (if b then hit (by.mark.place == p) else 0) + count_here marks
+      go true = count_cons by.mark (lane_marks lane marks)
+      go false = omega arith
 
   here_append : (xs ys : List MarkBy) → count_here (xs ++ ys) ≡ count_here xs + count_here ys
   here_append [] ys = omega arith
@@ -137,6 +95,41 @@ module _ (c p : ℕ) where
       let b : count_here (flat_map line_marks lines) ≡ lines_takes lines = lines_count lines in
       let rest : count_here (all_marks t) ≡ total_takes t = total_count t in omega arith
 
+-- a place of a CPU
+module _ (c p : ℕ) where
+  cpu_takes : (d place : ℕ) → lane_takes (CpuLane c) p (CpuLane d) place ≡ is_here c p d place
+  cpu_takes d place = go (d == c)
+    where
+      go : (b : Bool) → (if b then hit (place == p) else 0) ≡ hit (b && place == p)
+      go true = refl
+      go false = refl
+
+  lane_deed : (lists : Lists) (lane : LaneId) (place : ℕ) (ds : List Deed) (n : ℕ) → deed_takes c p ds ≤ n →
+      deed_takes c p (deed_at lists lane place ∷ ds) ≤ lane_takes (CpuLane c) p lane place + n
+  lane_deed lists PoolLane place ds n le = pool (slice_get lists.pool place)
+    where
+      pool : (o : Option PoolEntry) → deed_takes c p (deed_or (λ e. at_pool (pool_visit lists place e)) o ∷ ds) ≤ 0 + n
+      pool None = omega arith
+      pool (Some e) = omega arith
+  lane_deed lists BaseLane place ds n le = base (slice_get lists.base place)
+    where
+      base : (o : Option BaseEntry) → deed_takes c p (deed_or (λ e. at_base (base_visit lists place e)) o ∷ ds) ≤ 0 + n
+      base None = omega arith
+      base (Some e) = omega arith
+  lane_deed lists (CpuLane d) place ds n le = cpu (slice_get (cpu_list lists d) place)
+    where
+      cpu : (o : Option CpuEntry) → deed_takes c p (deed_or (λ e. at_cpu (cpu_visit lists d place e)) o ∷ ds)
+          ≤ lane_takes (CpuLane c) p (CpuLane d) place + n
+      cpu None = omega arith
+      cpu (Some e) = let same = cpu_takes d place in omega arith
+
+  -- no more visits stand behind steps than they have marks
+  pub deeds_within : (lists : Lists) (steps : List Step) → deed_takes c p (deeds_of lists steps) ≤ mark_takes (CpuLane c) p steps
+  deeds_within lists [] = omega arith
+  deeds_within lists (Look g ∷ steps) = deeds_within lists steps
+  deeds_within lists (Marked mark ∷ steps) =
+      lane_deed lists mark.lane mark.place (deeds_of lists steps) (mark_takes (CpuLane c) p steps) (deeds_within lists steps)
+
 -- how many marks have a place, and a place below a number
 at_place : ℕ → List Mark → ℕ
 at_place q [] = 0
@@ -149,7 +142,7 @@ below n (m ∷ ms) = cond (nat_lt m.place n) 1 0 + below n ms
 at_is_count : (q : ℕ) (ms : List Mark) → count_by (λ mark. mark.place == q) ms ≡ at_place q ms
 unfolding at_place
 at_is_count q [] = refl
-at_is_count q (m ∷ ms) = count_cons 0 q m ms ∙ ap (λ n. cond (m.place == q) 1 0 + n) (at_is_count q ms)
+at_is_count q (m ∷ ms) = count_cons PoolLane q m ms ∙ ap (λ n. cond (m.place == q) 1 0 + n) (at_is_count q ms)
 
 one_more_below : (x n : ℕ) → cond (nat_lt x (suc n)) 1 0 ≡ cond (nat_lt x n) 1 0 + cond (x == n) 1 0
 one_more_below x n = grind (arith, nat_tests)
@@ -210,12 +203,12 @@ at_most_once q ms stand = elim (lt_or_le q (length ms)) [
         from_range (λ place. count_by (λ mark. mark.place == place) ms ≡ 1) 0 (length ms) stand.once i lt in
         sym (at_is_count i ms) ∙ sym (ap (λ j. count_by (λ mark. mark.place == j) ms) p) ∙ e
 
--- a place of a CPU has at most one mark in all lines
-pub one_mark : (c p : ℕ) (t : List (List SeenLine)) → PlacesStand (lane_marks (CpuLane c) (all_marks t)) →
-    total_takes c p t ≤ 1
-one_mark c p t stand =
-    let a : count_here c p (all_marks t) ≡ total_takes c p t = total_count c p t in
-    let b : count_here c p (all_marks t) ≡ at_place p (lane_marks (CpuLane c) (all_marks t)) =
-    at_is_count p (lane_marks (CpuLane c) (all_marks t)) in
-    let le : at_place p (lane_marks (CpuLane c) (all_marks t)) ≤ 1 =
-    at_most_once p (lane_marks (CpuLane c) (all_marks t)) stand in omega arith
+-- a place of a lane has at most one mark in all lines
+pub one_mark : (lane : LaneId) (p : ℕ) (t : List (List SeenLine)) → PlacesStand (lane_marks lane (all_marks t)) →
+    total_takes lane p t ≤ 1
+one_mark lane p t stand =
+    let a : count_here lane p (all_marks t) ≡ total_takes lane p t = total_count lane p t in
+    let b : count_here lane p (all_marks t) ≡ at_place p (lane_marks lane (all_marks t)) =
+    at_is_count p (lane_marks lane (all_marks t)) in
+    let le : at_place p (lane_marks lane (all_marks t)) ≤ 1 = at_most_once p (lane_marks lane (all_marks t)) stand in
+    omega arith

@@ -1,6 +1,9 @@
 -- In a lawful transcript no two entries of vgetrandom states take one read.
 use Rattle.std.proofs.Common.{◌≡◌, ℕ, zero, suc, ◌+◌, ◌≤◌, Bool, true, false, List, [], ◌∷◌, ◌++◌, ◌⊎◌, inl, inr, refl, sym, ap, ◌∙◌, arith, Some, Option}
-use Rattle.std.specs.Prelude.{◌==◌, if◌then◌else◌, map}
+use Rattle.std.specs.Prelude.{◌==◌, ◌&&◌, ◌||◌, if◌then◌else◌, map}
+use Rattle.std.specs.List.{list_any, range_with_len}
+use Rattle.key_names.specs.Uses.{rekeys_place}
+use Rattle.key_names.proofs.TakenMarks.{hit}
 use Rattle.std.specs.Option.{option_map_or}
 use Rattle.std.proofs.lemmas.Bool.{eqb-true, eq-eqb}
 use Rattle.key_names.specs.declared.entries.VEntry.{VEntry}
@@ -12,6 +15,17 @@ use Rattle.key_names.specs.IsTranscript.{entries_of_state, state_lists}
 use Rattle.key_names.proofs.KeyTakes.{is_here, takes, takes_append}
 use Rattle.key_names.proofs.TranscriptBooks.{made_at, made_beyond, lt_or_le}
 use Rattle.key_names.proofs.CallTakes as calls
+
+pub equal_or_not : (a b : ℕ) → (a ≡ b) ⊎ (a ≡ b → ⊥)
+equal_or_not a b = go (a == b) refl
+  where
+    go : (x : Bool) → (a == b) ≡ x → (a ≡ b) ⊎ (a ≡ b → ⊥)
+    go true is = inl (eqb-true a b is)
+    go false is = inr (λ e. let yes : (a == b) ≡ true = eq-eqb a b e in cc)
+
+or_true : (a b : Bool) → (a || b) ≡ true → (a ≡ true) ⊎ (b ≡ true)
+or_true true b is = inl refl
+or_true false b is = inr is
 
 module _ (c p : ℕ) where
   abbrev caller_takes : List CallMeaning → ℕ
@@ -61,6 +75,38 @@ module _ (c p : ℕ) where
       let here : takes c p (if m.before.current == j then m.entries else []) + takes c p
       (if m.before.current == k then m.entries else []) ≤ takes c p m.entries =
       not_both m.before.current j k m.entries ne in omega arith
+
+  -- a read that an entry takes counts
+  any_entry : (es : List VEntry) → list_any (rekeys_place c p) es ≡ true → 1 ≤ takes c p es
+  any_entry [] is = cc
+  any_entry (Rekey cpu place ∷ es) is = elim (or_true (cpu == c && place == p) _ is) [
+    | inl here ↦ (let one : is_here c p cpu place ≡ 1 = ap hit here in omega arith)
+    | inr later ↦ omega (arith, any_entry es later)
+  ]
+  any_entry (Blocks from count ∷ es) is = any_entry es is
+  any_entry (Refill from ∷ es) is = any_entry es is
+  any_entry (Serve pos len ∷ es) is = any_entry es is
+  any_entry (Wipe ∷ es) is = any_entry es is
+
+  abbrev pub any_of_states : List (List VEntry) → Bool
+  any_of_states states = list_any (λ es. list_any (rekeys_place c p) es) states
+
+  any_state : (ms : List CallMeaning) (from count : ℕ) →
+      any_of_states (map (λ k. entries_of_state k ms) (range_with_len from count)) ≡ true → 1 ≤ caller_takes ms
+  any_state ms from zero is = cc
+  any_state ms from (suc count) is =
+      elim (or_true (list_any (rekeys_place c p) (entries_of_state from ms)) _ is) [
+        | inl here ↦ omega (arith, any_entry (entries_of_state from ms) here, one_state from ms)
+        | inr later ↦ any_state ms (from + 1) count later
+      ]
+
+  pub any_caller : (mss : List (List CallMeaning)) → list_any any_of_states (map state_lists mss) ≡ true →
+      1 ≤ all_takes mss
+  any_caller [] is = cc
+  any_caller (ms ∷ mss) is = elim (or_true (any_of_states (state_lists ms)) _ is) [
+    | inl here ↦ omega (arith, any_state ms 0 16 here)
+    | inr later ↦ omega (arith, any_caller mss later)
+  ]
 
   -- the list of a state is that of its entries, or empty
   state_list_is : (k : ℕ) (ms : List CallMeaning) →
@@ -170,13 +216,6 @@ module _ (c p : ℕ) where
   counts_two (e ∷ es) (suc n) (suc m) ne is at =
       let rest : 2 ≤ takes c p es = counts_two es n m (λ x. ne (ap suc x)) is at in
       let more : takes c p es ≤ takes c p (e ∷ es) = more_takes e es in omega arith
-
-  equal_or_not : (a b : ℕ) → (a ≡ b) ⊎ (a ≡ b → ⊥)
-  equal_or_not a b = go (a == b) refl
-    where
-      go : (x : Bool) → (a == b) ≡ x → (a ≡ b) ⊎ (a ≡ b → ⊥)
-      go true is = inl (eqb-true a b is)
-      go false is = inr (λ e. let yes : (a == b) ≡ true = eq-eqb a b e in cc)
 
   -- where all lines have at most one mark of the place, one entry takes it
   pub one_entry : (mss : List (List CallMeaning)) → all_takes mss ≤ 1 → (h i j k n m : ℕ) →

@@ -34,6 +34,28 @@ made_beyond f from zero k le = refl
 made_beyond f from (suc count) zero le = absurd (omega arith)
 made_beyond f from (suc count) (suc k) le = made_beyond f (from + 1) count k (omega arith)
 
+-- from caller c on the book's lists of states are those of the calls' meanings
+abbrev pub HasStates : Lists → ℕ → List (List CallMeaning) → Type 0
+HasStates lists c mss = (i : ℕ) → list_at lists.callers (c + i) ≡ list_at (map state_lists mss) i
+
+pub all_states : (lists : Lists) (mss : List (List CallMeaning)) → lists.callers ≡ map state_lists mss →
+    HasStates lists 0 mss
+all_states lists mss is i =
+    let p : 0 + i ≡ i = omega arith in ap (list_at lists.callers) p ∙ ap (λ xs. list_at xs i) is
+
+pub later_states : (lists : Lists) (c : ℕ) (ms : List CallMeaning) (mss : List (List CallMeaning)) →
+    HasStates lists c (ms ∷ mss) → HasStates lists (suc c) mss
+later_states lists c ms mss has i =
+    let p : suc c + i ≡ c + suc i = omega arith in ap (list_at lists.callers) p ∙ has (suc i)
+
+pub own_list : (lists : Lists) (c : ℕ) (ms : List CallMeaning) (mss : List (List CallMeaning)) →
+    HasStates lists c (ms ∷ mss) → (k : ℕ) → k < 16 → state_list lists c k ≡ entries_of_state k ms
+own_list lists c ms mss has k below =
+    let p : c + 0 ≡ c = omega arith in
+    let q : 0 + k ≡ k = omega arith in
+    ap (λ i. list_at (list_at lists.callers i) k) (sym p) ∙ ap (λ xs. list_at xs k) (has 0)
+    ∙ made_at (λ i. entries_of_state i ms) 0 16 k below ∙ ap (λ i. entries_of_state i ms) q
+
 module _ (lists : Lists) (settings : ℕ → Setting) where
   -- the states of one caller
   one_caller : (caller c : ℕ) (calls : List Call) (ms : List CallMeaning) → CallerMeans lists (settings c) calls ms →

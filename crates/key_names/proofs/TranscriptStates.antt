@@ -24,19 +24,19 @@ use Rattle.key_names.proofs.KeyReads.{copy_names, call_names}
 use Rattle.key_names.proofs.KeyVisits.{AllThere, all_there, key_reads}
 
 -- an element that was set, and the others
-set_here : {A : Type 0} (xs : List A) (i : ℕ) (x : A) → i < length xs → slice_get (slice_set xs i x) i ≡ Some x
+pub set_here : {A : Type 0} (xs : List A) (i : ℕ) (x : A) → i < length xs → slice_get (slice_set xs i x) i ≡ Some x
 set_here [] i x lt = absurd (omega arith)
 set_here (y ∷ ys) zero x lt = refl
 set_here (y ∷ ys) (suc i) x lt = set_here ys i x (omega arith)
 
-set_other : {A : Type 0} (xs : List A) (i k : ℕ) (x : A) → (i ≡ k → ⊥) → slice_get (slice_set xs i x) k ≡ slice_get xs k
+pub set_other : {A : Type 0} (xs : List A) (i k : ℕ) (x : A) → (i ≡ k → ⊥) → slice_get (slice_set xs i x) k ≡ slice_get xs k
 set_other [] i k x ne = refl
 set_other (y ∷ ys) zero zero x ne = absurd (ne refl)
 set_other (y ∷ ys) zero (suc k) x ne = refl
 set_other (y ∷ ys) (suc i) zero x ne = refl
 set_other (y ∷ ys) (suc i) (suc k) x ne = set_other ys i k x (λ e. ne (ap suc e))
 
-length_set : {A : Type 0} (xs : List A) (i : ℕ) (x : A) → length (slice_set xs i x) ≡ length xs
+pub length_set : {A : Type 0} (xs : List A) (i : ℕ) (x : A) → length (slice_set xs i x) ≡ length xs
 length_set [] i x = refl
 length_set (y ∷ ys) zero x = refl
 length_set (y ∷ ys) (suc i) x = ap suc (length_set ys i x)

@@ -15,6 +15,34 @@ IsUsed-append_cases (u ∷ us) vs key q (inl h) = inl (inl h)
 IsUsed-append_cases (u ∷ us) vs key q (inr h) =
     elim (IsUsed-append_cases us vs key q h) [ inl l ↦ inl (inr l) | inr r ↦ inr r ]
 
+pub used_first : (us vs : List Use) (key : KeyName) (q : ℕ) → IsUsed us key q → IsUsed (us ++ vs) key q
+used_first [] vs key q h = absurd h
+used_first (u ∷ us) vs key q (inl h) = inl h
+used_first (u ∷ us) vs key q (inr h) = inr (used_first us vs key q h)
+
+pub used_second : (us vs : List Use) (key : KeyName) (q : ℕ) → IsUsed vs key q → IsUsed (us ++ vs) key q
+used_second [] vs key q h = h
+used_second (u ∷ us) vs key q h = inr (used_second us vs key q h)
+
+-- so are the parts of a disjoint list, and no byte is in both
+pub record DisjointParts (us vs : List Use) : Type 0 where
+  pub first : Disjoint us
+  pub second : Disjoint vs
+  pub apart : (key : KeyName) (q : ℕ) → IsUsed us key q → IsUsed vs key q → ⊥
+
+pub disjoint_parts : (us vs : List Use) → Disjoint (us ++ vs) → DisjointParts us vs
+disjoint_parts [] vs d = record { first = tt; second = d; apart = λ key q h. absurd h }
+disjoint_parts (u ∷ us) vs d =
+    let rest : DisjointParts us vs = disjoint_parts us vs d.1 in
+    record {
+      first = (λ key q h later. d.0 key q h (used_first us vs key q later), rest.first);
+      second = rest.second;
+      apart = λ key q h later. elim h [
+        | inl here ↦ d.0 key q here (used_second us vs key q later)
+        | inr there ↦ rest.apart key q there later
+      ];
+    }
+
 -- two lists are disjoint together where each is, and no byte is in both
 pub Disjoint-append : (us vs : List Use) → Disjoint us → Disjoint vs →
     ((key : KeyName) (q : ℕ) → IsUsed us key q → IsUsed vs key q → ⊥) → Disjoint (us ++ vs)

@@ -10,6 +10,7 @@ pub mod CpuList
 pub mod StateList
 pub mod Book
 pub mod Samples
+pub mod LineSamples
 pub mod KeyInUse
 pub mod Flags
 pub mod Calls
@@ -26,10 +27,17 @@ pub mod VreadSteps
 pub mod Meaning
 pub mod IsTranscript
 pub mod TranscriptBook
+pub mod ServedNamed
+pub mod StatesReplayed
+pub mod PrintedBytes
+pub mod SameSteps
+pub mod CallerOrders
+pub mod PlacesInOrder
 pub mod BookHistory
 pub mod Uses
 pub mod LiveMaterial
 pub mod ScriptFaults
+pub mod ScriptOrFault
 pub mod ScriptGrammar
 pub mod Spelling
 pub mod SeenLine

@@ -1,4 +1,4 @@
-use Rattle.std.proofs.Common.{◌≡◌, ◌+◌, ◌*◌, ◌∙◌, ap, get_or, length, sym, take, arith}
+use Rattle.std.proofs.Common.{◌+◌, ◌*◌, ◌∙◌, ap, sym, arith}
 use Rattle.std.proofs.lemmas.List.{take_all}
 use Rattle.hex.specs.Hex.{encode_lower}
 use Rattle.key_names.proofs.HexBytes.{byte_read, lower_at, no_bytes}

@@ -1,0 +1,104 @@
+-- How a fact of a caller's calls follows from its events and lines, one event at a time.
+use Rattle.std.proofs.Common.{ℕ, Bool, true, false, List, [], ◌∷◌, ◌++◌}
+use Rattle.std.specs.Prelude.{if◌then◌else◌}
+use Rattle.key_names.specs.declared.events.Event.{Event}
+use Rattle.key_names.specs.declared.events.Event.TheVariants.{At, On, Hw, Device, Write, Add, Credit, Bits, Irq, Input, Read, Vread, Kread, Dread, Uread, Int8, Int16, Int32, Int64, Reseed, Tick, Drop, Fork, Inside, Prepare, Online, Vmfork, State}
+use Rattle.key_names.specs.declared.events.InsideAct.{InsideAct}
+use Rattle.key_names.specs.Calls.{Call, alone, vread_call, unbound, ending, BoundAct, has_vread, calls_from}
+use Rattle.key_names.specs.SeenLine.{SeenLine}
+
+-- of the acts that wait, the events and lines that are left, and the calls that they make
+abbrev pub OfCalls : Type 1
+OfCalls = List BoundAct → List Event → List SeenLine → List Call → Type 0
+
+abbrev pub act_of : ℕ → InsideAct → SeenLine → BoundAct
+act_of point act line = record { point = point; act = act; line = line }
+
+pub record EachStep (Q : OfCalls) : Type 0 where
+  pub over : (waiting : List BoundAct) → Q waiting [] [] []
+  pub ends : (waiting : List BoundAct) (line : SeenLine) (lines : List SeenLine) →
+      Q waiting [] (line ∷ lines) (ending line ∷ [])
+  pub cut : (waiting : List BoundAct) (event : Event) (es : List Event) → Q waiting (event ∷ es) [] []
+  pub reads : (waiting : List BoundAct) (n flags : ℕ) (es : List Event) (line : SeenLine) (lines : List SeenLine)
+      (calls : List Call) →
+      Q [] es lines calls → Q waiting (Vread n flags ∷ es) (line ∷ lines) (vread_call n flags line waiting ∷ calls)
+  pub binds : (waiting : List BoundAct) (point : ℕ) (act : InsideAct) (es : List Event) (line : SeenLine)
+      (lines : List SeenLine) (calls : List Call) → Q (waiting ++ act_of point act line ∷ []) es lines calls →
+      Q waiting (Inside point act ∷ es) (line ∷ lines) calls
+  pub leaves : (waiting : List BoundAct) (point : ℕ) (act : InsideAct) (es : List Event) (line : SeenLine)
+      (lines : List SeenLine) (calls : List Call) → Q waiting es lines calls →
+      Q waiting (Inside point act ∷ es) (line ∷ lines) (unbound (act_of point act line) ∷ calls)
+  pub goes : (waiting : List BoundAct) (event : Event) (es : List Event) (line : SeenLine) (lines : List SeenLine)
+      (calls : List Call) → Q waiting es lines calls → Q waiting (event ∷ es) (line ∷ lines) (alone event line ∷ calls)
+
+inside : (Q : OfCalls) → EachStep Q → (waiting : List BoundAct) (point : ℕ) (act : InsideAct) (es : List Event)
+    (line : SeenLine) (lines : List SeenLine) (b : Bool) (later calls : List Call) →
+    Q (waiting ++ act_of point act line ∷ []) es lines later → Q waiting es lines calls →
+    Q waiting (Inside point act ∷ es) (line ∷ lines) (if b then later else unbound (act_of point act line) ∷ calls)
+inside Q step waiting point act es line lines true later calls bound left =
+    step.binds waiting point act es line lines later bound
+inside Q step waiting point act es line lines false later calls bound left =
+    step.leaves waiting point act es line lines calls left
+
+pub of_calls : (Q : OfCalls) → EachStep Q → (waiting : List BoundAct) (events : List Event) (lines : List SeenLine) →
+    Q waiting events lines (calls_from waiting events lines)
+of_calls Q step waiting [] [] = step.over waiting
+of_calls Q step waiting [] (line ∷ lines) = step.ends waiting line lines
+of_calls Q step waiting (event ∷ es) [] = step.cut waiting event es
+of_calls Q step waiting (Vread n flags ∷ es) (line ∷ lines) =
+    step.reads waiting n flags es line lines _ (of_calls Q step [] es lines)
+of_calls Q step waiting (Inside point act ∷ es) (line ∷ lines) =
+    inside Q step waiting point act es line lines (has_vread es) _ _
+    (of_calls Q step (waiting ++ act_of point act line ∷ []) es lines) (of_calls Q step waiting es lines)
+of_calls Q step waiting (At moment ∷ es) (line ∷ lines) =
+    step.goes waiting (At moment) es line lines _ (of_calls Q step waiting es lines)
+of_calls Q step waiting (On cpu ∷ es) (line ∷ lines) =
+    step.goes waiting (On cpu) es line lines _ (of_calls Q step waiting es lines)
+of_calls Q step waiting (Hw bytes ∷ es) (line ∷ lines) =
+    step.goes waiting (Hw bytes) es line lines _ (of_calls Q step waiting es lines)
+of_calls Q step waiting (Device word text ∷ es) (line ∷ lines) =
+    step.goes waiting (Device word text) es line lines _ (of_calls Q step waiting es lines)
+of_calls Q step waiting (Write text ∷ es) (line ∷ lines) =
+    step.goes waiting (Write text) es line lines _ (of_calls Q step waiting es lines)
+of_calls Q step waiting (Add text bits ∷ es) (line ∷ lines) =
+    step.goes waiting (Add text bits) es line lines _ (of_calls Q step waiting es lines)
+of_calls Q step waiting (Credit bits ∷ es) (line ∷ lines) =
+    step.goes waiting (Credit bits) es line lines _ (of_calls Q step waiting es lines)
+of_calls Q step waiting (Bits ∷ es) (line ∷ lines) =
+    step.goes waiting Bits es line lines _ (of_calls Q step waiting es lines)
+of_calls Q step waiting (Irq v1 v2 ∷ es) (line ∷ lines) =
+    step.goes waiting (Irq v1 v2) es line lines _ (of_calls Q step waiting es lines)
+of_calls Q step waiting (Input word kind code value ∷ es) (line ∷ lines) =
+    step.goes waiting (Input word kind code value) es line lines _ (of_calls Q step waiting es lines)
+of_calls Q step waiting (Read n flags ∷ es) (line ∷ lines) =
+    step.goes waiting (Read n flags) es line lines _ (of_calls Q step waiting es lines)
+of_calls Q step waiting (Kread n ∷ es) (line ∷ lines) =
+    step.goes waiting (Kread n) es line lines _ (of_calls Q step waiting es lines)
+of_calls Q step waiting (Dread n flag ∷ es) (line ∷ lines) =
+    step.goes waiting (Dread n flag) es line lines _ (of_calls Q step waiting es lines)
+of_calls Q step waiting (Uread n ∷ es) (line ∷ lines) =
+    step.goes waiting (Uread n) es line lines _ (of_calls Q step waiting es lines)
+of_calls Q step waiting (Int8 ∷ es) (line ∷ lines) =
+    step.goes waiting Int8 es line lines _ (of_calls Q step waiting es lines)
+of_calls Q step waiting (Int16 ∷ es) (line ∷ lines) =
+    step.goes waiting Int16 es line lines _ (of_calls Q step waiting es lines)
+of_calls Q step waiting (Int32 ∷ es) (line ∷ lines) =
+    step.goes waiting Int32 es line lines _ (of_calls Q step waiting es lines)
+of_calls Q step waiting (Int64 ∷ es) (line ∷ lines) =
+    step.goes waiting Int64 es line lines _ (of_calls Q step waiting es lines)
+of_calls Q step waiting (Reseed ∷ es) (line ∷ lines) =
+    step.goes waiting Reseed es line lines _ (of_calls Q step waiting es lines)
+of_calls Q step waiting (Tick ∷ es) (line ∷ lines) =
+    step.goes waiting Tick es line lines _ (of_calls Q step waiting es lines)
+of_calls Q step waiting (Drop ∷ es) (line ∷ lines) =
+    step.goes waiting Drop es line lines _ (of_calls Q step waiting es lines)
+of_calls Q step waiting (Fork child ∷ es) (line ∷ lines) =
+    step.goes waiting (Fork child) es line lines _ (of_calls Q step waiting es lines)
+of_calls Q step waiting (Prepare cpu ∷ es) (line ∷ lines) =
+    step.goes waiting (Prepare cpu) es line lines _ (of_calls Q step waiting es lines)
+of_calls Q step waiting (Online cpu ∷ es) (line ∷ lines) =
+    step.goes waiting (Online cpu) es line lines _ (of_calls Q step waiting es lines)
+of_calls Q step waiting (Vmfork word text ∷ es) (line ∷ lines) =
+    step.goes waiting (Vmfork word text) es line lines _ (of_calls Q step waiting es lines)
+of_calls Q step waiting (State number ∷ es) (line ∷ lines) =
+    step.goes waiting (State number) es line lines _ (of_calls Q step waiting es lines)

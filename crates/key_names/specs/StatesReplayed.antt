@@ -1,0 +1,55 @@
+-- What a caller's vgetrandom states hold in a transcript, told by the lists of their entries.
+use Rattle.std.specs.Prelude.{ℕ, ◌≡◌, ◌≤◌, ◌<◌, ◌⊎◌, Option, Some, List, [], ◌∷◌, take, slice_get, unwrap_or}
+use Rattle.std.specs.List.{fold}
+use Rattle.key_names.specs.declared.names.KeyName.{KeyName}
+use Rattle.key_names.specs.declared.entries.VEntry.{VEntry}
+use Rattle.key_names.specs.Book.{Book, Lists, lists_of, state_list}
+use Rattle.key_names.specs.Calls.{Setting}
+use Rattle.key_names.specs.KeyInUse.{state_value_after}
+use Rattle.key_names.specs.LiveMaterial.{state_bytes_start, state_bytes_step}
+use Rattle.key_names.specs.StateList.{NamedState, state_after}
+use Rattle.key_names.specs.SeenLine.{SeenLine}
+use Rattle.key_names.specs.ScriptGrammar.{Script}
+use Rattle.key_names.specs.VgetrandomState.{VgetrandomState, wiped_state}
+use Rattle.key_names.specs.Meaning.{CallerState, caller_start, CallMeaning}
+use Rattle.key_names.specs.IsTranscript.{EachCaller, IsTranscriptBy, entries_of_state, script_calls, start_setting}
+
+-- a caller's state of a number
+abbrev pub state_number : ℕ → CallerState → VgetrandomState
+state_number k s = unwrap_or (slice_get s.states k) wiped_state
+
+-- where a caller stands after some calls
+abbrev pub caller_end : CallerState → List CallMeaning → CallerState
+caller_end s [] = s
+caller_end s (m ∷ ms) = caller_end m.after ms
+
+abbrev pub HasName : Option KeyName → Type 0
+HasName key = (name : KeyName) × (key ≡ Some name)
+
+-- the key has a name, and so has that of the batch unless the batch is used up
+abbrev pub IsNamed : NamedState → Type 0
+IsNamed t = HasName t.key × ((t.pos ≡ 96) ⊎ HasName t.batch_key)
+
+-- a state holds what its list replays to. Of generation 0 the key is not told: the read of a key that failed may have
+-- left anything in it, and it is read anew before its next use
+pub record IsReplayed (lists : Lists) (caller k : ℕ) (es : List VEntry) (s : VgetrandomState) : Type 0 where
+  pub batch : s.batch ≡ (fold (state_bytes_step lists) state_bytes_start es).batch
+  pub pos : s.pos ≡ (state_after caller k es).pos
+  pub key : 1 ≤ s.generation → s.key ≡ state_value_after lists es
+  pub named : 1 ≤ s.generation → IsNamed (state_after caller k es)
+
+-- each of a caller's sixteen states
+pub record StatesReplayed (lists : Lists) (caller : ℕ) (setting : Setting) (ms : List CallMeaning) : Type 0 where
+  -- after any number of its calls it holds what its entries so far replay to
+  pub between : (k j : ℕ) → k < 16 → IsReplayed lists caller k (entries_of_state k (take j ms))
+      (state_number k (caller_end (caller_start setting) (take j ms)))
+  -- and in the end what its list in the book does, of which the laws of lawful books speak
+  pub ends : (k : ℕ) → k < 16 → IsReplayed lists caller k (state_list lists caller k)
+      (state_number k (caller_end (caller_start setting) ms))
+
+-- the states of each caller of a lawful transcript
+abbrev pub StatesAreReplayed : Type 0
+StatesAreReplayed = (script : Script) (t : List (List SeenLine)) (book : Book) (ms : List (List CallMeaning)) →
+    IsTranscriptBy script t book ms →
+    EachCaller (λ c calls ms. StatesReplayed (lists_of book) c (start_setting (script_calls script t) c) ms) 0
+    (script_calls script t) ms

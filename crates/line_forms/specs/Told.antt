@@ -1,0 +1,279 @@
+-- What the steps around a visit tell of its entry.
+use Rattle.std.specs.Prelude.{ℕ, zero, suc, ◌≡◌, ⊤, true, Option, Some, None, List, [], ◌∷◌, nat_le, if◌then◌else◌}
+use Rattle.key_names.specs.declared.entries.Taken.{Taken}
+use Rattle.key_names.specs.declared.entries.Taken.TheVariants.{User, Kernel}
+use Rattle.key_names.specs.declared.entries.PoolEntry.{PoolEntry}
+use Rattle.key_names.specs.declared.entries.PoolEntry.TheVariants.{Mix, Extract, Input as InputSample, Bits as ReadBits}
+use Rattle.key_names.specs.declared.entries.BaseEntry.{BaseEntry}
+use Rattle.key_names.specs.declared.entries.BaseEntry.TheVariants.{Draw, Refill, Wait, Resume, Interrupt, Early, End}
+use Rattle.key_names.specs.declared.entries.BaseEntry.TheVariants.{Reseed as Reseeded, Tick as Ticked, Fork as Forked}
+use Rattle.key_names.specs.declared.entries.BaseEntry.TheVariants.{Stall, Unstall}
+use Rattle.key_names.specs.declared.entries.CpuEntry.{CpuEntry}
+use Rattle.key_names.specs.declared.entries.CpuEntry.TheVariants.{Read as CpuRead, Int, Irq as IrqSample, Dump}
+use Rattle.key_names.specs.declared.entries.CpuEntry.TheVariants.{Prepare as Prepared, Online as Onlined}
+use Rattle.key_names.specs.declared.events.Event.{Event}
+use Rattle.key_names.specs.declared.events.Event.TheVariants.{At, On, Hw, Device, Write, Add, Credit, Bits, Irq, Input}
+use Rattle.key_names.specs.declared.events.Event.TheVariants.{Read, Vread, Kread, Dread, Uread, Int8, Int16, Int32}
+use Rattle.key_names.specs.declared.events.Event.TheVariants.{Int64, Reseed, Tick, Drop, Fork, Inside, Prepare, Online}
+use Rattle.key_names.specs.declared.events.Event.TheVariants.{Vmfork, State}
+use Rattle.key_names.specs.Batches.{must_fill}
+use Rattle.key_names.specs.FastPool.{dump_bytes, dump_bits}
+use Rattle.key_names.specs.PoolList.{Crossing, ready, early, none}
+use Rattle.key_names.specs.Calls.{Setting}
+use Rattle.key_names.specs.Deeds.{Deed, PoolVisit, BaseVisit, CpuVisit, looked, at_pool, at_base, at_cpu, nothing_there}
+use Rattle.key_names.specs.Forms.{device_entry}
+use Rattle.key_names.specs.declared.events.InsideAct.{InsideAct}
+use Rattle.key_names.specs.declared.events.InsideAct.TheVariants.{Wipe as WipeAct, Vread as VreadAct}
+use Rattle.key_names.specs.declared.events.InsideAct.TheVariants.{Reseed as ReseedAct}
+use Rattle.line_forms.specs.LaneFacts.{LaneFacts}
+use Rattle.line_forms.specs.declared.told.Sign.{Sign}
+use Rattle.line_forms.specs.declared.told.Sign.TheVariants.{Saw as saw, InPool as in_pool, InBase as in_base}
+use Rattle.line_forms.specs.declared.told.Sign.TheVariants.{InCpu as in_cpu, Nowhere as nowhere}
+use Rattle.line_forms.specs.declared.told.Around.{Around}
+use Rattle.line_forms.specs.declared.told.PoolTold.{PoolTold}
+use Rattle.line_forms.specs.declared.told.PoolTold.TheVariants.{Own as own, Extracted as extracted, Dumped as dumped}
+use Rattle.line_forms.specs.declared.told.BaseTold.{BaseTold}
+use Rattle.line_forms.specs.declared.told.BaseTold.TheVariants.{Is as base_is, Crossed as crossed, Woken as woken}
+use Rattle.line_forms.specs.declared.told.CpuTold.{CpuTold}
+use Rattle.line_forms.specs.declared.told.CpuTold.TheVariants.{Is as cpu_is, Batch as batch}
+
+-- what a step shows of itself
+abbrev pub sign_of : Deed → Sign
+sign_of (looked g) = saw g
+sign_of (at_pool v) = in_pool v.place
+sign_of (at_base v) = in_base v.place
+sign_of (at_cpu v) = in_cpu v.cpu v.place
+sign_of nothing_there = nowhere
+
+-- what follows a credit with a root
+abbrev pub crossed_entry : Crossing → ℕ → ℕ → BaseEntry
+crossed_entry ready root now = Reseeded root now
+crossed_entry early root now = Early (Some root)
+crossed_entry none root now = Early (Some root)
+
+-- the visit has the entry told
+abbrev pub FillsBase : LaneFacts → BaseTold → BaseVisit → Type 0
+FillsBase c (base_is e) v = v.entry ≡ e
+FillsBase c (crossed root now p) v = v.entry ≡ crossed_entry (c.crossed_at p) root now
+FillsBase c woken v = v.entry ≡ (if nat_le 1 v.before.generation then Resume else Interrupt)
+
+-- the same of a CPU
+abbrev pub FillsCpu : CpuTold → CpuVisit → Type 0
+FillsCpu (cpu_is e) v = v.entry ≡ e
+FillsCpu (batch look width) v = v.entry ≡ Int look None width (must_fill look width (v.before.fills width))
+
+-- what kind of line tells: reads, integers of a width, an event with one pool entry, a credit, an interrupt, a
+-- reseed, a tick, a fork, an entry of a CPU, a pool entry with a reseed, the end, or nothing
+pub data Telling : Type 0 where
+  reads : Taken → Telling
+  ints : ℕ → Telling
+  mixes : PoolEntry → Telling
+  credits : PoolEntry → Telling
+  samples : ℕ → ℕ → Telling
+  reseeds : Telling
+  ticks : Telling
+  forks : ℕ → Telling
+  prepares : CpuEntry → Telling
+  vmforks : PoolEntry → Telling
+  ends : Telling
+  silent : Telling
+
+-- what kind of line an event has
+abbrev pub telling : Setting → Event → Telling
+telling set (At moment) = silent
+telling set (On cpu) = silent
+telling set (Hw bytes) = silent
+telling set Drop = silent
+telling set (State number) = silent
+telling set (Write text) = mixes (Mix text 0)
+telling set (Device word text) = mixes (device_entry word text)
+telling set Bits = mixes ReadBits
+telling set (Add text bits) = credits (Mix text bits)
+telling set (Credit bits) = credits (Mix [] bits)
+telling set (Input word kind code value) = credits (InputSample word kind code value set.now)
+telling set (Kread len) = reads (Kernel len)
+telling set (Uread len) = reads (User len)
+telling set (Read len flags) = reads (User len)
+telling set (Dread len flag) = reads (User len)
+telling set Int8 = ints 1
+telling set Int16 = ints 2
+telling set Int32 = ints 4
+telling set Int64 = ints 8
+telling set Reseed = reseeds
+telling set Tick = ticks
+telling set (Fork child) = forks child
+telling set (Prepare cpu) = prepares Prepared
+telling set (Online cpu) = prepares Onlined
+telling set (Vmfork word text) = vmforks (device_entry word text)
+telling set (Irq v1 v2) = samples v1 v2
+telling set (Vread len flags) = silent
+telling set (Inside point act) = silent
+
+-- the root that a visit of the pool in front extracted
+abbrev pub root_before : Sign → Option ℕ
+root_before (in_pool p) = Some p
+root_before _ = None
+
+-- the place, or the look, that a step shows
+abbrev pub pool_place_in : Sign → ℕ
+pool_place_in (in_pool p) = p
+pool_place_in _ = 0
+
+abbrev pub look_in : Sign → ℕ
+look_in (saw g) = g
+look_in _ = 0
+
+abbrev pub base_place_in : Sign → ℕ
+base_place_in (in_base i) = i
+base_place_in _ = 0
+
+-- ---- the pool
+
+-- the first step of a line has the event's own entry
+abbrev pub own_or_extracted : Sign → Sign → PoolTold
+own_or_extracted behind nowhere = own
+own_or_extracted behind _ = extracted (base_place_in behind)
+
+-- behind a CPU stands what a dump mixes
+abbrev pub dumped_or_extracted : Sign → Sign → PoolTold
+dumped_or_extracted behind (in_cpu cpu k) = dumped cpu k
+dumped_or_extracted behind _ = extracted (base_place_in behind)
+
+-- what is told of a visit of the pool
+abbrev pub pool_told : Telling → Around → PoolTold
+pool_told (mixes e) around = own_or_extracted around.behind around.before
+pool_told (credits e) around = own_or_extracted around.behind around.before
+pool_told (vmforks e) around = own_or_extracted around.behind around.before
+pool_told (samples v1 v2) around = dumped_or_extracted around.behind around.before
+pool_told _ around = extracted (base_place_in around.behind)
+
+-- the event's own entry
+abbrev pub own_entry : Telling → PoolEntry
+own_entry (mixes e) = e
+own_entry (credits e) = e
+own_entry (vmforks e) = e
+own_entry _ = ReadBits
+
+-- the visit has the entry told
+abbrev pub FillsPool : LaneFacts → Setting → Telling → PoolTold → PoolVisit → Type 0
+FillsPool c set t own v = v.entry ≡ own_entry t
+FillsPool c set t (extracted i) v = v.entry ≡ Extract set.hw i
+FillsPool c set t (dumped cpu k) v = v.entry ≡ Mix (dump_bytes (c.fast cpu k)) (dump_bits (c.fast cpu k))
+
+-- ---- the base
+
+-- a refill stands before its CPU, a wait before the visit that ended it
+abbrev pub drawn_or_woken : Taken → Sign → BaseTold
+drawn_or_woken taken (in_base i) = woken
+drawn_or_woken taken before = base_is (Draw (root_before before) taken)
+
+-- what a read tells of a visit of the base
+abbrev pub read_told : Setting → Taken → Around → BaseTold
+read_told set taken around = by around.behind
+  where
+    by : Sign → BaseTold
+    by (in_cpu c k) = base_is (Refill set.cpu k)
+    by (in_base i) = base_is Wait
+    by _ = drawn_or_woken taken around.before
+
+-- behind a credit alone, or behind a credit and a root
+abbrev pub crossed_told : Setting → Sign → Sign → BaseTold
+crossed_told set (in_pool p) before = crossed (pool_place_in before) set.now p
+crossed_told set _ before = base_is (Early None)
+
+-- the visits of a fork by number
+abbrev pub forked_told : ℕ → Sign → Sign → BaseTold
+forked_told child second_before nowhere = base_is (Forked child)
+forked_told child nowhere before = base_is Stall
+forked_told child second_before before = base_is Unstall
+
+-- what is told of a visit of the base
+abbrev pub base_told : Setting → Telling → Around → BaseTold
+base_told set (reads taken) around = read_told set taken around
+base_told set (ints width) around = read_told set (Kernel width) around
+base_told set (credits e) around = crossed_told set around.second_before around.before
+base_told set (samples v1 v2) around = crossed_told set around.second_before around.before
+base_told set reseeds around = base_is (Reseeded (pool_place_in around.before) set.now)
+base_told set (vmforks e) around = base_is (Reseeded (pool_place_in around.before) set.now)
+base_told set ticks around = base_is (Ticked set.now (root_before around.before))
+base_told set (forks child) around = forked_told child around.second_before around.before
+base_told set _ around = base_is End
+
+-- ---- a CPU
+
+-- what a read tells of a visit of a CPU
+abbrev pub cpu_read_told : Taken → Sign → Sign → CpuTold
+cpu_read_told taken second_before (in_base b) = cpu_is (CpuRead (look_in second_before) (Some b) taken)
+cpu_read_told taken second_before before = cpu_is (CpuRead (look_in before) None taken)
+
+-- a batch that a refilled CPU fills, or any other
+abbrev pub cpu_int_told : ℕ → Sign → Sign → CpuTold
+cpu_int_told width second_before (in_base b) = cpu_is (Int (look_in second_before) (Some b) width true)
+cpu_int_told width second_before before = batch (look_in before) width
+
+-- the first look of the line tells whether an integer is a read
+abbrev pub int_told : ℕ → ℕ → Sign → Sign → CpuTold
+int_told width zero second_before before = cpu_read_told (Kernel width) second_before before
+int_told width (suc g) second_before before = cpu_int_told width second_before before
+
+-- an interrupt's first visit is its sample, the second the dump
+abbrev pub sample_told : Setting → ℕ → ℕ → Sign → CpuTold
+sample_told set v1 v2 nowhere = cpu_is (IrqSample v1 v2 set.now)
+sample_told set v1 v2 before = cpu_is (Dump set.now)
+
+-- what is told of a visit of a CPU
+abbrev pub cpu_told : Setting → Telling → Sign → Around → CpuTold
+cpu_told set (reads taken) first around = cpu_read_told taken around.second_before around.before
+cpu_told set (ints width) first around = int_told width (look_in first) around.second_before around.before
+cpu_told set (samples v1 v2) first around = sample_told set v1 v2 around.before
+cpu_told set (prepares e) first around = cpu_is e
+cpu_told set _ first around = cpu_is Prepared
+
+-- ---- a line
+
+-- what stands behind a step has the entry that the steps around it tell
+abbrev pub Fills : LaneFacts → Setting → Telling → Sign → Around → Deed → Type 0
+Fills c set t first around (looked g) = ⊤
+Fills c set t first around (at_pool v) = FillsPool c set t (pool_told t around) v
+Fills c set t first around (at_base v) = FillsBase c (base_told set t around) v
+Fills c set t first around (at_cpu v) = FillsCpu (cpu_told set t first around) v
+Fills c set t first around nothing_there = ⊤
+
+-- what the first step shows
+abbrev pub first_sign : List Deed → Sign
+first_sign [] = nowhere
+first_sign (d ∷ ds) = sign_of d
+
+-- F holds of each step with those around it, a and b standing before the first
+abbrev pub AllFill : (Around → Deed → Type 0) → Sign → Sign → List Deed → Type 0
+AllFill F a b [] = ⊤
+AllFill F a b (d ∷ ds) =
+    F (record { second_before = a; before = b; behind = first_sign ds }) d × AllFill F b (sign_of d) ds
+
+-- each visit of a line has the entry that the steps around it tell
+abbrev pub LineFills : LaneFacts → Setting → Telling → List Deed → Type 0
+LineFills c set t deeds = AllFill (Fills c set t (first_sign deeds)) nowhere nowhere deeds
+
+-- the same in a line of several reads, where the last one takes something else than those before it
+abbrev pub taken_by : Taken → Taken → Sign → Taken
+taken_by sooner taken nowhere = taken
+taken_by sooner taken _ = sooner
+
+abbrev pub FillsPart : LaneFacts → Setting → Taken → Taken → Sign → Around → Deed → Type 0
+FillsPart c set sooner taken first around d = Fills c set (reads (taken_by sooner taken around.behind)) first around d
+
+-- something stands behind each step
+abbrev pub IsThere : Deed → Type 0
+IsThere nothing_there = ⊥
+IsThere _ = ⊤
+
+abbrev pub AllThere : List Deed → Type 0
+AllThere [] = ⊤
+AllThere (d ∷ ds) = IsThere d × AllThere ds
+
+-- ---- acts inside a vread
+
+abbrev pub act_telling : InsideAct → Telling
+act_telling WipeAct = silent
+act_telling (VreadAct n) = reads (User n)
+act_telling ReseedAct = reseeds

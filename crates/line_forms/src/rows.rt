@@ -1,0 +1,219 @@
+//! Which rows of kinds are the kinds of a form.
+ghost use Rattle.std.specs.Prelude.{◌≡◌, ◌↔◌, IsTrue, ℕ};
+ghost use Rattle.line_forms.specs.Rows.{IsDraw, IsCpuRead, IsRead, IsBehindLook, IsSystemCall, IsLookedRead};
+ghost use Rattle.line_forms.specs.Rows.{IsPlainRead, IsInt, IsReseed, IsBehindCredit, IsCredit, IsInterrupt};
+ghost use Rattle.line_forms.specs.Rows.{IsTick, IsFork, IsVmfork, IsEnd, IsRow, IsActRow};
+
+use crate::kind::Kind;
+use input_pool::Crossing;
+use key_names::{Event, InsideAct, flags};
+
+/// Bytes from the base of a core that is not ready.
+pub fn is_draw(kinds: &[Kind]) -> bool
+    ensures { IsTrue result ↔ IsDraw kinds.now }
+{
+    matches!(kinds, [Kind::Pool, Kind::Base] | [Kind::Base])
+}
+
+/// Bytes from a CPU, which may first have got a new key from the base.
+pub fn is_cpu_read(kinds: &[Kind]) -> bool
+    ensures { IsTrue result ↔ IsCpuRead kinds.now }
+{
+    matches!(
+        kinds,
+        [Kind::Ready, Kind::Cpu] | [Kind::Ready, Kind::Base, Kind::Cpu]
+    )
+}
+
+/// What follows the first look of a read, `ready` saying what the look found.
+pub fn is_read(ready: bool, kinds: &[Kind]) -> bool
+    ensures { IsTrue result ↔ IsRead ready kinds.now }
+{
+    (!ready && is_draw(kinds)) || is_cpu_read(kinds)
+}
+
+/// What follows the first look of a system call of `len` bytes (getrandom(2)).
+pub fn is_behind_look(len: u32, flags: u32, ready: bool, kinds: &[Kind]) -> bool
+    ensures { IsTrue result ↔ IsBehindLook len flags ready kinds.now }
+{
+    if ready || flags / flags::GRND_INSECURE % 2 == 1 {
+        if len == 0 {
+            kinds.is_empty()
+        } else {
+            is_read(ready, kinds)
+        }
+    } else if flags % 2 == 1 {
+        kinds.is_empty()
+    } else {
+        match kinds {
+            [Kind::Base, Kind::Base] => true,
+            [Kind::Base, Kind::Resumed, rest @ ..] => {
+                if len == 0 {
+                    rest.is_empty()
+                } else {
+                    is_cpu_read(rest)
+                }
+            }
+            _ => false,
+        }
+    }
+}
+
+/// A system call of `len` bytes with these flags (getrandom(2)).
+pub fn is_system_call(len: u32, flags: u32, kinds: &[Kind]) -> bool
+    ensures { IsTrue result ↔ IsSystemCall len flags kinds.now }
+{
+    if flags::are_bad(flags) {
+        return kinds.is_empty();
+    }
+    match kinds {
+        [Kind::Unready, rest @ ..] => is_behind_look(len, flags, false, rest),
+        [Kind::Ready, rest @ ..] => is_behind_look(len, flags, true, rest),
+        _ => false,
+    }
+}
+
+/// A read that begins with a look.
+pub fn is_looked_read(kinds: &[Kind]) -> bool
+    ensures { IsTrue result ↔ IsLookedRead kinds.now }
+{
+    match kinds {
+        [Kind::Unready, rest @ ..] => is_read(false, rest),
+        [Kind::Ready, rest @ ..] => is_read(true, rest),
+        _ => false,
+    }
+}
+
+/// A read of `len` bytes by the kernel or into user memory: no steps for no bytes.
+pub fn is_plain_read(len: u32, kinds: &[Kind]) -> bool
+    ensures { IsTrue result ↔ IsPlainRead len kinds.now }
+{
+    if len == 0 {
+        kinds.is_empty()
+    } else {
+        is_looked_read(kinds)
+    }
+}
+
+/// A random integer (`get_random_u8` to `get_random_u64`).
+pub fn is_int(kinds: &[Kind]) -> bool
+    ensures { IsTrue result ↔ IsInt kinds.now }
+{
+    match kinds {
+        [Kind::Unready, rest @ ..] => is_draw(rest) || is_cpu_read(rest),
+        [Kind::Ready, rest @ ..] => is_cpu_read(rest),
+        _ => false,
+    }
+}
+
+/// A forced reseed, which a core that is not ready refuses.
+pub fn is_reseed(kinds: &[Kind]) -> bool
+    ensures { IsTrue result ↔ IsReseed kinds.now }
+{
+    matches!(
+        kinds,
+        [Kind::Unready] | [Kind::Ready, Kind::Pool, Kind::Base]
+    )
+}
+
+/// What follows a credit of the pool that crossed this.
+pub fn is_behind_credit(crossed: Crossing, kinds: &[Kind]) -> bool
+    ensures { IsTrue result ↔ IsBehindCredit crossed kinds.now }
+{
+    match crossed {
+        Crossing::None => kinds.is_empty(),
+        Crossing::Early => matches!(kinds, [Kind::Pool, Kind::Base] | [Kind::Base]),
+        Crossing::Ready => matches!(kinds, [Kind::Pool, Kind::Base]),
+    }
+}
+
+/// A credit of the pool, and what it set off.
+pub fn is_credit(crossed: Crossing, kinds: &[Kind]) -> bool
+    ensures { IsTrue result ↔ IsCredit crossed kinds.now }
+{
+    match kinds {
+        [Kind::Pool, rest @ ..] => is_behind_credit(crossed, rest),
+        _ => false,
+    }
+}
+
+/// An interrupt: its sample, and where the fast pool was dumped into the pool what that set off.
+pub fn is_interrupt(crossed: Crossing, kinds: &[Kind]) -> bool
+    ensures { IsTrue result ↔ IsInterrupt crossed kinds.now }
+{
+    match kinds {
+        [Kind::Cpu] => true,
+        [Kind::Cpu, Kind::Cpu, Kind::Pool, rest @ ..] => is_behind_credit(crossed, rest),
+        _ => false,
+    }
+}
+
+/// A tick of the reseed timer, which fired or did not.
+pub fn is_tick(kinds: &[Kind]) -> bool
+    ensures { IsTrue result ↔ IsTick kinds.now }
+{
+    matches!(kinds, [Kind::Base] | [Kind::Pool, Kind::Base])
+}
+
+/// A fork, whose child may have been run by its parent's own thread.
+pub fn is_fork(kinds: &[Kind]) -> bool
+    ensures { IsTrue result ↔ IsFork kinds.now }
+{
+    matches!(kinds, [Kind::Base] | [Kind::Base, Kind::Base, Kind::Base])
+}
+
+/// A fork of the virtual machine (`add_vmfork_randomness`).
+pub fn is_vmfork(kinds: &[Kind]) -> bool
+    ensures { IsTrue result ↔ IsVmfork kinds.now }
+{
+    matches!(
+        kinds,
+        [Kind::Pool, Kind::Unready] | [Kind::Pool, Kind::Ready, Kind::Pool, Kind::Base]
+    )
+}
+
+/// A caller's last line.
+pub fn is_end(kinds: &[Kind]) -> bool
+    ensures { IsTrue result ↔ IsEnd kinds.now }
+{
+    matches!(kinds, [Kind::Base])
+}
+
+/// The rows of an event by itself, `crossed` being what the line's first visit of the pool crossed. A `vread` and the
+/// acts inside it have forms of their own.
+pub fn is_row(event: &Event, crossed: Crossing, kinds: &[Kind]) -> bool
+    ensures { IsTrue result ↔ IsRow event.now crossed kinds.now }
+{
+    match event {
+        Event::At { .. }
+        | Event::On { .. }
+        | Event::Hw { .. }
+        | Event::Drop
+        | Event::State { .. } => kinds.is_empty(),
+        Event::Write { .. } | Event::Device { .. } | Event::Bits => matches!(kinds, [Kind::Pool]),
+        Event::Add { .. } | Event::Credit { .. } | Event::Input { .. } => is_credit(crossed, kinds),
+        Event::Kread { len } | Event::Uread { len } => is_plain_read(*len, kinds),
+        Event::Read { len, flags } | Event::Dread { len, flag: flags } => is_system_call(
+            *len, *flags, kinds,
+        ),
+        Event::Int8 | Event::Int16 | Event::Int32 | Event::Int64 => is_int(kinds),
+        Event::Reseed => is_reseed(kinds),
+        Event::Tick => is_tick(kinds),
+        Event::Fork { .. } => is_fork(kinds),
+        Event::Prepare { .. } | Event::Online { .. } => matches!(kinds, [Kind::Cpu]),
+        Event::Vmfork { .. } => is_vmfork(kinds),
+        Event::Irq { .. } => is_interrupt(crossed, kinds),
+        Event::Vread { .. } | Event::Inside { .. } => false,
+    }
+}
+
+/// The rows of an act inside a `vread`.
+pub fn is_act_row(act: InsideAct, kinds: &[Kind]) -> bool
+    ensures { IsTrue result ↔ IsActRow act kinds.now }
+{
+    match act {
+        InsideAct::Wipe => kinds.is_empty(),
+        InsideAct::Vread(len) => is_system_call(len, 0, kinds),
+        InsideAct::Reseed => is_reseed(kinds),
+    }
+}

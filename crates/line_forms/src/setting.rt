@@ -1,0 +1,62 @@
+//! What a caller has set.
+use key_names::Event;
+use std::marker::Model;
+
+/// A caller's CPU, its moment in milliseconds and its hardware words.
+///
+/// Contracts see it as the `Setting` of the calls.
+pub struct Setting {
+    cpu: u32,
+    moment: u64,
+    hw: [u8; 32],
+}
+
+impl Model for Setting {
+    ghost use Rattle.key_names.specs.Calls.{Setting as CallSetting};
+
+    ghost Value = { CallSetting };
+
+    ghost view = { λ s. record { cpu = s.cpu; now = s.moment; hw = s.hw } };
+}
+
+impl Setting {
+    ghost use Rattle.std.specs.Prelude.{◌≡◌};
+    ghost use Rattle.key_names.specs.Calls.{first_setting, setting_after};
+
+    /// What caller 0 starts with: CPU 0, moment 0, zeros for hardware words.
+    pub fn first() -> Setting
+        ensures { result ≡ first_setting }
+    {
+        Setting {
+            cpu: 0,
+            moment: 0,
+            hw: [0; 32],
+        }
+    }
+
+    /// Sets what the event sets.
+    pub fn follow(&mut self, event: &Event)
+        ensures { self.new ≡ setting_after self.old event.now }
+    {
+        match event {
+            Event::At { moment } => self.moment = *moment,
+            Event::On { cpu } => self.cpu = *cpu,
+            Event::Hw { bytes } => self.hw = *bytes,
+            _ => {}
+        }
+    }
+
+    /// The CPU that the caller is on.
+    pub fn cpu(&self) -> u32
+        ensures { result ≡ self.now.cpu }
+    {
+        self.cpu
+    }
+
+    /// The caller's moment, in milliseconds.
+    pub fn moment(&self) -> u64
+        ensures { result ≡ self.now.now }
+    {
+        self.moment
+    }
+}
