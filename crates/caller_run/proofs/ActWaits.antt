@@ -12,13 +12,12 @@ use Rattle.key_names.specs.Calls.{unbound, has_vread}
 use Rattle.key_names.specs.IsTranscript.{LineIs, LinesFit}
 use Rattle.key_names.specs.ScriptGrammar.{InRange}
 use Rattle.key_names.specs.SeenLine.{SeenLine, no_data}
-use Rattle.caller_run.proofs.RoomFills.{Fills, fills_act, new_bound}
+use Rattle.caller_run.proofs.LogFills.{Fills, fills_act, new_bound}
 use Rattle.caller_run.proofs.HasGone.{gone_on}
 use Rattle.caller_run.proofs.CanGo.{can_next}
 use Rattle.key_names.specs.VreadSteps.{number_of}
 use Rattle.key_names.proofs.Each.{each_more}
 use Rattle.lane_table.specs.declared.lanes.Lanes.{Lanes}
-use Rattle.lane_table.specs.declared.view.View.{View}
 use Rattle.lane_table.specs.Calls.{view}
 use Rattle.rng_core.specs.declared.acts.Bound.{Bound}
 use Rattle.transcript_text.specs.Gathered.{Gathered}
@@ -26,7 +25,7 @@ use Rattle.rng_core.specs.Acts.{Ask, asks_of, ask_of}
 use Rattle.caller_run.specs.declared.caller.Caller.{Caller}
 use Rattle.caller_run.specs.Calling.{stand}
 use Rattle.caller_run.specs.Waiting.{bound_by}
-use Rattle.caller_run.specs.Standing.{CanGoWith, HasLine, HasGone}
+use Rattle.caller_run.specs.Standing.{CanGoWith, HasLine, Start, HasGone}
 use Rattle.caller_run.proofs.AloneDone.{unbound_done}
 use Rattle.caller_run.proofs.LoopCalls.{so_far_idle, so_far_waits}
 use Rattle.key_names.specs.declared.point.Point.{Point}
@@ -82,50 +81,51 @@ module _ {event : Event} {c e : Caller} {before after : Gathered} {acts left : L
       (fills_act before after line k.lines k.line_room k.point k.act c.set.event acts k.byte_room range.2 g.at g.fresh
       g.told))) g
 
-  module _ (at : c.set.event ≡ length before.lines) (v : View) (caller : ℕ) (events rest : List Event)
-      (g : HasGone v caller events (Inside (number_of k.point) k.act ∷ rest) c before.lines asks)
+  module _ (at : c.set.event ≡ length before.lines) (begun : Start) (events rest : List Event) (kids : List Start)
+      (g : HasGone begun events (Inside (number_of k.point) k.act ∷ rest) c before.lines asks kids)
       (on : GoesOn (Inside (number_of k.point) k.act) c e) where
-    line_is : LineIs caller c.set.event InsideWord line
+    line_is : LineIs begun.caller c.set.event InsideWord line
     line_is = record { caller = g.own; event = refl; word_is = refl }
 
-    idle : AllByRecursion (HasLine caller (before.lines ++ line ∷ [])) (asks ++ x ∷ [])
-    idle = each_more (HasLine caller (before.lines ++ line ∷ [])) asks x
-        (idle_more caller before.lines line asks g.idle) (record {
+    idle : AllByRecursion (HasLine begun.caller (before.lines ++ line ∷ [])) (asks ++ x ∷ [])
+    idle = each_more (HasLine begun.caller (before.lines ++ line ∷ [])) asks x
+        (idle_more begun.caller before.lines line asks g.idle) (record {
           line = line;
           there = ap (slice_get (before.lines ++ line ∷ [])) at ∙ get_seam before.lines line;
           is = line_is;
         })
 
-    fit : (more : List SeenLine) → LinesFit caller (suc c.set.event) rest more →
-        LinesFit caller 0 events ((before.lines ++ line ∷ []) ++ more)
-    fit = fit_more caller c.set.event events (Inside (number_of k.point) k.act) rest before.lines line line_is g.fit
+    fit : (more : List SeenLine) → LinesFit begun.caller (suc c.set.event) rest more →
+        LinesFit begun.caller 0 events ((before.lines ++ line ∷ []) ++ more)
+    fit = fit_more begun.caller c.set.event events (Inside (number_of k.point) k.act) rest before.lines line line_is g.fit
 
     -- no vread follows, so the act is a call of its own
-    gone_idle : has_vread rest ≡ false → HasGone v caller events rest e (before.lines ++ line ∷ []) (asks ++ x ∷ [])
+    gone_idle : has_vread rest ≡ false → HasGone begun events rest e (before.lines ++ line ∷ []) (asks ++ x ∷ []) kids
     gone_idle none =
         gone_by c g refl on (unbound (bound_by x line)) (before.lines ++ line ∷ []) (asks ++ x ∷ []) g.waiting
-        (unbound_done c.set.caller (view c.pass) (stand c) (bound_by x line) refl refl refl)
+        (unbound_done c.set.caller (view c.pass) (stand c) (bound_by x line) refl refl refl) refl
         (λ has. let b : false ≡ true = sym none ∙ has in absurd (cc b))
         (so_far_idle events rest before.lines g.waiting g.calls x line none g.so_far) fit idle
 
-    gone_waits : has_vread rest ≡ true → HasGone v caller events rest e (before.lines ++ line ∷ []) (asks ++ x ∷ [])
+    gone_waits : has_vread rest ≡ true → HasGone begun events rest e (before.lines ++ line ∷ []) (asks ++ x ∷ []) kids
     gone_waits has =
-        gone_on c g refl on g.calls (before.lines ++ line ∷ []) (asks ++ x ∷ []) (g.waiting ++ x ∷ []) g.done
+        gone_on c g refl on g.calls (before.lines ++ line ∷ []) (asks ++ x ∷ []) (g.waiting ++ x ∷ []) kids g.done
+        g.settings g.forked
         (λ _. ap (λ (w : List Ask). w ++ x ∷ []) (g.waits has))
         (so_far_waits events rest before.lines g.waiting g.calls x line has at g.so_far) fit idle
 
     gone_either : (b : Bool) → has_vread rest ≡ b →
-        HasGone v caller events rest e (before.lines ++ line ∷ []) (asks ++ x ∷ [])
+        HasGone begun events rest e (before.lines ++ line ∷ []) (asks ++ x ∷ []) kids
     gone_either true has = gone_waits has
     gone_either false none = gone_idle none
 
-  pub gone_keep : c.set.event ≡ length before.lines → (v : View) (caller : ℕ) (events rest : List Event) →
-      HasGone v caller events (event ∷ rest) c before.lines asks →
-      HasGone v caller events rest e after.lines (asks_of left)
-  gone_keep at v caller events rest g =
-      subst (λ (ls : List SeenLine). HasGone v caller events rest e ls (asks_of left)) (sym k.lines)
-      (subst (HasGone v caller events rest e (before.lines ++ line ∷ []))
+  pub gone_keep : c.set.event ≡ length before.lines → (begun : Start) (events rest : List Event)
+      (kids : List Start) → HasGone begun events (event ∷ rest) c before.lines asks kids →
+      HasGone begun events rest e after.lines (asks_of left) kids
+  gone_keep at begun events rest kids g =
+      subst (λ (ls : List SeenLine). HasGone begun events rest e ls (asks_of left) kids) (sym k.lines)
+      (subst (λ (l : List Ask). HasGone begun events rest e (before.lines ++ line ∷ []) l kids)
       (sym (ap asks_of k.kept ∙ map-append ask_of acts (new_bound k.point k.act c.set.event ∷ [])))
-      (gone_either at v caller events rest (subst (λ (y : Event). HasGone v caller events (y ∷ rest) c before.lines
-      asks) k.event_is g)
+      (gone_either at begun events rest kids (subst (λ (y : Event). HasGone begun events (y ∷ rest) c before.lines
+      asks kids) k.event_is g)
       (subst (λ (y : Event). GoesOn y c e) k.event_is k.on) (has_vread rest) refl))

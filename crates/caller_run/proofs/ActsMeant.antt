@@ -25,7 +25,8 @@ use Rattle.rng_core.specs.declared.setting.Setting.{Setting}
 use Rattle.rng_core.specs.Did.{setting_of, result_answer, given}
 use Rattle.rng_core.specs.Acts.{Ask, ActOutcome, done_line}
 use Rattle.rng_core.specs.InsideDid.{act_line, bound_acts, outcome_line}
-use Rattle.rng_core.specs.SampleDeeds.{SamplesStand, fast_in}
+use Rattle.key_names.specs.LineSamples.{SamplesStand}
+use Rattle.rng_core.specs.SampleDeeds.{fast_in}
 use Rattle.rng_core.proofs.ActRuns.{Meant, AllMeant}
 use Rattle.caller_run.proofs.QuietForms.{sys, form_samples}
 

@@ -17,7 +17,8 @@ use Rattle.lane_table.specs.BookLists.{StateLists, book_lists}
 use Rattle.lane_table.specs.BookLaws.{Continues}
 use Rattle.lane_table.specs.Went.{Deal, step_of, Went}
 use Rattle.caller_run.specs.Doings.{doings_from, items_of}
-use Rattle.rng_core.specs.SampleDeeds.{SamplesStand, fast_in}
+use Rattle.key_names.specs.LineSamples.{SamplesStand}
+use Rattle.rng_core.specs.SampleDeeds.{fast_in}
 use Rattle.caller_run.specs.Done.{CallDone}
 use Rattle.caller_run.proofs.Chains.{items_from_doings, ran_nothing, ran_went}
 

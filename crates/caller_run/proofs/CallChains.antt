@@ -1,5 +1,5 @@
 -- What some calls did, one after another: what a loop over a caller's calls keeps, with one call more.
-use Rattle.std.proofs.Common.{◌≡◌, ℕ, List, [], ◌∷◌, ◌++◌, refl, sym, ap, ◌∙◌, append-nil}
+use Rattle.std.proofs.Common.{◌≡◌, ℕ, ◌+◌, subst, arith, List, [], ◌∷◌, ◌++◌, refl, sym, ap, ◌∙◌, append-nil}
 use Rattle.std.proofs.lemmas.List.{map-append}
 use Rattle.std.proofs.lemmas.Grind.{flat_map-append}
 use Rattle.key_names.specs.Calls.{Call}
@@ -13,7 +13,7 @@ use Rattle.lane_table.specs.declared.view.View.{View}
 use Rattle.lane_table.specs.BookLists.{book_lists}
 use Rattle.lane_table.proofs.BookEnds.{continues_before}
 use Rattle.caller_run.specs.Doings.{item_of}
-use Rattle.caller_run.specs.Done.{PointsFit, CallMeant, CallSamples, CallDone, state_reached, CallsMeant, CallsDone}
+use Rattle.caller_run.specs.Done.{PointsFit, CallMeant, CallSamples, CallDone, CallDoneBy, state_reached, CallsMeant, CallsDone}
 use Rattle.rng_core.specs.SampleDeeds.{fast_in}
 use Rattle.caller_run.proofs.Chains.{ran_nothing, ran_then}
 
@@ -49,7 +49,7 @@ meant_more lists s t u calls call a b = record {
 }
 
 -- no call
-pub calls_done_nothing : (caller : ℕ) (v : View) (s : CallerState) → CallsDone caller v v s s []
+pub calls_done_nothing : (caller : ℕ) (v : View) (s : CallerState) → CallsDone caller 0 v v s s []
 calls_done_nothing caller v s = record {
   doings = [];
   ran = ran_nothing caller v;
@@ -67,11 +67,12 @@ calls_done_nothing caller v s = record {
 }
 
 -- one call more
-pub calls_done_then : (caller : ℕ) (u v w : View) (s t r : CallerState) (calls : List Call) (call : Call) →
-    CallsDone caller u v s t calls → CallDone caller v w t r call → CallsDone caller u w s r (calls ++ call ∷ [])
-calls_done_then caller u v w s t r calls call a b = record {
+pub calls_done_then : (caller m n : ℕ) (u v w : View) (s t r : CallerState) (calls : List Call) (call : Call) →
+    CallsDone caller m u v s t calls → CallDoneBy caller n v w t r call →
+    CallsDone caller (m + n) u w s r (calls ++ call ∷ [])
+calls_done_then caller m n u v w s t r calls call a b = record {
   doings = a.doings ++ b.doings;
-  ran = ran_then caller u v w a.doings b.doings a.ran b.ran;
+  ran = ran_then caller m n u v w a.doings b.doings a.ran b.ran;
   order = map-append item_of a.doings b.doings ∙ (λ i. a.order i ++ b.order i)
       ∙ sym (flat_map-append call_items calls (call ∷ [])
       ∙ ap (λ l. calls_items calls ++ l) (append-nil (call_items call)));
@@ -85,3 +86,11 @@ calls_done_then caller u v w s t r calls call a b = record {
       (a.samples lanes visits callers (continues_before lanes v w visits b.ran.same.sized b.ran.grows c))
       (b.samples lanes visits callers c);
 }
+
+-- and the same where that one forks nobody
+pub calls_done_plainly : (caller m : ℕ) (u v w : View) (s t r : CallerState) (calls : List Call) (call : Call) →
+    CallsDone caller m u v s t calls → CallDone caller v w t r call → CallsDone caller m u w s r (calls ++ call ∷ [])
+calls_done_plainly caller m u v w s t r calls call a b =
+    let same : m + 0 ≡ m = omega arith in
+    subst (λ (n : ℕ). CallsDone caller n u w s r (calls ++ call ∷ [])) same
+    (calls_done_then caller m 0 u v w s t r calls call a b)

@@ -128,20 +128,6 @@ module _ (f : Item → ℕ) where
       let behind : weight (drop 2 items) ≡ weight r + weight end =
       ap weight (rekey_whole (drop 2 items)) ∙ sum_by-append f r end in omega arith
 
-  -- as much as the steps of its lines
-  pub call_weight : (call : Call) → PointsFit call → weight (call_items call) ≡ weight (lines_items (call_lines call))
-  call_weight (alone event line) fit = ap weight (sym (append-nil (line_items line)))
-  call_weight (vread_call len flags line acts) fit =
-      let a = vread_weight (line_items line) acts fit in
-      let b : weight (lines_items (map act_line acts ++ line ∷ []))
-      ≡ weight (lines_items (map act_line acts)) + weight (line_items line ++ []) =
-      ap weight (flat_map-append line_items (map act_line acts) (line ∷ []))
-      ∙ sum_by-append f (lines_items (map act_line acts)) (line_items line ++ []) in
-      let c : weight (line_items line ++ []) ≡ weight (line_items line) = ap weight (append-nil (line_items line)) in
-      omega arith
-  call_weight (unbound bound) fit = ap weight (sym (append-nil (line_items bound.line)))
-  call_weight (ending line) fit = ap weight (sym (append-nil (line_items line)))
-
 -- what holds of each of both holds of each of one
 pub in_front : {X : Type 0} (P : X → Type 0) (xs ys : List X) → AllByRecursion P (xs ++ ys) → AllByRecursion P xs
 in_front P xs ys all = (each_parts P xs ys all).0

@@ -3,7 +3,7 @@ use Rattle.std.proofs.Common.{◌≡◌, ℕ, ◌+◌, ◌<◌, ◌≤◌, ◌^�
 use Rattle.std.proofs.lemmas.List.Sums.{sum_by-cons}
 use Rattle.key_names.specs.declared.events.Event.{Event}
 use Rattle.key_names.specs.declared.events.Event.TheVariants.{At, On, Hw, Drop, State}
-use Rattle.key_names.specs.Calls.{Call, alone, vread_call, unbound, ending, has_vread, calls_of, setting_after, first_setting, BoundAct}
+use Rattle.key_names.specs.Calls.{setting_after}
 use Rattle.key_names.specs.Calls as calls
 use Rattle.key_names.specs.Meaning.{CallerState, caller_after}
 use Rattle.key_names.specs.ScriptGrammar.{InRange, FewActs}
@@ -18,16 +18,16 @@ use Rattle.transcript_text.specs.Gathered.{Gathered}
 use Rattle.rng_core.specs.Told.{moment}
 use Rattle.rng_core.specs.Did.{setting_of}
 use Rattle.caller_run.specs.declared.caller.Caller.{Caller}
-use Rattle.caller_run.specs.declared.room.Room.{Room}
+use Rattle.caller_run.specs.declared.logs.Log.{Log}
 use Rattle.caller_run.specs.Calling.{stand, Seen, StatesStand}
 use Rattle.caller_run.specs.Says.{most_shown}
 use Rattle.caller_run.specs.Standing.{read_inside, CanGoWith, CanGo}
 use Rattle.caller_run.proofs.Seeing.{seen_after}
-use Rattle.caller_run.proofs.RoomFills.{Fills}
+use Rattle.caller_run.proofs.LogFills.{Fills}
 
 -- what an event by itself leaves of the setting
 
-setting_moves : (s : CallerState) (event : Event) → (caller_after s event).setting ≡ setting_after s.setting event
+pub setting_moves : (s : CallerState) (event : Event) → (caller_after s event).setting ≡ setting_after s.setting event
 setting_moves s Drop = refl
 setting_moves s (State number) = refl
 setting_moves s event = refl
@@ -53,14 +53,13 @@ GoesOn event d e = record {
   pass : e.pass ≡ d.pass;
 }
 
-pub first_can : {t : Lanes} {c : Caller} {room : Room} {served inside : ℕ} {event : Event} {rest : List Event} →
-    CanGo t c room served inside (event ∷ rest) → CanGo t c room served inside (event ∷ [])
+pub first_can : {t : Lanes} {c : Caller} {log : Log} {served inside : ℕ} {event : Event} {rest : List Event} →
+    CanGo t c log served inside (event ∷ rest) → CanGo t c log served inside (event ∷ [])
 first_can {event = event} {rest = rest} can = let g = can.goes in record {
   goes = record {
     ready = g.ready;
     states = g.states;
     range = (g.range.0, (g.range.1.0, tt));
-    alone = (g.alone.0, tt);
     numbers = (let a = g.numbers in omega arith);
     at = g.at;
     line_room = (let a = g.line_room in omega arith);
@@ -103,7 +102,6 @@ module _ {t : Lanes} {event : Event} {c e : Caller} {before after : Gathered} {a
             (subst (Seen (floor (view d.pass))) (sym on.stand)
             (seen_after g.range.0 t.cpus (floor (view d.pass)) (stand d) event g.range.1.0 states));
         range = (g.range.0, g.range.1.1);
-        alone = g.alone.1;
         numbers = (let a = g.numbers in let b = on.event in omega arith);
         at = (let a = g.at in let b = on.event in let l = fills.lines in omega arith);
         line_room = (let a = g.line_room in let b = fills.line_room in omega arith);

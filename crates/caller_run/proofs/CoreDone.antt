@@ -19,7 +19,8 @@ use Rattle.lane_table.specs.Went.{step_of}
 use Rattle.rng_core.specs.declared.setting.Setting.{Setting}
 use Rattle.rng_core.specs.Told.{Moment}
 use Rattle.rng_core.specs.Did.{Did, Fulfils, setting_of}
-use Rattle.rng_core.specs.SampleDeeds.{Sampled, SamplesStand, fast_in}
+use Rattle.key_names.specs.LineSamples.{SamplesStand}
+use Rattle.rng_core.specs.SampleDeeds.{Sampled, fast_in}
 use Rattle.caller_run.specs.Calling.{Does}
 use Rattle.caller_run.specs.Done.{CallDone}
 use Rattle.caller_run.proofs.AloneDone.{alone_done, ending_done}

@@ -21,7 +21,8 @@ use Rattle.rng_core.specs.Did.{setting_of}
 use Rattle.rng_core.specs.Acts.{Ask, ActOutcome}
 use Rattle.rng_core.specs.Acting.{act_stand, InsideRan}
 use Rattle.rng_core.specs.InsideDid.{bound_acts, inside_meaning, InsideDid}
-use Rattle.rng_core.specs.SampleDeeds.{SamplesStand, fast_in}
+use Rattle.key_names.specs.LineSamples.{SamplesStand}
+use Rattle.rng_core.specs.SampleDeeds.{fast_in}
 use Rattle.rng_core.proofs.ActRuns.{AllMeant}
 use Rattle.rng_core.proofs.Acting.{acted_meant}
 use Rattle.rng_core.proofs.InsideCalls.{IsUndone, undone_meant}

@@ -1,7 +1,7 @@
 -- The marks of a caller's lines are those of its visits: what they weigh, lane by lane and in all.
-use Rattle.std.proofs.Common.{◌≡◌, ℕ, suc, ◌+◌, ◌<◌, Bool, true, false, cond, List, [], ◌∷◌, ◌++◌, length, map, refl, sym, ap, ◌∙◌, arith, append-nil}
+use Rattle.std.proofs.Common.{◌≡◌, ℕ, suc, ◌+◌, Bool, true, false, cond, List, [], ◌∷◌, ◌++◌, map, refl, sym, ap, ◌∙◌, arith, append-nil}
 use Rattle.std.specs.Prelude.{◌==◌, if◌then◌else◌}
-use Rattle.std.specs.List.{AllByRecursion, flat_map, sum_by, range_with_len}
+use Rattle.std.specs.List.{AllByRecursion, flat_map, sum_by}
 use Rattle.std.proofs.lemmas.List.Sums.{sum_by-cons}
 use Rattle.std.proofs.lemmas.Grind.{flat_map-append}
 use Rattle.std.proofs.lemmas.Bool.Decides.{nat_tests}
@@ -18,7 +18,7 @@ use Rattle.lane_table.specs.LaneNumbers.{index_of}
 use Rattle.lane_table.specs.Went.{Deal, looked, visited, step_of, maker, places_in}
 use Rattle.caller_run.specs.Doings.{Doing, deals_of, item_of, items_of}
 use Rattle.caller_run.proofs.CallSteps.{lines_items}
-use Rattle.caller_run.proofs.Sums.{sum_flat, sum_one, sum_same, sum_both, sum_none, once_in_range}
+use Rattle.caller_run.proofs.Sums.{sum_flat, sum_one}
 
 -- the mark of a step of a caller, if it is one
 abbrev mark_by : ℕ → ℕ → ℕ → Step → List MarkBy
@@ -84,10 +84,10 @@ module _ (w : ℕ → ℕ) where
   place_of mark = mark.place
 
   -- a mark, in the sum over a lane
-  abbrev in_lane : LaneId → MarkBy → ℕ
+  abbrev pub in_lane : LaneId → MarkBy → ℕ
   in_lane lane by = cond (index_of by.mark.lane == index_of lane) (w by.mark.place) 0
 
-  lane_sum : (lane : LaneId) (marks : List MarkBy) →
+  pub lane_sum : (lane : LaneId) (marks : List MarkBy) →
       sum_by w (map place_of (lane_marks lane marks)) ≡ sum_by (in_lane lane) marks
   lane_sum lane [] = refl
   lane_sum lane (by ∷ marks) =
@@ -137,46 +137,3 @@ module _ (w : ℕ → ℕ) where
       ∙ sum_flat (in_lane lane) (mark_of caller) (lines_items lines)
       ∙ sym (same (λ item. sum_by (in_lane lane) (mark_of caller item)))
       ∙ sym (deals_sum lane caller doings)
-
--- how many marks there are
-
--- a visit of one of the lanes
-abbrev pub IsWithin : ℕ → Deal → Type 0
-IsWithin lanes (looked g) = Unit {0}
-IsWithin lanes (visited mark e) = index_of mark.lane < lanes
-
-abbrev pub each_place : (lanes : ℕ) → List Deal → ℕ
-each_place lanes deals = sum_by (λ lane. length (places_in lane deals)) (range_with_len 0 lanes)
-
-pub count_marks : (caller lanes : ℕ) (doings : List Doing) → AllByRecursion (IsWithin lanes) (deals_of doings) →
-    sum_by (λ item. length (mark_of caller item)) (items_of doings) ≡ each_place lanes (deals_of doings)
-count_marks caller lanes [] within = sym (sum_none (range_with_len 0 lanes))
-count_marks caller lanes (d ∷ doings) within =
-    sum_by-cons (λ item. length (mark_of caller item)) (item_of d) (items_of doings)
-    ∙ go d.deal within.0 (count_marks caller lanes doings within.1)
-  where
-    here : (b : Bool) (place : ℕ) (more : List ℕ) → length (cond b (place ∷ more) more) ≡ cond b 1 0 + length more
-    here true place more = omega arith
-    here false place more = omega arith
-
-    go : (deal : Deal) → IsWithin lanes deal →
-        sum_by (λ item. length (mark_of caller item)) (items_of doings)
-        ≡ sum_by (λ lane. length (places_in lane (deals_of doings))) (range_with_len 0 lanes) →
-        length (mark_by caller d.event d.number (step_of deal))
-        + sum_by (λ item. length (mark_of caller item)) (items_of doings)
-        ≡ sum_by (λ lane. length (places_in lane (deal ∷ deals_of doings))) (range_with_len 0 lanes)
-    go (looked g) low same = omega arith
-    go (visited mark e) low same =
-        let once : sum_by (λ lane. cond (index_of mark.lane == lane) 1 0) (range_with_len 0 lanes) ≡ 1 =
-        once_in_range (index_of mark.lane) 0 lanes (omega arith) (omega arith) in
-        let a : sum_by (λ lane. length (places_in lane (visited mark e ∷ deals_of doings))) (range_with_len 0 lanes)
-        ≡ sum_by (λ lane. cond (index_of mark.lane == lane) 1 0 + length (places_in lane (deals_of doings)))
-        (range_with_len 0 lanes) =
-        sum_same _ _ (range_with_len 0 lanes)
-        (λ lane. here (index_of mark.lane == lane) mark.place (places_in lane (deals_of doings))) in
-        let b : sum_by (λ lane. cond (index_of mark.lane == lane) 1 0 + length (places_in lane (deals_of doings)))
-        (range_with_len 0 lanes)
-        ≡ sum_by (λ lane. cond (index_of mark.lane == lane) 1 0) (range_with_len 0 lanes)
-        + sum_by (λ lane. length (places_in lane (deals_of doings))) (range_with_len 0 lanes) =
-        sum_both (λ lane. cond (index_of mark.lane == lane) 1 0) (λ lane. length (places_in lane (deals_of doings)))
-        (range_with_len 0 lanes) in omega arith

@@ -2,10 +2,9 @@
 -- behind a step of a line is a visit of that event.
 use Rattle.std.proofs.Common.{◌≡◌, ℕ, ◌+◌, ◌<◌, true, List, [], ◌∷◌, length, refl, sym, ap, ◌∙◌, subst, arith, Some, None, Option, append-nil}
 use Rattle.std.specs.Prelude.{slice_get, option_and_then}
-use Rattle.std.specs.List.{AllByRecursion, flat_map}
+use Rattle.std.specs.List.{flat_map}
 use Rattle.std.proofs.lemmas.Bool.{eqb-true}
 use Rattle.std.proofs.lemmas.Option.{slice_get_within}
-use Rattle.key_names.specs.declared.events.Event.{Event}
 use Rattle.key_names.specs.declared.names.LaneId.{LaneId}
 use Rattle.key_names.specs.declared.names.LaneId.TheVariants.{Pool as PoolLane, Base as BaseLane, Cpu as CpuLane}
 use Rattle.key_names.specs.declared.names.Mark.{Mark}
@@ -15,7 +14,7 @@ use Rattle.key_names.specs.declared.names.Step.TheVariants.{Look, Visit as Marke
 use Rattle.key_names.specs.declared.entries.PoolEntry.{PoolEntry}
 use Rattle.key_names.specs.declared.entries.BaseEntry.{BaseEntry}
 use Rattle.key_names.specs.declared.entries.CpuEntry.{CpuEntry}
-use Rattle.key_names.specs.Book.{Book, Lists, cpu_list, lists_of, list_at}
+use Rattle.key_names.specs.Book.{Book, Lists, cpu_list, lists_of}
 use Rattle.key_names.specs.Book as of_book
 use Rattle.key_names.specs.Deeds.{Deed, PoolVisit, CpuVisit, looked, at_pool, at_base, at_cpu, nothing_there, deed_or, deed_at, deed_of, deeds_of, pool_visit, base_visit, cpu_visit}
 use Rattle.key_names.specs.Samples.{visits_of}
@@ -29,7 +28,7 @@ use Rattle.lane_table.specs.BookLaws.{ClosedLanes}
 use Rattle.lane_table.proofs.BookEntries.{VisitedAt, entered_at, pool_kind, cpu_kind}
 use Rattle.lane_table.proofs.BookSamples.{OfLane, pool_visited, cpu_visited}
 use Rattle.lane_table.proofs.BookWhole.{cpu_listed}
-use Rattle.caller_run.proofs.LineMarks.{IsOfCaller, same_lane}
+use Rattle.caller_run.proofs.LineMarks.{same_lane}
 use Rattle.caller_run.proofs.Members.{IsIn, each_in, in_flat, in_flat_back, FromLine, from_line, deed_in, step_of_deed, mark_in, MarkThere, marked_place}
 
 -- lanes have different numbers
@@ -59,8 +58,8 @@ stamped_visit {E = E} visits place stamp who is = go (slice_get visits place) re
     go (Some v) at is =
         let p : ◌≡◌ {A = ℕ × Who} (v.stamp, v.who) (stamp, who) = cc in (v, at, ap (λ (s : ℕ × Who). s.1) p)
 
-module _ (w : View) (caller : ℕ) (events : List Event) (lines : List SeenLine) (callers : StateLists)
-    (ok : ClosedLanes (length w.lanes) (known_of w)) (own : AllByRecursion (IsOfCaller caller) lines)
+module _ (w : View) (lines : List SeenLine) (callers : StateLists)
+    (ok : ClosedLanes (length w.lanes) (known_of w))
     (visits : VisitsAre (book_of (length w.lanes) (known_of w) callers) (all_marks (lines ∷ []))) where
   abbrev pub book : Book
   book = book_of (length w.lanes) (known_of w) callers
@@ -76,7 +75,7 @@ module _ (w : View) (caller : ℕ) (events : List Event) (lines : List SeenLine)
     pub line : SeenLine
     pub there : IsIn line lines
     pub event : line.event ≡ who.event
-    pub by : who.caller ≡ caller
+    pub by : who.caller ≡ line.caller
     pub deed_there : IsIn deed (deeds_of lists line.steps)
 
   marked_in : (by : MarkBy) → IsIn by marks → InLine by.who (deed_at lists by.mark.lane by.mark.place)
@@ -89,7 +88,7 @@ module _ (w : View) (caller : ℕ) (events : List Event) (lines : List SeenLine)
         line = f.0;
         there = f.1;
         event = sym m.event_is;
-        by = m.caller_is ∙ each_in (IsOfCaller caller) f.0 lines own f.1;
+        by = m.caller_is;
         deed_there = deed_in lists (Marked by.mark) f.0.steps m.step;
       }
 
@@ -166,7 +165,7 @@ module _ (w : View) (caller : ℕ) (events : List Event) (lines : List SeenLine)
   -- what is behind a step of a line
 
   steps_mark : (line : SeenLine) (mark : Mark) → IsIn line lines → IsIn (Marked mark) line.steps →
-      (by : MarkBy) × IsIn by marks × (by.mark ≡ mark) × (by.who.caller ≡ caller) × (by.who.event ≡ line.event)
+      (by : MarkBy) × IsIn by marks × (by.mark ≡ mark) × (by.who.caller ≡ line.caller) × (by.who.event ≡ line.event)
   steps_mark line mark there here =
       let m = mark_in line.caller line.event 0 mark line.steps here in
       let from : FromLine line.caller line.event line.steps m.0 =
@@ -175,7 +174,7 @@ module _ (w : View) (caller : ℕ) (events : List Event) (lines : List SeenLine)
         subst (IsIn m.0) (sym (append-nil (flat_map line_marks lines)))
             (in_flat_back line_marks line m.0 lines there m.1),
         m.2,
-        from.caller_is ∙ each_in (IsOfCaller caller) line lines own there,
+        from.caller_is,
         from.event_is,
       )
 
@@ -184,7 +183,7 @@ module _ (w : View) (caller : ℕ) (events : List Event) (lines : List SeenLine)
     pub visit : of_book.Visit E
     pub at : slice_get list place ≡ Some visit
     pub is : visit.entry ≡ entry
-    pub by : visit.who.caller ≡ caller
+    pub by : visit.who.caller ≡ line.caller
     pub event : visit.who.event ≡ line.event
 
   abbrev cpu_or : CpuVisit → Deed → CpuVisit

@@ -1,9 +1,7 @@
 -- Each look of a caller stands: it is at least what was seen before it, and at most the number of reseeds.
-use Rattle.std.proofs.Common.{◌≡◌, ℕ, suc, ◌+◌, ◌<◌, ◌≤◌, max, List, [], ◌∷◌, length, take, ◌++◌, refl, sym, subst, ap, arith, Some, None, Option}
+use Rattle.std.proofs.Common.{◌≡◌, ℕ, suc, ◌+◌, ◌<◌, ◌≤◌, max, List, [], ◌∷◌, length, map, take, ◌++◌, refl, sym, subst, ap, arith, Some, None, Option}
 use Rattle.std.specs.Prelude.{slice_get}
-use Rattle.std.specs.List.{AllByRecursion}
 use Rattle.std.proofs.lemmas.List.Sums.{fold-append}
-use Rattle.std.proofs.lemmas.Option.{slice_get_within}
 use Rattle.key_names.specs.declared.names.LaneId.{LaneId}
 use Rattle.key_names.specs.declared.names.LaneId.TheVariants.{Pool as PoolLane, Base as BaseLane, Cpu as CpuLane}
 use Rattle.key_names.specs.declared.entries.PoolEntry.{PoolEntry}
@@ -24,15 +22,12 @@ use Rattle.lane_table.specs.Meaning.{replay}
 use Rattle.lane_table.specs.WorldRule.{known_of}
 use Rattle.lane_table.specs.BookLists.{StateLists, book_lists}
 use Rattle.lane_table.specs.BookLaws.{ClosedLanes}
-use Rattle.lane_table.specs.Went.{Deal, looked, visited, Sees, generation_of}
-use Rattle.lane_table.proofs.Sights.{sees_up}
-use Rattle.lane_table.proofs.Places.{stands_at, fold_next}
+use Rattle.lane_table.specs.Went.{Deal, looked, visited, step_of, Sees, generation_of}
+use Rattle.lane_table.proofs.Sights.{AllKnown, sees_up}
+use Rattle.lane_table.proofs.Places.{fold_next}
 use Rattle.lane_table.proofs.BookValues.{base_before}
 use Rattle.lane_table.proofs.BookWhole.{beside}
 use Rattle.lane_table.proofs.BookMeans.{cpu_met_before}
-use Rattle.caller_run.specs.Doings.{Doing, deals_of, items_of}
-use Rattle.caller_run.specs.Items.{steps_of}
-use Rattle.caller_run.specs.Ran.{Stood}
 
 module _ (lanes : ℕ) (visits : ℕ → List Visit) (callers : StateLists) (ok : ClosedLanes lanes visits) where
   abbrev lists : Lists
@@ -94,35 +89,23 @@ module _ (lanes : ℕ) (visits : ℕ → List Visit) (callers : StateLists) (ok 
 seen_more : (before : List Deed) (deed : Deed) → seen (before ++ deed ∷ []) ≡ seen_after (seen before) deed
 seen_more before deed = fold-append seen_after 0 before (deed ∷ [])
 
--- the looks among what a caller did
-pub looks_stand : (w : View) (caller : ℕ) (callers : StateLists) → ClosedLanes (length w.lanes) (known_of w) →
-    (doings : List Doing) (low high reseeds : ℕ) (before : List Deed) → AllByRecursion (Stood w caller) doings →
-    Sees w low (deals_of doings) high → seen before ≤ low → high ≤ reseeds →
-    LooksStand reseeds before (deeds_of (book_lists (length w.lanes) (known_of w) callers) (steps_of (items_of doings)))
-looks_stand w caller callers ok [] low high reseeds before stood s from to = tt
-looks_stand w caller callers ok (d ∷ doings) low high reseeds before stood s from to =
-    go (λ mid before s from. looks_stand w caller callers ok doings mid high reseeds before stood.1 s from to) d.deal
-    stood.0 s
-  where
-    go : ((mid : ℕ) (before : List Deed) → Sees w mid (deals_of doings) high → seen before ≤ mid →
-        LooksStand reseeds before
-        (deeds_of (book_lists (length w.lanes) (known_of w) callers) (steps_of (items_of doings)))) →
-        (deal : Deal) → Stood w caller (record { event = d.event; number = d.number; deal = deal }) →
-        Sees w low (deal ∷ deals_of doings) high →
-        LooksStand reseeds before (deeds_of (book_lists (length w.lanes) (known_of w) callers)
-        (steps_of (items_of (record { event = d.event; number = d.number; deal = deal } ∷ doings))))
-    go behind (looked g) here s = (
-      (let a = s.0 in omega arith, (let b = sees_up w g high (deals_of doings) s.1 in omega arith)),
-      behind g (before ++ see g ∷ []) s.1 (let a = s.0 in let e : seen (before ++ see g ∷ []) ≡ max (seen before) g =
-          seen_more before (see g) in omega arith),
+-- the looks among what was done, each visit of which is known in the end
+pub looks_stand : (w : View) (callers : StateLists) → ClosedLanes (length w.lanes) (known_of w) →
+    (deals : List Deal) (low high reseeds : ℕ) (before : List Deed) → AllKnown w deals →
+    Sees w low deals high → seen before ≤ low → high ≤ reseeds →
+    LooksStand reseeds before (deeds_of (book_lists (length w.lanes) (known_of w) callers) (map step_of deals))
+looks_stand w callers ok [] low high reseeds before known s from to = tt
+looks_stand w callers ok (looked g ∷ deals) low high reseeds before known s from to = (
+  (let a = s.0 in omega arith, (let b = sees_up w g high deals s.1 in omega arith)),
+  looks_stand w callers ok deals g high reseeds (before ++ see g ∷ []) known s.1
+      (let a = s.0 in let e : seen (before ++ see g ∷ []) ≡ max (seen before) g = seen_more before (see g) in
+      omega arith) to,
+)
+looks_stand w callers ok (visited mark e ∷ deals) low high reseeds before known s from to =
+    let deed : Deed = deed_of (book_lists (length w.lanes) (known_of w) callers) (Marked mark) in
+    let p = passes (length w.lanes) (known_of w) callers ok mark.lane mark.place reseeds (seen before) s.0 known.0
+    known.1 (let a = s.1 in omega arith) s.2 in (
+      p.0,
+      looks_stand w callers ok deals s.0 high reseeds (before ++ deed ∷ []) known.2 s.3
+          (subst (λ (n : ℕ). n ≤ s.0) (sym (seen_more before deed)) p.1) to,
     )
-    go behind (visited mark e) here s =
-        let within : mark.place < length (known_of w (index_of mark.lane)) =
-        slice_get_within (known_of w (index_of mark.lane)) mark.place here.visit
-        (stands_at (known_of w (index_of mark.lane)) mark.place here.visit here.there) in
-        let deed : Deed = deed_of (book_lists (length w.lanes) (known_of w) callers) (Marked mark) in
-        let p = passes (length w.lanes) (known_of w) callers ok mark.lane mark.place reseeds (seen before) s.0 here.near
-        within (let a = s.1 in omega arith) s.2 in (
-          p.0,
-          behind s.0 (before ++ deed ∷ []) s.3 (subst (λ (n : ℕ). n ≤ s.0) (sym (seen_more before deed)) p.1),
-        )

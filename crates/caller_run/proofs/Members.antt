@@ -21,12 +21,16 @@ abbrev pub IsIn : {X : Type 0} → X → List X → Type 0
 IsIn x [] = ⊥
 IsIn x (y ∷ ys) = (y ≡ x) ⊎ IsIn x ys
 
+-- no two lines have one caller and one event
+abbrev pub Apart : List SeenLine → Type 0
+Apart lines = (a b : SeenLine) → IsIn a lines → IsIn b lines → a.caller ≡ b.caller → a.event ≡ b.event → a ≡ b
+
 pub each_in : {X : Type 0} (P : X → Type 0) (x : X) (xs : List X) → AllByRecursion P xs → IsIn x xs → P x
 each_in P x [] all here = absurd here
 each_in P x (y ∷ ys) all (inl same) = subst P same all.0
 each_in P x (y ∷ ys) all (inr rest) = each_in P x ys all.1 rest
 
-in_append : {X : Type 0} (x : X) (xs ys : List X) → IsIn x (xs ++ ys) → IsIn x xs ⊎ IsIn x ys
+pub in_append : {X : Type 0} (x : X) (xs ys : List X) → IsIn x (xs ++ ys) → IsIn x xs ⊎ IsIn x ys
 in_append x [] ys here = inr here
 in_append x (y ∷ xs) ys (inl same) = inl (inl same)
 in_append x (y ∷ xs) ys (inr rest) = elim (in_append x xs ys rest) [ inl left ↦ inl (inr left) | inr right ↦ inr right ]

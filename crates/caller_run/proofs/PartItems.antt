@@ -24,7 +24,7 @@ pub part_then : (caller : ℕ) (u v w : View) (xs ys : List Item) → Part calle
     Part caller u w (xs ++ ys)
 part_then caller u v w xs ys a b = record {
   doings = a.doings ++ b.doings;
-  ran = ran_then caller u v w a.doings b.doings a.ran b.ran;
+  ran = ran_then caller 0 0 u v w a.doings b.doings a.ran b.ran;
   order = map-append item_of a.doings b.doings ∙ (λ i. a.order i ++ b.order i);
 }
 

@@ -15,7 +15,7 @@ use Rattle.key_names.specs.Calls.{Setting}
 use Rattle.key_names.specs.Deeds.{Deed, CpuVisit, looked, at_pool, at_base, at_cpu}
 use Rattle.key_names.specs.FastPool.{FastPool}
 use Rattle.key_names.specs.Forms.{Rooted, BaseOnly, Cross, DrawForm, CpuReadForm, Looked, ReadForm, WaitedInVain, Waited, LookedForm, SysForm, CreditForm, PoolOnly, IntForm, ReseedForm, Form, EndForm}
-use Rattle.rng_core.specs.SampleDeeds.{EntryIsQuiet, IsQuiet, SamplesStand}
+use Rattle.key_names.specs.LineSamples.{EntryIsQuiet, IsQuiet, SamplesStand}
 
 -- an event that is no interrupt
 abbrev pub IsNoInterrupt : Event → Type 0

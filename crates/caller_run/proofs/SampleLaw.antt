@@ -3,7 +3,6 @@ use Rattle.std.proofs.Common.{◌≡◌, ℕ, ◌+◌, ◌<◌, inl, inr, List, 
 use Rattle.std.specs.Prelude.{slice_get}
 use Rattle.std.specs.List.{AllByRecursion}
 use Rattle.std.proofs.lemmas.Option.{slice_get_within}
-use Rattle.key_names.specs.declared.events.Event.{Event}
 use Rattle.key_names.specs.declared.names.LaneId.{LaneId}
 use Rattle.key_names.specs.declared.names.Who.{Who}
 use Rattle.key_names.specs.declared.entries.PoolEntry.{PoolEntry}
@@ -15,16 +14,16 @@ use Rattle.key_names.specs.Deeds.{Deed, PoolVisit, CpuVisit, at_pool, at_cpu, de
 use Rattle.key_names.specs.FastPool.{FastPool, dump_bytes, dump_bits}
 use Rattle.key_names.specs.Samples.{SameEvent, fast_before, MakesDue, IsDump, DueAt, DumpAt, MixAt, visits_of, LawfulSamples}
 use Rattle.key_names.specs.SeenLine.{SeenLine}
-use Rattle.key_names.specs.IsTranscript.{LinesFit, all_marks, lane_marks, PlacesStand, VisitsAre}
+use Rattle.key_names.specs.IsTranscript.{all_marks, lane_marks, PlacesStand, VisitsAre}
 use Rattle.lane_table.specs.declared.view.View.{View}
 use Rattle.lane_table.specs.LaneNumbers.{index_of}
 use Rattle.lane_table.specs.WorldRule.{known_of}
 use Rattle.lane_table.specs.BookLists.{StateLists, book_of}
 use Rattle.lane_table.specs.BookLaws.{ClosedLanes}
 use Rattle.lane_table.proofs.BookSamples.{OfLane, cpu_visited, fast_met}
-use Rattle.rng_core.specs.SampleDeeds.{EntryIsQuiet, IsQuiet, Dumps, IsMix, IsCrossing, SamplesStand, fast_in}
-use Rattle.caller_run.proofs.LineMarks.{fit_own}
-use Rattle.caller_run.proofs.Members.{IsIn, each_in, same_line}
+use Rattle.key_names.specs.LineSamples.{EntryIsQuiet, IsQuiet, Dumps, IsMix, IsCrossing, SamplesStand}
+use Rattle.rng_core.specs.SampleDeeds.{fast_in}
+use Rattle.caller_run.proofs.Members.{IsIn, Apart, each_in}
 use Rattle.caller_run.proofs.LineVisits.{InLine, Behind, cpu_in_line, pool_in_line, cpu_behind, pool_behind}
 
 -- what excludes what
@@ -107,8 +106,8 @@ module _ (fast : ℕ → ℕ → FastPool) (deeds : List Deed) where
     mix_in : IsIn (at_pool d.mix) deeds
     mix_in = subst (IsIn (at_pool d.mix)) (sym d.deeds_are) (inr (inr (inl refl)))
 
-module _ (w : View) (caller : ℕ) (events : List Event) (lines : List SeenLine) (callers : StateLists)
-    (ok : ClosedLanes (length w.lanes) (known_of w)) (fit : LinesFit caller 0 events lines)
+module _ (w : View) (lines : List SeenLine) (callers : StateLists)
+    (ok : ClosedLanes (length w.lanes) (known_of w)) (apart : Apart lines)
     (visits : VisitsAre (book_of (length w.lanes) (known_of w) callers) (all_marks (lines ∷ [])))
     (stand : (lane : LaneId) → PlacesStand (lane_marks lane (all_marks (lines ∷ []))))
     (many : (lane : LaneId) → index_of lane < length w.lanes →
@@ -125,7 +124,7 @@ module _ (w : View) (caller : ℕ) (events : List Event) (lines : List SeenLine)
   fast = fast_in (known_of w)
 
   abbrev InSome : Who → Deed → Type 0
-  InSome who deed = InLine w caller events lines callers ok (fit_own caller 0 events lines fit) visits who deed
+  InSome who deed = InLine w lines callers ok visits who deed
 
   abbrev deeds : SeenLine → List Deed
   deeds line = deeds_of the_lists line.steps
@@ -144,34 +143,34 @@ module _ (w : View) (caller : ℕ) (events : List Event) (lines : List SeenLine)
 
   cpu_line : (c place : ℕ) (v : of_book.Visit CpuEntry) → slice_get (visits_of the_book c) place ≡ Some v →
       InSome v.who (at_cpu (cpu_visit the_lists c place v.entry))
-  cpu_line = cpu_in_line w caller events lines callers ok (fit_own caller 0 events lines fit) visits stand many
+  cpu_line = cpu_in_line w lines callers ok visits stand many
 
   pool_line : (place : ℕ) (v : of_book.Visit PoolEntry) → slice_get the_book.pool place ≡ Some v →
       InSome v.who (at_pool (pool_visit the_lists place v.entry))
-  pool_line = pool_in_line w caller events lines callers ok (fit_own caller 0 events lines fit) visits stand many
+  pool_line = pool_in_line w lines callers ok visits stand many
 
   of_cpu : (line : SeenLine) (s : CpuVisit) → IsIn line lines → IsIn (at_cpu s) (deeds line) →
-      Behind w caller events lines callers ok (fit_own caller 0 events lines fit) visits (visits_of the_book s.cpu)
+      Behind w lines callers ok visits (visits_of the_book s.cpu)
       s.place s.entry line
-  of_cpu = cpu_behind w caller events lines callers ok (fit_own caller 0 events lines fit) visits
+  of_cpu = cpu_behind w lines callers ok visits
 
   of_pool : (line : SeenLine) (s : PoolVisit) → IsIn line lines → IsIn (at_pool s) (deeds line) →
-      Behind w caller events lines callers ok (fit_own caller 0 events lines fit) visits the_book.pool s.place s.entry
+      Behind w lines callers ok visits the_book.pool s.place s.entry
       line
-  of_pool = pool_behind w caller events lines callers ok (fit_own caller 0 events lines fit) visits
+  of_pool = pool_behind w lines callers ok visits
 
   -- two visits of one event are in one line
   one_line : (a b who : Who) (x y : Deed) (f : InSome a x) (g : InSome b y) → SameEvent a who → SameEvent b who →
       g.line ≡ f.line
   one_line a b who x y f g p q =
-      same_line caller 0 events lines g.line f.line fit g.there f.there (g.event ∙ q.1 ∙ sym p.1 ∙ sym f.event)
+      apart g.line f.line g.there f.there (sym g.by ∙ q.0 ∙ sym p.0 ∙ f.by) (g.event ∙ q.1 ∙ sym p.1 ∙ sym f.event)
 
   -- the line of a dump
   record OfDump (c k : ℕ) (who : Who) : Type 0 where
     line : SeenLine
     there : IsIn line lines
     event : line.event ≡ who.event
-    by : who.caller ≡ caller
+    by : who.caller ≡ line.caller
     dumps : Dumps fast Crosses (deeds line)
     on : dumps.dump.cpu ≡ c
     at : dumps.dump.place ≡ k
@@ -195,7 +194,7 @@ module _ (w : View) (caller : ℕ) (events : List Event) (lines : List SeenLine)
 
   -- the visit behind a deed of a line whose event is this one's
   due_at : (line : SeenLine) (s : CpuVisit) (who : Who) → IsIn line lines → IsIn (at_cpu s) (deeds line) →
-      line.event ≡ who.event → who.caller ≡ caller → MakesDue (fast s.cpu s.place) s.entry →
+      line.event ≡ who.event → who.caller ≡ line.caller → MakesDue (fast s.cpu s.place) s.entry →
       DueAt (visits_of the_book s.cpu) s.place who
   due_at line s who there here event by due =
       let b = of_cpu line s there here in
@@ -208,7 +207,7 @@ module _ (w : View) (caller : ℕ) (events : List Event) (lines : List SeenLine)
       }
 
   dump_at : (line : SeenLine) (s : CpuVisit) (who : Who) → IsIn line lines → IsIn (at_cpu s) (deeds line) →
-      line.event ≡ who.event → who.caller ≡ caller → IsDump s.entry → DumpAt (visits_of the_book s.cpu) s.place who
+      line.event ≡ who.event → who.caller ≡ line.caller → IsDump s.entry → DumpAt (visits_of the_book s.cpu) s.place who
   dump_at line s who there here event by dump =
       let b = of_cpu line s there here in
       record {
@@ -256,7 +255,7 @@ module _ (w : View) (caller : ℕ) (events : List Event) (lines : List SeenLine)
       let g : InSome b.visit.who (at_cpu (cpu_visit the_lists c k b.visit.entry)) = cpu_line c k b.visit b.is in
       let t : CpuVisit = cpu_visit the_lists c k b.visit.entry in
       let line : g.line ≡ o.line =
-      same_line caller 0 events lines g.line o.line fit g.there o.there (g.event ∙ b.event.1 ∙ sym o.event) in
+      apart g.line o.line g.there o.there (sym g.by ∙ b.event.0 ∙ o.by) (g.event ∙ b.event.1 ∙ sym o.event) in
       let here : IsIn (at_cpu t) (deeds o.line) = subst (λ l. IsIn (at_cpu t) (deeds l)) line g.deed_there in
       let same : o.dumps.dump ≡ t = is_the_dump fast (deeds o.line) o.dumps t here b.dumps in
       sym o.at ∙ ap (λ (v : CpuVisit). v.place) same
@@ -292,7 +291,7 @@ module _ (w : View) (caller : ℕ) (events : List Event) (lines : List SeenLine)
       let g : InSome b.visit.who (at_pool (pool_visit the_lists p b.visit.entry)) = pool_line p b.visit b.is in
       let s : PoolVisit = pool_visit the_lists p b.visit.entry in
       let line : g.line ≡ o.line =
-      same_line caller 0 events lines g.line o.line fit g.there o.there (g.event ∙ b.event.1 ∙ sym o.event) in
+      apart g.line o.line g.there o.there (sym g.by ∙ b.event.0 ∙ o.by) (g.event ∙ b.event.1 ∙ sym o.event) in
       let here : IsIn (at_pool s) (deeds o.line) = subst (λ l. IsIn (at_pool s) (deeds l)) line g.deed_there in
       let same : d.mix ≡ s = is_the_mix fast (deeds o.line) d s here (subst IsMix (sym b.mixes) tt) in
       let f : FastPool = fast_before (visits_of the_book c) k in

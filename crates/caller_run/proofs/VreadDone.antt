@@ -23,22 +23,24 @@ use Rattle.lane_table.specs.BookLists.{book_lists}
 use Rattle.lane_table.specs.Went.{step_of}
 use Rattle.rng_core.specs.declared.setting.Setting.{Setting}
 use Rattle.rng_core.specs.Did.{setting_of}
-use Rattle.rng_core.specs.VreadDid.{Glanced, VreadDid, vread_meaning}
+use Rattle.rng_core.specs.VreadDid.{VreadDid, vread_meaning}
+use Rattle.rng_core.proofs.Readings.{Stayed, stayed}
 use Rattle.caller_run.specs.Doings.{doings_from}
 use Rattle.caller_run.specs.Items.{items_from}
 use Rattle.caller_run.specs.Ran.{Ran}
-use Rattle.rng_core.specs.SampleDeeds.{IsQuiet, fast_in}
+use Rattle.key_names.specs.LineSamples.{IsQuiet}
+use Rattle.rng_core.specs.SampleDeeds.{fast_in}
 use Rattle.caller_run.specs.Done.{CallDone}
-use Rattle.caller_run.proofs.Chains.{items_from_doings, ran_went, ran_then}
+use Rattle.caller_run.proofs.Chains.{items_from_doings, unsplit, ran_went, ran_then}
 use Rattle.caller_run.proofs.CallSteps.{own_items}
 use Rattle.caller_run.proofs.QuietForms.{sys}
 
 -- a look that no step tells
-pub ran_glanced : (caller : ℕ) (v w : View) → Glanced v w → Ran caller v w []
+pub ran_glanced : (caller : ℕ) (v w : View) → Stayed v w → Ran caller v w []
 ran_glanced caller v w k =
     let same : (lane : ℕ) → at lane w ≡ at lane v = λ lane. ap (λ (l : List LaneView). get_or l lane blank) k.lanes in
     record {
-      same = k.same;
+      same = unsplit v w k.same;
       grows = λ lane low. ([], ap (λ (a : LaneView). a.known) (same lane) ∙ sym (append-nil (known_of v lane)));
       places = λ lane low. ap (λ (a : LaneView). a.places) (same lane) ∙ sym (append-nil (at lane v).places);
       made = λ lane low. let e = ap (λ (a : LaneView). a.made) (same lane) in omega arith;
@@ -101,8 +103,9 @@ module _ (set : Setting) (v w : View) (s : CallerState) (n flags : ℕ) (t : Vge
   pub vread_done : CallDone set.caller v w s (with_state s t) (vread_call n flags line [])
   vread_done = record {
     doings = doings_from set.event 0 k.did.deals;
-    ran = ran_then set.caller v k.looked w [] (doings_from set.event 0 k.did.deals)
-        (ran_glanced set.caller v k.looked k.glanced)
+    ran = ran_then set.caller 0 0 v k.looked w [] (doings_from set.event 0 k.did.deals)
+        (ran_glanced set.caller v k.looked (stayed n flags (current_state s) t answer shown set
+        (record { view = v; steps = [] }) (record { view = w; steps = steps }) k))
         (ran_went set.caller set.event 0 k.looked w k.did.deals k.did.told.went);
     order = items_from_doings set.event 0 k.did.deals
         ∙ ap (λ (l : List Step). items_from set.event 0 l) (sym k.did.told.trace)

@@ -7,7 +7,7 @@ use Rattle.key_names.specs.declared.names.Step.{Step}
 use Rattle.key_names.specs.Calls.{vread_call, BoundAct}
 use Rattle.key_names.specs.SeenLine.{SeenLine}
 use Rattle.lane_table.specs.declared.lanes.Lanes.{Lanes}
-use Rattle.lane_table.specs.declared.view.View.{View}
+use Rattle.key_names.specs.Meaning.{CallerState}
 use Rattle.lane_table.specs.Calls.{view}
 use Rattle.rng_core.specs.declared.setting.Setting.{Setting}
 use Rattle.rng_core.specs.declared.acts.Bound.{Bound}
@@ -20,10 +20,10 @@ use Rattle.caller_run.specs.Calling.{stand, StateRead}
 use Rattle.caller_run.specs.Done.{CallDone}
 use Rattle.caller_run.specs.Says.{line_of}
 use Rattle.caller_run.specs.Waiting.{told_anew, act_lines, all_bound, CallsSoFar}
-use Rattle.caller_run.specs.Standing.{CanGoWith, HasGone}
+use Rattle.caller_run.specs.Standing.{CanGoWith, Start, HasGone}
 use Rattle.caller_run.proofs.LoopCalls.{so_far_vread}
 use Rattle.caller_run.proofs.Seeing.{read_kept}
-use Rattle.caller_run.proofs.RoomFills.{Fills, fills_read}
+use Rattle.caller_run.proofs.LogFills.{Fills, fills_read}
 use Rattle.caller_run.proofs.CanGo.{GoesOn, can_next}
 use Rattle.caller_run.proofs.ToldAnew.{anew_long, fit_anew, lines_long, bound_same}
 use Rattle.caller_run.proofs.HasGone.{gone_by, fit_more, own_line}
@@ -69,33 +69,33 @@ module _ {t : Lanes} {event : Event} {c d e : Caller} {before after : Gathered} 
       (subst (λ (x : Event). Fills x before after acts left) (sym k.event_is)
       (fills_read (omega arith) k.line_room k.byte_room k.none)) g
 
-  pub gone_read : (v : View) (caller : ℕ) (events rest : List Event) →
-      HasGone v caller events (event ∷ rest) c before.lines asks →
-      HasGone v caller events rest e after.lines (asks_of left)
-  gone_read v caller events rest gone =
+  pub gone_read : (begun : Start) (events rest : List Event) (kids : List Start) →
+      HasGone begun events (event ∷ rest) c before.lines asks kids →
+      HasGone begun events rest e after.lines (asks_of left) kids
+  gone_read begun events rest kids gone =
       let set = k.read.set in
       let bound : bound_acts c.set asks k.zs ≡ all_bound asks told =
       sym (ap (λ (s : Setting). all_bound asks (act_lines s asks k.zs)) set ∙ bound_same c.set asks k.zs) in
-      let g : HasGone v caller events (Vread k.len k.flags ∷ rest) c before.lines asks =
-      subst (λ (x : Event). HasGone v caller events (x ∷ rest) c before.lines asks) k.event_is gone in
+      let g : HasGone begun events (Vread k.len k.flags ∷ rest) c before.lines asks kids =
+      subst (λ (x : Event). HasGone begun events (x ∷ rest) c before.lines asks kids) k.event_is gone in
       let on : GoesOn (Vread k.len k.flags) d e = subst (λ (x : Event). GoesOn x d e) k.event_is k.on in
-      subst (λ (ls : List SeenLine). HasGone v caller events rest e ls (asks_of left)) (sym k.lines)
-      (subst (λ (bs : List Bound). HasGone v caller events rest e (told_anew before.lines asks told ++ line ∷ [])
-      (asks_of bs)) (sym k.none)
+      subst (λ (ls : List SeenLine). HasGone begun events rest e ls (asks_of left) kids) (sym k.lines)
+      (subst (λ (bs : List Bound). HasGone begun events rest e (told_anew before.lines asks told ++ line ∷ [])
+      (asks_of bs) kids) (sym k.none)
       (gone_by d g set on (vread_call k.len k.flags line (all_bound asks told))
       (told_anew before.lines asks told ++ line ∷ []) [] []
       (subst (λ (s : Setting). CallDone c.set.caller (view c.pass) (view d.pass) (stand c) (stand d)
       (vread_call k.len k.flags (line_of s VreadWord k.served k.said k.steps) (all_bound asks told))) (sym set)
       (subst (λ (bs : List BoundAct). CallDone c.set.caller (view c.pass) (view d.pass) (stand c) (stand d)
-      (vread_call k.len k.flags (line_of c.set VreadWord k.served k.said k.steps) bs)) bound k.read.done))
+      (vread_call k.len k.flags (line_of c.set VreadWord k.served k.said k.steps) bs)) bound k.read.done)) (ap (λ (s : CallerState). s.setting) k.read.stands)
       (λ has. refl)
       (so_far_vread events rest before.lines asks g.calls k.len k.flags line told
       (lines_long d.set asks k.zs k.read.long)
       (subst (λ (w : List Ask). CallsSoFar events (Vread k.len k.flags ∷ rest) before.lines w g.calls) (g.waits refl)
       g.so_far))
-      (fit_more caller c.set.event events (Vread k.len k.flags) rest (told_anew before.lines asks told) line
+      (fit_more begun.caller c.set.event events (Vread k.len k.flags) rest (told_anew before.lines asks told) line
       (own_line d g set on k.said k.served k.steps)
-      (λ more f. fit_anew caller d.set (ap (λ (s : Setting). s.caller) set ∙ g.own) events asks k.zs before.lines more
+      (λ more f. fit_anew begun.caller d.set (ap (λ (s : Setting). s.caller) set ∙ g.own) events asks k.zs before.lines more
       g.idle
       (g.fit more f)))
       tt))

@@ -1,53 +1,56 @@
--- The run of a script with one caller is a lawful transcript.
-use Rattle.std.proofs.Common.{◌≡◌, ℕ, ◌+◌, ◌-◌, ◌<◌, ◌≤◌, None, List, [], ◌∷◌, ◌++◌, length, refl, sym, ap, ◌∙◌, subst, arith}
-use Rattle.std.specs.Prelude.{count_by}
-use Rattle.std.specs.List.{AllByRecursion, sum_by, range_with_len}
-use Rattle.std.proofs.lemmas.List.{get_or-replicate, length-map}
+-- What all callers of a script did, from the start of a table to its end, is a lawful transcript of the script.
+use Rattle.std.proofs.Common.{◌≡◌, ℕ, suc, ◌+◌, ◌-◌, ◌<◌, ◌≤◌, List, [], ◌∷◌, ◌++◌, length, map, refl, sym, ap, ◌∙◌, subst, arith, inl, inr}
+use Rattle.std.specs.List.{AllByRecursion, range_with_len}
+use Rattle.std.proofs.lemmas.List.{length-map}
 use Rattle.std.proofs.lemmas.List.FromFn.{length-range_with_len}
-use Rattle.std.proofs.Math.ListN.{length-replicate}
 use Rattle.key_names.specs.declared.events.Event.{Event}
 use Rattle.key_names.specs.declared.names.LaneId.{LaneId}
-use Rattle.key_names.specs.declared.names.LaneId.TheVariants.{Pool as PoolLane, Base as BaseLane, Cpu as CpuLane}
 use Rattle.key_names.specs.declared.names.Step.{Step}
-use Rattle.key_names.specs.declared.names.Step.TheVariants.{Look, Visit as Marked}
 use Rattle.key_names.specs.BaseList.{base_after}
-use Rattle.key_names.specs.Book.{Book, lists_of}
-use Rattle.key_names.specs.Calls.{Call, alone, vread_call, unbound, ending, BoundAct, Setting, fork_point, first_setting, calls_of}
-use Rattle.key_names.specs.Deeds.{Deed, deed_at, deed_of, deeds_of}
-use Rattle.key_names.specs.History.{calls_steps, stamps_of, LooksStand}
-use Rattle.key_names.specs.Meaning.{CallMeaning, LineMeaning, caller_start}
+use Rattle.key_names.specs.Book.{Book, lists_of, list_at}
+use Rattle.key_names.specs.Calls.{Setting, Call, calls_of, all_calls, alone, vread_call, unbound, ending, BoundAct}
+use Rattle.key_names.specs.Deeds.{deeds_of, Deed, deed_at, deed_of}
+use Rattle.key_names.specs.History.{ancestors_steps, calls_steps, orders_from, caller_orders, stamps_of, LooksStand}
+use Rattle.key_names.specs.Meaning.{CallMeaning, caller_start, LineMeaning}
 use Rattle.key_names.specs.Samples.{LawfulSamples}
-use Rattle.key_names.specs.ScriptGrammar.{WellFormed, is_fork_of}
+use Rattle.key_names.specs.ScriptGrammar.{Script, WellFormed}
 use Rattle.key_names.specs.SeenLine.{SeenLine}
-use Rattle.key_names.specs.IsTranscript.{EachAct, EachOfCall, EachLine, CallsMean, state_lists, MarksStand, Rises, FormsStand, IsTranscriptBy}
+use Rattle.key_names.specs.IsTranscript.{EachCaller, EachLine, CallsMean, CallerMeans, LinesFit, state_lists, start_setting, Rises, VisitsAre, all_marks, lane_marks, PlacesStand, FormsStand, IsTranscriptBy, EachAct, EachOfCall}
+use Rattle.key_names.proofs.Each.{each_append}
 use Rattle.base_gen.specs.BaseValue.{BaseValue}
-use Rattle.lane_table.specs.declared.view.LaneView.{LaneView}
+use Rattle.key_names.proofs.CallerOrders.{long_ancestors}
 use Rattle.lane_table.specs.declared.view.View.{View}
 use Rattle.lane_table.specs.Meaning.{replay}
-use Rattle.lane_table.specs.WorldRule.{blank, at, known_of}
-use Rattle.lane_table.specs.Steps.{newcomer}
-use Rattle.lane_table.specs.Calls.{Ended, plan_of}
-use Rattle.lane_table.specs.Went.{places_in, floor}
+use Rattle.lane_table.specs.WorldRule.{known_of}
+use Rattle.lane_table.specs.Steps.{Grows}
+use Rattle.lane_table.specs.Calls.{Ended}
+use Rattle.lane_table.specs.Went.{Deal, looked, visited, step_of, stamps_in, floor, Climbs}
 use Rattle.lane_table.specs.BookLists.{StateLists, book_of, book_lists}
 use Rattle.lane_table.specs.BookLaws.{ClosedLanes, Continues}
-use Rattle.lane_table.proofs.VisitLists.{begins_refl}
-use Rattle.lane_table.proofs.BookMarks.{MarksVisit}
 use Rattle.lane_table.proofs.BookEnds.{ended_lanes, ended_lawful}
+use Rattle.lane_table.proofs.BookMarks.{MarksVisit}
 use Rattle.lane_table.proofs.BookMeans.{lanes_replay}
-use Rattle.caller_run.specs.Doings.{Doing, deals_of, items_of}
-use Rattle.caller_run.specs.Items.{Item, steps_of}
-use Rattle.rng_core.specs.SampleDeeds.{SamplesStand, fast_in}
+use Rattle.lane_table.proofs.Floors.{generation_begun}
+use Rattle.key_names.specs.LineSamples.{SamplesStand}
+use Rattle.rng_core.specs.SampleDeeds.{fast_in}
 use Rattle.caller_run.specs.Done.{CallsMeant}
-use Rattle.caller_run.specs.Laws.{one_caller, RanAlone, LawfulRun}
-use Rattle.caller_run.proofs.CallSteps.{lines_items}
+use Rattle.caller_run.specs.Items.{steps_of}
+use Rattle.caller_run.specs.Laws.{Run, HasRun, IsOneOf, lines_of_all, RanAll, LawfulRuns}
+use Rattle.caller_run.proofs.Marks.{flat, flat_marks, apart, all_visit, all_visits, all_many, all_places}
+use Rattle.caller_run.proofs.Ancestors.{Course, course_more, starts_so, has_course}
+use Rattle.caller_run.proofs.CallWeights.{calls_lines}
 use Rattle.caller_run.proofs.ItemSteps.{same_steps}
-use Rattle.caller_run.proofs.CallWeights.{calls_weight, calls_each, calls_lines}
-use Rattle.caller_run.proofs.LineMarks.{mark_of, IsOfCaller, fit_own}
 use Rattle.caller_run.proofs.Looks.{looks_stand}
-use Rattle.caller_run.proofs.Marks.{items_visit, marks_visits, marks_places, marks_many}
-use Rattle.caller_run.proofs.OneCaller.{unforked, one_order, one_setting, doings_rise}
+use Rattle.caller_run.proofs.Parents.{each_of}
 use Rattle.caller_run.proofs.SampleLaw.{samples_lawful}
-use Rattle.caller_run.proofs.Sums.{sum_one}
+use Rattle.key_names.specs.declared.names.LaneId.TheVariants.{Pool as PoolLane, Base as BaseLane, Cpu as CpuLane}
+use Rattle.key_names.specs.declared.names.Step.TheVariants.{Look, Visit as Marked}
+
+-- stamps that climb rise
+pub climbs_rise : (low high : ℕ) (stamps : List ℕ) → Climbs low stamps high → Rises stamps
+climbs_rise low high [] c = tt
+climbs_rise low high (a ∷ []) c = tt
+climbs_rise low high (a ∷ b ∷ stamps) c = (c.1.0, climbs_rise a high (b ∷ stamps) c.1)
 
 -- what stands behind steps has nothing to do with the callers' own lists
 
@@ -57,7 +60,7 @@ deed_same lanes w callers PoolLane place = refl
 deed_same lanes w callers BaseLane place = refl
 deed_same lanes w callers (CpuLane c) place = refl
 
-deeds_same : (lanes : ℕ) (w : View) (callers : StateLists) (steps : List Step) →
+pub deeds_same : (lanes : ℕ) (w : View) (callers : StateLists) (steps : List Step) →
     deeds_of (book_lists lanes (known_of w) []) steps ≡ deeds_of (book_lists lanes (known_of w) callers) steps
 deeds_same lanes w callers [] = refl
 deeds_same lanes w callers (Look g ∷ steps) = ap
@@ -80,156 +83,277 @@ module _ (P Q : SeenLine → LineMeaning → Type 0) (weaker : (line : SeenLine)
     call_weaker (unbound bound) m all = weaker bound.line m.own all
     call_weaker (ending line) m all = weaker line m.own all
 
-    lines_weaker : (calls : List Call) (ms : List CallMeaning) → EachLine P calls ms → EachLine Q calls ms
+    pub lines_weaker : (calls : List Call) (ms : List CallMeaning) → EachLine P calls ms → EachLine Q calls ms
     lines_weaker [] [] all = tt
     lines_weaker [] (m ∷ ms) all = absurd all
     lines_weaker (call ∷ calls) [] all = absurd all
     lines_weaker (call ∷ calls) (m ∷ ms) all = (call_weaker call m all.0, lines_weaker calls ms all.1)
 
-module _ (version cpus : ℕ) (events : List Event) (lines : List SeenLine) (w : View)
-    (ok : WellFormed (one_caller version cpus events)) (r : RanAlone cpus events lines w) where
-  abbrev calls : List Call
-  calls = calls_of events lines
+stamps_are : (deals : List Deal) → stamps_of (map step_of deals) ≡ stamps_in deals
+stamps_are [] = refl
+stamps_are (looked g ∷ deals) = stamps_are deals
+stamps_are (visited mark e ∷ deals) = ap (λ (l : List ℕ). mark.stamp ∷ l) (stamps_are deals)
 
-  abbrev start : View
-  start = newcomer (plan_of (cpus + 2) r.first)
+long_calls : (k : ℕ) (callers : List (List Event)) (runs : List Run) → EachCaller HasRun k callers runs →
+    length (all_calls callers (lines_of_all runs)) ≡ length callers
+long_calls k [] [] each = refl
+long_calls k [] (r ∷ rs) each = absurd each
+long_calls k (es ∷ callers) [] each = absurd each
+long_calls k (es ∷ callers) (r ∷ rs) each = ap suc (long_calls (suc k) callers rs each.1)
 
-  abbrev doings : List Doing
-  doings = r.done.doings
+numbers_low : (k : ℕ) (es : List (List Event)) (rs : List Run) → EachCaller HasRun k es rs → (r : Run) →
+    IsOneOf r rs → r.begun.caller < k + length es
+numbers_low k [] [] each r here = absurd here
+numbers_low k [] (q ∷ rs) each r here = absurd each
+numbers_low k (events ∷ es) [] each r here = absurd here
+numbers_low k (events ∷ es) (q ∷ rs) each r (inl same) =
+    let e = each.0.own in let f = ap (λ (x : Run). x.begun.caller) same in omega arith
+numbers_low k (events ∷ es) (q ∷ rs) each r (inr rest) =
+    let low = numbers_low (suc k) es rs each.1 r rest in omega arith
+
+module _ (script : Script) (runs : List Run) (w : View) (ok : WellFormed script) (ran : RanAll script runs w) where
+  abbrev t : List (List SeenLine)
+  t = lines_of_all runs
+
+  abbrev callers : List (List Call)
+  callers = all_calls script.callers t
 
   abbrev lanes : ℕ
   lanes = length w.lanes
 
-  wide : lanes ≡ cpus + 2
-  wide = r.done.ran.same.sized ∙ length-replicate (cpus + 2) blank
-
   low : 2 ≤ lanes
-  low = let e = wide in omega arith
+  low = let e = ran.wide in omega arith
 
   ended : Ended lanes w
-  ended = subst (λ (n : ℕ). Ended n w) (sym wide) r.ended
+  ended = subst (λ (n : ℕ). Ended n w) (sym ran.wide) ran.ended
 
   closed : ClosedLanes lanes (known_of w)
   closed = ended_lanes w [] low ended
 
-  continues : Continues lanes w (known_of w)
-  continues = record { long = refl; begins = λ lane below. begins_refl (known_of w lane); closed = closed }
+  abbrev Here : List Run → Type 0
+  Here rs = (r : Run) → IsOneOf r rs → IsOneOf r runs
 
-  meant : CallsMeant (book_lists lanes (known_of w) []) (caller_start first_setting) calls r.reached
-  meant = r.done.meant lanes (known_of w) [] continues
+  grown : (r : Run) → IsOneOf r runs → Grows r.end w
+  grown r here = each_of (λ r. Grows r.end w) r runs ran.known here
 
-  abbrev callers : StateLists
-  callers = state_lists meant.meanings ∷ []
+  as_long : (r : Run) → IsOneOf r runs → lanes ≡ length r.end.lanes
+  as_long r here = each_of (λ r. length w.lanes ≡ length r.end.lanes) r runs ran.sized here
 
-  abbrev book : Book
-  book = book_of lanes (known_of w) callers
-
-  -- at the start nothing was done
-  new : (lane : ℕ) → lane < lanes → at lane start ≡ blank
-  new lane below = get_or-replicate (cpus + 2) lane blank blank (let e = wide in omega arith)
-
-  near : (lane : ℕ) → lane < lanes → lane < length start.lanes
-  near lane below = let s = r.done.ran.same.sized in omega arith
-
-  places : (lane : ℕ) → lane < lanes → (at lane w).places ≡ places_in lane (deals_of doings)
-  places lane below =
-      r.done.ran.places lane (near lane below)
-      ∙ ap (λ (a : LaneView). a.places ++ places_in lane (deals_of doings)) (new lane below)
-
-  made : (lane : ℕ) → lane < lanes → (at lane w).made ≡ length (places_in lane (deals_of doings))
-  made lane below =
-      r.done.ran.made lane (near lane below)
-      ∙ ap (λ (a : LaneView). a.made + length (places_in lane (deals_of doings))) (new lane below) ∙ omega arith
-
-  same : (f : Item → ℕ) → sum_by f (items_of doings) ≡ sum_by f (lines_items lines)
-  same f = ap (sum_by f) r.done.order ∙ calls_weight f 0 events lines r.fit r.done.points
-
-  in_order : steps_of (items_of doings) ≡ calls_steps calls
-  in_order = ap steps_of r.done.order ∙ same_steps calls
-
-  none_forked : fork_point 0 calls ≡ None
-  none_forked =
-      unforked events lines r.fit
-      (sym (sum_one (count_by (is_fork_of 0)) events) ∙ ok.forked 0)
-
-  own : AllByRecursion (IsOfCaller 0) lines
-  own = fit_own 0 0 events lines r.fit
-
-  each_visits : AllByRecursion (λ item. AllByRecursion (MarksVisit lanes (known_of w)) (mark_of 0 item))
-      (lines_items lines)
-  each_visits =
-      calls_each _ 0 events lines r.fit r.done.points
-      (subst (AllByRecursion _) r.done.order (items_visit 0 w doings r.done.ran.stood))
-
-  marks : MarksStand (one_caller version cpus events) (lines ∷ [])
-  marks = record {
-    lanes = marks_places 0 w doings r.done.ran.stood callers low ended places made lines own same each_visits;
-    callers = subst (AllByRecursion (λ order. Rises (stamps_of order))) (sym (one_order calls none_forked)) (
-      subst (λ (steps : List Step). Rises (stamps_of steps)) in_order
-          (doings_rise start.stamp w.stamp doings r.done.ran.climbs),
-      tt,
-    );
+  continues : (r : Run) → IsOneOf r runs → Continues lanes r.end (known_of w)
+  continues r here = record {
+    long = sym (as_long r here);
+    begins = λ lane near. grown r here lane (let e = as_long r here in omega arith);
+    closed = closed;
   }
 
-  deeds : EachLine (λ line m. deeds_of (lists_of book) line.steps ≡ m.deeds) calls meant.meanings
-  deeds =
-      lines_weaker (λ line m. deeds_of (book_lists lanes (known_of w) []) line.steps ≡ m.deeds)
-      (λ line m. deeds_of (lists_of book) line.steps ≡ m.deeds)
-      (λ line m is. sym (deeds_same lanes w callers line.steps) ∙ is) calls meant.meanings meant.deeds
+  pub meant : (c : ℕ) (events : List Event) (r : Run) (has : HasRun c events r) → IsOneOf r runs →
+      CallsMeant (book_lists lanes (known_of w) []) (caller_start r.begun.set) (calls_of events r.lines)
+      has.ended.reached
+  meant c events r has here = has.ended.done.meant lanes (known_of w) [] (continues r here)
 
-  -- all that the caller saw is in the base's list in the end
-  seen : LooksStand (base_after (lists_of book).base).generation [] (deeds_of (lists_of book) (calls_steps calls))
-  seen =
-      let reached : (replay (known_of w 1)).base.generation ≡ (base_after (lists_of book).base).generation =
-      ap (λ (b : BaseValue). b.generation) (lanes_replay lanes (known_of w) callers closed).base in
-      subst (λ (steps : List Step). LooksStand (base_after (lists_of book).base).generation []
-      (deeds_of (lists_of book) steps)) in_order
-      (looks_stand w 0 callers closed doings (floor start) (floor w) (base_after (lists_of book).base).generation []
-      r.done.ran.stood r.done.ran.sees (omega arith) (let s = r.seen in omega arith))
+  abbrev meanings_from : (k : ℕ) (es : List (List Event)) (rs : List Run) → EachCaller HasRun k es rs → Here rs →
+      List (List CallMeaning)
+  meanings_from k [] rs each sub = []
+  meanings_from k (events ∷ es) [] each sub = []
+  meanings_from k (events ∷ es) (r ∷ rs) each sub =
+      (meant k events r each.0 (sub r (inl refl))).meanings
+      ∷ meanings_from (suc k) es rs each.1 (λ q is. sub q (inr is))
+
+  abbrev meanings : List (List CallMeaning)
+  meanings = meanings_from 0 script.callers runs ran.each (λ r is. is)
+
+  abbrev states : StateLists
+  states = map state_lists meanings
+
+  abbrev book : Book
+  book = book_of lanes (known_of w) states
+
+  abbrev reseeds : ℕ
+  reseeds = (base_after (lists_of book).base).generation
+
+  -- Lines, forms, answers and data, caller by caller
+
+  lines_fit : (k : ℕ) (es : List (List Event)) (rs : List Run) → EachCaller HasRun k es rs →
+      EachCaller (λ c events lines. LinesFit c 0 events lines) k es (lines_of_all rs)
+  lines_fit k [] [] each = tt
+  lines_fit k [] (r ∷ rs) each = absurd each
+  lines_fit k (events ∷ es) [] each = absurd each
+  lines_fit k (events ∷ es) (r ∷ rs) each =
+      (subst (λ (c : ℕ). LinesFit c 0 events r.lines) each.0.own each.0.ended.fit, lines_fit (suc k) es rs each.1)
+
+  starts : (k : ℕ) (r : Run) → IsOneOf r runs → r.begun.caller ≡ k → k < length script.callers →
+      start_setting callers k ≡ r.begun.set
+  starts k r here own near =
+      ap (start_setting callers) (sym own)
+      ∙ starts_so script runs w ok ran.each ran.began ran.sized ran.known r here
+      (let e = long_calls 0 script.callers runs ran.each in omega arith)
+
+  callers_mean : (k : ℕ) (es : List (List Event)) (rs : List Run) (each : EachCaller HasRun k es rs) (sub : Here rs) →
+      k + length es ≤ length script.callers →
+      EachCaller (λ c calls ms. CallerMeans (lists_of book) (start_setting callers c) calls ms) k
+      (all_calls es (lines_of_all rs)) (meanings_from k es rs each sub)
+  callers_mean k [] [] each sub within = tt
+  callers_mean k [] (r ∷ rs) each sub within = absurd each
+  callers_mean k (events ∷ es) [] each sub within = absurd each
+  callers_mean k (events ∷ es) (r ∷ rs) each sub within =
+      let m = meant k events r each.0 (sub r (inl refl)) in (
+        record {
+          follows = subst (λ (set : Setting). CallsMean (caller_start set) (calls_of events r.lines) m.meanings)
+              (sym (starts k r (sub r (inl refl)) each.0.own (omega arith))) m.means;
+          deeds = lines_weaker (λ line m. deeds_of (book_lists lanes (known_of w) []) line.steps ≡ m.deeds)
+              (λ line m. deeds_of (lists_of book) line.steps ≡ m.deeds)
+              (λ line m is. sym (deeds_same lanes w states line.steps) ∙ is) (calls_of events r.lines) m.meanings
+              m.deeds;
+        },
+        callers_mean (suc k) es rs each.1 (λ q is. sub q (inr is)) (omega arith),
+      )
+
+  answers_are : (k : ℕ) (es : List (List Event)) (rs : List Run) (each : EachCaller HasRun k es rs) (sub : Here rs) →
+      EachCaller (λ c calls ms. EachLine (λ line m. line.answer ≡ m.answer) calls ms) k
+      (all_calls es (lines_of_all rs)) (meanings_from k es rs each sub)
+  answers_are k [] [] each sub = tt
+  answers_are k [] (r ∷ rs) each sub = absurd each
+  answers_are k (events ∷ es) [] each sub = absurd each
+  answers_are k (events ∷ es) (r ∷ rs) each sub =
+      ((meant k events r each.0 (sub r (inl refl))).answers, answers_are (suc k) es rs each.1 (λ q is. sub q (inr is)))
+
+  data_are : (k : ℕ) (es : List (List Event)) (rs : List Run) (each : EachCaller HasRun k es rs) (sub : Here rs) →
+      EachCaller (λ c calls ms. EachLine (λ line m. line.shown ≡ m.shown) calls ms) k
+      (all_calls es (lines_of_all rs)) (meanings_from k es rs each sub)
+  data_are k [] [] each sub = tt
+  data_are k [] (r ∷ rs) each sub = absurd each
+  data_are k (events ∷ es) [] each sub = absurd each
+  data_are k (events ∷ es) (r ∷ rs) each sub =
+      ((meant k events r each.0 (sub r (inl refl))).shown, data_are (suc k) es rs each.1 (λ q is. sub q (inr is)))
+
+  -- Orders
+
+  course_whole : (c : ℕ) (events : List Event) (r : Run) → HasRun c events r → IsOneOf r runs → (before : List Step) →
+      Course w r.begun.view before → Course w r.end (before ++ calls_steps (calls_of events r.lines))
+  course_whole c events r has here before course =
+      let done = has.ended.done in
+      subst (λ (l : List Step). Course w r.end (before ++ l)) (ap steps_of done.order ∙ same_steps (calls_of events
+      r.lines))
+      (course_more w r.begun.view r.end r.begun.caller _ done.doings before done.ran (as_long r here) (grown r here)
+      course)
+
+  module _ (P : List Step → Type 0)
+      (holds : (r : Run) → IsOneOf r runs → floor r.end ≤ reseeds → (steps : List Step) → Course w r.end steps →
+      P steps)
+      (most : (c : ℕ) (events : List Event) (r : Run) → HasRun c events r → IsOneOf r runs → floor r.end ≤ reseeds)
+    where
+      orders_hold : (k : ℕ) (es : List (List Event)) (rs : List Run) → EachCaller HasRun k es rs → Here rs →
+          (ancestors : List (List Step)) → length ancestors ≡ length es →
+          ((i : ℕ) (r : Run) → IsOneOf r rs → r.begun.caller ≡ k + i → Course w r.begun.view (list_at ancestors i)) →
+          AllByRecursion P (orders_from ancestors (all_calls es (lines_of_all rs)))
+      orders_hold k [] [] each sub ancestors long at = tt
+      orders_hold k [] (r ∷ rs) each sub ancestors long at = absurd each
+      orders_hold k (events ∷ es) [] each sub ancestors long at = absurd each
+      orders_hold k (events ∷ es) (r ∷ rs) each sub [] long at = absurd (omega arith)
+      orders_hold k (events ∷ es) (r ∷ rs) each sub (before ∷ ancestors) long at =
+          let here = sub r (inl refl) in (
+            holds r here (most k events r each.0 here) (before ++ calls_steps (calls_of events r.lines))
+                (course_whole k events r each.0 here before (at 0 r (inl refl) (let e = each.0.own in omega arith))),
+            orders_hold (suc k) es rs each.1 (λ q is. sub q (inr is)) ancestors (omega arith)
+                (λ i q is own. at (suc i) q (inr is) (omega arith)),
+          )
+
+      all_orders : AllByRecursion P (caller_orders callers)
+      all_orders =
+          let n = length callers in let long = long_calls 0 script.callers runs ran.each in
+          orders_hold 0 script.callers runs ran.each (λ r is. is) (ancestors_steps callers n)
+          (long_ancestors callers n ∙ long)
+          (λ i r here own. elim_within i r here own)
+        where
+          elim_within : (i : ℕ) (r : Run) → IsOneOf r runs → r.begun.caller ≡ 0 + i →
+              Course w r.begun.view (list_at (ancestors_steps callers (length callers)) i)
+          elim_within i r here own =
+              let near = numbers_low 0 script.callers runs ran.each r here in
+              let long = long_calls 0 script.callers runs ran.each in
+              subst (λ (k : ℕ). Course w r.begun.view (list_at (ancestors_steps callers (length callers)) k))
+              (let q : r.begun.caller ≡ i = omega arith in q)
+              (has_course script runs w ok ran.each ran.began ran.sized ran.known (length callers) r here (omega arith))
+
+  reached : (replay (known_of w 1)).base.generation ≡ reseeds
+  reached = ap (λ (b : BaseValue). b.generation) (lanes_replay lanes (known_of w) states closed).base
+
+  below_reseeds : (c : ℕ) (events : List Event) (r : Run) → HasRun c events r → IsOneOf r runs → floor r.end ≤ reseeds
+  below_reseeds c events r has here =
+      let up = generation_begun (known_of r.end 1) (known_of w 1)
+      (grown r here 1 (let e = as_long r here in let two = low in omega arith)) in
+      let s = has.seen in let e = reached in omega arith
+
+  rise : AllByRecursion (λ order. Rises (stamps_of order)) (caller_orders callers)
+  rise = all_orders (λ order. Rises (stamps_of order))
+      (λ r here most steps c. subst (λ (l : List Step). Rises (stamps_of l)) c.steps_are
+      (subst Rises (sym (stamps_are c.deals)) (climbs_rise c.first r.end.stamp (stamps_in c.deals) c.climbs)))
+      below_reseeds
+
+  seen : AllByRecursion (λ order. LooksStand reseeds [] (deeds_of (lists_of book) order)) (caller_orders callers)
+  seen = all_orders (λ order. LooksStand reseeds [] (deeds_of (lists_of book) order))
+      (λ r here most steps c. subst (λ (l : List Step). LooksStand reseeds [] (deeds_of (lists_of book) l)) c.steps_are
+      (looks_stand w states closed c.deals 0 (floor r.end) reseeds [] c.known c.sees (omega arith) most))
+      below_reseeds
+
+  -- Marks and samples
+
+  visit : AllByRecursion (MarksVisit lanes (known_of w)) (all_marks t)
+  visit = all_visit w 0 script.callers runs ran.each ran.sized ran.known
+
+  visits : VisitsAre book (all_marks t)
+  visits = all_visits w t states low ended visit ran.placed ran.made
+
+  places : (lane : LaneId) → PlacesStand (lane_marks lane (all_marks t))
+  places = all_places w t states low ended visit ran.placed ran.made
+
+  sampled : (k : ℕ) (es : List (List Event)) (rs : List Run) → EachCaller HasRun k es rs → Here rs →
+      AllByRecursion (λ line. SamplesStand (fast_in (known_of w)) (deeds_of (lists_of book) line.steps))
+      (flat (lines_of_all rs))
+  sampled k [] [] each sub = tt
+  sampled k [] (r ∷ rs) each sub = absurd each
+  sampled k (events ∷ es) [] each sub = absurd each
+  sampled k (events ∷ es) (r ∷ rs) each sub =
+      each_append (λ line. SamplesStand (fast_in (known_of w)) (deeds_of (lists_of book) line.steps)) r.lines
+      (flat (lines_of_all rs))
+      (calls_lines (λ line. SamplesStand (fast_in (known_of w)) (deeds_of (lists_of book) line.steps)) r.begun.caller
+      events r.lines each.0.ended.fit
+      (each.0.ended.done.samples lanes (known_of w) states (continues r (sub r (inl refl)))))
+      (sampled (suc k) es rs each.1 (λ q is. sub q (inr is)))
 
   samples : LawfulSamples book
   samples =
-      samples_lawful w 0 events lines callers closed r.fit
-      (marks_visits 0 w doings r.done.ran.stood callers low ended places made lines own same each_visits)
-      (marks_places 0 w doings r.done.ran.stood callers low ended places made lines own same each_visits)
-      (marks_many 0 w doings r.done.ran.stood callers low ended places made lines own same each_visits)
-      (calls_lines (λ line. SamplesStand (fast_in (known_of w)) (deeds_of (lists_of book) line.steps)) 0 events lines
-      r.fit
-      (r.done.samples lanes (known_of w) callers continues))
+      let same = flat_marks t in
+      samples_lawful w (flat t) states closed (apart 0 script.callers runs ran.each)
+      (subst (VisitsAre book) (sym same) visits)
+      (λ lane. subst (λ m. PlacesStand (lane_marks lane m)) (sym same) (places lane))
+      (λ lane near. ap (λ m. length (lane_marks lane m)) same
+      ∙ all_many w t states low ended visit ran.placed ran.made lane near)
+      (sampled 0 script.callers runs ran.each (λ r is. is))
 
-  forms : FormsStand (one_caller version cpus events) (lines ∷ []) book (meant.meanings ∷ [])
+  forms : FormsStand script t book meanings
   forms = record {
     cpus = length-map (range_with_len 0 (lanes - 2)) _ ∙ length-range_with_len 0 (lanes - 2)
-        ∙ (let e = wide in omega arith);
-    visits = marks_visits 0 w doings r.done.ran.stood callers low ended places made lines own
-        same each_visits;
-    callers = (
-      record {
-        follows = subst (λ (set : Setting). CallsMean (caller_start set) calls meant.meanings)
-            (sym (one_setting calls none_forked)) meant.means;
-        deeds = deeds;
-      },
-      tt,
-    );
+        ∙ (let e = ran.wide in omega arith);
+    visits = visits;
+    callers = callers_mean 0 script.callers runs ran.each (λ r is. is) (omega arith);
     states = refl;
-    lanes = ended_lawful w callers low ended;
+    lanes = ended_lawful w states low ended;
     samples = samples;
   }
 
-  transcript : IsTranscriptBy (one_caller version cpus events) (lines ∷ []) book (meant.meanings ∷ [])
+  transcript : IsTranscriptBy script t book meanings
   transcript = record {
-    lines = (r.fit, tt);
-    marks = marks;
+    lines = lines_fit 0 script.callers runs ran.each;
+    marks = record { lanes = places; callers = rise };
     forms = forms;
-    answers = (meant.answers, tt);
-    shown = (meant.shown, tt);
-    looks = subst (AllByRecursion (λ order. LooksStand (base_after (lists_of book).base).generation []
-        (deeds_of (lists_of book) order))) (sym (one_order calls none_forked)) (seen, tt);
+    answers = answers_are 0 script.callers runs ran.each (λ r is. is);
+    shown = data_are 0 script.callers runs ran.each (λ r is. is);
+    looks = seen;
   }
 
-  pub lawful_run : LawfulRun version cpus events lines w
-  lawful_run = record {
-    meanings = meant.meanings;
-    transcript = subst (λ (n : ℕ). IsTranscriptBy (one_caller version cpus events) (lines ∷ [])
-        (book_of n (known_of w) callers) (meant.meanings ∷ [])) wide transcript;
+  pub lawful_runs : LawfulRuns script t w
+  lawful_runs = record {
+    meanings = meanings;
+    transcript = subst (λ (n : ℕ). IsTranscriptBy script t (book_of n (known_of w) states) meanings) ran.wide
+        transcript;
   }

@@ -14,8 +14,9 @@ use Rattle.lane_table.specs.declared.view.View.{View}
 use Rattle.lane_table.specs.BookLists.{StateLists, book_lists}
 use Rattle.lane_table.specs.BookLaws.{Continues}
 use Rattle.caller_run.specs.Doings.{Doing, items_of}
-use Rattle.caller_run.specs.Ran.{Ran}
-use Rattle.rng_core.specs.SampleDeeds.{SamplesStand, fast_in}
+use Rattle.caller_run.specs.Ran.{RanBy}
+use Rattle.key_names.specs.LineSamples.{SamplesStand}
+use Rattle.rng_core.specs.SampleDeeds.{fast_in}
 
 -- the lines of a call: those of the acts inside it, and its own
 abbrev pub call_lines : Call → List SeenLine
@@ -47,15 +48,19 @@ CallSamples fast lists call = AllByRecursion (λ line. SamplesStand fast (deeds_
 
 -- from v to w, and from s to t, the caller made this call; what it meant is said of all lists in the end of which its
 -- pass knows beginnings
-pub record CallDone (caller : ℕ) (v w : View) (s t : CallerState) (call : Call) : Type 0 where
+pub record CallDoneBy (caller splits : ℕ) (v w : View) (s t : CallerState) (call : Call) : Type 0 where
   pub doings : List Doing
-  pub ran : Ran caller v w doings
+  pub ran : RanBy caller splits v w doings
   pub order : items_of doings ≡ call_items call
   pub points : PointsFit call
   pub meant : (lanes : ℕ) (visits : ℕ → List Visit) (callers : StateLists) → Continues lanes w visits →
       CallMeant (book_lists lanes visits callers) s call t
   pub samples : (lanes : ℕ) (visits : ℕ → List Visit) (callers : StateLists) → Continues lanes w visits →
       CallSamples (fast_in visits) (book_lists lanes visits callers) call
+
+-- the same of a call that forks nobody
+abbrev pub CallDone : ℕ → View → View → CallerState → CallerState → Call → Type 0
+CallDone caller v w s t call = CallDoneBy caller 0 v w s t call
 
 -- where a caller that was at s stands after the last call
 abbrev pub state_reached : CallerState → List CallMeaning → CallerState
@@ -71,10 +76,10 @@ pub record CallsMeant (lists : Lists) (s : CallerState) (calls : List Call) (t :
   pub answers : EachLine (λ line m. line.answer ≡ m.answer) calls meanings
   pub shown : EachLine (λ line m. line.shown ≡ m.shown) calls meanings
 
--- what a loop over a caller's calls keeps
-pub record CallsDone (caller : ℕ) (v w : View) (s t : CallerState) (calls : List Call) : Type 0 where
+-- what a loop over a caller's calls keeps, which forked so many
+pub record CallsDone (caller splits : ℕ) (v w : View) (s t : CallerState) (calls : List Call) : Type 0 where
   pub doings : List Doing
-  pub ran : Ran caller v w doings
+  pub ran : RanBy caller splits v w doings
   pub order : items_of doings ≡ calls_items calls
   pub points : AllByRecursion PointsFit calls
   pub meant : (lanes : ℕ) (visits : ℕ → List Visit) (callers : StateLists) → Continues lanes w visits →

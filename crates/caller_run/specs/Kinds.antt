@@ -58,7 +58,7 @@ IsCall (Fork child) = ⊥
 IsCall (Inside point act) = ⊥
 IsCall _ = ⊤
 
--- nobody else runs
+-- it forks nobody
 abbrev pub ForksNobody : Event → Type 0
 ForksNobody (Fork child) = ⊥
 ForksNobody _ = ⊤

@@ -1,43 +1,73 @@
--- The law of a script with one caller: what the caller did by its calls, from the start of a table to its end, is a
--- lawful transcript of the script.
-use Rattle.std.specs.Prelude.{ℕ, ◌+◌, ◌≤◌, List, [], ◌∷◌}
+-- The law of a script with its callers: what each did by its calls, from the start of a table to its end, is a lawful
+-- transcript of the script.
+use Rattle.std.specs.Prelude.{◌≡◌, ◌⊎◌, ℕ, ◌+◌, ◌<◌, ◌≤◌, List, [], ◌∷◌, map, length}
+use Rattle.std.specs.List.{AllByRecursion, sum_by}
 use Rattle.key_names.specs.declared.events.Event.{Event}
-use Rattle.key_names.specs.Calls.{first_setting, calls_of}
+use Rattle.key_names.specs.declared.names.LaneId.{LaneId}
+use Rattle.key_names.specs.Calls.{first_setting}
 use Rattle.key_names.specs.ScriptGrammar.{Script, WellFormed}
 use Rattle.key_names.specs.SeenLine.{SeenLine}
-use Rattle.key_names.specs.Meaning.{CallerState, CallMeaning, caller_start}
-use Rattle.key_names.specs.IsTranscript.{LinesFit, state_lists, IsTranscriptBy}
+use Rattle.key_names.specs.Meaning.{CallMeaning}
+use Rattle.key_names.specs.IsTranscript.{EachCaller, all_marks, lane_marks, state_lists, IsTranscriptBy}
 use Rattle.lane_table.specs.declared.view.View.{View}
+use Rattle.lane_table.specs.LaneNumbers.{index_of}
 use Rattle.lane_table.specs.Meaning.{replay}
-use Rattle.lane_table.specs.WorldRule.{known_of}
-use Rattle.lane_table.specs.Steps.{newcomer}
-use Rattle.lane_table.specs.Calls.{Ended, plan_of}
+use Rattle.lane_table.specs.WorldRule.{at, known_of}
+use Rattle.lane_table.specs.Steps.{Grows}
+use Rattle.lane_table.specs.Calls.{Ended}
 use Rattle.lane_table.specs.Went.{floor}
 use Rattle.lane_table.specs.BookLists.{book_of}
-use Rattle.caller_run.specs.Done.{CallsDone}
+use Rattle.caller_run.specs.Standing.{Start, HasEnded}
 
--- a script with one caller
-abbrev pub one_caller : ℕ → ℕ → List Event → Script
-one_caller version cpus events = record { version = version; cpus = cpus; callers = events ∷ [] }
+-- one caller of a run: its start, what its pass knew behind its last visit, its lines, and the callers that it forked
+pub record Run : Type 0 where
+  pub begun : Start
+  pub end : View
+  pub lines : List SeenLine
+  pub kids : List Start
 
--- the only caller of a script made its calls on a new table, which then ended; w is what its pass knew in the end
-pub record RanAlone (cpus : ℕ) (events : List Event) (lines : List SeenLine) (w : View) : Type 0 where
-  pub fit : LinesFit 0 0 events lines
-  pub first : ℕ
-  pub reached : CallerState
-  pub done : CallsDone 0 (newcomer (plan_of (cpus + 2) first)) w (caller_start first_setting) reached
-      (calls_of events lines)
-  pub ended : Ended (cpus + 2) w
-  -- all that was seen of the generation is in the base's list
-  pub seen : floor w ≤ (replay (known_of w 1)).base.generation
+-- the caller of this number made these events and ended, and all that its pass saw of the generation is in the base's
+-- list
+pub record HasRun (caller : ℕ) (events : List Event) (r : Run) : Type 0 where
+  pub own : r.begun.caller ≡ caller
+  pub ended : HasEnded r.begun events r.end r.lines r.kids
+  pub seen : floor r.end ≤ (replay (known_of r.end 1)).base.generation
+
+abbrev pub IsOneOf : {X : Type 0} → X → List X → Type 0
+IsOneOf x [] = ⊥
+IsOneOf x (y ∷ ys) = (y ≡ x) ⊎ IsOneOf x ys
+
+-- caller 0 started with the first setting, and each other caller where one forked it
+pub record Began (runs : List Run) (r : Run) : Type 0 where
+  pub how : ((r.begun.caller ≡ 0) × (r.begun.set ≡ first_setting))
+      ⊎ ((p : Run) × IsOneOf p runs × IsOneOf r.begun p.kids)
+
+-- the lines of all callers
+abbrev pub lines_of_all : List Run → List (List SeenLine)
+lines_of_all runs = map (λ r. r.lines) runs
+
+-- what a place of a lane weighs, in the marks of some lines
+abbrev pub marked : (ℕ → ℕ) → LaneId → List (List SeenLine) → ℕ
+marked f lane t = sum_by (λ mark. f mark.place) (lane_marks lane (all_marks t))
+
+-- all callers of a script made their calls on a new table; w is what the pass knew that took in all others
+pub record RanAll (script : Script) (runs : List Run) (w : View) : Type 0 where
+  pub each : EachCaller HasRun 0 script.callers runs
+  pub began : AllByRecursion (Began runs) runs
+  pub sized : AllByRecursion (λ r. length w.lanes ≡ length r.end.lanes) runs
+  pub known : AllByRecursion (λ r. Grows r.end w) runs
+  pub placed : (f : ℕ → ℕ) (lane : LaneId) → index_of lane < length w.lanes →
+      sum_by f (at (index_of lane) w).places ≡ marked f lane (lines_of_all runs)
+  pub made : (lane : LaneId) → index_of lane < length w.lanes →
+      (at (index_of lane) w).made ≡ marked (λ p. 1) lane (lines_of_all runs)
+  pub wide : length w.lanes ≡ script.cpus + 2
+  pub ended : Ended (script.cpus + 2) w
 
 -- the lines are a lawful transcript, with the book of the lanes' lists
-pub record LawfulRun (version cpus : ℕ) (events : List Event) (lines : List SeenLine) (w : View) : Type 0 where
-  pub meanings : List CallMeaning
-  pub transcript : IsTranscriptBy (one_caller version cpus events) (lines ∷ [])
-      (book_of (cpus + 2) (known_of w) (state_lists meanings ∷ [])) (meanings ∷ [])
+pub record LawfulRuns (script : Script) (t : List (List SeenLine)) (w : View) : Type 0 where
+  pub meanings : List (List CallMeaning)
+  pub transcript : IsTranscriptBy script t (book_of (script.cpus + 2) (known_of w) (map state_lists meanings)) meanings
 
-abbrev pub OneCallerIsLawful : Type 0
-OneCallerIsLawful = (version cpus : ℕ) (events : List Event) (lines : List SeenLine) (w : View) →
-    WellFormed (one_caller version cpus events) → RanAlone cpus events lines w →
-    LawfulRun version cpus events lines w
+abbrev pub CallersAreLawful : Type 0
+CallersAreLawful = (script : Script) (runs : List Run) (w : View) → WellFormed script → RanAll script runs w →
+    LawfulRuns script (lines_of_all runs) w

@@ -2,9 +2,16 @@ pub mod Items
 pub mod Doings
 pub mod Ran
 pub mod Done
-pub mod Laws
 pub mod Waiting
 pub mod Says
 pub mod Calling
 pub mod Kinds
 pub mod Standing
+pub mod Laws
+pub mod Families
+pub mod Forest
+pub mod Took
+pub mod Grove
+pub mod Plots
+pub mod Ways
+pub mod Plans

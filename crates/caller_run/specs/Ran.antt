@@ -4,7 +4,6 @@ use Rattle.std.specs.List.{AllByRecursion}
 use Rattle.lane_table.specs.declared.view.View.{View}
 use Rattle.lane_table.specs.WorldRule.{at}
 use Rattle.lane_table.specs.Steps.{Grows}
-use Rattle.lane_table.specs.Calls.{SameView}
 use Rattle.lane_table.specs.Went.{Deal, looked, visited, IsMarkOf, maker, places_in, stamps_in, Climbs, Sees, floor}
 use Rattle.caller_run.specs.Doings.{Doing, deals_of}
 
@@ -16,9 +15,16 @@ Stood w caller d = Standing d.deal
     Standing (looked g) = ⊤
     Standing (visited mark e) = IsMarkOf w mark (maker caller d.event d.number) e
 
--- from v to w the pass of this caller did exactly this
-pub record Ran (caller : ℕ) (v w : View) (doings : List Doing) : Type 0 where
-  pub same : SameView v w
+-- what only joins change, but that each split cuts the share in half
+pub record SplitView (splits : ℕ) (v w : View) : Type 0 where
+  pub first : w.first ≡ v.first
+  pub share : w.share ≡ v.share
+  pub halvings : w.halvings ≡ v.halvings + splits
+  pub sized : length w.lanes ≡ length v.lanes
+
+-- from v to w the pass of this caller did exactly this, and was split so often
+pub record RanBy (caller splits : ℕ) (v w : View) (doings : List Doing) : Type 0 where
+  pub same : SplitView splits v w
   pub grows : Grows v w
   pub places : (lane : ℕ) → lane < length v.lanes →
       (at lane w).places ≡ (at lane v).places ++ places_in lane (deals_of doings)
@@ -28,3 +34,7 @@ pub record Ran (caller : ℕ) (v w : View) (doings : List Doing) : Type 0 where
   pub climbs : Climbs v.stamp (stamps_in (deals_of doings)) w.stamp
   pub sees : Sees w (floor v) (deals_of doings) (floor w)
   pub stood : AllByRecursion (Stood w caller) doings
+
+-- the same, where it forked nobody
+abbrev pub Ran : ℕ → View → View → List Doing → Type 0
+Ran caller v w doings = RanBy caller 0 v w doings

@@ -1,10 +1,11 @@
 -- Where a caller stands between two of its events, and what it needs for the next.
-use Rattle.std.specs.Prelude.{◌≡◌, ℕ, ◌+◌, ◌<◌, ◌≤◌, true, Some, List, ◌++◌, length, slice_get, sum_by, vec_capacity}
-use Rattle.std.specs.List.{AllByRecursion}
+use Rattle.std.specs.Prelude.{◌≡◌, ℕ, ◌+◌, ◌<◌, ◌≤◌, true, Some, List, ◌∷◌, ◌++◌, length, slice_get, sum_by, vec_capacity}
+use Rattle.std.specs.List.{AllByRecursion, fold}
 use Rattle.key_names.specs.declared.events.Event.{Event}
-use Rattle.key_names.specs.declared.events.Event.TheVariants.{Inside}
+use Rattle.key_names.specs.declared.events.Event.TheVariants.{Inside, Fork}
 use Rattle.key_names.specs.declared.events.Word.TheVariants.{Inside as InsideWord}
-use Rattle.key_names.specs.Calls.{Call, first_setting, has_vread, calls_of}
+use Rattle.key_names.specs.Calls.{Call, alone, Setting as Told, setting_after_call, has_vread, calls_of}
+use Rattle.key_names.specs.History.{calls_steps, through_visit}
 use Rattle.key_names.specs.IsTranscript.{LineIs, LinesFit}
 use Rattle.key_names.specs.Meaning.{CallerState, caller_start}
 use Rattle.key_names.specs.ScriptGrammar.{InRange, FewActs}
@@ -12,17 +13,20 @@ use Rattle.key_names.specs.SeenLine.{SeenLine}
 use Rattle.lane_table.specs.declared.lanes.Lanes.{Lanes}
 use Rattle.lane_table.specs.declared.view.View.{View}
 use Rattle.lane_table.specs.Calls.{view}
+use Rattle.lane_table.specs.Steps.{Grows, child as split_off}
 use Rattle.rng_core.specs.Acts.{Ask, wants, all_wanted, asks_of}
 use Rattle.rng_core.specs.InsideDid.{IsFresh}
 use Rattle.rng_core.specs.declared.acts.Bound.{Bound}
 use Rattle.transcript_text.specs.Gathered.{Gathered}
 use Rattle.caller_run.specs.Calling.{IsReady, StatesStand, stand}
 use Rattle.caller_run.specs.Done.{CallsDone}
-use Rattle.caller_run.specs.Kinds.{ForksNobody}
+use Rattle.caller_run.specs.Doings.{Doing, items_of}
+use Rattle.caller_run.specs.Items.{steps_of}
+use Rattle.caller_run.specs.Ran.{RanBy}
 use Rattle.caller_run.specs.Says.{most_shown}
 use Rattle.caller_run.specs.Waiting.{CallsSoFar}
 use Rattle.caller_run.specs.declared.caller.Caller.{Caller}
-use Rattle.caller_run.specs.declared.room.Room.{Room}
+use Rattle.caller_run.specs.declared.logs.Log.{Log}
 
 -- how many bytes an event reads inside a vread
 abbrev pub read_inside : Event → ℕ
@@ -30,8 +34,8 @@ read_inside (Inside point act) = wants act
 read_inside _ = 0
 
 -- what the acts ask that wait for a vread
-abbrev pub waiting_in : Room → List Ask
-waiting_in room = asks_of room.acts.items
+abbrev pub waiting_in : Log → List Ask
+waiting_in log = asks_of log.acts.items
 
 -- a caller with these lines that can make these events, while these acts wait: so many bytes can be served at once, and
 -- so many can be read inside a vread
@@ -40,7 +44,6 @@ pub record CanGoWith (t : Lanes) (c : Caller) (lines : Gathered) (acts : List Bo
   pub ready : IsReady t c
   pub states : StatesStand c
   pub range : (version : ℕ) × AllByRecursion (InRange version t.cpus) rest
-  pub alone : AllByRecursion ForksNobody rest
   pub numbers : c.set.event + length rest ≤ 65536
   pub at : c.set.event ≡ length lines.lines
   pub line_room : length rest < lines.line_room
@@ -52,9 +55,9 @@ pub record CanGoWith (t : Lanes) (c : Caller) (lines : Gathered) (acts : List Bo
   pub told : AllByRecursion (λ a. a.event < length lines.lines) (asks_of acts)
 
 -- a caller that can make these events
-pub record CanGo (t : Lanes) (c : Caller) (room : Room) (served inside : ℕ) (rest : List Event) : Type 0 where
-  pub goes : CanGoWith t c room.lines room.acts.items served inside rest
-  pub act_room : 8 ≤ vec_capacity room.acts
+pub record CanGo (t : Lanes) (c : Caller) (log : Log) (served inside : ℕ) (rest : List Event) : Type 0 where
+  pub goes : CanGoWith t c log.lines log.acts.items served inside rest
+  pub act_room : 8 ≤ vec_capacity log.acts
 
 -- the line of an act that waits
 pub record HasLine (caller : ℕ) (lines : List SeenLine) (a : Ask) : Type 0 where
@@ -62,21 +65,50 @@ pub record HasLine (caller : ℕ) (lines : List SeenLine) (a : Ask) : Type 0 whe
   pub there : slice_get lines a.event ≡ Some line
   pub is : LineIs caller a.event InsideWord line
 
--- from the start, where its pass knew v, the caller has made all events but the rest, and these are its lines; acts that
--- ask this wait
-pub record HasGone (v : View) (caller : ℕ) (events rest : List Event) (c : Caller) (lines : List SeenLine)
-    (asks : List Ask) : Type 0 where
-  pub own : c.set.caller ≡ caller
+-- a caller at its start: its number, its setting, and what its pass knows
+pub record Start : Type 0 where
+  pub caller : ℕ
+  pub set : Told
+  pub view : View
+
+-- a caller that began so, and whose pass knows w now, has forked this child by one of these calls
+pub record Forked (begun : Start) (w : View) (calls : List Call) (child : Start) : Type 0 where
+  pub before : List Call
+  pub line : SeenLine
+  pub after : List Call
+  pub calls_are : calls ≡ before ++ alone (Fork child.caller) line ∷ after
+  pub above : begun.caller < child.caller
+  -- what its pass did up to and with the visit of the fork, and what it knew then
+  pub splits : ℕ
+  pub middle : View
+  pub doings : List Doing
+  pub ran : RanBy begun.caller splits begun.view middle doings
+  pub order : steps_of (items_of doings) ≡ calls_steps before ++ through_visit line.steps
+  pub sized : length w.lanes ≡ length middle.lanes
+  pub grows : Grows middle w
+  pub view_is : child.view ≡ split_off middle
+  pub set_is : child.set ≡ fold setting_after_call begun.set before
+
+-- from its start a caller has made all events but the rest, and these are its lines; acts that ask this wait, and these
+-- are the callers that it forked
+pub record HasGone (begun : Start) (events rest : List Event) (c : Caller) (lines : List SeenLine) (asks : List Ask)
+    (kids : List Start) : Type 0 where
+  pub own : c.set.caller ≡ begun.caller
   pub calls : List Call
-  pub done : CallsDone caller v (view c.pass) (caller_start first_setting) (stand c) calls
+  pub done : CallsDone begun.caller (length kids) begun.view (view c.pass) (caller_start begun.set) (stand c) calls
+  pub settings : (stand c).setting ≡ fold setting_after_call begun.set calls
+  pub forked : AllByRecursion (Forked begun (view c.pass) calls) kids
   pub waiting : List Ask
   pub waits : has_vread rest ≡ true → waiting ≡ asks
   pub so_far : CallsSoFar events rest lines waiting calls
-  pub fit : (more : List SeenLine) → LinesFit caller c.set.event rest more → LinesFit caller 0 events (lines ++ more)
-  pub idle : AllByRecursion (HasLine caller lines) asks
+  pub fit : (more : List SeenLine) → LinesFit begun.caller c.set.event rest more
+      → LinesFit begun.caller 0 events (lines ++ more)
+  pub idle : AllByRecursion (HasLine begun.caller lines) asks
 
--- the caller has made all of its events, and ended
-pub record HasEnded (v : View) (caller : ℕ) (events : List Event) (c : Caller) (lines : List SeenLine) : Type 0 where
-  pub fit : LinesFit caller 0 events lines
+-- the caller has made all of its events, and ended; its pass then knew w
+pub record HasEnded (begun : Start) (events : List Event) (w : View) (lines : List SeenLine) (kids : List Start)
+    : Type 0 where
+  pub fit : LinesFit begun.caller 0 events lines
   pub reached : CallerState
-  pub done : CallsDone caller v (view c.pass) (caller_start first_setting) reached (calls_of events lines)
+  pub done : CallsDone begun.caller (length kids) begun.view w (caller_start begun.set) reached (calls_of events lines)
+  pub forked : AllByRecursion (Forked begun w (calls_of events lines)) kids

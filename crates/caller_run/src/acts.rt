@@ -6,14 +6,13 @@ ghost use Rattle.key_names.specs.VreadSteps.{number_of};
 ghost use Rattle.key_names.specs.declared.events.Event.{Event};
 ghost use Rattle.key_names.specs.declared.events.Event.TheVariants.{Inside};
 ghost use Rattle.lane_table.specs.declared.lanes.Lanes.{Lanes};
-ghost use Rattle.lane_table.specs.declared.view.View.{View};
 ghost use Rattle.rng_core.specs.Acts.{all_wanted, ask_of, asks_of, outcome_of, outcomes_of};
 ghost use Rattle.rng_core.specs.InsideDid.{act_line};
-ghost use Rattle.caller_run.specs.Standing.{CanGo, HasGone, waiting_in};
+ghost use Rattle.caller_run.specs.Standing.{Start, CanGo, HasGone, waiting_in};
 ghost use Rattle.caller_run.specs.Waiting.{act_lines, told_anew};
 
 use crate::caller::Caller;
-use crate::room::Room;
+use crate::logs::Log;
 use crate::said::Said;
 use key_names::{Answer, Data, Event, InsideAct, Line, Point, Trace, Word};
 use rng_core::Bound;
@@ -45,21 +44,21 @@ pub(crate) fn all_wanted(acts: &[Bound]) -> usize
 
 impl Caller {
     /// An act waits for the caller's next `vread`. Its line says that it was not done, until that `vread` tells it anew.
-    pub(crate) fn wait(&mut self, room: &mut Room, event: &Event, point: u8, act: InsideAct)
+    pub(crate) fn wait(&mut self, log: &mut Log, event: &Event, point: u8, act: InsideAct)
         requires can { (t : Lanes) × (served : ℕ) × (inside : ℕ)
-            × CanGo t self.old room.old served inside (event.now ∷ []) }
+            × CanGo t self.old log.old served inside (event.now ∷ []) }
         requires is { event.now ≡ Inside point act }
         ensures can { (t : Lanes) (served inside : ℕ) (rest : List Event)
-            → CanGo t self.old room.old served inside (event.now ∷ rest)
-            → CanGo t self.new room.new served inside rest }
-        ensures gone { (v : View) (caller : ℕ) (events rest : List Event)
-            → HasGone v caller events (event.now ∷ rest) self.old room.old.lines.lines (waiting_in room.old)
-            → HasGone v caller events rest self.new room.new.lines.lines (waiting_in room.new) }
+            → CanGo t self.old log.old served inside (event.now ∷ rest)
+            → CanGo t self.new log.new served inside rest }
+        ensures gone { (begun : Start) (events rest : List Event) (kids : List Start)
+            → HasGone begun events (event.now ∷ rest) self.old log.old.lines.lines (waiting_in log.old) kids
+            → HasGone begun events rest self.new log.new.lines.lines (waiting_in log.new) kids }
     {
         let unused = Said::only(Answer::Unused);
-        self.tell(&mut room.lines, Word::Inside, unused, Trace::empty(), &[]);
+        self.tell(&mut log.lines, Word::Inside, unused, Trace::empty(), &[]);
         let bound = Bound::of(point_of(point), act, self.set.event);
-        room.acts.push_reserved(bound);
+        log.acts.push_reserved(bound);
         self.go_on(event);
     }
 

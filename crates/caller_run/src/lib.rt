@@ -1,16 +1,41 @@
-//! Callers that run their scripts over the lanes, and the transcripts that they leave.
+//! The run of a script: its callers make their events over the lanes of one table, and leave a transcript.
+//!
+//! [`run_all`] takes caller 0 from its start to its end. A child that it forks runs beside it, in a thread of its own, or
+//! in its parent's thread where none can be made ([`run_here`]), and forks children in turn. A parent joins its children
+//! behind its own last visit. All memory of a run is taken first, as a [`Plan`].
+//!
+//! Whatever the callers' calls did to each other, the lines are a lawful transcript of the script, with the book of the
+//! lanes' lists ([`laws`]). That is promised of each run that ends. It is not promised that a run ends, nor that two
+//! callers ever ran at once.
+//!
+//! What one call does and tells comes from `rng_core`; what a pass knows of the lanes, when it is split off, lent and
+//! joined, from `lane_table`. Both give clauses alone: nothing here looks into a lane.
 #![tactic(auto)]
 
 mod acts;
-mod alone;
 mod caller;
 mod calls;
+mod children;
+mod here;
+#[cfg(test)]
+mod hold_tests;
 pub mod laws;
 mod lines;
-mod room;
+mod logs;
+mod new_table;
+mod plans;
+mod rooms;
+mod run;
+#[cfg(test)]
+mod run_tests;
 mod said;
 mod settings;
 mod states;
 mod vreads;
+mod ways;
 
-pub use alone::run_alone;
+pub use here::run_here;
+pub use new_table::run_on_new_table;
+pub use plans::Plan;
+pub use rooms::Room;
+pub use run::{run_all, run_caller};

@@ -1,4 +1,4 @@
-//! What a caller sets.
+//! What a caller sets, and its number of events.
 ghost use Rattle.std.specs.Prelude.{◌≡◌, ◌<◌, ◌^◌, ◌+◌, ◌-◌};
 ghost use Rattle.key_names.specs.Calls.{setting_after};
 ghost use Rattle.key_names.specs.Meaning.{caller_after};

@@ -3,15 +3,14 @@ ghost use Rattle.std.specs.Prelude.{◌≡◌, ◌≤◌, ◌^◌, ◌∷◌, �
 ghost use Rattle.std.specs.List.{AllByRecursion};
 ghost use Rattle.key_names.specs.declared.events.Event.{Event};
 ghost use Rattle.key_names.specs.declared.events.Event.TheVariants.{Vread};
-ghost use Rattle.lane_table.specs.declared.view.View.{View};
 ghost use Rattle.rng_core.specs.Acts.{all_wanted, asks_of, outcomes_of};
 ghost use Rattle.rng_core.specs.InsideDid.{IsFresh};
 ghost use Rattle.caller_run.specs.Calling.{IsReady, StatesStand, StateRead};
-ghost use Rattle.caller_run.specs.Standing.{CanGo, HasGone, waiting_in};
+ghost use Rattle.caller_run.specs.Standing.{Start, CanGo, HasGone, waiting_in};
 
 use crate::acts::all_wanted;
 use crate::caller::Caller;
-use crate::room::{Room, most_shown};
+use crate::logs::{Log, most_shown};
 use crate::said::Said;
 use key_names::{Event, Trace, Word};
 use lane_table::Lanes;
@@ -55,29 +54,29 @@ impl Caller {
         &mut self,
         rt: &R,
         lanes: &Lanes,
-        room: &mut Room,
+        log: &mut Log,
         served: &mut [u8],
         inside: &mut [u8],
         event: &Event,
         flags: u32,
     )
-        requires can { CanGo lanes.now self.old room.old (length served.old) (length inside.old) (event.now ∷ []) }
+        requires can { CanGo lanes.now self.old log.old (length served.old) (length inside.old) (event.now ∷ []) }
         requires is { (len : ℕ) × (event.now ≡ Vread len flags) }
-        ensures act_room { vec_capacity room.new.acts ≡ vec_capacity room.old.acts }
+        ensures act_room { vec_capacity log.new.acts ≡ vec_capacity log.old.acts }
         ensures can { (rest : List Event)
-            → CanGo lanes.now self.old room.old (length served.old) (length inside.old) (event.now ∷ rest)
-            → CanGo lanes.now self.new room.new (length served.old) (length inside.old) rest }
-        ensures gone { (v : View) (caller : ℕ) (events rest : List Event)
-            → HasGone v caller events (event.now ∷ rest) self.old room.old.lines.lines (waiting_in room.old)
-            → HasGone v caller events rest self.new room.new.lines.lines (waiting_in room.new) }
+            → CanGo lanes.now self.old log.old (length served.old) (length inside.old) (event.now ∷ rest)
+            → CanGo lanes.now self.new log.new (length served.old) (length inside.old) rest }
+        ensures gone { (begun : Start) (events rest : List Event) (kids : List Start)
+            → HasGone begun events (event.now ∷ rest) self.old log.old.lines.lines (waiting_in log.old) kids
+            → HasGone begun events rest self.new log.new.lines.lines (waiting_in log.new) kids }
     {
         let mut trace = Trace::empty();
         let served = &mut served[..most_shown(event) as usize];
-        let inside = &mut inside[..all_wanted(&room.acts)];
-        let said = self.vread(rt, lanes, &mut trace, served, flags, &mut room.acts, inside);
-        self.tell_acts(&mut room.lines, &mut room.acts, inside);
-        self.tell(&mut room.lines, Word::Vread, said, trace, served);
-        room.acts.clear();
+        let inside = &mut inside[..all_wanted(&log.acts)];
+        let said = self.vread(rt, lanes, &mut trace, served, flags, &mut log.acts, inside);
+        self.tell_acts(&mut log.lines, &mut log.acts, inside);
+        self.tell(&mut log.lines, Word::Vread, said, trace, served);
+        log.acts.clear();
         self.go_on(event);
     }
 }

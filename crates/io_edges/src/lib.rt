@@ -1,17 +1,20 @@
 //! Where the program meets the outside: bytes in, bytes out, and how often that failed.
 //!
 //! The layers above take a `Source` and a `Sink` as type parameters, so that one contract speaks of standard
-//! input and output, of buffers in memory, and of a test's script of failures.
+//! input and output, of buffers in memory, and of a test's script of failures. A `Gate` stands before each event of a
+//! caller, where a test can hold it.
 #![tactic(auto)]
 
 mod edges;
 mod faultless;
+mod gate;
 mod memory;
 mod standard;
 mod whole;
 
 pub use edges::{Failed, Sink, Source};
 pub use faultless::{NoFaultSink, NoFaultSource};
+pub use gate::{Gate, OpenGate};
 pub use memory::{MemSink, MemSource};
 pub use standard::{StdSink, StdSource};
 pub use std::alloc::AllocError as NoMemory;

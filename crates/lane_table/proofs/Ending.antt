@@ -89,7 +89,7 @@ module _ {first : ℕ} {s : St} {id : ℕ} {v : View} (h : Here first s id v) (s
       let owed = (h.rule.views o.0 o.1 o.2).owed l hi p o.3 in absurd (cc (all_away l o.0 o.1 o.2, owed.0.1)))
       (h.rule.pending l lo hi p b x (ap (λ (z : List Visit). get_elem? z p) (sym k) ∙ e) n)
 
-  ends_all : Ended (length s.homes) v
+  pub ends_all : Ended (length s.homes) v
   ends_all = let all = world.consistent h h.rule.logs s.views v h.rule.lawful h.rule.pending (world.sized h).0
       (λ j low. world.begun h j low) (h.rule.views id v h.is).closed in let f = world.sized h in record {
         lawful = λ i near. rw (knows_all i near) (h.rule.lawful i near);

@@ -10,6 +10,8 @@ use Rattle.lane_table.specs.declared.view.View.{View}
 use Rattle.lane_table.specs.declared.view.Stage.TheVariants.{Holding}
 use Rattle.lane_table.specs.WorldRule.{LaneOk, St, WorldRule, at, column, known_of, raises, ticket_word, serving_word}
 use Rattle.lane_table.specs.Steps.{Seated, lifts as Lifts, looks as Looks, raised, raising, saw}
+use Rattle.lane_table.specs.Calls.{Ended, settles as Settles}
+use Rattle.lane_table.proofs.Ending.{ends_all}
 use Rattle.lane_table.proofs.VisitLists.{raises_begun}
 use Rattle.lane_table.proofs.OneLane as lane
 use Rattle.lane_table.proofs.World.{Here, WordStep}
@@ -58,6 +60,39 @@ looks first n id me share s r wide is _ = let h : Here first s id me.0 = record 
           (get_elem? s.homes 1) (set (column 1 s.views) id (at 1 v)) (r.logs 1) (r.owners 1)) (sym same) ok)
           (omega arith) (omega arith) (plain.w_raised_ok h 1 near p refl),
       (λ _. ((r.seen id v is).0, omega arith, small, refl, plain.w_consistent h 1 near p)),
+    )
+
+pub settled : (first n id : ℕ) (me : Seated) → 0 < me.0.share →
+    Allows (WorldRule first) n id me 0 (λ y. y) (Settles (step n 0 0 0 none) me)
+settled first n id me share s r wide is _ =
+    let h : Here first s id me.0 = record { rule = r; is = is; share = share } in
+    let v : View = me.0 in let y : ℕ = get_or s.words 0 0 in let two = r.two in
+    let near : 1 < length s.homes = omega arith in
+    let same = set-get_or s.words 0 0 in let e₀ = ap (λ (ws : List ℕ). get_or ws 0 0) same in
+    let p : Plain 1 v v (at 1 v) = record {
+      lanes = sym (plain.set_at 1 v);
+      known = refl;
+      owes = refl;
+      stage = inl refl;
+      share = refl;
+      halvings = refl;
+      first = refl;
+      stamp = refl;
+      stamps = refl;
+    } in
+    let seen = (r.seen id v is).0 in let small = r.small in
+    let ok : LaneOk 1 first (get_or s.words (ticket_word 1) 0) (get_or s.words (serving_word 1) 0)
+    (get_elem? s.homes 1) (set (column 1 s.views) id (at 1 v)) (r.logs 1) (r.owners 1) =
+    rw (set_again (column 1 s.views) id (at 1 v) (world.here h 1)) (r.lane 1 near) in (
+      v,
+      keeps,
+      tt,
+      plain.plainly h 1 near p {k = 0} {y = y} s.homes (r.owners 1) (not_lane h y (omega arith) (omega arith)) refl
+          (λ _ _. refl)
+          (subst (λ (ws : List ℕ). LaneOk 1 first (get_or ws (ticket_word 1) 0) (get_or ws (serving_word 1) 0)
+          (get_elem? s.homes 1) (set (column 1 s.views) id (at 1 v)) (r.logs 1) (r.owners 1)) (sym same) ok)
+          (omega arith) (omega arith) (plain.w_raised_ok h 1 near p refl),
+      (refl, (λ whole idle. subst (λ (k : ℕ). Ended k v) (sym (world.sized h).0) (ends_all h whole idle))),
     )
 
 pub lifts : (first n id t g : ℕ) (me : Seated) → 0 < me.0.share → (at 1 me.0).stage ≡ Holding t →

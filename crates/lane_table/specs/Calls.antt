@@ -1,7 +1,7 @@
 -- What the calls ask, and what they tell, in the words of the layer above: what a pass knows of each lane before and
 -- after. Nobody who calls has to know the rule.
 use Rattle.std.specs.Prelude.{◌≡◌, ◌≢◌, ◌⊎◌, ℕ, ◌+◌, ◌^◌, ◌<◌, ◌≤◌, List, [], ◌∷◌, ◌++◌, length, Option, Some, None, slice_get}
-use Rattle.atomic_table.specs.Table.{rest}
+use Rattle.atomic_table.specs.Table.{rest, Step}
 use Rattle.key_names.specs.declared.names.Who.{Who}
 use Rattle.lane_table.specs.declared.view.Visit.{Visit}
 use Rattle.lane_table.specs.declared.view.LaneEntry.{LaneEntry}
@@ -257,6 +257,10 @@ pub record Ended (lanes : ℕ) (v : View) : Type 0 where
   pub heard : (i : ℕ) → i < lanes → AllBegin (at i v).heard (known_of v i)
   pub made : (i : ℕ) → i < lanes → (at i v).made ≡ length (known_of v i)
   pub placed : (i p : ℕ) → i < lanes → times p (at i v).places ≡ once_below p (length (known_of v i))
+
+-- a load that changes nothing: who has the whole share and stands nowhere is at the end
+abbrev pub settles : Step (Option Content) → Seated → ℕ → Seated → Type 0
+settles st m r m' = (m' ≡ m) × (m.0.share ≡ 2 ^ m.0.halvings → IsIdle m.0 → Ended (length m.0.lanes) m.0)
 
 abbrev pub made_in : LaneView → ℕ
 made_in a = a.made

@@ -6,7 +6,7 @@ ghost use Rattle.lane_table.specs.Steps.{newcomer, halved, child, both_of};
 ghost use Rattle.lane_table.specs.Calls.{view, slots, count_of, first_of, plan_of, made_in, IsPassOf, IsSamePass, IsIdle, Ended, AreStarts};
 
 use crate::lanes::{GENERATION, LINE, Lanes, Pass};
-use crate::plays::{Halves, Merges};
+use crate::plays::{Halves, Merges, Settle};
 use crate::values::{BaseLane, Boxed, CpuLane, LaneState, PoolLane};
 use crate::view::{Content, Plan};
 use atomic_table::Table;
@@ -138,6 +138,19 @@ impl Lanes {
         } = other;
         self.table.shared.join_seat::<Merges>(&mut pass.seat, seat);
         pass.stamp = pass.stamp.max(stamp);
+    }
+
+    /// Changes nothing. Where the pass has the whole share, which it has once all others were joined into it, it knows each
+    /// lane's whole list then, and made all of its visits.
+    pub fn settle(&self, pass: &mut Pass)
+        requires pass { IsPassOf self.now pass.old }
+        requires idle { IsIdle (view pass.old) }
+        ensures pass { IsSamePass self.now pass.old pass.new }
+        ensures same { pass.new.seat.me ≡ pass.old.seat.me }
+        ensures ended { (view pass.old).share ≡ 2 ^ (view pass.old).halvings
+            → Ended (count_of self.now) (view pass.old) }
+    {
+        let _generation = self.table.shared.load::<Settle>(&mut pass.seat, GENERATION);
     }
 
     /// Takes the table apart. The answer is how many visits there were, in all lanes together.

@@ -102,6 +102,15 @@ impl Play<Option<Content>, View> for Look {
     ghost then = { looks };
 }
 
+/// A load that changes nothing.
+pub struct Settle;
+
+impl Play<Option<Content>, View> for Settle {
+    ghost use Rattle.lane_table.specs.Calls.{settles};
+
+    ghost then = { settles };
+}
+
 /// The store of the generation word.
 pub struct Raise;
 

@@ -21,7 +21,10 @@ pub(crate) const LAST: u64 = 1 << 62;
 pub(crate) fn wait_for_ever<R: Wait>(rt: &R)
     ensures { ⊥ }
 {
-    for _ in rt.forever() {}
+    let backoff = Backoff::new();
+    for _ in rt.forever() {
+        backoff.snooze();
+    }
     unreachable!()
 }
 

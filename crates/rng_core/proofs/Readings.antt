@@ -1,6 +1,6 @@
 -- What a read out of a caller's vgetrandom state did, out of a copy or a call.
-use Rattle.std.proofs.Common.{◌≡◌, ℕ, ◌≤◌, Bool, true, false, not, Ok, List, [], ◌∷◌, length, map, refl, sym, ap, ◌∙◌, subst, arith}
-use Rattle.std.specs.Prelude.{Result, MatchBool, Option, Some, None, ◌==◌, ◌&&◌}
+use Rattle.std.proofs.Common.{◌≡◌, ℕ, ◌≤◌, Bool, true, false, not, Ok, List, [], ◌∷◌, length, map, refl, sym, ap, ◌∙◌, subst, arith, inl, inr}
+use Rattle.std.specs.Prelude.{Result, ◌⊎◌, MatchBool, Option, Some, None, ◌==◌, ◌&&◌}
 use Rattle.std.proofs.lemmas.Bool.{ne_eqb}
 use mathlib.Core.Logic.{dite}
 use native.Mathlib.Decide.{ℕ_discrete}
@@ -24,13 +24,14 @@ use Rattle.key_names.specs.VreadSteps.{Shows, answer_of_errno, ending_answer, en
 use Rattle.key_names.proofs.Attempts.{match_true, match_false}
 use Rattle.lane_table.specs.declared.view.View.{View}
 use Rattle.lane_table.specs.BookLists.{book_lists}
+use Rattle.lane_table.specs.Calls.{SameView}
 use Rattle.lane_table.specs.Went.{Deal, looked, visited, step_of, looks_in, floor}
 use Rattle.vdso_state.specs.declared.outcome.VEnd.{VEnd}
 use Rattle.vdso_state.specs.Call.{EndsAs}
 use Rattle.rng_core.specs.declared.setting.Setting.{Setting}
 use Rattle.rng_core.specs.Told.{Moment, Told}
 use Rattle.rng_core.specs.Did.{Did, setting_of, errno_answer, result_answer, given}
-use Rattle.rng_core.specs.VreadDid.{done_of, Glanced, LocallyServed, Refused, LeftToSystem, Called, VreadLine, VreadDid, vread_meaning}
+use Rattle.rng_core.specs.VreadDid.{done_of, LocallyServed, Refused, Unserved, LeftToSystem, Called, VreadLine, VreadDid, vread_meaning}
 use Rattle.rng_core.proofs.ActRuns.{Risen, sees_risen}
 use Rattle.rng_core.proofs.Hosting.{none_left, published_more}
 
@@ -107,13 +108,41 @@ ending_is n (by_system (failed errno)) result buf long none e =
 
 -- Reads
 
-pub glanced_nothing : (v : View) → Glanced v v
-glanced_nothing v = record {
-  same = record { first = refl; share = refl; halvings = refl; sized = refl };
-  lanes = refl;
-  stamp = refl;
-  floors = omega arith;
+-- what was seen does not fall, and a read that the batch does not serve knows as much of the lanes as before
+pub record Stayed (v w : View) : Type 0 where
+  pub same : SameView v w
+  pub lanes : w.lanes ≡ v.lanes
+  pub stamp : w.stamp ≡ v.stamp
+  pub floors : floor v ≤ floor w
+
+stayed_at : (v w : View) → w ≡ v → Stayed v w
+stayed_at v w e = record {
+  same = record {
+    first = ap (λ (z : View). z.first) e;
+    share = ap (λ (z : View). z.share) e;
+    halvings = ap (λ (z : View). z.halvings) e;
+    sized = ap (λ (z : View). length z.lanes) e;
+  };
+  lanes = ap (λ (z : View). z.lanes) e;
+  stamp = ap (λ (z : View). z.stamp) e;
+  floors = let same = ap floor e in omega arith;
 }
+
+stayed_by : (n flags : ℕ) (s : VgetrandomState) (v w : View) → Unserved n flags s v w → (b : Bool) →
+    tries_local n flags [] ≡ b → Stayed v w
+stayed_by n flags s v w k false e = stayed_at v w (k.untried e)
+stayed_by n flags s v w k true e = let g = (k.tried e).glanced in
+    record { same = g.same; lanes = g.lanes; stamp = g.stamp; floors = let a = g.above in let b = g.known in omega arith }
+
+pub stayed : (n flags : ℕ) (s t : VgetrandomState) (answer : Answer) (shown : Shown) (set : Setting) (l m : Moment)
+    (k : VreadDid n flags s t answer shown set l m) → Stayed l.view k.looked
+stayed n flags s t answer shown set l m k = go k.began
+  where
+    go : ((k.looked ≡ l.view) × (out : List ℕ) × LocallyServed n flags s t out set l m)
+        ⊎ Unserved n flags s l.view k.looked →
+        Stayed l.view k.looked
+    go (inl served) = stayed_at l.view k.looked served.0
+    go (inr unserved) = stayed_by n flags s l.view k.looked unserved (tries_local n flags []) refl
 
 -- out of the batch
 module _ (n flags : ℕ) (s t : VgetrandomState) (out : List ℕ) (set : Setting) (l m : Moment)
@@ -133,7 +162,7 @@ module _ (n flags : ℕ) (s t : VgetrandomState) (out : List ℕ) (set : Setting
   pub served_read : VreadDid n flags s t (result_answer {T = Unit {0}} (Ok tt)) (bytes_or_none out) set l m
   served_read = record {
     looked = l.view;
-    glanced = glanced_nothing l.view;
+    began = inl (refl, out, k);
     entries = copy_entries s 0 n;
     did = record {
       deals = looked k.found ∷ [];
@@ -160,7 +189,7 @@ good_flags x false e = refl
 -- by a call
 module _ (n flags : ℕ) (s t : VgetrandomState) (answer : Answer) (shown : Shown) (set : Setting) (l m o : Moment)
     (low : s.generation ≤ published_by (floor l.view))
-    (left : tries_local n flags [] ≡ true → Refused n s l.view m.view) (k : Called n flags s t answer shown set m o)
+    (left : Unserved n flags s l.view m.view) (k : Called n flags s t answer shown set m o)
   where
     module _ (deeds : List Deed) (shows : Shows (setting_of set) k.steps deeds)
         (rise : Risen (floor m.view) (looks_of deeds) (floor o.view)) (before : CallerState)
@@ -188,8 +217,8 @@ module _ (n flags : ℕ) (s t : VgetrandomState) (answer : Answer) (shown : Show
       behind_look refused from =
           let shown = subst (λ (z : List HostStep). Shows (setting_of set) z deeds) from.steps_are shows in
           let rises = subst (λ (z : List Deed). Risen (floor m.view) (looks_of z) (floor o.view)) shown.2 rise in
-          let a = published_more (floor l.view) refused.found refused.above in
-          let b = published_more refused.found shown.0 (let x = refused.known in let y = rises.0 in omega arith) in (
+          let a = published_more (floor l.view) refused.found refused.glanced.above in
+          let b = published_more refused.found shown.0 (let x = refused.glanced.known in let y = rises.0 in omega arith) in (
             shown.0,
             shown.1,
             shown.2,
@@ -202,7 +231,7 @@ module _ (n flags : ℕ) (s t : VgetrandomState) (answer : Answer) (shown : Show
       ways : (b : Bool) → tries_local n flags [] ≡ b →
           MatchBool b (Looked (LocalOrCall n flags [] meant) deeds) (ByVgetrandom n flags [] meant)
       ways false e = by_call
-      ways true e = behind_look (left e) (subst (λ (b : Bool). MatchBool b (BySystem n flags s k.steps k.outcome)
+      ways true e = behind_look (left.tried e) (subst (λ (b : Bool). MatchBool b (BySystem n flags s k.steps k.outcome)
           (FromLook n flags s k.steps k.outcome)) (good_flags (not (n == 0)) (is_bad flags) e) k.is_call)
 
       line : VreadMeans n flags [] meant
@@ -220,10 +249,10 @@ module _ (n flags : ℕ) (s t : VgetrandomState) (answer : Answer) (shown : Show
           (told_rise (book_lists lanes visits callers) set m o k.did.deals k.did.told) before set_is state_is;
     }
 
-    pub called_read : Glanced l.view m.view → m.steps ≡ l.steps → VreadDid n flags s t answer shown set l o
-    called_read glanced same = record {
+    pub called_read : m.steps ≡ l.steps → VreadDid n flags s t answer shown set l o
+    called_read same = record {
       looked = m.view;
-      glanced = glanced;
+      began = inr left;
       entries = k.outcome.entries;
       did = subst (λ (z : List Step). Did (VreadLine (setting_of set) n flags s t answer shown k.outcome.entries) set
           (record { view = m.view; steps = z }) o) same called_did;
@@ -235,7 +264,7 @@ pub left_read : (n n' flags : ℕ) (s s' t : VgetrandomState) (answer : Answer) 
     LeftToSystem n flags s s' l m → Called n' flags s' t answer shown set m o →
     VreadDid n flags s t answer shown set l o
 left_read n n' flags s s' t answer shown set l m o low same left k =
-    called_read n flags s t answer shown set l m o low left.refused
+    called_read n flags s t answer shown set l m o low left.looked
     (subst (λ (z : VgetrandomState). Called n flags z t answer shown set m o) left.state
     (subst (λ (z : ℕ). Called z flags s' t answer shown set m o) same k))
-    left.glanced left.steps
+    left.steps

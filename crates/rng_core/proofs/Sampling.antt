@@ -29,7 +29,8 @@ use Rattle.lane_table.proofs.Lists.{at_below}
 use Rattle.rng_core.specs.declared.setting.Setting.{Setting}
 use Rattle.rng_core.specs.Told.{Moment, Visited}
 use Rattle.rng_core.specs.Did.{DidIn, Fulfils}
-use Rattle.rng_core.specs.SampleDeeds.{EntryIsQuiet, IsMix, IsCrossing, Sampled, DumpStands, fast_in}
+use Rattle.key_names.specs.LineSamples.{EntryIsQuiet, IsMix, IsCrossing}
+use Rattle.rng_core.specs.SampleDeeds.{Sampled, DumpStands, fast_in}
 use Rattle.rng_core.proofs.Doing.{After}
 use Rattle.rng_core.proofs.Finding.{found_cpu}
 

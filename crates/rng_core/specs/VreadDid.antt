@@ -1,5 +1,5 @@
 -- What a read out of a caller's vgetrandom state did.
-use Rattle.std.specs.Prelude.{◌≡◌, ℕ, ◌≤◌, true, false, Result, Ok, Err, List, [], ◌∷◌}
+use Rattle.std.specs.Prelude.{◌≡◌, ◌⊎◌, ℕ, ◌≤◌, true, false, Result, Ok, Err, List, [], ◌∷◌, ◌++◌}
 use Rattle.key_names.specs.declared.entries.VEntry.{VEntry}
 use Rattle.key_names.specs.declared.errno.Errno.{Errno}
 use Rattle.key_names.specs.declared.events.Answer.{Answer}
@@ -27,12 +27,15 @@ abbrev pub done_of : Result VEnd Errno → Result (Unit {0}) Errno
 done_of (Ok end) = Ok tt
 done_of (Err errno) = Err errno
 
--- from v to w the pass at most looked at the generation, and made no step of it
-pub record Glanced (v w : View) : Type 0 where
+-- from v to w the pass looked at the generation once, found this, and made no step of it
+pub record Glanced (found : ℕ) (v w : View) : Type 0 where
   pub same : SameView v w
   pub lanes : w.lanes ≡ v.lanes
   pub stamp : w.stamp ≡ v.stamp
-  pub floors : floor v ≤ floor w
+  pub stamps : w.stamps ≡ v.stamps
+  pub looks : w.looks ≡ v.looks ++ found ∷ []
+  pub above : floor v ≤ found
+  pub known : found ≤ floor w
 
 -- the batch served, behind one look
 pub record LocallyServed (n flags : ℕ) (s t : VgetrandomState) (out : List ℕ) (set : Setting)
@@ -44,19 +47,22 @@ pub record LocallyServed (n flags : ℕ) (s t : VgetrandomState) (out : List ℕ
   pub bytes : out ≡ copy_bytes s 0 n
   pub state : t ≡ state_after_copy s 0 n
 
--- why the batch did not serve a read that tries it: of what a look between these two views found
+-- one look, by what it found, refused the batch to the read
 pub record Refused (n : ℕ) (s : VgetrandomState) (v w : View) : Type 0 where
   pub found : ℕ
-  pub above : floor v ≤ found
-  pub known : found ≤ floor w
+  pub glanced : Glanced found v w
   pub refuses : serves_locally (published_by found) s n ≡ false
+
+-- before its first step a read that the batch does not serve looked once where it tries the batch, and else not at all
+pub record Unserved (n flags : ℕ) (s : VgetrandomState) (v w : View) : Type 0 where
+  pub untried : tries_local n flags [] ≡ false → w ≡ v
+  pub tried : tries_local n flags [] ≡ true → Refused n s v w
 
 -- the system is needed: nothing was done
 pub record LeftToSystem (n flags : ℕ) (s t : VgetrandomState) (l m : Moment) : Type 0 where
   pub state : t ≡ s
   pub steps : m.steps ≡ l.steps
-  pub glanced : Glanced l.view m.view
-  pub refused : tries_local n flags [] ≡ true → Refused n s l.view m.view
+  pub looked : Unserved n flags s l.view m.view
 
 abbrev pub LocalRead : Local → ℕ → ℕ → VgetrandomState → VgetrandomState → List ℕ → Setting → Moment → Moment → Type 0
 LocalRead Served n flags s t out set l m = LocallyServed n flags s t out set l m
@@ -90,11 +96,12 @@ abbrev pub VreadLine : Told → ℕ → ℕ → VgetrandomState → VgetrandomSt
 VreadLine set n flags s t answer shown entries deeds = (before : CallerState) → before.setting ≡ set →
     current_state before ≡ s → VreadMeans n flags [] (vread_meaning deeds answer shown entries before t)
 
--- from l to m the caller read n bytes with these flags: an unused look, and then what the trace tells
+-- from l to m the caller read n bytes with these flags: out of the batch, or by what came behind this view
 pub record VreadDid (n flags : ℕ) (s t : VgetrandomState) (answer : Answer) (shown : Shown) (set : Setting)
     (l m : Moment) : Type 0 where
   pub looked : View
-  pub glanced : Glanced l.view looked
+  pub began : ((looked ≡ l.view) × (out : List ℕ) × LocallyServed n flags s t out set l m)
+      ⊎ Unserved n flags s l.view looked
   pub entries : List VEntry
   pub did : Did (VreadLine (setting_of set) n flags s t answer shown entries) set
       (record { view = looked; steps = l.steps }) m

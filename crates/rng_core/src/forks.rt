@@ -1,11 +1,12 @@
 //! Callers that begin: an entry of the base tells of the child, and its pass is split off.
-ghost use Rattle.std.specs.Prelude.{◌≡◌, ◌<◌, ◌+◌, [], length};
-ghost use Rattle.key_names.specs.declared.events.Event.TheVariants.{Fork};
-ghost use Rattle.key_names.specs.declared.events.Answer.TheVariants.{Ok as Done};
-ghost use Rattle.key_names.specs.SeenLine.{no_data};
+ghost use Rattle.std.specs.Prelude.{◌≡◌, ◌<◌, ◌+◌, ◌∷◌, ◌++◌, [], length};
+ghost use Rattle.key_names.specs.declared.entries.BaseEntry.TheVariants.{Fork};
+ghost use Rattle.key_names.specs.declared.names.Mark.{Mark};
+ghost use Rattle.key_names.specs.declared.names.Step.TheVariants.{Visit};
+ghost use Rattle.key_names.specs.Forms.{BaseOnly};
 ghost use Rattle.lane_table.specs.Hands.{Has};
 ghost use Rattle.rng_core.specs.Told.{moment};
-ghost use Rattle.rng_core.specs.Did.{Did, Fulfils, setting_of};
+ghost use Rattle.rng_core.specs.Did.{Did};
 ghost use Rattle.rng_core.specs.Forks.{Forked};
 
 use crate::lane_values;
@@ -27,8 +28,9 @@ fn tell<R: Wait>(
     requires has { Has lanes.now set.now.caller [] pass.old }
     requires room { length trace.old < 20 }
     ensures has { Has lanes.now set.entry.now.caller [] pass.new }
-    ensures did { Did (Fulfils (setting_of set.entry.now) (Fork child) Done no_data) set.entry.now
-        (moment pass.old trace.old) (moment pass.new trace.new) }
+    ensures room { length trace.new ≡ length trace.old + 1 }
+    ensures visit { (mark : Mark) × (trace.new ≡ trace.old ++ Visit mark ∷ []) }
+    ensures did { Did (BaseOnly (Fork child)) set.entry.now (moment pass.old trace.old) (moment pass.new trace.new) }
 {
     let mut base = enter(rt, lanes, pass, trace, set, LaneId::Base);
     lane_values::up(base.state_mut());
@@ -50,6 +52,7 @@ pub fn fork<R: Wait>(
     requires room { length trace.old < 20 }
     ensures has { Has lanes.now set.entry.now.caller [] pass.new }
     ensures child { Has lanes.now child [] result }
+    ensures room { length trace.new ≡ length trace.old + 1 }
     ensures forked { Forked set.entry.now (moment pass.old trace.old) trace.new child pass.new result }
 {
     tell(rt, lanes, pass, trace, set, child);

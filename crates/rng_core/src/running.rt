@@ -1,5 +1,5 @@
 //! How many callers run: entries of the base that raise and lower the count.
-ghost use Rattle.std.specs.Prelude.{◌≡◌, ◌<◌, ◌≤◌, [], length};
+ghost use Rattle.std.specs.Prelude.{◌≡◌, ◌+◌, ◌<◌, ◌≤◌, [], length};
 ghost use Rattle.key_names.specs.declared.entries.BaseEntry.TheVariants.{Stall, Unstall, End};
 ghost use Rattle.key_names.specs.Forms.{BaseOnly};
 ghost use Rattle.lane_table.specs.Calls.{view};
@@ -20,6 +20,7 @@ pub fn stall<R: Wait>(rt: &R, lanes: &Lanes, pass: &mut Pass, trace: &mut Trace,
     requires has { Has lanes.now set.now.caller [] pass.old }
     requires room { length trace.old < 20 }
     ensures has { Has lanes.now set.entry.now.caller [] pass.new }
+    ensures room { length trace.new ≡ length trace.old + 1 }
     ensures did { Did (BaseOnly Stall) set.entry.now (moment pass.old trace.old) (moment pass.new trace.new) }
 {
     let mut base = enter(rt, lanes, pass, trace, set, LaneId::Base);
@@ -40,6 +41,7 @@ pub fn unstall<R: Wait>(rt: &R, lanes: &Lanes, pass: &mut Pass, trace: &mut Trac
     requires has { Has lanes.now set.now.caller [] pass.old }
     requires room { length trace.old < 20 }
     ensures has { Has lanes.now set.entry.now.caller [] pass.new }
+    ensures room { length trace.new ≡ length trace.old + 1 }
     ensures did { Did (BaseOnly Unstall) set.entry.now (moment pass.old trace.old) (moment pass.new trace.new) }
 {
     let mut base = enter(rt, lanes, pass, trace, set, LaneId::Base);

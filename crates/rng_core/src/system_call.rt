@@ -17,6 +17,7 @@ use crate::lane_values;
 use crate::reads::{read_behind, read_cpu};
 use crate::setting::Setting;
 use crate::visits::{enter, give_back, leave, look};
+use crossbeam_utils::Backoff;
 use key_names::flags::{GRND_INSECURE, GRND_NONBLOCK, are_bad};
 use key_names::{BaseEntry, Errno, LaneId, Taken, Trace};
 use lane_table::{Held, Lanes, Pass};
@@ -102,6 +103,7 @@ fn wait_ready<R: Wait>(
         (floor (view pass.new)) }
     ensures room { length trace.new ≡ length trace.old + 1 }
 {
+    let backoff = Backoff::new();
     for _ in rt.forever() {
         let base = enter(rt, lanes, pass, trace, set, LaneId::Base);
         if lane_values::base_generation(base.state()) >= 1 {
@@ -113,6 +115,7 @@ fn wait_ready<R: Wait>(
             return Err(Errno::Interrupted);
         }
         give_back(lanes, pass, trace, set, base, LaneId::Base);
+        backoff.snooze();
     }
     unreachable!()
 }

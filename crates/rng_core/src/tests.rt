@@ -6,6 +6,8 @@ ghost use Rattle.rng_core.specs.Integers.{IsWidth};
 ghost use Rattle.rng_core.specs.Acts.{asks_of, all_wanted};
 ghost use Rattle.rng_core.specs.InsideDid.{IsFresh};
 
+mod waits;
+
 use super::*;
 use key_names::{Errno, InsideAct, LaneId, Mark, Point, Step, Trace};
 use lane_table::{Lanes, Pass};

@@ -4,11 +4,11 @@ use Rattle.std.specs.Prelude.{IfSome}
 use Rattle.std.specs.Io.KnownBytes.{Appends, Consumes, IsAtEnd}
 use Rattle.std.proofs.lemmas.Bool.{cases_lt, lt-ltb}
 use Rattle.std.proofs.lemmas.List.{take_all, length-take}
-use Rattle.key_names.specs.ScriptFaults.{script_of}
+use Rattle.key_names.specs.declared.faults.FaultKind.TheVariants.{TooLong}
+use Rattle.key_names.specs.ScriptFaults.{first_fault, script_of}
 use Rattle.key_names.specs.ScriptGrammar.{Script, IsScript}
 use Rattle.io_edges.specs.Pieces.{AppendsPrefix}
 use Rattle.rng_tool.specs.Outcome.{IsRefusal, CallsFor, CallsForRun, WasRun, WasRefused, WasCutShort}
-use Rattle.rng_tool.specs.Refusal.{refusal_line, refusal_of}
 
 script_is_short : (script : Script) (input : List ℕ) → IsScript script input → length input ≤ 16777216
 script_is_short script input is =
@@ -22,8 +22,8 @@ read_or_too_long all input is = elim (cases_lt 16777216 (length all)) [
   | inr short ↦ inl (is ∙ take_all (16777216 + 1) all (omega arith))
 ]
 
--- a text that is too long is refused at line 0
-too_long : (text : List ℕ) → 16777216 < length text → refusal_of text ≡ refusal_line 0 1
+-- a text that is too long has its first fault at line 0
+too_long : (text : List ℕ) → 16777216 < length text → first_fault text ≡ Some (record { line = 0; kind = TooLong })
 unfolding script_of
 too_long text long = let is : ltb 16777216 (length text) ≡ true = lt-ltb _ _ long in rw is refl
 
@@ -35,8 +35,9 @@ refusal_of_all None input output front is = tt
 refusal_of_all (Some all) input output front is = elim (read_or_too_long all input front) [
   | inl same ↦ subst (λ text. IsRefusal text output) same is
   | inr long ↦ record {
-    no_run = λ script spelt. (let short = script_is_short script all spelt in absurd (omega (arith, long.1)));
-    line = is.line ∙ too_long input long.0 ∙ sym (too_long all long.1);
+    fault = is.fault;
+    first = too_long all long.1 ∙ sym (too_long input long.0) ∙ is.first;
+    line = is.line;
   }
 ]
 

@@ -2,12 +2,15 @@
 use Rattle.std.proofs.Common.{◌≡◌, ℕ, List, [], ◌∷◌, length, drop, refl, ap, sym, ◌∙◌, All, arith}
 use Rattle.std.specs.List.{sum_by, AllByRecursion}
 use Rattle.std.proofs.lemmas.List.{length-append, length-drop, length-take}
+use Rattle.std.proofs.lemmas.Grind.{flat_map-append}
+use Rattle.std.proofs.lemmas.List.Concat.{flat_map-cons}
 use Rattle.std.proofs.lemmas.List.Elements.{recursion_from_All}
 use Rattle.std.proofs.lemmas.List.Sums.{sum_by-cons}
 use Rattle.key_names.specs.declared.lines.Data.{Data}
 use Rattle.key_names.specs.declared.lines.Data.TheVariants.{None as NoData, Bytes, Count}
 use Rattle.key_names.specs.declared.lines.Line.{Line}
 use Rattle.key_names.specs.SeenLine.{SeenLine, bytes_in, bytes_shown, shown_in, seen_lines}
+use Rattle.key_names.specs.TranscriptGrammar.{all_lines}
 use Rattle.transcript_text.specs.Gathered.{IsWithin}
 use Rattle.rng_tool.specs.LoadOutcome.{data_len}
 
@@ -37,3 +40,16 @@ pub sum_of_data : (kept : List ℕ) (raw : List Line) (lines : List SeenLine) �
 sum_of_data kept raw lines seen within =
     sym (length-shown_lines kept raw (recursion_from_All (λ line. IsWithin (length kept) line.shown) raw within))
     ∙ ap (λ (ls : List SeenLine). length (bytes_shown ls)) seen
+
+-- the lines of all callers
+pub sum_of_callers : (t : List (List SeenLine))
+    → sum_by (λ lines. length (bytes_shown lines)) t ≡ length (bytes_shown (all_lines t))
+sum_of_callers [] = refl
+sum_of_callers (lines ∷ t) = omega (
+  arith,
+  sum_by-cons (λ (ls : List SeenLine). length (bytes_shown ls)) lines t,
+  ap (λ (ls : List SeenLine). length (bytes_shown ls)) (flat_map-cons (λ (ls : List SeenLine). ls) lines t),
+  ap length (flat_map-append (λ (line : SeenLine). bytes_in line.shown) lines (all_lines t)),
+  length-append (bytes_shown lines) (bytes_shown (all_lines t)),
+  sum_of_callers t,
+)

@@ -1,4 +1,4 @@
--- What a load of one caller promises.
+-- What a load promises.
 use Rattle.std.specs.Prelude.{ℕ, ◌≡◌, ◌<◌, ◌≤◌, ◌^◌, List, [], ◌∷◌, Option, String, string_bytes, codes, decimal, length, map, sum_by}
 use Rattle.std.specs.Io.KnownBytes.{Appends, Keeps}
 use Rattle.io_edges.specs.Pieces.{AppendsPrefix}
@@ -9,24 +9,30 @@ use Rattle.key_names.specs.Spelling.{lined, spaced}
 use Rattle.key_names.specs.TranscriptGrammar.{all_lines}
 use Rattle.event_script.specs.LoadScript.{load_script}
 use Rattle.rng_tool.specs.Outcome.{IsRun, IsRunOf}
+use Rattle.rng_tool.specs.declared.load.Load.{Load}
 use Rattle.rng_tool.specs.declared.status.Status.{Status}
 use Rattle.rng_tool.specs.declared.status.Status.TheVariants.{Done, No, Usage, ReadFault, WriteFault, Refused, NoMemory}
 
--- the texts are `load START 1 EVENTS`, with numbers in their ranges
-pub record AskLoad (texts : List (List ℕ)) (start events : ℕ) : Type 0 where
-  pub spelt : texts ≡ codes "load" ∷ decimal start ∷ codes "1" ∷ decimal events ∷ []
+-- the texts are `load START CALLERS EVENTS`, with numbers in their ranges
+pub record AskLoad (texts : List (List ℕ)) (start callers events : ℕ) : Type 0 where
+  pub spelt : texts ≡ codes "load" ∷ decimal start ∷ decimal callers ∷ decimal events ∷ []
   pub start_fits : start < 2 ^ 32
-  pub some : 1 ≤ events
-  pub few : events ≤ 1000
+  pub callers_fit : (1 ≤ callers) × (callers ≤ 64)
+  pub events_fit : (1 ≤ events) × (events ≤ 1000)
 
--- the words of a load of one caller
-abbrev pub IsLoad : {A : Type 0} → List (String A) → ℕ → ℕ → Type 0
-IsLoad words start events = AskLoad (map string_bytes words) start events
+-- a load that may be run
+pub record IsSmall (load : Load) : Type 0 where
+  pub callers : (1 ≤ load.callers) × (load.callers ≤ 64)
+  pub events : (1 ≤ load.events) × (load.events ≤ 1000)
+
+-- the words of a load
+abbrev pub IsLoad : {A : Type 0} → List (String A) → ℕ → ℕ → ℕ → Type 0
+IsLoad words start callers events = AskLoad (map string_bytes words) start callers events
 
 -- the words are no form of the command line
 pub record IsNoForm {A : Type 0} (words : List (String A)) : Type 0 where
   pub no_run : IsRun words → ⊥
-  pub no_load : (start events : ℕ) → IsLoad words start events → ⊥
+  pub no_load : (start callers events : ℕ) → IsLoad words start callers events → ⊥
 
 abbrev pub load_line : ℕ → ℕ → ℕ → List ℕ
 load_line callers events bytes =
@@ -39,20 +45,20 @@ data_len (Bytes start len) = len
 data_len _ = 0
 
 -- the output counts the events of the load's script, and the bytes that the lines of a lawful transcript for it show
-pub record LoadOf (start events : ℕ) (output : List ℕ) : Type 0 where
+pub record LoadOf (start callers events : ℕ) (output : List ℕ) : Type 0 where
   pub lines : List (List SeenLine)
-  pub run : IsRunOf (load_script start 1 events) lines
-  pub told : output ≡ load_line 1 (sum_by length (load_script start 1 events).callers)
+  pub run : IsRunOf (load_script start callers events) lines
+  pub told : output ≡ load_line callers (sum_by length (load_script start callers events).callers)
       (length (bytes_shown (all_lines lines)))
 
 -- how a load ends, and what the sink then holds
-abbrev pub LoadEnds : ℕ → ℕ → Status → Option (List ℕ) → Option (List ℕ) → Type 0
-LoadEnds start events Done held held_after = (output : List ℕ) × LoadOf start events output
+abbrev pub LoadEnds : ℕ → ℕ → ℕ → Status → Option (List ℕ) → Option (List ℕ) → Type 0
+LoadEnds start callers events Done held held_after = (output : List ℕ) × LoadOf start callers events output
     × Appends held held_after output
-LoadEnds start events WriteFault held held_after =
-    (output : List ℕ) × LoadOf start events output × AppendsPrefix held held_after output
-LoadEnds start events NoMemory held held_after = Keeps held held_after
-LoadEnds start events No held held_after = ⊥
-LoadEnds start events Usage held held_after = ⊥
-LoadEnds start events ReadFault held held_after = ⊥
-LoadEnds start events Refused held held_after = ⊥
+LoadEnds start callers events WriteFault held held_after = (output : List ℕ) × LoadOf start callers events output
+    × AppendsPrefix held held_after output
+LoadEnds start callers events NoMemory held held_after = Keeps held held_after
+LoadEnds start callers events No held held_after = ⊥
+LoadEnds start callers events Usage held held_after = ⊥
+LoadEnds start callers events ReadFault held held_after = ⊥
+LoadEnds start callers events Refused held held_after = ⊥

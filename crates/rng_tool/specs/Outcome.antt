@@ -1,15 +1,18 @@
 -- What a run of the program promises for each way to end.
-use Rattle.std.specs.Prelude.{ℕ, ◌≡◌, ◌⊎◌, List, [], ◌∷◌, Option, String, string_bytes, codes, length, map, IfSome}
+use Rattle.std.specs.Prelude.{ℕ, ◌≡◌, ◌⊎◌, List, [], ◌∷◌, Option, Some, String, string_bytes, codes, map, IfSome}
 use Rattle.std.specs.Io.KnownBytes.{Appends, Consumes, IsAtEnd}
 use Rattle.io_edges.specs.Pieces.{AppendsPrefix}
 use Rattle.key_names.specs.Book.{Book, lists_of}
 use Rattle.key_names.specs.IsTranscript.{IsTranscriptBy}
 use Rattle.key_names.specs.Uses.{IsDisjoint}
 use Rattle.key_names.specs.Meaning.{CallMeaning}
+use Rattle.key_names.specs.PrintedBytes.{PrintsNamed}
 use Rattle.key_names.specs.SeenLine.{SeenLine}
+use Rattle.key_names.specs.ScriptFaults.{first_fault}
 use Rattle.key_names.specs.ScriptGrammar.{Script, IsScript}
-use Rattle.key_names.specs.TranscriptGrammar.{transcript_text}
-use Rattle.rng_tool.specs.Refusal.{refusal_of}
+use Rattle.key_names.specs.TranscriptGrammar.{IsTranscriptText}
+use Rattle.key_names.specs.declared.faults.ScriptFault.{ScriptFault}
+use Rattle.rng_tool.specs.Refusal.{refusal_line}
 use Rattle.rng_tool.specs.declared.status.Status.{Status}
 use Rattle.rng_tool.specs.declared.status.Status.TheVariants.{Done, No, Usage, ReadFault, WriteFault, Refused, NoMemory}
 
@@ -22,36 +25,31 @@ code_of WriteFault = 4
 code_of Refused = 5
 code_of NoMemory = 6
 
-abbrev pub HasOneCaller : Script → Type 0
-HasOneCaller script = length script.callers ≡ 1
-
--- the input is none of the scripts that have a run so far: those of one caller
-abbrev pub HasNoRun : List ℕ → Type 0
-HasNoRun input = (script : Script) → IsScript script input → HasOneCaller script → ⊥
-
--- the lines are a lawful transcript for a script, and its book puts no byte of a key to use twice
+-- the lines are a lawful transcript for a script; its book puts no byte of a key to use twice, and what they show are
+-- bytes of named keys, none of them twice
 pub record IsRunOf (script : Script) (lines : List (List SeenLine)) : Type 0 where
   pub book : Book
   pub meanings : List (List CallMeaning)
   pub lawful : IsTranscriptBy script lines book meanings
   pub disjoint : IsDisjoint (lists_of book)
+  pub printed : PrintsNamed script lines book meanings
 
 -- the output is the text of such a transcript
 pub record RunOf (script : Script) (output : List ℕ) : Type 0 where
   pub lines : List (List SeenLine)
   pub run : IsRunOf script lines
-  pub written : output ≡ transcript_text lines
+  pub written : IsTranscriptText output lines
 
--- the input is not run, and the output tells why
+-- the input has a first fault, and the output is its line
 pub record IsRefusal (input output : List ℕ) : Type 0 where
-  pub no_run : HasNoRun input
-  pub line : output ≡ refusal_of input
+  pub fault : ScriptFault
+  pub first : first_fault input ≡ Some fault
+  pub line : output ≡ refusal_line fault
 
--- the input is a script that has a run, and the output is the text of its transcript
+-- the input is a script, and the output is the text of a transcript of its run
 pub record CallsForRun (input output : List ℕ) : Type 0 where
   pub script : Script
   pub is_script : IsScript script input
-  pub one : HasOneCaller script
   pub run : RunOf script output
 
 -- the output that an input calls for

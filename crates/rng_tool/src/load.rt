@@ -1,26 +1,35 @@
-//! A load of one caller: its words, its run, and the line that sums it up.
-ghost use Rattle.std.specs.Prelude.{◌≡◌, ◌<◌, ◌≤◌, ◌^◌, ◌∷◌, [], ℕ, Some, IfOk, IfSome, decimal, length, string_bytes};
+//! A load: its words, its run, and the line that sums it up.
+ghost use Rattle.std.specs.Prelude.{◌≡◌, ◌<◌, ◌≤◌, ◌*◌, ◌^◌, ◌∷◌, [], ℕ, Some, IfOk, IfSome, decimal, length, sum_by};
 ghost use Rattle.io_edges.specs.Faults.{Rose};
+ghost use Rattle.key_names.specs.ScriptGrammar.{WellFormed};
 ghost use Rattle.key_names.specs.SeenLine.{bytes_shown};
-ghost use Rattle.rng_tool.specs.LoadOutcome.{AskLoad, IsLoad, LoadEnds, LoadOf, data_len, load_line};
+ghost use Rattle.key_names.specs.TranscriptGrammar.{all_lines};
+ghost use Rattle.rng_tool.specs.LoadOutcome.{AskLoad, IsLoad, IsSmall, LoadEnds, LoadOf, data_len, load_line};
 
-use crate::alone::lines_of;
+use crate::callers::transcript_of;
+use crate::short_line::{ShortLine, add_number};
 use crate::status::Status;
+use arrayvec::ArrayString;
 use event_script::Script;
 use event_script::numbers::number_up_to;
-use io_edges::{Failed, NoMemory, Sink, put_all};
+use io_edges::{Failed, Gate, NoMemory, Sink, put_all};
 use key_names::Data;
 use std::alloc::Global;
 use std::sync::Wait;
-use transcript_text::CallerLines;
+use std::thread::Threads;
+use transcript_text::{CallerLines, Transcript};
 
-/// The most calls that the caller of a load makes.
+/// The most callers of a load.
+const MOST_CALLERS: u32 = 64;
+
+/// The most calls that each caller of a load makes.
 const MOST_EVENTS: u32 = 1000;
 
-/// What a load is asked for: where its script starts, and how many calls the caller makes.
+/// What a load is asked for: where its script starts, how many callers it has, and how many calls each makes.
 #[derive(Clone, Copy, Debug, PartialEq, Eq)]
 pub(crate) struct Load {
     pub(crate) start: u32,
+    pub(crate) callers: u32,
     pub(crate) events: u32,
 }
 
@@ -41,27 +50,35 @@ fn number_in(least: u32, most: u32, word: &str) -> Option<u32>
 /// The load that four words ask for.
 fn load_by(command: &str, start: &str, callers: &str, events: &str) -> Option<Load>
     ensures found { IfSome result (λ load.
-        AskLoad (command.now ∷ start.now ∷ callers.now ∷ events.now ∷ []) load.start load.events) }
-    ensures only { (from count : ℕ) → AskLoad (command.now ∷ start.now ∷ callers.now ∷ events.now ∷ []) from count
-        → result ≡ Some (record { start = from; events = count }) }
+        AskLoad (command.now ∷ start.now ∷ callers.now ∷ events.now ∷ []) load.start load.callers load.events) }
+    ensures only { (from many count : ℕ)
+        → AskLoad (command.now ∷ start.now ∷ callers.now ∷ events.now ∷ []) from many count
+        → result ≡ Some (record { start = from; callers = many; events = count }) }
 {
-    if command != "load" || callers != "1" {
+    if command != "load" {
         return None;
     }
     let Some(start) = number_in(0, u32::MAX, start) else {
         return None;
     };
+    let Some(callers) = number_in(1, MOST_CALLERS, callers) else {
+        return None;
+    };
     let Some(events) = number_in(1, MOST_EVENTS, events) else {
         return None;
     };
-    Some(Load { start, events })
+    Some(Load {
+        start,
+        callers,
+        events,
+    })
 }
 
 /// The load that the words ask for, if they ask for one.
 pub(crate) fn load_of(words: &[String]) -> Option<Load>
-    ensures found { IfSome result (λ load. IsLoad words.now load.start load.events) }
-    ensures only { (start events : ℕ) → IsLoad words.now start events
-        → result ≡ Some (record { start = start; events = events }) }
+    ensures found { IfSome result (λ load. IsLoad words.now load.start load.callers load.events) }
+    ensures only { (start callers events : ℕ) → IsLoad words.now start callers events
+        → result ≡ Some (record { start = start; callers = callers; events = events }) }
 {
     match words {
         [command, start, callers, events] => load_by(
@@ -74,10 +91,27 @@ pub(crate) fn load_of(words: &[String]) -> Option<Load>
     }
 }
 
-fn load_line(alloc: Global, callers: u32, events: u64, bytes: u64) -> Result<String, NoMemory>
-    ensures { IfOk result (λ text. string_bytes text ≡ load_line callers events bytes) }
+fn load_line(callers: u32, events: u64, bytes: u64) -> ShortLine
+    ensures { result.bytes ≡ load_line callers events bytes }
 {
-    format!(in alloc; "callers {callers} events {events} bytes {bytes}\n")
+    let mut line = ArrayString::new();
+    add_number(&mut line, "callers ", u64::from(callers));
+    add_number(&mut line, " events ", events);
+    add_number(&mut line, " bytes ", bytes);
+    line.push_str("\n");
+    line
+}
+
+// How many events a script has.
+fn event_count(script: &Script) -> u64
+    requires { WellFormed script.now }
+    ensures { result ≡ sum_by length script.now.callers }
+{
+    let mut sum = 0;
+    for caller in 0..script.callers() {
+        sum += script.events(caller).len() as u64;
+    }
+    sum
 }
 
 // How many bytes the data of a line are.
@@ -90,10 +124,11 @@ fn data_len(shown: Data) -> u32
     }
 }
 
-// How many bytes the lines show.
-fn shown_len(lines: &CallerLines) -> u64
-    requires { length lines.now.lines ≤ 65537 }
-    ensures { result ≡ length (bytes_shown lines.now.lines) }
+// How many bytes one caller's lines show.
+fn shown_by(lines: &CallerLines) -> u64
+    requires { length lines.now.lines ≤ 65600 }
+    ensures sum { result ≡ length (bytes_shown lines.now.lines) }
+    ensures small { result ≤ 65600 * 2 ^ 32 }
 {
     let mut sum = 0;
     for line in lines.lines() {
@@ -102,27 +137,50 @@ fn shown_len(lines: &CallerLines) -> u64
     sum
 }
 
-// The line of a load that was run.
-fn summary<R: Wait>(rt: &R, alloc: Global, load: Load) -> Result<String, NoMemory>
-    requires { (1 ≤ load.events) × (load.events ≤ 1000) }
-    ensures { IfOk result (λ text. LoadOf load.start load.events (string_bytes text)) }
+// How many bytes all lines show.
+fn shown_len(transcript: &Transcript) -> u64
+    requires { sum_by length transcript.now ≤ 65600 }
+    ensures { result ≡ length (bytes_shown (all_lines transcript.now)) }
 {
-    let script = Script::load(alloc, load.start, 1, load.events)?;
-    let lines = lines_of(rt, alloc, &script)?;
-    let events = script.events(0).len() as u64;
-    load_line(alloc, 1, events, shown_len(&lines))
+    let mut sum = 0;
+    for caller in 0..transcript.callers() {
+        sum += shown_by(transcript.caller(caller));
+    }
+    sum
+}
+
+// The line of a load that was run. No memory is taken behind the run.
+fn summary<R: Threads + Wait + Sync, G: Gate>(
+    rt: &R,
+    alloc: Global,
+    load: Load,
+    gate: &G,
+) -> Result<ShortLine, NoMemory>
+    requires { IsSmall load }
+    ensures { IfOk result (λ line. LoadOf load.start load.callers load.events line.bytes) }
+{
+    let script = Script::load(alloc, load.start, load.callers, load.events)?;
+    let transcript = transcript_of(rt, alloc, &script, gate)?;
+    Ok(load_line(load.callers, event_count(&script), shown_len(&transcript)))
 }
 
 /// Runs a load, and writes the line that sums it up.
-pub(crate) fn run_load<R: Wait, K: Sink>(rt: &R, alloc: Global, load: Load, sink: &mut K) -> Status
-    requires { (1 ≤ load.events) × (load.events ≤ 1000) }
-    ensures ends { LoadEnds load.start load.events result (K.held sink.old) (K.held sink.new) }
+pub(crate) fn run_load<R: Threads + Wait + Sync, K: Sink, G: Gate>(
+    rt: &R,
+    alloc: Global,
+    load: Load,
+    sink: &mut K,
+    gate: &G,
+) -> Status
+    requires { IsSmall load }
+    ensures ends { LoadEnds load.start load.callers load.events result (K.held sink.old) (K.held sink.new) }
     ensures cut { result ≡ Status.WriteFault → Rose (K.faults sink.old) (K.faults sink.new) }
+    ensures silent { result ≡ Status.NoMemory → sink.new ≡ sink.old }
 {
-    let Ok(line) = summary(rt, alloc, load) else {
+    let Ok(line) = summary(rt, alloc, load, gate) else {
         return Status::NoMemory;
     };
-    match put_all(sink, line.as_bytes()) {
+    match put_all(sink, line.as_str().as_bytes()) {
         Ok(()) => Status::Done,
         Err(Failed) => Status::WriteFault,
     }

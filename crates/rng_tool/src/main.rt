@@ -1,17 +1,20 @@
 //! `rng`: the Linux random number core, replayed from a script of recorded events.
 #![tactic(auto)]
 
-mod alone;
+#[cfg(test)]
+mod caller_tests;
+mod callers;
 mod load;
 mod refusal;
 mod run;
+mod short_line;
 mod status;
 #[cfg(test)]
 mod tests;
 
 use crate::run::run;
 use crate::status::Status;
-use io_edges::{StdSink, StdSource};
+use io_edges::{OpenGate, StdSink, StdSource};
 use std::process::ExitCode;
 use std::{env, io};
 
@@ -36,12 +39,12 @@ fn main(rt: HostRuntime) -> ExitCode {
         Ok(words) => {
             let mut source = StdSource::of(rt.stdin());
             let mut sink = StdSink::of(rt.stdout());
-            run(&rt, rt.alloc(), &words, &mut source, &mut sink)
+            run(&rt, rt.alloc(), &words, &mut source, &mut sink, &OpenGate)
         }
         Err(status) => status,
     };
     if status == Status::Usage {
-        let _told = eprintln!(rt; "usage: rng run | rng load START 1 EVENTS");
+        let _told = eprintln!(rt; "usage: rng run | rng load START CALLERS EVENTS");
     }
     ExitCode::from(status.code())
 }

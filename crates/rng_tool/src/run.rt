@@ -1,24 +1,24 @@
 //! The top call: words in, a script in, a transcript out.
 ghost use Rattle.std.specs.Prelude.{◌≡◌, ◌≢◌, ◌↔◌, ◌⊎◌, ℕ, [], ◌∷◌, List, IsTrue, IfOk};
-ghost use Rattle.std.specs.Io.KnownBytes.{Appends, Keeps};
+ghost use Rattle.std.specs.Io.KnownBytes.{Appends};
 ghost use Rattle.io_edges.specs.Faults.{Rose};
 ghost use Rattle.io_edges.specs.Pieces.{AppendsPrefix};
 ghost use Rattle.key_names.specs.ScriptGrammar.{WellFormed};
-ghost use Rattle.key_names.specs.TranscriptGrammar.{transcript_text};
 ghost use Rattle.rng_tool.specs.LoadOutcome.{IsLoad, IsNoForm, LoadEnds};
-ghost use Rattle.rng_tool.specs.Outcome.{CallsFor, CallsForRun, HasOneCaller, IsRefusal, IsRun, RunOf, WasCutShort, WasRefused, WasRun};
-ghost use Rattle.rng_tool.specs.Refusal.{refusal_by};
+ghost use Rattle.rng_tool.specs.Outcome.{CallsFor, CallsForRun, IsRefusal, IsRun, RunOf, WasCutShort, WasRefused, WasRun};
+ghost use Rattle.rng_tool.specs.Refusal.{refusal_line};
 
-use crate::alone::lines_of;
+use crate::callers::transcript_of;
 use crate::load::{load_of, run_load};
-use crate::refusal::refusal_by;
+use crate::refusal::refusal_line;
 use crate::status::Status;
 use event_script::{Script, ScriptError, read};
-use io_edges::{Failed, NoMemory, ReadError, Sink, Source, put_all, read_to_limit};
+use io_edges::{Failed, Gate, ReadError, Sink, Source, put_all, read_to_limit};
 use key_names::ScriptFault;
 use std::alloc::Global;
 use std::sync::Wait;
-use transcript_text::{Transcript, write_all};
+use std::thread::Threads;
+use transcript_text::write_all;
 
 /// The most bytes of a script: 16 MiB.
 const MOST_INPUT: usize = 16_777_216;
@@ -33,47 +33,38 @@ fn is_run(words: &[String]) -> bool
     }
 }
 
-fn transcript_of<R: Wait>(rt: &R, alloc: Global, script: &Script) -> Result<Transcript, NoMemory>
-    requires well_formed { WellFormed script.now }
-    requires one { HasOneCaller script.now }
-    ensures { IfOk result (λ t. RunOf script.now (transcript_text t)) }
-{
-    let mut callers = Vec::with_capacity(alloc, 1)?;
-    callers.push_reserved(lines_of(rt, alloc, script)?);
-    Ok(Transcript::of(callers))
-}
-
-// The refusal of an input that has this fault, or has no run.
-fn refuse<K: Sink>(alloc: Global, fault: Option<ScriptFault>, sink: &mut K) -> Status
-    ensures either { (result ≡ Status.Refused) ⊎ (result ≡ Status.WriteFault) ⊎ (result ≡ Status.NoMemory) }
-    ensures whole { result ≡ Status.Refused → Appends (K.held sink.old) (K.held sink.new) (refusal_by fault) }
+// The refusal of an input with this fault.
+fn refuse<K: Sink>(fault: ScriptFault, sink: &mut K) -> Status
+    ensures either { (result ≡ Status.Refused) ⊎ (result ≡ Status.WriteFault) }
+    ensures whole { result ≡ Status.Refused → Appends (K.held sink.old) (K.held sink.new) (refusal_line fault) }
     ensures cut { result ≡ Status.WriteFault → Rose (K.faults sink.old) (K.faults sink.new) }
     ensures prefix { result ≡ Status.WriteFault
-        → AppendsPrefix (K.held sink.old) (K.held sink.new) (refusal_by fault) }
-    ensures silent { result ≡ Status.NoMemory → Keeps (K.held sink.old) (K.held sink.new) }
+        → AppendsPrefix (K.held sink.old) (K.held sink.new) (refusal_line fault) }
 {
-    let Ok(line) = refusal_by(alloc, fault) else {
-        return Status::NoMemory;
-    };
-    match put_all(sink, line.as_bytes()) {
+    match put_all(sink, refusal_line(fault).as_str().as_bytes()) {
         Ok(()) => Status::Refused,
         Err(Failed) => Status::WriteFault,
     }
 }
 
 // The run of an accepted script.
-fn run_script<R: Wait, K: Sink>(rt: &R, alloc: Global, script: &Script, sink: &mut K) -> Status
-    requires well_formed { WellFormed script.now }
-    requires one { HasOneCaller script.now }
+fn run_script<R: Threads + Wait + Sync, K: Sink, G: Gate>(
+    rt: &R,
+    alloc: Global,
+    script: &Script,
+    sink: &mut K,
+    gate: &G,
+) -> Status
+    requires { WellFormed script.now }
     ensures either { (result ≡ Status.Done) ⊎ (result ≡ Status.WriteFault) ⊎ (result ≡ Status.NoMemory) }
     ensures whole { result ≡ Status.Done
         → (output : List ℕ) × RunOf script.now output × Appends (K.held sink.old) (K.held sink.new) output }
     ensures cut { result ≡ Status.WriteFault → Rose (K.faults sink.old) (K.faults sink.new) }
     ensures prefix { result ≡ Status.WriteFault
         → (output : List ℕ) × RunOf script.now output × AppendsPrefix (K.held sink.old) (K.held sink.new) output }
-    ensures silent { result ≡ Status.NoMemory → Keeps (K.held sink.old) (K.held sink.new) }
+    ensures silent { result ≡ Status.NoMemory → sink.new ≡ sink.old }
 {
-    let Ok(transcript) = transcript_of(rt, alloc, script) else {
+    let Ok(transcript) = transcript_of(rt, alloc, script, gate) else {
         return Status::NoMemory;
     };
     match write_all(sink, &transcript) {
@@ -83,7 +74,13 @@ fn run_script<R: Wait, K: Sink>(rt: &R, alloc: Global, script: &Script, sink: &m
 }
 
 // What an input calls for.
-fn answer<R: Wait, K: Sink>(rt: &R, alloc: Global, input: &[u8], sink: &mut K) -> Status
+fn answer<R: Threads + Wait + Sync, K: Sink, G: Gate>(
+    rt: &R,
+    alloc: Global,
+    input: &[u8],
+    sink: &mut K,
+    gate: &G,
+) -> Status
     ensures either { (result ≡ Status.Done) ⊎ (result ≡ Status.Refused) ⊎ (result ≡ Status.WriteFault) ⊎
         (result ≡ Status.NoMemory) }
     ensures done { result ≡ Status.Done → (output : List ℕ) × CallsForRun input.now output
@@ -93,48 +90,46 @@ fn answer<R: Wait, K: Sink>(rt: &R, alloc: Global, input: &[u8], sink: &mut K) -
     ensures cut { result ≡ Status.WriteFault → Rose (K.faults sink.old) (K.faults sink.new) }
     ensures prefix { result ≡ Status.WriteFault → (output : List ℕ) × CallsFor input.now output
         × AppendsPrefix (K.held sink.old) (K.held sink.new) output }
-    ensures silent { result ≡ Status.NoMemory → Keeps (K.held sink.old) (K.held sink.new) }
+    ensures silent { result ≡ Status.NoMemory → sink.new ≡ sink.old }
 {
     match read(alloc, input) {
-        Ok(script) => {
-            if script.callers() == 1 {
-                run_script(rt, alloc, &script, sink)
-            } else {
-                refuse(alloc, None, sink)
-            }
-        }
-        Err(ScriptError::Fault(fault)) => refuse(alloc, Some(fault), sink),
+        Ok(script) => run_script(rt, alloc, &script, sink, gate),
+        Err(ScriptError::Fault(fault)) => refuse(fault, sink),
         Err(ScriptError::NoMemory) => Status::NoMemory,
     }
 }
 
 /// Runs a command.
 ///
-/// The word `run` takes the input, read to its end, as a script of one caller; the output is its transcript. An input
-/// that is no script is answered by the line `refused LINE KIND`, its first fault, and a script of more callers by
-/// `refused 0 0`.
+/// The word `run` takes the input, read to its end, as a script, and runs its callers in threads. The output is its
+/// transcript, which is lawful for the script however the callers' calls fell together. An input that is no script is
+/// answered by the line `refused LINE KIND`, its first fault.
 ///
-/// The words `load START 1 EVENTS` run the script of a load with one caller and so many calls, START below 2^32 and EVENTS
-/// from 1 to 1,000, in decimal without leading zeros. They read nothing. The output is the line
-/// `callers 1 events V bytes B`, with the number of the script's events and that of the bytes which its lines show.
+/// The words `load START CALLERS EVENTS` run the script of a load with so many callers, each of whom makes so many calls:
+/// START below 2^32, CALLERS from 1 to 64 and EVENTS from 1 to 1,000, in decimal without leading zeros. They read nothing.
+/// The output is the line `callers CALLERS events V bytes B`, with the number of the script's events and that of the bytes
+/// which its lines show.
+///
+/// The gate is called before each event of each caller, and not before a script is accepted.
 ///
 /// - `Usage`: exactly where the words are neither. Nothing is read or written.
 /// - `ReadFault`: the source failed. Nothing is written.
-/// - `Refused`: the input is no such script, and the line that says why was written.
+/// - `Refused`: the input has a fault, and the line that tells the first was written.
 /// - `WriteFault`: the sink failed. What it got in this call is a prefix of the output.
-/// - `NoMemory`: there was no memory, before anything was written.
+/// - `NoMemory`: there was no memory, before the first caller started. Nothing is written.
 /// - `Done`: the input of `run` was read to its end, and the whole output was written.
-pub fn run<R: Wait, S: Source, K: Sink>(
+pub fn run<R: Threads + Wait + Sync, S: Source, K: Sink, G: Gate>(
     rt: &R,
     alloc: Global,
     words: &[String],
     source: &mut S,
     sink: &mut K,
+    gate: &G,
 ) -> Status
     ensures usage { result ≡ Status.Usage ↔ IsNoForm words.now }
-    ensures unread { (IsRun words.now → ⊥) → Keeps (S.left source.old) (S.left source.new) }
+    ensures unread { (IsRun words.now → ⊥) → source.new ≡ source.old }
     ensures silent { (result ≡ Status.Usage) ⊎ (result ≡ Status.ReadFault) ⊎ (result ≡ Status.NoMemory)
-        → Keeps (K.held sink.old) (K.held sink.new) }
+        → sink.new ≡ sink.old }
     ensures read_fault { result ≡ Status.ReadFault → Rose (S.faults source.old) (S.faults source.new) }
     ensures write_fault { result ≡ Status.WriteFault → Rose (K.faults sink.old) (K.faults sink.new) }
     ensures done { IsRun words.now → result ≡ Status.Done
@@ -143,12 +138,12 @@ pub fn run<R: Wait, S: Source, K: Sink>(
         → WasRefused (S.left source.old) (S.left source.new) (K.held sink.old) (K.held sink.new) }
     ensures cut_short { IsRun words.now → result ≡ Status.WriteFault
         → WasCutShort (S.left source.old) (S.left source.new) (K.held sink.old) (K.held sink.new) }
-    ensures loaded { (start events : ℕ) → IsLoad words.now start events
-        → LoadEnds start events result (K.held sink.old) (K.held sink.new) }
+    ensures loaded { (start callers events : ℕ) → IsLoad words.now start callers events
+        → LoadEnds start callers events result (K.held sink.old) (K.held sink.new) }
     ensures no_check { result ≢ Status.No }
 {
     if let Some(load) = load_of(words) {
-        return run_load(rt, alloc, load, sink);
+        return run_load(rt, alloc, load, sink, gate);
     }
     if !is_run(words) {
         return Status::Usage;
@@ -158,5 +153,5 @@ pub fn run<R: Wait, S: Source, K: Sink>(
         Err(ReadError::Fault) => return Status::ReadFault,
         Err(ReadError::NoMemory) => return Status::NoMemory,
     };
-    answer(rt, alloc, &input, sink)
+    answer(rt, alloc, &input, sink, gate)
 }

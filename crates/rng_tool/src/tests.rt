@@ -3,11 +3,12 @@ ghost use Rattle.std.specs.Prelude.{◌≤◌, length};
 
 use crate::run::run;
 use crate::status::Status;
-use io_edges::{MemSink, MemSource};
+use io_edges::{MemSink, MemSource, OpenGate};
 use std::alloc::{AllocError, Global};
 use std::process::Abort;
 use std::sync::Wait;
 use std::test::Fail;
+use std::thread::Threads;
 
 const FIRST_SCRIPT: &[u8] = b"rngscript 1\ncpus 1\ncaller 0\nwrite 616263\nread 16 4\nend\n";
 
@@ -17,8 +18,33 @@ const FIRST_TRANSCRIPT: &[u8] = b"rngtranscript 1\n\
     0.2 end ok b:1@4 -\n\
     end\n";
 
+const EARLY_SCRIPT: &[u8] = b"rngscript 1\n\
+    cpus 1\n\
+    caller 0\n\
+    read 8 1\n\
+    read 8 6\n\
+    read 8 8\n\
+    read 0 0\n\
+    reseed\n\
+    bits\n\
+    credit 100\n\
+    bits\n\
+    end\n";
+
+const EARLY_TRANSCRIPT: &[u8] = b"rngtranscript 1\n\
+    0.0 read EAGAIN ~0 -\n\
+    0.1 read EINVAL - -\n\
+    0.2 read EINVAL - -\n\
+    0.3 read EINTR ~0,b:0@1,b:1@2 -\n\
+    0.4 reseed ENODATA ~0 -\n\
+    0.5 bits ok p:0@3 0\n\
+    0.6 credit ok p:1@4 -\n\
+    0.7 bits ok p:2@5 100\n\
+    0.8 end ok b:2@6 -\n\
+    end\n";
+
 // How many bytes of that transcript its first lines take.
-const FIRST_LINE_ENDS: [usize; 6] = [0, 16, 37, 97, 116, 120];
+const EARLY_LINE_ENDS: [usize; 12] = [0, 16, 37, 57, 77, 109, 133, 153, 175, 197, 216, 220];
 
 const LONG_SCRIPT: &[u8] = b"rngscript 1\ncpus 1\ncaller 0\nwrite -\nread 0 4\nread 33 4\nend\n";
 
@@ -103,7 +129,7 @@ const WHOLE: Edges = Edges {
 };
 
 // What a run with these words answers, and what its source has left and its sink holds.
-fn run_over<R: Abort + Wait>(
+fn run_over<R: Abort + Threads + Wait + Sync>(
     rt: &R,
     alloc: Global,
     texts: &[&str],
@@ -118,7 +144,7 @@ fn run_over<R: Abort + Wait>(
         [edges.failing_take].to_vec(alloc)?,
     );
     let mut sink = MemSink::of(alloc, edges.step, [edges.failing_put].to_vec(alloc)?, ROOM)?;
-    let status = run(rt, alloc, &words, &mut source, &mut sink);
+    let status = run(rt, alloc, &words, &mut source, &mut sink, &OpenGate);
     Ok((status, source, sink))
 }
 
@@ -127,6 +153,7 @@ fn transcripts_of_the_worked_cases(rt: HostRuntime) -> Result<(), Fail> {
     let alloc = rt.alloc();
     for (script, transcript) in [
         (FIRST_SCRIPT, FIRST_TRANSCRIPT),
+        (EARLY_SCRIPT, EARLY_TRANSCRIPT),
         (LONG_SCRIPT, LONG_TRANSCRIPT),
         (TWO_CPUS_SCRIPT, TWO_CPUS_TRANSCRIPT),
     ] {
@@ -182,24 +209,9 @@ fn faults_are_told(rt: HostRuntime) -> Result<(), Fail> {
 }
 
 #[test]
-fn scripts_of_more_callers_have_no_fault(rt: HostRuntime) -> Result<(), Fail> {
-    let alloc = rt.alloc();
-    let scripts: [&[u8]; 2] = [
-        b"rngscript 1\ncpus 1\ncaller 0\nfork 1\ncaller 1\nend\n",
-        b"rngscript 1\ncpus 1\ncaller 0\nfork 1\ninside 1 wipe\nvread 16 0\ncaller 1\nend\n",
-    ];
-    for (row, script) in scripts.iter().enumerate() {
-        let (status, _, sink) = run_over(&rt, alloc, &["run"], script, WHOLE)?;
-        assert_eq!(rt; status, Status::Refused, "row {row}");
-        assert_eq!(rt; sink.held(), b"refused 0 0\n".as_slice(), "row {row}");
-    }
-    Ok(())
-}
-
-#[test]
 fn other_words_read_and_write_nothing(rt: HostRuntime) -> Result<(), Fail> {
     let alloc = rt.alloc();
-    let rows: [&[&str]; 16] = [
+    let rows: [&[&str]; 17] = [
         &[],
         &["check"],
         &["run", "run"],
@@ -210,7 +222,8 @@ fn other_words_read_and_write_nothing(rt: HostRuntime) -> Result<(), Fail> {
         &["load", "1", "1"],
         &["load", "1", "1", "8", "8"],
         &["load", "1", "0", "8"],
-        &["load", "1", "2", "8"],
+        &["load", "1", "65", "8"],
+        &["load", "1", "02", "8"],
         &["load", "01", "1", "8"],
         &["load", "1", "1", "0"],
         &["load", "1", "1", "1001"],
@@ -225,7 +238,7 @@ fn other_words_read_and_write_nothing(rt: HostRuntime) -> Result<(), Fail> {
         let mut rest = MemSink::of(alloc, 4096, Vec::new(alloc), ROOM)?;
         let words = words_of(alloc, &["run"])?;
         assert_eq!(rt;
-            run(&rt, alloc, &words, &mut source, &mut rest),
+            run(&rt, alloc, &words, &mut source, &mut rest, &OpenGate),
             Status::Done,
             "row {row}"
         );
@@ -237,8 +250,12 @@ fn other_words_read_and_write_nothing(rt: HostRuntime) -> Result<(), Fail> {
 #[test]
 fn loads_are_summed_up(rt: HostRuntime) -> Result<(), Fail> {
     let alloc = rt.alloc();
-    let rows: [(&[&str], &[u8]); 4] = [
+    let rows: [(&[&str], &[u8]); 5] = [
         (&["load", "1", "1", "8"], LOAD_LINE),
+        (
+            &["load", "0", "64", "1"],
+            b"callers 64 events 192 bytes 96\n",
+        ),
         (&["load", "0", "1", "1"], b"callers 1 events 3 bytes 1\n"),
         (
             &["load", "4294967295", "1", "9"],
@@ -310,14 +327,14 @@ fn a_source_that_fails_at_each_call(rt: HostRuntime) -> Result<(), Fail> {
 #[test]
 fn a_sink_that_fails_at_each_line(rt: HostRuntime) -> Result<(), Fail> {
     let alloc = rt.alloc();
-    for (lines, end) in FIRST_LINE_ENDS.iter().enumerate() {
+    for (lines, end) in EARLY_LINE_ENDS.iter().enumerate() {
         let failing_put = lines as u64 + 1;
         let edges = Edges {
             failing_put,
             ..WHOLE
         };
-        let (status, _, sink) = run_over(&rt, alloc, &["run"], FIRST_SCRIPT, edges)?;
-        let want = if *end < FIRST_TRANSCRIPT.len() {
+        let (status, _, sink) = run_over(&rt, alloc, &["run"], EARLY_SCRIPT, edges)?;
+        let want = if *end < EARLY_TRANSCRIPT.len() {
             Status::WriteFault
         } else {
             Status::Done
@@ -325,7 +342,7 @@ fn a_sink_that_fails_at_each_line(rt: HostRuntime) -> Result<(), Fail> {
         assert_eq!(rt; status, want, "put {failing_put}");
         assert_eq!(rt;
             Some(sink.held()),
-            FIRST_TRANSCRIPT.get(..*end),
+            EARLY_TRANSCRIPT.get(..*end),
             "put {failing_put}"
         );
     }

@@ -1,18 +1,27 @@
 -- Steps that are no form of their event's word.
 use Rattle.std.proofs.Common.{◌≡◌, ◌≤◌, ℕ, zero, suc, Some, List, [], ◌∷◌, refl, sym, ◌∙◌, ap, is_some, true, length}
-use Rattle.std.proofs.Common.{arith, inl, inr}
+use Rattle.std.proofs.Common.{arith, inl, inr, subst, false, ◌++◌}
 use Rattle.std.specs.List.{AllByRecursion}
 use Rattle.key_names.specs.declared.names.Step.TheVariants.{Look}
 use Rattle.key_names.specs.declared.names.Who.{Who}
+use Rattle.key_names.specs.SeenLine.{SeenLine}
 use Rattle.key_names.specs.Book.{Lists, Visit, lists_of, list_at}
-use Rattle.key_names.specs.Calls.{Setting, Call}
-use Rattle.key_names.specs.Deeds.{looked, deeds_of}
-use Rattle.key_names.specs.Meaning.{CallerState, CallMeaning, Means, VreadMeans, caller_start}
-use Rattle.key_names.specs.IsTranscript.{EachOfCall, EachLine, EachCaller, CallsMean, CallerMeans, script_calls}
-use Rattle.key_names.specs.IsTranscript.{forms_clause, stamped, start_setting}
+use Rattle.key_names.specs.Calls.{Setting, Call, vread_call}
+use Rattle.std.specs.Prelude.{MatchBool}
+use Rattle.key_names.specs.BatchCopy.{serves_locally}
+use Rattle.key_names.specs.Deeds.{Deed, looked, deeds_of}
+use Rattle.key_names.specs.Forms.{Looked}
+use Rattle.key_names.specs.Meaning.{CallerState, CallMeaning, Means, VreadMeans, caller_start, current_state}
+use Rattle.key_names.specs.Meaning.{ByLocalCopy, ByVgetrandom, LocalOrCall}
+use Rattle.key_names.specs.Vgetrandom.{HostStep, publishes, Outcome, IsCall, FromLook, FromPublished, FirstAttempt}
+use Rattle.key_names.specs.VgetrandomState.{VgetrandomState, wiped_state}
+use Rattle.key_names.specs.VreadSteps.{Shows, published_by}
+use Rattle.key_names.specs.IsTranscript.{EachLine, EachCaller, CallsMean, CallerMeans, script_calls}
+use Rattle.key_names.specs.IsTranscript.{EachOfCall, forms_clause, stamped, start_setting}
 use Rattle.key_names.proofs.VreadRefused.{looks_do_not_fall}
 use Rattle.worked_cases.specs.Runs.{Case, FailsFirst, transcript_with}
 use Rattle.worked_cases.specs.UnfitSteps.{read_without_a_look, fork_without_a_visit, visit_of_no_cpu, looks_that_fall}
+use Rattle.worked_cases.specs.UnfitSteps.{batch_of_the_parent}
 use Rattle.worked_cases.proofs.Decided.{no_first, none_is_not_some}
 use Rattle.worked_cases.proofs.FoundMeanings.{Behind}
 use Rattle.worked_cases.proofs.TextVerdicts.{text_verdict, script_in, lines_in, no_form, front_found}
@@ -99,3 +108,66 @@ unfolding text_verdict
 visit_of_no_cpu_fails = no_form visit_of_no_cpu.script (transcript_with visit_of_no_cpu.lines)
     (front_found visit_of_no_cpu.script (transcript_with visit_of_no_cpu.lines)) refl
     (λ made. no_stamp made.book.cpus _ made.forms.cpus made.forms.visits.stand.1.1.1.1.0)
+
+-- what the first call of a child means, that of caller 1: the child begins with wiped states
+pub record ChildBegins (lists : Lists) (set : Setting) (call : Call) : Type 0 where
+  pub m : CallMeaning
+  pub begins : m.before ≡ caller_start set
+  pub means : Means call m
+  pub deeds : EachOfCall (Behind lists) call m
+
+child_begins : (lists : Lists) (settings : ℕ → Setting) (parents : List Call) (call : Call) (calls : List Call)
+    (ms : List (List CallMeaning)) →
+    EachCaller (λ c calls ms. CallerMeans lists (settings c) calls ms) 0 (parents ∷ (call ∷ calls) ∷ []) ms →
+    ChildBegins lists (settings 1) call
+child_begins lists settings parents call calls [] h = absurd h
+child_begins lists settings parents call calls (p ∷ []) h = absurd h.1
+child_begins lists settings parents call calls (p ∷ [] ∷ ms) h = absurd h.1.0.follows
+child_begins lists settings parents call calls (p ∷ (m ∷ rest) ∷ ms) h =
+    record { m = m; begins = h.1.0.follows.0; means = h.1.0.follows.1; deeds = h.1.0.deeds.0 }
+
+-- no attempt shows in no steps
+no_attempt : (set : Setting) (rest : List HostStep) (n flags : ℕ) (s : VgetrandomState) (outcome : Outcome) →
+    FirstAttempt n flags s rest outcome → Shows set rest [] → ⊥
+no_attempt set rest n flags s outcome attempt shows =
+    let begins : rest ≡ publishes attempt.tries.published ∷ attempt.tries.rest ++ attempt.rest =
+    attempt.steps_are ∙ ap (λ (h : List HostStep). h ++ attempt.rest) attempt.tries.steps_are in
+    let looks = subst (λ (h : List HostStep). Shows set h []) begins shows in
+    no_first _ _ looks.2
+
+-- a wiped state is not served by one look alone
+wiped_needs_a_key : (m : CallMeaning) → current_state m.before ≡ wiped_state → looked 1 ∷ [] ≡ m.own.deeds →
+    VreadMeans 40 0 [] m → ⊥
+wiped_needs_a_key m wiped deeds means =
+    let ways : Looked (LocalOrCall 40 0 [] m) m.own.deeds = means.ways in
+    let begins : looked ways.0 ∷ ways.1 ≡ looked 1 ∷ [] = sym ways.2 ∙ sym deeds in
+    let look : ways.0 ≡ 1 = cc in
+    let serves : serves_locally (published_by ways.0) (current_state m.before) 40 ≡ false =
+    ap (λ g. serves_locally (published_by g) (current_state m.before) 40) look
+    ∙ ap (λ s. serves_locally 2 s 40) wiped in
+    let call : ByVgetrandom 40 0 [] m = subst
+    (λ b. MatchBool b (ByLocalCopy 40 ways.1 m) (ByVgetrandom 40 0 [] m)) serves ways.3 in
+    let from : FromLook 40 0 wiped_state call.steps call.outcome =
+    subst (λ (s : VgetrandomState). IsCall 40 0 s call.steps call.outcome) wiped call.is_call in
+    let shown = subst (λ (h : List HostStep). Shows m.before.setting h (looked 1 ∷ [])) from.steps_are
+    (subst (λ (d : List Deed). Shows m.before.setting call.steps d) (sym deeds) call.shows) in
+    let front : looked 1 ∷ [] ≡ looked shown.0 ∷ shown.1 = shown.2 in
+    let one : shown.0 ≡ 1 = cc in
+    let none : shown.1 ≡ [] = cc in
+    let two : from.published ≡ 2 = shown.3.0 ∙ ap published_by one in
+    no_attempt m.before.setting from.rest 40 0 (record wiped_state { in_use = true }) call.outcome
+    (subst (λ g. FromPublished 40 0 wiped_state g from.rest call.outcome) two from.goes_on)
+    (subst (λ (d : List Deed). Shows m.before.setting from.rest d) none shown.3.1)
+
+child_is_served : (lists : Lists) (set : Setting) (line : SeenLine) → deeds_of lists line.steps ≡ looked 1 ∷ [] →
+    ChildBegins lists set (vread_call 40 0 line []) → ⊥
+child_is_served lists set line looks child =
+    wiped_needs_a_key child.m (ap current_state child.begins) (sym looks ∙ child.deeds.0) child.means
+
+pub batch_of_the_parent_fails : FailsByForms batch_of_the_parent
+unfolding text_verdict
+batch_of_the_parent_fails = no_form batch_of_the_parent.script (transcript_with batch_of_the_parent.lines)
+    (front_found batch_of_the_parent.script (transcript_with batch_of_the_parent.lines)) refl
+    (λ made. child_is_served (lists_of made.book) _ _ refl
+    (child_begins (lists_of made.book) (start_setting (case_calls batch_of_the_parent)) _ _ _ made.meanings
+    made.forms.callers))

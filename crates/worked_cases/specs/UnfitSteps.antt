@@ -1,5 +1,6 @@
 -- Transcripts with steps that are no form of their event's word, whatever the entries are.
-use Rattle.std.specs.Prelude.{[], ◌∷◌, codes}
+use Rattle.std.specs.Prelude.{[], ◌∷◌, codes, slice_set}
+use Rattle.worked_cases.specs.ManyCallers.{fork_wipes_the_childs_state}
 use Rattle.worked_cases.specs.Runs.{Case, one_cpu}
 
 -- a read without its look
@@ -37,5 +38,13 @@ looks_that_fall = record {
       codes "0.0 credit ok p:0@1,p:1@2,b:0@3 -"
       ∷ codes "0.1 vread ok ~2,~1,~1 e075b16b0c4452a5"
       ∷ codes "0.2 end ok b:1@4 -" ∷ [];
+  near_misses = [];
+}
+
+-- a child that goes on with its parent's batch, and so is served the parent's next bytes without a key of its own
+abbrev pub batch_of_the_parent : Case
+batch_of_the_parent = record fork_wipes_the_childs_state {
+  lines = slice_set fork_wipes_the_childs_state.lines 5
+      (codes "1.0 vread ok ~1 88d46304e1bb3ad98e2f9e1c279b5a3f74567d0f498d570538395a332c27435cc73f7317729c1235");
   near_misses = [];
 }

@@ -2,7 +2,7 @@
 ghost use Rattle.key_names.specs.IsTranscript.{forms_clause};
 ghost use Rattle.worked_cases.specs.Runs.{FailsFirst, transcript_with};
 ghost use Rattle.worked_cases.specs.UnfitSteps.{read_without_a_look, fork_without_a_visit, looks_that_fall};
-ghost use Rattle.worked_cases.specs.UnfitSteps.{visit_of_no_cpu};
+ghost use Rattle.worked_cases.specs.UnfitSteps.{visit_of_no_cpu, batch_of_the_parent};
 
 /// A read that is turned away looks first.
 #[tactic(auto, using(crate::proofs::UnfitForms::read_without_a_look_fails))]
@@ -26,4 +26,10 @@ pub fn looks_that_fall()
 #[tactic(auto, using(crate::proofs::UnfitForms::visit_of_no_cpu_fails))]
 pub fn visit_of_no_cpu()
     ensures { FailsFirst forms_clause visit_of_no_cpu.script (transcript_with visit_of_no_cpu.lines) }
+{}
+
+/// A child does not go on with its parent's batch: its state was wiped, and the one look of a copy is not enough.
+#[tactic(auto, using(crate::proofs::UnfitForms::batch_of_the_parent_fails))]
+pub fn batch_of_the_parent()
+    ensures { FailsFirst forms_clause batch_of_the_parent.script (transcript_with batch_of_the_parent.lines) }
 {}

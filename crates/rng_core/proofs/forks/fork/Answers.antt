@@ -15,6 +15,8 @@ pub returns-clause-forked : goal.returns-clause-forked
 returns-clause-forked g c = record {
   before = _;
   did = c.tell.ensures.did;
+  mark = c.tell.ensures.visit.0;
+  visit = c.tell.ensures.visit.1;
   pass_is = ap (λ (m : Seated). m.0) c.split.ensures.halved;
   child_is = ap (λ (m : Seated). m.0) c.split.ensures.seat;
 }

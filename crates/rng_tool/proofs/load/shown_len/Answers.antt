@@ -1,16 +1,16 @@
-use Rattle.std.proofs.Common.{List, ap, ◌∙◌}
+use Rattle.std.proofs.Common.{◌≤◌, List, length, ap, arith, ◌∙◌}
 use Rattle.std.specs.List.{sum_by}
 use Rattle.std.proofs.lemmas.List.{take_all}
-use Rattle.key_names.specs.declared.lines.Line.{Line}
-use Rattle.rng_tool.specs.LoadOutcome.{data_len}
-use Rattle.rng_tool.proofs.ShownBytes.{sum_of_data}
+use Rattle.key_names.specs.SeenLine.{SeenLine, bytes_shown}
+use Rattle.rng_tool.proofs.ShownBytes.{sum_of_callers}
 use Rattle.rng_tool.proofs.load.shown_len.Goals as goal
 
 pub returns : goal.returns
 returns c =
-    let raw = c.lines-line-items.result.now in
-    c.loop-line.invariant.so_far
-    ∙ ap (λ (ls : List Line). sum_by (λ line. data_len line.shown) ls)
-    (take_all c.loop-line.line-index raw c.loop-line-test.false)
-    ∙ sum_of_data c.args.lines.now.kept raw c.args.lines.now.lines c.lines-line-items.ensures.seen
-    c.lines-line-items.ensures.within
+    let t = c.args.transcript.now in
+    let all : length t ≤ c.loop-caller.caller =
+    omega (arith, c.loop-caller-test.false, c.callers-caller-end.ensures.number) in
+    c.loop-caller.invariant.so_far
+    ∙ ap (λ (ls : List (List SeenLine)). sum_by (λ lines. length (bytes_shown lines)) ls)
+    (take_all c.loop-caller.caller t all)
+    ∙ sum_of_callers t

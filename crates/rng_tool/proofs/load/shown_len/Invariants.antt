@@ -1,10 +1,10 @@
-use Rattle.std.proofs.Common.{◌≡◌, ◌*◌, ◌^◌, ◌≤◌, take}
+use Rattle.std.proofs.Common.{◌≡◌, ◌*◌, ◌^◌, ◌≤◌, length, take}
 use Rattle.std.specs.List.{sum_by}
-use Rattle.rng_tool.specs.LoadOutcome.{data_len}
+use Rattle.key_names.specs.SeenLine.{bytes_shown}
 use Rattle.rng_tool.proofs.load.shown_len.Given as goal
 
-abbrev pub invariant-loop-line : goal.invariant-loop-line
-invariant-loop-line l = record {
-  so_far : l.sum ≡ sum_by (λ line. data_len line.shown) (take l.line-index l.line-items);
-  small : l.sum ≤ l.line-index * 2 ^ 32;
+abbrev pub invariant-loop-caller : goal.invariant-loop-caller
+invariant-loop-caller l = record {
+  so_far : l.sum ≡ sum_by (λ lines. length (bytes_shown lines)) (take l.caller l.transcript);
+  small : l.sum ≤ l.caller * (65600 * 2 ^ 32);
 }

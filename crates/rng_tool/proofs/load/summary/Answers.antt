@@ -1,6 +1,9 @@
-use Rattle.std.proofs.Common.{length, ap}
-use Rattle.key_names.specs.ScriptGrammar.{Script}
+use Rattle.std.proofs.Common.{rules}
+use Rattle.key_names.specs.ScriptGrammar.{WellFormed}
+use Rattle.rng_tool.proofs.Runs.{few_lines}
 use Rattle.rng_tool.proofs.load.summary.Goals as goal
 
-pub lines_of-requires-clause-one : goal.lines_of-requires-clause-one
-lines_of-requires-clause-one g c = ap (λ (s : Script). length s.callers) c.in_ok-script.ensures
+pub shown_len-requires : goal.shown_len-requires
+shown_len-requires g c =
+    let ok : WellFormed c.in_ok-script.script = search rules in
+    few_lines c.in_ok-script.script c.in_ok-transcript.transcript ok c.in_ok-transcript.ensures.run.lawful.lines

@@ -1,7 +1,7 @@
 use Rattle.std.proofs.Common.{length, ◌∷◌, ◌++◌, [], sym, subst, ◌∙◌, arith, rules, ◌≡◌}
 use Rattle.caller_run.specs.Says.{line_of, most_shown}
 use Rattle.caller_run.specs.Standing.{waiting_in, HasGone}
-use Rattle.caller_run.proofs.RoomFills.{fills_call}
+use Rattle.caller_run.proofs.LogFills.{fills_call}
 use Rattle.caller_run.proofs.CanGo.{can_next}
 use Rattle.caller_run.proofs.HasGone.{gone_call}
 use Rattle.caller_run.proofs.Seeing.{called_kept}
@@ -20,10 +20,10 @@ returns-clause-can g c inside rest can =
     }
 
 pub returns-clause-gone : goal.returns-clause-gone
-returns-clause-gone g c v caller events rest gone =
+returns-clause-gone g c begun events rest kids gone =
     let call = c.call-said.new in
-    subst (λ l. HasGone v caller events rest c.go_on.new.self l (waiting_in c.args.room.now))
+    subst (λ l. HasGone begun events rest c.go_on.new.self l (waiting_in c.args.log.now) kids)
     (sym (c.tell.ensures.lines
-    ∙ (λ i. c.args.room.now.lines.lines ++ line_of call.self.set (c.word_of.ensures i) call.served c.call-said.result
+    ∙ (λ i. c.args.log.now.lines.lines ++ line_of call.self.set (c.word_of.ensures i) call.served c.call-said.result
     call.trace ∷ [])))
     (gone_call c.requires.kind c.call-said.ensures c.go_on.ensures gone)

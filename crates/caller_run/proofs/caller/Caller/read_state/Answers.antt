@@ -8,7 +8,7 @@ use Rattle.key_names.specs.declared.events.Word.TheVariants.{Vread as VreadWord}
 use Rattle.key_names.specs.SeenLine.{SeenLine}
 use Rattle.caller_run.specs.Waiting.{told_anew, act_lines}
 use Rattle.caller_run.specs.Says.{most_shown, line_of}
-use Rattle.caller_run.proofs.RoomFills.{wanted_few}
+use Rattle.caller_run.proofs.LogFills.{wanted_few}
 use Rattle.caller_run.proofs.VreadGoes.{HasRead, can_read, gone_read}
 use Rattle.caller_run.proofs.caller.Caller.read_state.Goals as goal
 use Rattle.caller_run.proofs.caller.Caller.read_state.Goals.{After-go_on}
@@ -16,14 +16,14 @@ use Rattle.caller_run.proofs.caller.Caller.read_state.Goals.{After-go_on}
 pub all_wanted-requires : goal.all_wanted-requires
 all_wanted-requires g c =
     let can = c.requires.can.goes in
-    let few = wanted_few c.args.room.now.acts.items can.fresh in
+    let few = wanted_few c.args.log.now.acts.items can.fresh in
     let same = ap (λ (bs : List Bound). all_wanted (asks_of bs)) c.deref.ensures.value in
     let many = can.few.0 in omega arith
 
 pub tell_acts-requires-clause-short : goal.tell_acts-requires-clause-short
 tell_acts-requires-clause-short g c =
     let can = c.requires.can.goes in
-    let few = wanted_few c.args.room.now.acts.items can.fresh in
+    let few = wanted_few c.args.log.now.acts.items can.fresh in
     let same = ap (λ (bs : List Bound). all_wanted (asks_of bs)) c.deref.ensures.value in
     let many = can.few.0 in
     let long : length c.vread-said.new.inside ≡ all_wanted (asks_of c.deref.result.now) = search rules in omega arith
@@ -43,9 +43,9 @@ put_back back items n long =
 -- what the caller did for its event
 has_read : (g : _) (c : After-go_on g) → HasRead c.args.lanes.now c.args.event.now c.args.self.now
     c.vread-said.new.self c.go_on.new.self
-    c.args.room.now.lines c.tell.new.lines c.args.room.now.acts.items c.clear.new.self.items
+    c.args.log.now.lines c.tell.new.lines c.args.log.now.acts.items c.clear.new.self.items
 has_read g c =
-    let acts = c.args.room.now.acts in let after = c.vread-said.new in let left = c.deref_mut-2.result.now in
+    let acts = c.args.log.now.acts in let after = c.vread-said.new in let left = c.deref_mut-2.result.now in
     let len = c.requires.is.0 in
     let low : c.most_shown.result ≤ length c.args.served.now =
     (let e = c.most_shown.ensures in let l = c.requires.can.goes.longest.0 in omega arith) in
@@ -80,7 +80,7 @@ has_read g c =
           ∙ ap (λ (ls : List SeenLine). ls ++ line_of after.self.set VreadWord after.served c.vread-said.result
           after.trace ∷ [])
           (c.tell_acts.ensures.lines
-          ∙ (λ i. told_anew c.args.room.now.lines.lines (asks_are i)
+          ∙ (λ i. told_anew c.args.log.now.lines.lines (asks_are i)
           (act_lines after.self.set (asks_are i) (outcomes_of (left_is i) after.inside))));
       line_room = c.tell.ensures.line_room ∙ c.tell_acts.ensures.line_room;
       byte_room = (let a = c.tell.ensures.byte_room in let b = c.tell_acts.ensures.byte_room in omega arith);

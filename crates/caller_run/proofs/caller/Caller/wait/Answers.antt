@@ -8,12 +8,12 @@ use Rattle.caller_run.proofs.caller.Caller.wait.Goals as goal
 use Rattle.caller_run.proofs.caller.Caller.wait.Goals.{After-go_on}
 
 -- what the caller did for its event
-kept : (c : After-go_on) → Keeps c.args.event.now c.args.self.now c.go_on.new.self c.args.room.now.lines
+kept : (c : After-go_on) → Keeps c.args.event.now c.args.self.now c.go_on.new.self c.args.log.now.lines
     c.tell.new.lines
-    c.args.room.now.acts.items c.push_reserved.new.self.items
+    c.args.log.now.acts.items c.push_reserved.new.self.items
 kept c =
     let set = c.args.self.now.set in
-    let lines = c.args.room.now.lines.lines in
+    let lines = c.args.log.now.lines.lines in
     record {
       point = c.point_of.result;
       act = c.args.act;
@@ -23,7 +23,7 @@ kept c =
           ∙ (λ i. lines ++ line_of set InsideWord [] (c.only-unused.ensures i) (c.empty.ensures i) ∷ []);
       line_room = c.tell.ensures.line_room;
       byte_room = (let b = c.tell.ensures.byte_room in omega arith);
-      kept = c.push_reserved.ensures.items ∙ ap (λ (b : Bound). c.args.room.now.acts.items ++ b ∷ [])
+      kept = c.push_reserved.ensures.items ∙ ap (λ (b : Bound). c.args.log.now.acts.items ++ b ∷ [])
           c.of-bound.ensures;
     }
 

@@ -1,0 +1,57 @@
+use Rattle.std.proofs.Common.{length, rules, ap, ◌∙◌, arith}
+use Rattle.std.proofs.lemmas.List.{length-map}
+use Rattle.lane_table.proofs.HandLemmas.{idle_of}
+use Rattle.transcript_text.specs.Gathered.{Gathered}
+use Rattle.caller_run.specs.Grove.{told_by}
+use Rattle.caller_run.specs.Plans.{lines_in}
+use Rattle.caller_run.specs.Plots.{plot}
+use Rattle.caller_run.proofs.AllCallers.{can_all, slots_there, last_there, whole_ran}
+use Rattle.caller_run.proofs.Planned.{slots_back}
+use Rattle.caller_run.proofs.run.run_plan.Goals as goal
+
+pub run_family-pass-requires : goal.run_family-pass-requires
+run_family-pass-requires g c = (
+  search rules,
+  (
+    search rules,
+    can_all c.args.lanes.now c.args.script.now c.args.pass (plot c.args.plan.root) c.args.plan.slots.items
+        c.requires.has c.requires.well c.requires.cpus c.requires.plan,
+  ),
+)
+
+pub settle-requires-clause-idle : goal.settle-requires-clause-idle
+settle-requires-clause-idle g c = idle_of c.args.lanes.now 0 c.run_family-pass.result.0 c.run_family-pass.ensures.has
+
+pub gather-requires : goal.gather-requires
+gather-requires g c =
+    let a = c.args in let r = c.requires in
+    slots_there a.lanes.now a.script.now a.pass (plot a.plan.root) c.run_family-pass.result.0
+    (plot c.run_family-pass.result.1)
+    (can_all a.lanes.now a.script.now a.pass (plot a.plan.root) a.plan.slots.items r.has r.well r.cpus r.plan)
+    c.run_family-pass.ensures (length c.deref_mut.result.now) (ap length c.deref_mut.ensures.value ∙ r.plan.slots')
+
+pub of-requires-clause-last : goal.of-requires-clause-last
+of-requires-clause-last g c =
+    let a = c.args in let r = c.requires in
+    last_there a.lanes.now a.script.now a.pass (plot a.plan.root) c.run_family-pass.result.0
+    (plot c.run_family-pass.result.1)
+    (can_all a.lanes.now a.script.now a.pass (plot a.plan.root) a.plan.slots.items r.has r.well r.cpus r.plan)
+    c.run_family-pass.ensures (lines_in a.plan.slots.items) _
+    (length-map a.plan.slots.items (λ (x : Gathered). x.lines) ∙ r.plan.slots')
+    (slots_back a.plan.slots.len a.plan.slots.items c.deref_mut.result.now c.gather.new.slots
+    (told_by (plot c.run_family-pass.result.1)) c.deref_mut.ensures.value (omega (arith, a.plan.slots.ok.0))
+    c.gather.ensures)
+
+pub returns-clause-whole : goal.returns-clause-whole
+returns-clause-whole g c =
+    let a = c.args in let r = c.requires in
+    whole_ran a.lanes.now a.script.now a.pass (plot a.plan.root) c.run_family-pass.result.0
+    (plot c.run_family-pass.result.1)
+    (can_all a.lanes.now a.script.now a.pass (plot a.plan.root) a.plan.slots.items r.has r.well r.cpus r.plan)
+    c.run_family-pass.ensures (lines_in a.plan.slots.items) c.of.result
+    (length-map a.plan.slots.items (λ (x : Gathered). x.lines) ∙ r.plan.slots')
+    (c.of.ensures.lines
+    ∙ slots_back a.plan.slots.len a.plan.slots.items c.deref_mut.result.now c.gather.new.slots
+    (told_by (plot c.run_family-pass.result.1)) c.deref_mut.ensures.value (omega (arith, a.plan.slots.ok.0))
+    c.gather.ensures)
+    c.settle.new.pass c.settle.ensures.same c.settle.ensures.ended

@@ -1,0 +1,42 @@
+-- All memory of a run, and where the lines of its callers go.
+use Rattle.std.specs.Prelude.{◌≡◌, ℕ, ◌<◌, List, [], ◌∷◌, length, map, slice_set}
+use Rattle.std.specs.List.{AllByRecursion}
+use Rattle.key_names.specs.declared.events.Event.{Event}
+use Rattle.key_names.specs.Book.{list_at}
+use Rattle.key_names.specs.ScriptGrammar.{Script}
+use Rattle.key_names.specs.SeenLine.{SeenLine}
+use Rattle.transcript_text.specs.Gathered.{Gathered}
+use Rattle.caller_run.specs.declared.plans.Plan.{Plan}
+use Rattle.caller_run.specs.Forest.{forks}
+use Rattle.caller_run.specs.Grove.{Plot}
+use Rattle.caller_run.specs.Plots.{plot}
+use Rattle.caller_run.specs.Ways.{IsNewSheet, ArePrepared}
+
+-- new sheets of a caller and of all that it forks
+pub record IsReady (callers : List (List Event)) (c : ℕ) (a : Plot) : Type 0 where
+  pub is : a.caller ≡ c
+  pub there : a.caller < length callers
+  pub new : IsNewSheet a.sheet (list_at callers a.caller)
+  pub ready : ArePrepared callers a.kids (forks (list_at callers a.caller))
+
+-- and for each caller a slot
+pub record IsPlanned (script : Script) (a : Plot) (slots : List Gathered) : Type 0 where
+  pub root : IsReady script.callers 0 a
+  pub slots' : length slots ≡ length script.callers
+
+-- all memory of a run of the script, with nothing in it
+abbrev pub IsPlanFor : Script → Plan → Type 0
+IsPlanFor script plan = IsPlanned script (plot plan.root) plan.slots.items
+
+-- the lines of each slot
+abbrev pub lines_in : List Gathered → List (List SeenLine)
+lines_in slots = map (λ c. c.lines) slots
+
+-- the slots once each of these lines is in the slot of its caller
+abbrev pub put_in : List (List SeenLine) → List (ℕ × List SeenLine) → List (List SeenLine)
+put_in t [] = t
+put_in t (x ∷ xs) = put_in (slice_set t x.0 x.1) xs
+
+-- each of these has a slot
+abbrev pub HaveSlots : ℕ → List (ℕ × List SeenLine) → Type 0
+HaveSlots n told = AllByRecursion (λ x. x.0 < n) told

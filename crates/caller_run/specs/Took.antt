@@ -1,0 +1,39 @@
+-- The line of a fork, in either way: with a thread for the child, or with the child run here.
+use Rattle.std.specs.Prelude.{◌≡◌, ℕ, List, [], ◌∷◌, ◌++◌, length}
+use Rattle.key_names.specs.declared.events.Event.TheVariants.{Fork}
+use Rattle.key_names.specs.declared.names.Mark.{Mark}
+use Rattle.key_names.specs.declared.names.Step.{Step}
+use Rattle.key_names.specs.declared.names.Step.TheVariants.{Visit as Marked}
+use Rattle.key_names.specs.Calls as calls
+use Rattle.key_names.specs.Deeds.{deeds_of}
+use Rattle.key_names.specs.Forms.{Form}
+use Rattle.lane_table.specs.declared.view.Visit.{Visit}
+use Rattle.lane_table.specs.declared.view.View.{View}
+use Rattle.lane_table.specs.BookLists.{StateLists, book_lists}
+use Rattle.lane_table.specs.BookLaws.{Continues}
+use Rattle.rng_core.specs.declared.setting.Setting.{Setting}
+use Rattle.rng_core.specs.Told.{Moment}
+use Rattle.caller_run.specs.Doings.{Doing, items_of}
+use Rattle.caller_run.specs.Items.{items_from}
+use Rattle.caller_run.specs.Ran.{RanBy}
+
+-- from m to n the caller took these steps of one line, and its pass was split so often
+pub record Tells (set : Setting) (splits : ℕ) (m n : Moment) (steps : List Step) : Type 0 where
+  pub trace : n.steps ≡ m.steps ++ steps
+  pub doings : List Doing
+  pub ran : RanBy set.caller splits m.view n.view doings
+  pub order : items_of doings ≡ items_from set.event (length m.steps) steps
+
+abbrev pub since : View → List Step → Moment
+since view steps = record { view = view; steps = steps }
+
+-- from v to w the caller took these steps, in a line that forks this number; the first of them is the visit that tells of
+-- it, behind which its pass knew u
+pub record Took (set : Setting) (child : ℕ) (v u w : View) (steps : List Step) : Type 0 where
+  pub mark : Mark
+  pub rest : List Step
+  pub steps_are : steps ≡ Marked mark ∷ rest
+  pub first : Tells set 0 (since v []) (since u (Marked mark ∷ [])) (Marked mark ∷ [])
+  pub behind : Tells set 1 (since u (Marked mark ∷ [])) (since w steps) rest
+  pub form : (lanes : ℕ) (visits : ℕ → List Visit) (callers : StateLists) → Continues lanes w visits →
+      (set : calls.Setting) → Form set (Fork child) (deeds_of (book_lists lanes visits callers) steps)

@@ -1,0 +1,228 @@
+-- What the run of a caller asks, and what it tells of itself and of all that it forks.
+use Rattle.std.specs.Prelude.{replicate, ◌≡◌, ℕ, ◌+◌, ◌<◌, ◌≤◌, ◌^◌, List, [], ◌∷◌, ◌++◌, length, map, sum_by, All, vec_len, vec_capacity}
+use Rattle.std.specs.List.{AllByRecursion}
+use Rattle.std.specs.Global.{Vec as GlobalVec}
+use Rattle.key_names.specs.declared.events.Event.{Event}
+use Rattle.key_names.specs.declared.events.Event.TheVariants.{Fork}
+use Rattle.key_names.specs.declared.names.Step.{Step}
+use Rattle.key_names.specs.declared.entries.BaseEntry.TheVariants.{Stall, Unstall}
+use Rattle.key_names.specs.Book.{list_at}
+use Rattle.key_names.specs.Forms.{BaseOnly}
+use Rattle.key_names.specs.ScriptGrammar.{Script, WellFormed, IsForkAbove}
+use Rattle.key_names.specs.SeenLine.{SeenLine}
+use Rattle.key_names.specs.TranscriptGrammar.{StepFits}
+use Rattle.lane_table.specs.declared.lanes.Lanes.{Lanes}
+use Rattle.lane_table.specs.declared.lanes.Pass.{Pass}
+use Rattle.lane_table.specs.declared.view.View.{View}
+use Rattle.lane_table.specs.Calls.{view}
+use Rattle.lane_table.specs.Hands.{Has}
+use Rattle.lane_table.specs.Meaning.{replay}
+use Rattle.lane_table.specs.Steps.{halved, child as split_off}
+use Rattle.lane_table.specs.WorldRule.{at, known_of}
+use Rattle.lane_table.specs.Went.{floor}
+use Rattle.rng_core.specs.declared.setting.Setting.{Setting}
+use Rattle.rng_core.specs.Did.{Did, setting_of}
+use Rattle.rng_core.specs.Forks as cuts
+use Rattle.rng_core.specs.Told.{Moment, moment}
+use Rattle.caller_run.specs.declared.caller.Caller.{Caller}
+use Rattle.caller_run.specs.declared.rooms.Room.{Room}
+use Rattle.caller_run.specs.declared.rooms.Sheet.{Sheet}
+use Rattle.caller_run.specs.declared.ways.Way.{Way}
+use Rattle.caller_run.specs.Calling.{stand}
+use Rattle.caller_run.specs.Families.{SameHalves, RanOn, RanSo}
+use Rattle.caller_run.specs.Forest.{forks}
+use Rattle.caller_run.specs.Grove.{Grove, cleared, planted, Plot, grove_of, tree, told_in, told_by}
+use Rattle.caller_run.specs.Laws.{Run, RanAll, LawfulRuns, lines_of_all}
+use Rattle.caller_run.specs.Plots.{plot}
+use Rattle.caller_run.specs.Says.{most_shown}
+use Rattle.caller_run.specs.Standing.{Start, CanGo, HasGone, HasEnded, waiting_in, read_inside}
+use Rattle.caller_run.specs.Took.{Took}
+
+-- room for these events, with nothing in it
+pub record IsNewSheet (s : Sheet) (events : List Event) : Type 0 where
+  pub lines : s.log.lines.lines ≡ []
+  pub line_room : s.log.lines.line_room ≡ length events + 1
+  pub byte_room : s.log.lines.byte_room ≡ sum_by most_shown events
+  pub acts : s.log.acts.items ≡ []
+  pub act_room : 8 ≤ vec_capacity s.log.acts
+  pub longest : All (λ event. most_shown event ≤ vec_len s.served) events
+  pub inside_is : vec_len s.inside ≡ sum_by read_inside events
+
+module _ (callers : List (List Event)) where
+  -- new sheets of callers that are forked in this order, with those of all that they fork
+  abbrev pub ArePrepared : Grove → List ℕ → Type 0
+  ArePrepared cleared [] = Unit {0}
+  ArePrepared cleared (x ∷ xs) = ⊥
+  ArePrepared (planted c s ks rest) [] = ⊥
+  ArePrepared (planted c s ks rest) (x ∷ xs) =
+      (c ≡ x) × (c < length callers) × IsNewSheet s (list_at callers c) × ArePrepared ks (forks (list_at callers c))
+      × ArePrepared rest xs
+
+  -- a number that falls along the forks
+  abbrev pub load : Grove → ℕ
+  load cleared = 0
+  load (planted c s ks rest) = length (list_at callers c) + 4 + (load ks + load rest)
+
+-- the rooms of those that a caller on its way will fork
+abbrev pub kids_of : Way → Grove
+kids_of w = grove_of (map plot w.kids.items)
+
+-- where a child calls
+abbrev pub child_set : ℕ → Setting → Setting
+child_set child set = record set { caller = child; event = 0 }
+
+-- where caller 0 calls first
+abbrev pub root_set : Setting
+root_set = record { caller = 0; event = 0; cpu = 0; now = 0; hw = replicate 32 0 }
+
+-- a start with this setting, where the pass is so
+abbrev pub start_of : Setting → Pass → Start
+start_of set p = record { caller = set.caller; set = setting_of set; view = view p }
+
+-- a caller on its way can make these events
+abbrev pub CanGoIn : Lanes → Way → List Event → Type 0
+CanGoIn t w events = CanGo t w.caller w.sheet.log (vec_len w.sheet.served) (vec_len w.sheet.inside) events
+
+-- a caller on its way has made the events before these
+abbrev pub GoneIn : Start → List Event → List Event → Caller → Way → List Start → Type 0
+GoneIn begun events rest c w kids =
+    HasGone begun events rest c w.sheet.log.lines.lines (waiting_in w.sheet.log) kids
+
+-- each event that forks names a caller of a higher number
+abbrev pub AreAbove : ℕ → List Event → Type 0
+AreAbove c events = AllByRecursion (IsForkAbove c) events
+
+-- ---- what is asked
+
+-- a caller can run from its start: its pass holds nothing, and its room is new
+pub record CanRun (t : Lanes) (script : Script) (set : Setting) (p : Pass) (a : Plot) : Type 0 where
+  pub has : Has t set.caller [] p
+  pub cpu : set.cpu < t.cpus
+  pub now' : set.now < 2 ^ 40
+  pub none_yet : set.event ≡ 0
+  pub well : WellFormed script
+  pub cpus : t.cpus ≡ script.cpus
+  pub is : a.caller ≡ set.caller
+  pub there : a.caller < length script.callers
+  pub new : IsNewSheet a.sheet (list_at script.callers a.caller)
+  pub ready : ArePrepared script.callers a.kids (forks (list_at script.callers a.caller))
+
+-- a caller on its way can make these events, and the rooms of those that they fork are new
+pub record CanGoOn (t : Lanes) (script : Script) (events : List Event) (w : Way) : Type 0 where
+  pub can : CanGoIn t w events
+  pub well : WellFormed script
+  pub cpus : t.cpus ≡ script.cpus
+  pub ready : ArePrepared script.callers (kids_of w) (forks events)
+
+-- the line of a fork is still to be told
+pub record CanTell (t : Lanes) (script : Script) (child : ℕ) (rest : List Event) (w : Way) (steps : List Step)
+    : Type 0 where
+  pub can : CanGoIn t w (Fork child ∷ rest)
+  pub well : WellFormed script
+  pub cpus : t.cpus ≡ script.cpus
+  pub ready : ArePrepared script.callers (kids_of w) (forks rest)
+  pub long : length steps ≡ 1
+  pub fits : AllByRecursion StepFits steps
+
+-- ---- what is told
+
+-- the events up to a fork, or all
+pub record RanPlain (t : Lanes) (events : List Event) (x : Way) (rest : List Event) (y : Way) : Type 0 where
+  pub can : CanGoIn t y rest
+  pub gone : (begun : Start) (all : List Event) (kids : List Start) → GoneIn begun all events x.caller x kids →
+      GoneIn begun all rest y.caller y kids
+  pub forks' : forks events ≡ forks rest
+  pub above : (c : ℕ) → AreAbove c events → AreAbove c rest
+  pub short : length rest ≤ length events
+  pub kids : y.kids ≡ x.kids
+
+-- m made the visit of a fork, and is w now
+pub record AtFork (m w : Caller) (steps : List Step) (child : ℕ) (theirs : Pass) : Type 0 where
+  pub set : w.set ≡ m.set
+  pub states : w.states ≡ m.states
+  pub forked : cuts.Forked m.set (moment m.pass []) steps child w.pass theirs
+
+-- a child ran between two more visits
+pub record RanHere (set : Setting) (m n : Moment) : Type 0 where
+  pub middle : Moment
+  pub stall : Did (BaseOnly Stall) set m middle
+  pub unstall : Did (BaseOnly Unstall) set middle n
+
+-- m took the steps of a fork, and is d now
+pub record TookFrom (m d : Caller) (child : ℕ) (u : View) (steps : List Step) : Type 0 where
+  pub set : d.set ≡ m.set
+  pub states : d.states ≡ m.states
+  pub took : Took m.set child (view m.pass) u (view d.pass) steps
+
+-- the start of a child that m forks where its pass knows u
+abbrev pub kid_of : Caller → ℕ → View → Start
+kid_of m child u = record { caller = child; set = (stand m).setting; view = split_off u }
+
+-- the lines of a caller, with its number
+abbrev pub numbered : Run → ℕ × List SeenLine
+numbered r = (r.begun.caller, r.lines)
+
+-- from its start a caller ran, and all that it forked
+pub record Returned (t : Lanes) (script : Script) (begun : Start) (a : Plot) (q : Pass) (b : Plot) : Type 0 where
+  pub has : Has t begun.caller [] q
+  pub own : Run
+  pub runs : List Run
+  pub ran : RanSo script begun (view q) own runs
+  pub told : told_by b ≡ map numbered (own ∷ runs)
+  pub caller : b.caller ≡ a.caller
+  pub shape : tree b.kids ≡ tree a.kids
+
+-- a caller that began so went from v to its end, and y is behind its joins
+pub record WentFrom (script : Script) (begun : Start) (events : List Event) (kids : List Start) (v : View) (y : Way)
+    : Type 0 where
+  pub own : y.caller.set.caller ≡ begun.caller
+  pub end : View
+  pub starts : List Start
+  pub runs : List Run
+  pub ran : RanOn script v end (view y.caller.pass) starts runs
+  pub ended : HasEnded begun events end y.sheet.log.lines.lines (kids ++ starts)
+  pub seen : floor end ≤ (replay (known_of end 1)).base.generation
+  pub told : told_in (kids_of y) ≡ map numbered runs
+
+-- the rooms of the children are as they were, but for what was filled
+pub record SameKids (ks ks' : GlobalVec Room) : Type 0 where
+  pub shape : tree (grove_of (map plot ks'.items)) ≡ tree (grove_of (map plot ks.items))
+  pub many : vec_len ks' ≡ vec_len ks
+  pub space : vec_capacity ks' ≡ vec_capacity ks
+
+-- a caller on its way made these events, ended, and joined all that it forked
+pub record WentOn (t : Lanes) (script : Script) (rest : List Event) (x y : Way) : Type 0 where
+  pub has : Has t y.caller.set.caller [] y.caller.pass
+  pub same : SameKids x.kids y.kids
+  pub goes : (begun : Start) (events : List Event) (kids : List Start) → AreAbove begun.caller rest →
+      GoneIn begun events rest x.caller x kids → WentFrom script begun events kids (view x.caller.pass) y
+
+-- the same from a fork on, behind whose first visit the pass knew u
+pub record Past (script : Script) (begun : Start) (events : List Event) (kids : List Start) (u : View) (kid : Start)
+    (y : Way) : Type 0 where
+  pub behind : View
+  pub after : SameHalves (halved u) behind
+  pub went : WentFrom script begun events (kids ++ kid ∷ []) behind y
+
+-- a child ran beside its parent, which went on
+pub record WentBeside (t : Lanes) (script : Script) (child : ℕ) (rest : List Event) (w : Way) (steps : List Step)
+    (theirs : Pass) (a : Plot) (y : Way) (q : Pass) (b : Plot) : Type 0 where
+  pub has : Has t y.caller.set.caller [] y.caller.pass
+  pub same : SameKids w.kids y.kids
+  pub of_child : Returned t script (start_of (child_set child w.caller.set) theirs) a q b
+  pub goes : (begun : Start) (events : List Event) (kids : List Start) (m : Caller)
+      (at : AtFork m w.caller steps child theirs) → begun.caller < child → AreAbove begun.caller rest →
+      GoneIn begun events (Fork child ∷ rest) m w kids →
+      Past script begun events kids at.forked.before (kid_of m child at.forked.before) y
+
+-- all callers of a script ran, and these are their lines
+pub record WholeRan (script : Script) (lines : List (List SeenLine)) (w : View) : Type 0 where
+  pub runs : List Run
+  pub ran : RanAll script runs w
+  pub told : lines ≡ lines_of_all runs
+  pub lawful : LawfulRuns script lines w
+
+-- where a pass has done nothing
+pub record IsFirst (v : View) : Type 0 where
+  pub places : (lane : ℕ) → (at lane v).places ≡ []
+  pub made : (lane : ℕ) → (at lane v).made ≡ 0

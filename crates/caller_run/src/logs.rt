@@ -1,0 +1,103 @@
+//! A caller's lines, the acts that wait for its next `vread`, and how much room both need.
+ghost use Rattle.std.specs.Prelude.{◌≡◌, ◌+◌, ◌≤◌, [], All, IfOk, length, sum_by, vec_capacity, vec_len};
+ghost use Rattle.caller_run.specs.Says.{most_shown};
+ghost use Rattle.caller_run.specs.Standing.{read_inside};
+ghost use Rattle.rng_core.specs.Acts.{wants};
+
+use event_script::reads::bytes_read;
+use key_names::{Event, InsideAct};
+use rng_core::Bound;
+use std::alloc::{AllocError, Global};
+use transcript_text::CallerLines;
+
+/// How many acts wait for a `vread` at most.
+const MOST_ACTS: usize = 8;
+
+/// A caller's lines, and the acts that wait for its next `vread`.
+#[derive(Drop)]
+pub(crate) struct Log {
+    pub(crate) lines: CallerLines,
+    pub(crate) acts: Vec<Bound>,
+}
+
+/// How many bytes the line of an event shows at most.
+pub(crate) fn most_shown(event: &Event) -> u32
+    ensures { result ≡ most_shown event.now }
+{
+    match event {
+        Event::Int8 => 1,
+        Event::Int16 => 2,
+        Event::Int32 => 4,
+        Event::Int64 => 8,
+        _ => bytes_read(event),
+    }
+}
+
+/// The most bytes that the line of one of the events shows.
+pub(crate) fn longest_shown(events: &[Event]) -> u32
+    ensures { All (λ event. most_shown event ≤ result) events.now }
+{
+    let mut most = 0;
+    for event in events {
+        most = most.max(most_shown(event));
+    }
+    most
+}
+
+// How many bytes the lines of the events show together at most.
+fn all_shown(events: &[Event]) -> u64
+    requires { length events.now ≤ 65536 }
+    ensures { result ≡ sum_by most_shown events.now }
+{
+    let mut sum = 0;
+    for event in events {
+        sum += u64::from(most_shown(event));
+    }
+    sum
+}
+
+// How many bytes an event reads inside a vread.
+fn read_inside(event: &Event) -> u32
+    ensures { result ≡ read_inside event.now }
+{
+    match event {
+        Event::Inside {
+            act: InsideAct::Vread(len),
+            ..
+        } => *len,
+        _ => 0,
+    }
+}
+
+/// How many bytes the events read inside vreads.
+pub(crate) fn all_inside(events: &[Event]) -> u64
+    requires { length events.now ≤ 65536 }
+    ensures { result ≡ sum_by read_inside events.now }
+{
+    let mut sum = 0;
+    for event in events {
+        sum += u64::from(read_inside(event));
+    }
+    sum
+}
+
+impl Log {
+    /// A log with room for what these events leave, and for a last line.
+    ///
+    /// # Errors
+    ///
+    /// `AllocError` where there is no memory for it.
+    pub(crate) fn for_events(alloc: Global, events: &[Event]) -> Result<Log, AllocError>
+        requires { length events.now ≤ 65536 }
+        ensures lines { IfOk result (λ log. log.lines.lines ≡ []) }
+        ensures line_room { IfOk result (λ log. log.lines.line_room ≡ length events.now + 1) }
+        ensures byte_room { IfOk result (λ log. log.lines.byte_room ≡ sum_by most_shown events.now) }
+        ensures acts { IfOk result (λ log. log.acts.items ≡ []) }
+        ensures act_room { IfOk result (λ log. 8 ≤ vec_capacity log.acts) }
+    {
+        Ok(Log {
+            lines: CallerLines::with_room(alloc, events.len() + 1, all_shown(events) as usize)?,
+            acts: Vec::with_capacity(alloc, MOST_ACTS)?,
+        })
+    }
+}

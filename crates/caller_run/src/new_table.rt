@@ -1,0 +1,52 @@
+//! A whole run, from a new table to its transcript.
+ghost use Rattle.std.specs.Prelude.{IfOk};
+ghost use Rattle.key_names.specs.ScriptGrammar.{WellFormed};
+ghost use Rattle.lane_table.specs.declared.view.View.{View};
+ghost use Rattle.caller_run.specs.Laws.{LawfulRuns};
+
+use crate::children::Children;
+use crate::plans::Plan;
+use crate::run::run_plan;
+use event_script::Script;
+use io_edges::Gate;
+use lane_table::Lanes;
+use std::alloc::{AllocError, Global};
+use std::sync::Wait;
+use std::thread::Threads;
+use transcript_text::Transcript;
+
+/// Runs all callers of a script on a new table. Stamps count from 1. All memory is taken before the first event, but for
+/// threads.
+///
+/// # Errors
+///
+/// `AllocError` where there is no memory for the plan or the table. Nothing ran then.
+pub fn run_on_new_table<R: Threads + Wait + Sync, G: Gate>(
+    rt: &R,
+    alloc: Global,
+    script: &Script,
+    gate: &G,
+) -> Result<Transcript, AllocError>
+    requires { WellFormed script.now }
+    ensures { IfOk result (λ transcript. (w : View) × LawfulRuns script.now transcript w) }
+{
+    run_new(rt, alloc, script, gate, Children::InThreads)
+}
+
+/// The same, where the children run so.
+pub(crate) fn run_new<R: Threads + Wait + Sync, G: Gate>(
+    rt: &R,
+    alloc: Global,
+    script: &Script,
+    gate: &G,
+    children: Children,
+) -> Result<Transcript, AllocError>
+    requires { WellFormed script.now }
+    ensures { IfOk result (λ transcript. (w : View) × LawfulRuns script.now transcript w) }
+{
+    let plan = Plan::make(alloc, script)?;
+    let (lanes, pass) = Lanes::start(alloc, script.cpus(), 0)?;
+    let (pass, transcript) = run_plan(rt, &lanes, pass, script, plan, gate, children);
+    let _visits = lanes.close(pass);
+    Ok(transcript)
+}

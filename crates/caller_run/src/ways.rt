@@ -1,0 +1,140 @@
+//! Callers on their way, from fork to fork.
+ghost use Rattle.std.specs.Prelude.{◌≡◌, ℕ, ◌+◌, ◌<◌, ◌≤◌, ◌++◌, [], ◌∷◌, List, length, map, replicate, MatchOption, vec_len, vec_capacity};
+ghost use Rattle.std.specs.List.{AllByRecursion};
+ghost use Rattle.key_names.specs.declared.events.Event.{Event};
+ghost use Rattle.key_names.specs.declared.events.Event.TheVariants.{Fork};
+ghost use Rattle.key_names.specs.ScriptGrammar.{WellFormed};
+ghost use Rattle.key_names.specs.TranscriptGrammar.{StepFits};
+ghost use Rattle.key_names.specs.VgetrandomState.{wiped_state};
+ghost use Rattle.lane_table.specs.declared.lanes.Lanes.{Lanes};
+ghost use Rattle.lane_table.specs.declared.view.View.{View};
+ghost use Rattle.lane_table.specs.Calls.{view};
+ghost use Rattle.lane_table.specs.Hands.{Has, model};
+ghost use Rattle.lane_table.specs.Went.{floor};
+ghost use Rattle.caller_run.specs.declared.caller.Caller.{Caller};
+ghost use Rattle.caller_run.specs.Forest.{forks};
+ghost use Rattle.caller_run.specs.Grove.{grove_of, plant};
+ghost use Rattle.caller_run.specs.Plots.{plot};
+ghost use Rattle.caller_run.specs.Standing.{Start, HasEnded};
+ghost use Rattle.caller_run.specs.Ways.{ArePrepared, AtFork, CanGoIn, CanRun, CanTell, GoneIn, RanPlain, TookFrom, child_set, kid_of, kids_of};
+
+use crate::caller::Caller;
+use crate::rooms::{Room, Sheet};
+use crate::said::Said;
+use crate::states::States;
+use event_script::Script;
+use io_edges::Gate;
+use key_names::{Answer, Event, Trace, Word};
+use lane_table::{Lanes, Pass};
+use rng_core::{Setting, fork};
+use std::sync::Wait;
+
+/// A caller on its way, with what it fills.
+#[derive(Drop)]
+pub(crate) struct Way {
+    pub(crate) caller: Caller,
+    pub(crate) sheet: Sheet,
+    pub(crate) kids: Vec<Room>,
+}
+
+impl Way {
+    /// A caller at its start, with wiped states.
+    pub(crate) fn starting(pass: Pass, set: Setting, sheet: Sheet, kids: Vec<Room>) -> Way
+        ensures caller { result.caller ≡ record {
+          pass = pass;
+          set = set;
+          states = record { all = replicate 16 wiped_state; current = 0 };
+        } }
+        ensures rest { (result.sheet ≡ sheet) × (result.kids ≡ kids) }
+    {
+        Way {
+            caller: Caller {
+                pass,
+                set,
+                states: States::wiped(),
+            },
+            sheet,
+            kids,
+        }
+    }
+
+    /// Goes through the events up to the next fork, and answers the child and the events behind the fork.
+    pub(crate) fn run_plain<'a, R: Wait, G: Gate>(
+        &mut self,
+        rt: &R,
+        lanes: &Lanes,
+        events: &'a [Event],
+        gate: &G,
+    ) -> Option<(u32, &'a [Event])>
+        requires { CanGoIn lanes.now self.old events.now }
+        ensures { MatchOption result (RanPlain lanes.now events.now self.old [] self.new)
+            (λ r. RanPlain lanes.now events.now self.old (Fork r.0 ∷ r.1.now) self.new) }
+    {
+        let mut rest = events;
+        while let Some((event, tail)) = rest.split_first() {
+            gate.before(rt, self.caller.set.caller, self.caller.set.event);
+            if let Event::Fork { child } = event {
+                return Some((*child, tail));
+            }
+            self.caller.step(
+                rt,
+                lanes,
+                &mut self.sheet.log,
+                &mut self.sheet.served,
+                &mut self.sheet.inside,
+                event,
+            );
+            rest = tail;
+        }
+        None
+    }
+
+    /// The visit of a fork, and then the pass and the room of the child.
+    pub(crate) fn begin_fork<R: Wait>(
+        &mut self,
+        rt: &R,
+        lanes: &Lanes,
+        _script: &Script,
+        trace: &mut Trace,
+        child: u32,
+        _rest: &[Event],
+    ) -> (Pass, Room)
+        requires can { CanGoIn lanes.now self.old (Fork child ∷ _rest.now) }
+        requires well { WellFormed _script.now × (lanes.now.cpus ≡ _script.now.cpus) }
+        requires kids { ArePrepared _script.now.callers (kids_of self.old) (child ∷ forks _rest.now) }
+        requires new { trace.old ≡ [] }
+        ensures child { CanRun lanes.now _script.now (child_set child self.new.caller.set) result.0 (plot result.1) }
+        ensures parent { CanTell lanes.now _script.now child _rest.now self.new trace.new }
+        ensures at { AtFork self.old.caller self.new.caller trace.new child result.0 }
+        ensures sheet { self.new.sheet ≡ self.old.sheet }
+        ensures tree { kids_of self.old ≡ plant (plot result.1) (kids_of self.new) }
+        ensures space { (vec_len self.new.kids + 1 ≡ vec_len self.old.kids)
+            × (vec_capacity self.new.kids ≡ vec_capacity self.old.kids) }
+    {
+        let Some(kid) = self.kids.pop() else {
+            unreachable!()
+        };
+        let caller = &mut self.caller;
+        let theirs = fork(rt, lanes, &mut caller.pass, trace, &caller.set, child);
+        (theirs, kid)
+    }
+
+    /// The line of a fork.
+    pub(crate) fn tell_fork(&mut self, trace: Trace, child: u32)
+        requires can { (t : Lanes) × (rest : List Event) × CanGoIn t self.old (Fork child ∷ rest) }
+        requires fits { AllByRecursion StepFits trace }
+        ensures can { (t : Lanes) (rest : List Event)
+            → CanGoIn t self.old (Fork child ∷ rest) → CanGoIn t self.new rest }
+        ensures pass { self.new.caller.pass ≡ self.old.caller.pass }
+        ensures kids { self.new.kids ≡ self.old.kids }
+        ensures gone { (begun : Start) (events rest : List Event) (kids : List Start) (m : Caller) (u : View)
+            → TookFrom m self.old.caller child u trace → begun.caller < child
+            → GoneIn begun events (Fork child ∷ rest) m self.old kids
+            → GoneIn begun events rest self.new.caller self.new (kids ++ kid_of m child u ∷ []) }
+    {
+        let done = Said::only(Answer::Ok);
+        self.caller
+            .tell(&mut self.sheet.log.lines, Word::Fork, done, trace, &[]);
+        self.caller.go_on(&Event::Fork { child });
+    }
+}

@@ -1,0 +1,7 @@
+use Rattle.std.proofs.Common.{rules, arith, ◌∙◌, subst, sym, ℕ}
+use Rattle.lane_table.specs.Calls.{Ended, view}
+use Rattle.lane_table.proofs.Looking.{settled}
+use Rattle.lane_table.proofs.lanes.Lanes.settle.Goals as goal
+
+pub load-generation-requires : goal.load-generation-requires
+load-generation-requires c = let p = c.requires.pass in (search rules, omega arith, settled _ _ _ _ (omega arith))
