@@ -1,0 +1,19 @@
+# Completion of rng for bash: `source completions/rng.bash`.
+# shellcheck shell=bash
+
+_rng() {
+    local word=${COMP_WORDS[COMP_CWORD]} at=$COMP_CWORD first=${COMP_WORDS[1]-}
+    COMPREPLY=()
+    if [[ $first = try ]]; then
+        at=$((at - 1))
+        first=${COMP_WORDS[2]-}
+    fi
+    if [[ $at -eq 1 && ${COMP_WORDS[1]} = try ]]; then
+        mapfile -t COMPREPLY < <(compgen -W 'run load' -- "$word")
+    elif [[ $at -eq 1 ]]; then
+        mapfile -t COMPREPLY < <(compgen -W 'run load try --help --version' -- "$word")
+    elif [[ ${COMP_WORDS[COMP_CWORD-1]} = '<' ]]; then
+        mapfile -t COMPREPLY < <(compgen -f -X '!*.script' -- "$word")
+    fi
+}
+complete -o default -F _rng rng ./rng
