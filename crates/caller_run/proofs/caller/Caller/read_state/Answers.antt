@@ -83,6 +83,8 @@ has_read g c =
           ∙ (λ i. told_anew c.args.log.now.lines.lines (asks_are i)
           (act_lines after.self.set (asks_are i) (outcomes_of (left_is i) after.inside))));
       line_room = c.tell.ensures.line_room ∙ c.tell_acts.ensures.line_room;
+      step_room = (let a = c.tell.ensures.step_room in let few = c.tell.ensures.few_steps in
+          let b = c.tell_acts.ensures.step_room in let many = ap length left_is in omega arith);
       byte_room = (let a = c.tell.ensures.byte_room in let b = c.tell_acts.ensures.byte_room in omega arith);
       none = c.clear.ensures.items;
     }
