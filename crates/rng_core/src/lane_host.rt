@@ -68,7 +68,7 @@ impl<'a, R> LaneHost<'a, R> {
         ensures trace { (result.trace.ghost_name ≡ trace.entry.ghost_name) × (result.trace.now ≡ trace.old) }
         ensures acts { (result.acts.ghost_name ≡ acts.entry.ghost_name) × (result.acts.now ≡ acts.old) }
         ensures out { (result.out.ghost_name ≡ out.entry.ghost_name) × (result.out.now ≡ out.old) }
-        ensures place { (result.lanes.now ≡ lanes.now) × (result.set.now ≡ set.now) }
+        ensures place { (result.lanes.now ≡ lanes.now) × (result.set.now ≡ set.entry.now) }
         ensures before { result.attempt ≡ Before }
         ensures looks { result.looks ≡ 5 }
         ensures calls { result.calls ≡ 3 }

@@ -11,7 +11,7 @@ use Rattle.vdso_state.specs.declared.place.Came.{Came}
 use Rattle.vdso_state.specs.declared.place.Came.TheVariants.{At, Ended}
 use Rattle.vdso_state.specs.Host.{Doings, DoesAll}
 use Rattle.vdso_state.specs.Call.{Finish}
-use Rattle.vdso_state.specs.Places.{FromPoint, IfOutdated, RestOf, BehindPlace, AtPlace, Climbs, Leads, Ends, CameTo}
+use Rattle.vdso_state.specs.Places.{FromPoint, IfOutdated, RestOf, BehindPlace, AtPlace, Climbs, Leads, Ends, CameTo, MayGoOn}
 
 climbs_below : (a b c : ℕ) (xs : List HostStep) → a ≤ b → Climbs b c xs → Climbs a c xs
 climbs_below a b c [] low h = omega arith
@@ -132,7 +132,7 @@ module _ {H : Type 0} (host : Doings H) (floor : H → ℕ) where
   }
 
   -- what happens at a point, and then the rest behind it
-  pub at_leads : (n flags : ℕ) (place : Place) (out : List ℕ) (s t : VgetrandomState) (wiped : Bool) (h next : H) →
+  abbrev pub at_leads : (n flags : ℕ) (place : Place) (out : List ℕ) (s t : VgetrandomState) (wiped : Bool) (h next : H) →
       t ≡ state_left wiped s → host.passes_as h place.point wiped next → floor h ≤ floor next →
       Leads host floor (AtPlace n flags place out s) (BehindPlace n flags place out t) h next
   at_leads n flags place out s t wiped h next is passes more =
@@ -149,3 +149,15 @@ module _ {H : Type 0} (host : Doings H) (floor : H → ℕ) where
             attempt) is r;
         attempt_is = refl;
       })
+
+-- a host goes on behind a point as it did before
+pub still_may : (place : Place) (looks calls floor looks_then calls_then floor_then : ℕ) →
+    MayGoOn place looks calls floor → looks_then ≡ looks → calls_then ≡ calls → floor ≤ floor_then →
+    MayGoOn place looks_then calls_then floor_then
+still_may place looks calls floor looks_then calls_then floor_then may same_looks same_calls more = record {
+  looks_are = let k = may.looks_are in omega arith;
+  calls_are = let k = may.calls_are in omega arith;
+  ready = may.ready;
+  known = let k = may.known in omega arith;
+  near = may.near;
+}

@@ -15,7 +15,7 @@ use Rattle.vdso_state.specs.declared.place.Came.{Came}
 use Rattle.vdso_state.specs.declared.place.Came.TheVariants.{At, Ended}
 use Rattle.vdso_state.specs.Host.{Doings, DoesAll}
 use Rattle.vdso_state.specs.Call.{Runs, Finish}
-use Rattle.vdso_state.specs.Turns.{looks_for, calls_for, points_for, copies_by}
+use Rattle.vdso_state.specs.Turns.{looks_for, calls_for, points_for, copies_by, turns_before}
 
 -- the rest of an attempt behind a point, c being the next block, published the generation that the attempt began with,
 -- and out what was copied
@@ -75,15 +75,22 @@ module _ {H : Type 0} (host : Doings H) (floor : H → ℕ) where
   CameTo From n flags (Ended result) h last s buf =
       (ends : Ends From h last (record { state = s; result = result; buf = buf })) × (points_of ends.runs.steps ≡ [])
 
--- a host with these looks and system calls left serves what is ahead, and the key has blocks enough
-pub record MayGoOn (at : Place) (looks calls : ℕ) : Type 0 where
+-- a host with these looks and system calls left and this floor serves what is ahead, and the key has blocks enough
+pub record MayGoOn (at : Place) (looks calls floor : ℕ) : Type 0 where
   pub looks_are : looks_for at.turn ≤ looks
   pub calls_are : calls_for at.turn at.point ≤ calls
+  pub ready : 1 ≤ at.published
+  pub known : at.published ≤ floor
   pub near : at.next_block ≤ copies_by at.turn at.point * (2 ^ 14 + 2)
 
-abbrev pub MayFinish : Came → ℕ → ℕ → Type 0
-MayFinish (At place) looks calls = MayGoOn place looks calls
-MayFinish (Ended result) looks calls = Unit {0}
+-- so it does where a call came, and these attempts began before
+pub record GoesOn (at : Place) (turns looks calls floor : ℕ) : Type 0 where
+  pub may : MayGoOn at looks calls floor
+  pub turns_are : turns_before at.turn at.point ≡ turns
+
+abbrev pub MayFinish : Came → ℕ → ℕ → ℕ → ℕ → Type 0
+MayFinish (At place) turns looks calls floor = GoesOn place turns looks calls floor
+MayFinish (Ended result) turns looks calls floor = Unit {0}
 
 -- how many points may still come
 abbrev pub points_ahead : Came → ℕ

@@ -42,3 +42,19 @@ copies_by Second Start = 1
 copies_by Second Written = 1
 copies_by Second Serve = 1
 copies_by Second End = 2
+
+-- the attempts in order
+abbrev pub turn_number : Turn → ℕ
+turn_number First = 1
+turn_number Second = 2
+
+-- how many attempts began before the point
+abbrev pub turns_before : Turn → Point → ℕ
+turns_before First Start = 0
+turns_before First Written = 1
+turns_before First Serve = 1
+turns_before First End = 1
+turns_before Second Start = 1
+turns_before Second Written = 2
+turns_before Second Serve = 2
+turns_before Second End = 2

@@ -5,7 +5,7 @@ ghost use Rattle.key_names.specs.declared.point.Point.TheVariants.{Written, Serv
 ghost use Rattle.key_names.specs.BatchCopy.{copy_bytes, state_after_copy, block_after_copy};
 ghost use Rattle.key_names.specs.Vgetrandom.{SystemAnswer, BySystem, FromWritten, FromEnd, state_after_call};
 ghost use Rattle.vdso_state.specs.Host.{KeyIsRead, doings};
-ghost use Rattle.vdso_state.specs.Turns.{points_for};
+ghost use Rattle.vdso_state.specs.Turns.{points_for, turn_number};
 ghost use Rattle.vdso_state.specs.Places.{RestOf, BehindPlace, Ends, CameTo, MayGoOn, MayFinish, points_ahead};
 
 use crate::host::VHost;
@@ -102,12 +102,13 @@ fn behind_written<H: VHost>(
     flags: u32,
 ) -> Came
     requires point { place.point ≡ Written }
-    requires may { MayGoOn place (H.looks_left host.old) (H.calls_left host.old) }
+    requires may { MayGoOn place (H.looks_left host.old) (H.calls_left host.old) (H.floor host.old) }
     requires short { length buf.old ≤ 2 ^ 20 }
     ensures came { CameTo (doings H.publishes H.answers H.passes) H.floor
         (RestOf place.turn (length buf.old) flags (FromWritten (length buf.old) place.next_block st.old))
         (length buf.old) flags result host.old host.new st.new buf.new }
-    ensures may { MayFinish result (H.looks_left host.new) (H.calls_left host.new) }
+    ensures may { MayFinish result (turn_number place.turn)
+        (H.looks_left host.new) (H.calls_left host.new) (H.floor host.new) }
     ensures ahead { points_ahead result < points_for place.turn place.point }
 {
     match read_key(host, st) {
@@ -146,12 +147,13 @@ fn behind_end<H: VHost>(
     flags: u32,
 ) -> Came
     requires point { place.point ≡ End }
-    requires may { MayGoOn place (H.looks_left host.old) (H.calls_left host.old) }
+    requires may { MayGoOn place (H.looks_left host.old) (H.calls_left host.old) (H.floor host.old) }
     requires short { length buf.old ≤ 2 ^ 20 }
     ensures came { CameTo (doings H.publishes H.answers H.passes) H.floor
         (RestOf place.turn (length buf.old) flags (FromEnd buf.old place.next_block st.old))
         (length buf.old) flags result host.old host.new st.new buf.new }
-    ensures may { MayFinish result (H.looks_left host.new) (H.calls_left host.new) }
+    ensures may { MayFinish result (turn_number place.turn)
+        (H.looks_left host.new) (H.calls_left host.new) (H.floor host.new) }
     ensures ahead { points_ahead result < points_for place.turn place.point }
 {
     let published = host.published();
@@ -178,12 +180,13 @@ pub fn behind<H: VHost>(
     buf: &mut [u8],
     flags: u32,
 ) -> Came
-    requires may { MayGoOn place (H.looks_left host.old) (H.calls_left host.old) }
+    requires may { MayGoOn place (H.looks_left host.old) (H.calls_left host.old) (H.floor host.old) }
     requires short { length buf.old ≤ 2 ^ 20 }
     ensures came { CameTo (doings H.publishes H.answers H.passes) H.floor
         (BehindPlace (length buf.old) flags place buf.old st.old)
         (length buf.old) flags result host.old host.new st.new buf.new }
-    ensures may { MayFinish result (H.looks_left host.new) (H.calls_left host.new) }
+    ensures may { MayFinish result (turn_number place.turn)
+        (H.looks_left host.new) (H.calls_left host.new) (H.floor host.new) }
     ensures ahead { points_ahead result < points_for place.turn place.point }
 {
     match place.point {

@@ -3,7 +3,6 @@
 ghost use Rattle.std.specs.Prelude.{◌≡◌, ◌^◌, ◌≤◌, length};
 ghost use Rattle.key_names.specs.Vgetrandom.{IsCall};
 ghost use Rattle.vdso_state.specs.Host.{doings};
-ghost use Rattle.vdso_state.specs.Call.{Runs};
 ghost use Rattle.vdso_state.specs.Places.{BehindPlace, Ends, CameTo, MayGoOn, MayFinish};
 
 use crate::attempt::{ask_system, behind};
@@ -22,7 +21,7 @@ pub fn begin<H: VHost>(host: &mut H, st: &mut VState, buf: &mut [u8], flags: u32
     requires short { length buf.old ≤ 2 ^ 20 }
     ensures came { CameTo (doings H.publishes H.answers H.passes) H.floor (IsCall (length buf.old) flags st.old)
         (length buf.old) flags result host.old host.new st.new buf.new }
-    ensures may { MayFinish result (H.looks_left host.new) (H.calls_left host.new) }
+    ensures may { MayFinish result 0 (H.looks_left host.new) (H.calls_left host.new) (H.floor host.new) }
 {
     if flags::are_bad(flags) {
         return Came::Ended(ask_system(host, st, buf, flags));
@@ -59,7 +58,7 @@ pub fn finish<H: VHost>(
     buf: &mut [u8],
     flags: u32,
 ) -> Result<VEnd, Errno>
-    requires may { MayGoOn place (H.looks_left host.old) (H.calls_left host.old) }
+    requires may { MayGoOn place (H.looks_left host.old) (H.calls_left host.old) (H.floor host.old) }
     requires short { length buf.old ≤ 2 ^ 20 }
     ensures { Ends (doings H.publishes H.answers H.passes) H.floor
         (BehindPlace (length buf.old) flags place buf.old st.old)
@@ -95,7 +94,7 @@ pub fn vgetrandom<H: VHost>(
     requires looks { 5 ≤ H.looks_left host.old }
     requires calls { 3 ≤ H.calls_left host.old }
     requires short { length buf.old ≤ 2 ^ 20 }
-    ensures { Runs (doings H.publishes H.answers H.passes) (IsCall (length buf.old) flags st.old)
+    ensures { Ends (doings H.publishes H.answers H.passes) H.floor (IsCall (length buf.old) flags st.old)
         host.old host.new (record { state = st.new; result = result; buf = buf.new }) }
 {
     match begin(host, st, buf, flags) {

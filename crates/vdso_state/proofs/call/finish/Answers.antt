@@ -1,7 +1,7 @@
 use Rattle.std.proofs.Common.{◌≡◌, ℕ, length, subst, arith}
 use Rattle.vdso_state.specs.Host.{doings}
 use Rattle.vdso_state.specs.Places.{BehindPlace, AtPlace, Leads, Ends}
-use Rattle.vdso_state.proofs.Leading.{stays, then_leads, then_ends, at_leads}
+use Rattle.vdso_state.proofs.Leading.{stays, then_leads, then_ends, at_leads, still_may}
 use Rattle.vdso_state.proofs.call.finish.Goals as goal
 
 pub loop-result-init : goal.loop-result-init
@@ -40,5 +40,5 @@ loop-result-preserved g c =
     record {
       leads = then_leads host g.H.VHost.floor _ _ _ _ l.invariant.leads _ _
           (then_leads host g.H.VHost.floor _ _ _ _ moved _ _ passed);
-      may = rw (c.at.ensures.looks, c.at.ensures.calls) c.in-At.ensures.may;
+      may = still_may next _ _ _ _ _ _ c.in-At.ensures.may.may c.at.ensures.looks c.at.ensures.calls c.at.ensures.floor;
     }

@@ -9,7 +9,7 @@ invariant-loop-result g l = record {
   leads : Leads (doings g.H.VHost.publishes g.H.VHost.answers g.H.VHost.passes) g.H.VHost.floor
       (BehindPlace (length l.initial.buf) l.flags l.initial.at l.initial.buf l.initial.st)
       (BehindPlace (length l.initial.buf) l.flags l.at l.buf l.st) l.initial.host l.host;
-  may : MayGoOn l.at (g.H.VHost.looks_left l.host) (g.H.VHost.calls_left l.host);
+  may : MayGoOn l.at (g.H.VHost.looks_left l.host) (g.H.VHost.calls_left l.host) (g.H.VHost.floor l.host);
 }
 
 abbrev pub decreases-loop-result : goal.decreases-loop-result

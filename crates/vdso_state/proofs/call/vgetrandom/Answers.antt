@@ -1,7 +1,7 @@
 use Rattle.std.proofs.Common.{◌≡◌, ℕ, length, subst, arith}
 use Rattle.vdso_state.specs.Host.{doings}
 use Rattle.vdso_state.specs.Places.{BehindPlace, Ends}
-use Rattle.vdso_state.proofs.Leading.{then_leads, then_ends, at_leads}
+use Rattle.vdso_state.proofs.Leading.{then_leads, then_ends, at_leads, still_may}
 use Rattle.vdso_state.proofs.call.vgetrandom.Goals as goal
 
 pub returns-in-At : goal.returns-in-At
@@ -18,5 +18,9 @@ returns-in-At g c =
     c.at.new.self c.finish.new.host
     (record { state = c.finish.new.st; result = c.finish.result; buf = c.finish.new.buf })) same
     c.finish.ensures in
-    (then_ends host g.H.VHost.floor _ _ _ _
-    (then_leads host g.H.VHost.floor _ _ _ _ c.in-At.ensures.came.0 _ _ passed) _ _ ends).runs
+    then_ends host g.H.VHost.floor _ _ _ _
+    (then_leads host g.H.VHost.floor _ _ _ _ c.in-At.ensures.came.0 _ _ passed) _ _ ends
+
+pub finish-requires-clause-may : goal.finish-requires-clause-may
+finish-requires-clause-may g c = still_may c.in-At.place _ _ _ _ _ _ c.in-At.ensures.may.may c.at.ensures.looks
+    c.at.ensures.calls c.at.ensures.floor
