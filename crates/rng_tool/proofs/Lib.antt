@@ -1,4 +1,4 @@
 pub mod Inputs
 pub mod Runs
 pub mod ShownBytes
-pub mod LoadWords
+pub mod NumberWords

@@ -1,3 +1,4 @@
 pub mod Refusal
 pub mod Outcome
 pub mod LoadOutcome
+pub mod Commands

@@ -8,7 +8,7 @@ use Rattle.key_names.specs.SeenLine.{SeenLine, bytes_shown}
 use Rattle.key_names.specs.Spelling.{lined, spaced}
 use Rattle.key_names.specs.TranscriptGrammar.{all_lines}
 use Rattle.event_script.specs.LoadScript.{load_script}
-use Rattle.rng_tool.specs.Outcome.{IsRun, IsRunOf}
+use Rattle.rng_tool.specs.Outcome.{IsRunOf}
 use Rattle.rng_tool.specs.declared.load.Load.{Load}
 use Rattle.rng_tool.specs.declared.status.Status.{Status}
 use Rattle.rng_tool.specs.declared.status.Status.TheVariants.{Done, No, Usage, ReadFault, WriteFault, Refused, NoMemory}
@@ -28,11 +28,6 @@ pub record IsSmall (load : Load) : Type 0 where
 -- the words of a load
 abbrev pub IsLoad : {A : Type 0} → List (String A) → ℕ → ℕ → ℕ → Type 0
 IsLoad words start callers events = AskLoad (map string_bytes words) start callers events
-
--- the words are no form of the command line
-pub record IsNoForm {A : Type 0} (words : List (String A)) : Type 0 where
-  pub no_run : IsRun words → ⊥
-  pub no_load : (start callers events : ℕ) → IsLoad words start callers events → ⊥
 
 abbrev pub load_line : ℕ → ℕ → ℕ → List ℕ
 load_line callers events bytes =

@@ -4,14 +4,18 @@
 #[cfg(test)]
 mod caller_tests;
 mod callers;
+mod command;
 mod load;
+mod numbers;
 mod refusal;
 mod run;
+mod run_script;
 mod short_line;
 mod status;
 #[cfg(test)]
 mod tests;
 
+use crate::command::USAGE;
 use crate::run::run;
 use crate::status::Status;
 use io_edges::{OpenGate, StdSink, StdSource};
@@ -44,7 +48,7 @@ fn main(rt: HostRuntime) -> ExitCode {
         Err(status) => status,
     };
     if status == Status::Usage {
-        let _told = eprintln!(rt; "usage: rng run | rng load START CALLERS EVENTS");
+        let _told = eprintln!(rt; "{USAGE}");
     }
     ExitCode::from(status.code())
 }
