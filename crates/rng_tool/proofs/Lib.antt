@@ -2,3 +2,4 @@ pub mod Inputs
 pub mod Runs
 pub mod ShownBytes
 pub mod NumberWords
+pub mod Endings

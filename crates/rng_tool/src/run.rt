@@ -1,11 +1,12 @@
 //! The top call: the words of a command line in, its answer out.
-ghost use Rattle.std.specs.Prelude.{◌≡◌, ◌≢◌, ◌↔◌, ◌⊎◌, ℕ};
+ghost use Rattle.std.specs.Prelude.{◌≡◌, ◌≢◌, ◌↔◌, ◌⊎◌, [], ℕ};
 ghost use Rattle.io_edges.specs.Faults.{Rose};
 ghost use Rattle.rng_tool.specs.Commands.{IsNoForm, TakesInput};
 ghost use Rattle.rng_tool.specs.LoadOutcome.{IsLoad, LoadEnds};
-ghost use Rattle.rng_tool.specs.Outcome.{IsRun, WasCutShort, WasRefused, WasRun};
+ghost use Rattle.rng_tool.specs.Outcome.{IsRun, RunEnds};
 
 use crate::command::Command;
+use crate::ending::end_output;
 use crate::load::run_load;
 use crate::run_script::run_input;
 use crate::status::Status;
@@ -30,9 +31,12 @@ use std::thread::Threads;
 /// - `Usage`: exactly where the words are neither. Nothing is read or written.
 /// - `ReadFault`: the source failed. Nothing is written.
 /// - `Refused`: the input has a fault, and the line that tells the first was written.
-/// - `WriteFault`: the sink failed. What it got in this call is a prefix of the output.
+/// - `WriteFault`: the sink failed at a put, or at the flush behind the last. What it got in this call is a prefix of the
+///   output.
 /// - `NoMemory`: there was no memory, before the first caller started. Nothing is written.
 /// - `Done`: the input of `run` was read to its end, and the whole output was written.
+///
+/// Where the output was written whole, the sink keeps nothing of it back.
 pub fn run<R: Threads + Wait + Sync, S: Source, K: Sink, G: Gate>(
     rt: &R,
     alloc: Global,
@@ -47,19 +51,16 @@ pub fn run<R: Threads + Wait + Sync, S: Source, K: Sink, G: Gate>(
         → sink.new ≡ sink.old }
     ensures read_fault { result ≡ Status.ReadFault → Rose (S.faults source.old) (S.faults source.new) }
     ensures write_fault { result ≡ Status.WriteFault → Rose (K.faults sink.old) (K.faults sink.new) }
-    ensures done { IsRun words.now → result ≡ Status.Done
-        → WasRun (S.left source.old) (S.left source.new) (K.held sink.old) (K.held sink.new) }
-    ensures refused { result ≡ Status.Refused
-        → WasRefused (S.left source.old) (S.left source.new) (K.held sink.old) (K.held sink.new) }
-    ensures cut_short { IsRun words.now → result ≡ Status.WriteFault
-        → WasCutShort (S.left source.old) (S.left source.new) (K.held sink.old) (K.held sink.new) }
+    ensures handed_on { (result ≡ Status.Done) ⊎ (result ≡ Status.Refused) → K.kept_back sink.new ≡ [] }
+    ensures ran { IsRun words.now
+        → RunEnds result (S.left source.old) (S.left source.new) (K.held sink.old) (K.held sink.new) }
     ensures loaded { (start callers events : ℕ) → IsLoad words.now start callers events
         → LoadEnds start callers events result (K.held sink.old) (K.held sink.new) }
     ensures no_check { result ≢ Status.No }
 {
     match Command::of(words) {
         None => Status::Usage,
-        Some(Command::Run) => run_input(rt, alloc, source, sink, gate),
-        Some(Command::Load(load)) => run_load(rt, alloc, load, sink, gate),
+        Some(Command::Run) => end_output(run_input(rt, alloc, source, sink, gate), sink),
+        Some(Command::Load(load)) => end_output(run_load(rt, alloc, load, sink, gate), sink),
     }
 }

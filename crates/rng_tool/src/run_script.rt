@@ -1,10 +1,10 @@
 //! The command `run`: a script in, a transcript out.
-ghost use Rattle.std.specs.Prelude.{◌≡◌, ◌⊎◌, ℕ, List};
+ghost use Rattle.std.specs.Prelude.{◌≡◌, ◌⊎◌, ◌≤◌, ℕ, List};
 ghost use Rattle.std.specs.Io.KnownBytes.{Appends};
 ghost use Rattle.io_edges.specs.Faults.{Rose};
 ghost use Rattle.io_edges.specs.Pieces.{AppendsPrefix};
 ghost use Rattle.key_names.specs.ScriptGrammar.{WellFormed};
-ghost use Rattle.rng_tool.specs.Outcome.{CallsFor, CallsForRun, IsRefusal, RunOf, WasCutShort, WasRefused, WasRun};
+ghost use Rattle.rng_tool.specs.Outcome.{CallsFor, CallsForRun, IsRefusal, RunEnds, RunOf};
 ghost use Rattle.rng_tool.specs.Refusal.{refusal_line};
 
 use crate::callers::transcript_of;
@@ -28,6 +28,7 @@ fn refuse<K: Sink>(fault: ScriptFault, sink: &mut K) -> Status
     ensures cut { result ≡ Status.WriteFault → Rose (K.faults sink.old) (K.faults sink.new) }
     ensures prefix { result ≡ Status.WriteFault
         → AppendsPrefix (K.held sink.old) (K.held sink.new) (refusal_line fault) }
+    ensures never_falls { K.faults sink.old ≤ K.faults sink.new }
 {
     match put_all(sink, refusal_line(fault).as_str().as_bytes()) {
         Ok(()) => Status::Refused,
@@ -51,6 +52,7 @@ fn run_script<R: Threads + Wait + Sync, K: Sink, G: Gate>(
     ensures prefix { result ≡ Status.WriteFault
         → (output : List ℕ) × RunOf script.now output × AppendsPrefix (K.held sink.old) (K.held sink.new) output }
     ensures silent { result ≡ Status.NoMemory → sink.new ≡ sink.old }
+    ensures never_falls { K.faults sink.old ≤ K.faults sink.new }
 {
     let Ok(transcript) = transcript_of(rt, alloc, script, gate) else {
         return Status::NoMemory;
@@ -79,6 +81,7 @@ fn answer<R: Threads + Wait + Sync, K: Sink, G: Gate>(
     ensures prefix { result ≡ Status.WriteFault → (output : List ℕ) × CallsFor input.now output
         × AppendsPrefix (K.held sink.old) (K.held sink.new) output }
     ensures silent { result ≡ Status.NoMemory → sink.new ≡ sink.old }
+    ensures never_falls { K.faults sink.old ≤ K.faults sink.new }
 {
     match read(alloc, input) {
         Ok(script) => run_script(rt, alloc, &script, sink, gate),
@@ -95,17 +98,11 @@ pub(crate) fn run_input<R: Threads + Wait + Sync, S: Source, K: Sink, G: Gate>(
     sink: &mut K,
     gate: &G,
 ) -> Status
-    ensures either { (result ≡ Status.Done) ⊎ (result ≡ Status.Refused) ⊎ (result ≡ Status.ReadFault) ⊎
-        (result ≡ Status.WriteFault) ⊎ (result ≡ Status.NoMemory) }
+    ensures ends { RunEnds result (S.left source.old) (S.left source.new) (K.held sink.old) (K.held sink.new) }
     ensures silent { (result ≡ Status.ReadFault) ⊎ (result ≡ Status.NoMemory) → sink.new ≡ sink.old }
     ensures read_fault { result ≡ Status.ReadFault → Rose (S.faults source.old) (S.faults source.new) }
-    ensures write_fault { result ≡ Status.WriteFault → Rose (K.faults sink.old) (K.faults sink.new) }
-    ensures done { result ≡ Status.Done
-        → WasRun (S.left source.old) (S.left source.new) (K.held sink.old) (K.held sink.new) }
-    ensures refused { result ≡ Status.Refused
-        → WasRefused (S.left source.old) (S.left source.new) (K.held sink.old) (K.held sink.new) }
-    ensures cut_short { result ≡ Status.WriteFault
-        → WasCutShort (S.left source.old) (S.left source.new) (K.held sink.old) (K.held sink.new) }
+    ensures cut { result ≡ Status.WriteFault → Rose (K.faults sink.old) (K.faults sink.new) }
+    ensures never_falls { K.faults sink.old ≤ K.faults sink.new }
 {
     let input = match read_to_limit(alloc, source, MOST_INPUT) {
         Ok(input) => input,
