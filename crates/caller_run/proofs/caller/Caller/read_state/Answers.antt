@@ -39,6 +39,13 @@ tell_acts-requires-clause-step_room g c =
     let few = ap length c.deref-2.ensures.value in
     omega (arith, back_long c.vread-said.new.acts acts.items acts.len)
 
+pub tell-requires-clause-step_room : goal.tell-requires-clause-step_room
+tell-requires-clause-step_room g c =
+    let acts = c.args.log.now.acts in let room = c.requires.can.goes.step_room in
+    let long : length acts.items ≡ acts.len = search rules in
+    let few = ap length c.deref-2.ensures.value in let left = c.tell_acts.ensures.step_room in
+    omega (arith, back_long c.vread-said.new.acts acts.items acts.len)
+
 pub tell-requires-clause-steps : goal.tell-requires-clause-steps
 tell-requires-clause-steps g c = c.vread-said.ensures.read.steps_fit
 
