@@ -1,12 +1,12 @@
-use Rattle.std.proofs.Common.{rules, subst, sym, arith}
+use Rattle.std.proofs.Common.{rules, subst, sym}
 use Rattle.std.specs.List.{AllByRecursion}
-use Rattle.key_names.specs.TranscriptGrammar.{StepFits}
+use Rattle.key_names.specs.TranscriptGrammar.{LineFits, StepFits}
 use Rattle.caller_run.specs.Says.{ShowsFit}
 use Rattle.caller_run.proofs.BytesFit.{bytes_fit}
 use Rattle.caller_run.proofs.caller.Caller.tell.Goals as goal
 
 pub push-requires-clause-fits : goal.push-requires-clause-fits
-push-requires-clause-fits c = rw c.line.ensures.line (record {
+push-requires-clause-fits c = subst LineFits (sym c.line.ensures.line) (record {
   caller = search rules;
   event = search rules;
   few_steps = c.steps-steps.ensures.few;
@@ -15,7 +15,7 @@ push-requires-clause-fits c = rw c.line.ensures.line (record {
 })
 
 pub push-requires-in-Count-clause-fits : goal.push-requires-in-Count-clause-fits
-push-requires-in-Count-clause-fits c = rw c.line-in-Count.ensures.line (record {
+push-requires-in-Count-clause-fits c = subst LineFits (sym c.line-in-Count.ensures.line) (record {
   caller = search rules;
   event = search rules;
   few_steps = c.steps-steps.ensures.few;
@@ -24,7 +24,7 @@ push-requires-in-Count-clause-fits c = rw c.line-in-Count.ensures.line (record {
 })
 
 pub push-requires-in-Served-clause-fits : goal.push-requires-in-Served-clause-fits
-push-requires-in-Served-clause-fits c = rw c.line-in-Served.ensures.line (record {
+push-requires-in-Served-clause-fits c = subst LineFits (sym c.line-in-Served.ensures.line) (record {
   caller = search rules;
   event = search rules;
   few_steps = c.steps-steps.ensures.few;

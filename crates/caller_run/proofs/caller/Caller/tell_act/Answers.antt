@@ -1,4 +1,4 @@
-use Rattle.std.proofs.Common.{rules, subst, sym, arith}
+use Rattle.std.proofs.Common.{rules, subst, sym}
 use Rattle.std.specs.List.{AllByRecursion}
 use Rattle.key_names.specs.TranscriptGrammar.{StepFits}
 use Rattle.caller_run.proofs.BytesFit.{bytes_fit}
