@@ -1,6 +1,7 @@
 //! The top call: the words of a command line in, its answer out.
-ghost use Rattle.std.specs.Prelude.{◌≡◌, ◌≢◌, ◌↔◌, ◌⊎◌, [], ℕ};
+ghost use Rattle.std.specs.Prelude.{◌≡◌, ◌≢◌, ◌↔◌, ◌⊎◌, [], ℕ, IfSome};
 ghost use Rattle.io_edges.specs.Faults.{Rose};
+ghost use Rattle.key_names.specs.ScriptGrammar.{IsScript, Script};
 ghost use Rattle.rng_tool.specs.Commands.{IsNoForm, TakesInput};
 ghost use Rattle.rng_tool.specs.LoadOutcome.{IsLoad, LoadEnds};
 ghost use Rattle.rng_tool.specs.Outcome.{IsRun, RunEnds};
@@ -56,6 +57,12 @@ pub fn run<R: Threads + Wait + Sync, S: Source, K: Sink, G: Gate>(
         → RunEnds result (S.left source.old) (S.left source.new) (K.held sink.old) (K.held sink.new) }
     ensures loaded { (start callers events : ℕ) → IsLoad words.now start callers events
         → LoadEnds start callers events result (K.held sink.old) (K.held sink.new) }
+    ensures run_completes { IsRun words.now
+        → (Rose (S.faults source.old) (S.faults source.new) → ⊥) → (Rose (K.faults sink.old) (K.faults sink.new) → ⊥)
+        → IfSome (S.left source.old) (λ all. (script : Script) → IsScript script all
+        → (result ≡ Status.Done) ⊎ (result ≡ Status.NoMemory)) }
+    ensures load_completes { (start callers events : ℕ) → IsLoad words.now start callers events
+        → (Rose (K.faults sink.old) (K.faults sink.new) → ⊥) → (result ≡ Status.Done) ⊎ (result ≡ Status.NoMemory) }
     ensures no_check { result ≢ Status.No }
 {
     match Command::of(words) {

@@ -1,5 +1,6 @@
 use Rattle.std.proofs.Common.{◌≡◌, subst}
 use Rattle.rng_tool.specs.LoadOutcome.{LoadEnds, LoadOf}
+use Rattle.rng_tool.proofs.Completes.{ends_completes, read_before, run_completes}
 use Rattle.rng_tool.proofs.Endings.{ends_after, rose_at_end, run_ends_after}
 use Rattle.rng_tool.proofs.run.run.Goals as goal
 
@@ -11,6 +12,15 @@ returns-in-Some-Run-clause-write_fault g c cut =
 pub returns-in-Some-Run-clause-ran : goal.returns-in-Some-Run-clause-ran
 returns-in-Some-Run-clause-ran g c is =
     run_ends_after _ _ _ _ _ c.end_output.ensures.kept _ _ c.end_output.ensures.ended c.run_input.ensures.ends
+
+pub returns-in-Some-Run-clause-run_completes : goal.returns-in-Some-Run-clause-run_completes
+returns-in-Some-Run-clause-run_completes g c is unread unwritten =
+    let ended = c.end_output.ensures.ended in
+    run_completes _ _ _ c.end_output.result _
+    (run_ends_after _ _ _ _ _ c.end_output.ensures.kept _ _ ended c.run_input.ensures.ends)
+    (λ fault. unread (c.run_input.ensures.read_fault (read_before _ _ ended fault)))
+    (λ fault. unwritten (rose_at_end _ _ _ _ c.run_input.ensures.cut c.run_input.ensures.never_falls
+    (c.end_output.ensures.cut fault) c.end_output.ensures.never_falls))
 
 pub returns-in-Some-Load-clause-write_fault : goal.returns-in-Some-Load-clause-write_fault
 returns-in-Some-Load-clause-write_fault g c cut =
@@ -25,3 +35,12 @@ returns-in-Some-Load-clause-loaded g c start callers events is =
     c.end_output-in-Some-Load.ensures.ended
     (subst (λ load. LoadEnds load.start load.callers load.events c.run_load.result (g.K.Sink.held c.args.sink.now)
     (g.K.Sink.held c.run_load.new.sink)) same c.run_load.ensures.ends)
+
+pub returns-in-Some-Load-clause-load_completes : goal.returns-in-Some-Load-clause-load_completes
+returns-in-Some-Load-clause-load_completes g c start callers events is unwritten =
+    let load = c.in-Some-Load.load in
+    ends_completes (LoadOf load.start load.callers load.events) _ _ _
+    (ends_after (LoadOf load.start load.callers load.events) _ _ _ c.end_output-in-Some-Load.ensures.kept _ _
+    c.end_output-in-Some-Load.ensures.ended c.run_load.ensures.ends)
+    (λ fault. unwritten (rose_at_end _ _ _ _ c.run_load.ensures.cut c.run_load.ensures.never_falls
+    (c.end_output-in-Some-Load.ensures.cut fault) c.end_output-in-Some-Load.ensures.never_falls))
