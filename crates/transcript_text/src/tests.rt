@@ -204,11 +204,17 @@ struct Pieces {
 }
 
 impl Sink for Pieces {
-    ghost use Rattle.std.specs.Prelude.{None};
+    ghost use Rattle.std.specs.Prelude.{[], None};
 
     ghost held = { λ _. None };
 
+    ghost kept_back = { λ _. [] };
+
     ghost faults = { λ _. 0 };
+
+    fn flush(&mut self) -> Result<(), Failed> {
+        Ok(())
+    }
 
     fn put(&mut self, piece: &[u8]) -> Result<usize, Failed> {
         self.puts = self.puts.saturating_add(1);

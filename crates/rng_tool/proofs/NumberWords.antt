@@ -1,4 +1,4 @@
--- What the numbers among the words of a load spell.
+-- What the numbers among the words of a command line spell.
 use Rattle.std.proofs.Common.{◌≡◌, ℕ, ◌+◌, ◌^◌, ◌<◌, ◌≤◌, List, Some, ap, ◌∙◌, arith}
 use Rattle.std.specs.Prelude.{decimal}
 use Rattle.key_names.specs.ScriptFaults.{number_below}

@@ -1,6 +1,6 @@
 use Rattle.std.proofs.Common.{◌≡◌, arith}
-use Rattle.rng_tool.proofs.LoadWords.{number_read}
-use Rattle.rng_tool.proofs.load.number_in.Goals as goal
+use Rattle.rng_tool.proofs.NumberWords.{number_read}
+use Rattle.rng_tool.proofs.numbers.number_in.Goals as goal
 
 pub returns-in_default-clause-only : goal.returns-in_default-clause-only
 returns-in_default-clause-only c n spelt low high =

@@ -2,7 +2,7 @@ use Rattle.std.proofs.Common.{ℕ, ◌≡◌, ◌≤◌, ◌<◌, List, [], ◌�
 use Rattle.std.specs.Prelude.{String, string_bytes, map, codes, slice_index_or, Bool, IsTrue}
 use Rattle.std.specs.Str.{bytes_eq}
 use Rattle.std.proofs.lemmas.Slice.Eq.{bytes_eq-Decides}
-use Rattle.rng_tool.proofs.run.is_run.Goals as goal
+use Rattle.rng_tool.proofs.command.is_run.Goals as goal
 
 -- a list of one word has just that word
 one : {A : Type 0} (words : List (String A)) (word : String A) → 1 ≤ length words → length words < 2 →
