@@ -7,4 +7,5 @@ pub mod ReadLines
 pub mod ReadTexts
 pub mod Reading
 pub mod Shows
+pub mod SoFar
 pub mod Views
