@@ -12,7 +12,7 @@ use memchr::memchr;
 pub(crate) fn spells(field: &[u8], text: &[u8]) -> bool
     ensures { result ≡ bytes_eq field.now text.now }
 {
-    field.first() == text.first() && field == text
+    field == text
 }
 
 /// What stands before the first of these bytes, and what stands behind it.

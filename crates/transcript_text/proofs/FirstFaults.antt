@@ -11,8 +11,17 @@ use Rattle.transcript_text.specs.Grouping.{Gives}
 use Rattle.transcript_text.specs.Reading.{lacks}
 use Rattle.transcript_text.proofs.Cutting.{same_cut}
 use Rattle.transcript_text.proofs.LineTexts.{same_line, no_end, line_lacks_feed}
-use Rattle.transcript_text.proofs.RisingLines.{all_lines_rise, same_callers}
-use Rattle.transcript_text.specs.SoFar.{Rising, front_of, head_line, last_caller, line_end}
+use Rattle.transcript_text.proofs.RisingLines.{Rising, last_caller, all_lines_rise, same_callers}
+
+abbrev pub line_end : List ℕ
+line_end = codes "end"
+
+abbrev pub head_line : List ℕ
+head_line = codes "rngtranscript 1"
+
+-- the lines of a text so far
+abbrev pub front_of : List SeenLine → List (List ℕ)
+front_of lines = head_line ∷ map line_text lines
 
 -- ---- lists of lines
 

@@ -8,12 +8,10 @@ pub mod Keeping
 pub mod LineTexts
 pub mod NameTexts
 pub mod NumberTexts
-pub mod Numerals
 pub mod PuttingOn
 pub mod ReadingOn
 pub mod RisingLines
 pub mod ShownTexts
-pub mod Skimming
 pub mod StepLists
 pub mod StepTexts
 pub mod WholeTexts

@@ -8,14 +8,24 @@ use Rattle.key_names.specs.Spelling.{lined}
 use Rattle.key_names.specs.TranscriptGrammar.{line_text, all_lines, transcript_lines, transcript_text, LineFits, IsTranscriptText, IsFirstFault}
 use Rattle.transcript_text.specs.Grouping.{Groups, Gives}
 use Rattle.transcript_text.specs.Reading.{lacks}
-use Rattle.transcript_text.specs.ReadTexts.{AddsLine, Answers, HasManyLines, IsNoLine, IsReadAs}
+use Rattle.transcript_text.specs.ReadTexts.{AddsLine, Answers, IsNoLine, IsReadAs}
 use Rattle.transcript_text.specs.declared.error.TextError.{TextError}
-use Rattle.transcript_text.specs.declared.error.TextError.TheVariants.{Fault, TooManyLines, NoMemory}
+use Rattle.transcript_text.specs.declared.error.TextError.TheVariants.{Fault, NoMemory}
 use Rattle.transcript_text.proofs.Cutting.{same_cut, not_lacking}
-use Rattle.transcript_text.proofs.FirstFaults.{NoNext, fault_here, fault_behind, no_head, gives_nothing, one_transcript}
+use Rattle.transcript_text.proofs.FirstFaults.{head_line, line_end, front_of, NoNext, fault_here, fault_behind, no_head, gives_nothing, one_transcript}
 use Rattle.transcript_text.proofs.GroupedLines.{LastHasLines-push, finished, no_groups}
-use Rattle.transcript_text.proofs.RisingLines.{Rising-push, last_caller-push}
-use Rattle.transcript_text.specs.SoFar.{ReadSoFar, Rising, front_of, head_line, last_caller, line_end}
+use Rattle.transcript_text.proofs.RisingLines.{Rising, last_caller, Rising-push, last_caller-push}
+
+-- the lines that were read, and the text behind them
+pub record ReadSoFar (text : List ℕ) (done : List (List SeenLine)) (current : List SeenLine) (rest : List ℕ)
+    (number : ℕ) : Type 0 where
+  pub lines : List SeenLine
+  pub groups : Groups done current lines
+  pub rising : Rising 0 lines
+  pub last : last_caller 0 lines ≡ length done
+  pub parts : text ≡ lined (front_of lines) ++ rest
+  pub count : number ≡ length lines + 1
+  pub begun : current ≡ [] → lines ≡ []
 
 pub begins : (text head rest : List ℕ) (done : List (List SeenLine)) (current : List SeenLine)
     → text ≡ head ++ 10 ∷ rest → head ≡ head_line → done ≡ [] → current ≡ []
@@ -91,7 +101,7 @@ gives_current done (c ∷ current) lines g rising last begun = (
       }) g,
 )
 
-pub gives_so_far : (text rest : List ℕ) (done : List (List SeenLine)) (current : List SeenLine) (number : ℕ)
+gives_so_far : (text rest : List ℕ) (done : List (List SeenLine)) (current : List SeenLine) (number : ℕ)
     (r : ReadSoFar text done current rest number)
     → (callers : List (List SeenLine)) × Gives callers r.lines
 gives_so_far text rest done current number r = gives_current done current r.lines r.groups r.rising r.last r.begun
@@ -143,16 +153,19 @@ fault_after text rest behind line done current number r cut is some =
     (omega (arith, r.count))
 
 pub found : (text rest behind line : List ℕ) (done : List (List SeenLine)) (current : List SeenLine) (number : ℕ)
-    (callers : List (List SeenLine)) (r : ReadSoFar text done current rest number) → rest ≡ line ++ 10 ∷ behind
-    → line ≡ line_end → behind ≡ [] → Gives callers r.lines → IsTranscriptText text callers
+    (callers : List (List SeenLine))
+    → ReadSoFar text done current rest number → rest ≡ line ++ 10 ∷ behind → line ≡ line_end → behind ≡ []
+    → ((lines : List SeenLine) → Groups done current lines → Gives callers lines) → IsTranscriptText text callers
 unfolding transcript_text
-found text rest behind line done current number callers r cut is none g = record {
-  fits = g.fits;
-  own = g.own;
-  spelled = whole_text callers r.lines text rest behind g.all r.parts (cut
-      ∙ ap (λ (x : List ℕ). x ++ 10 ∷ behind) is) ∙ ap (λ (x : List ℕ). lined (transcript_lines callers) ++ x) none
-      ∙ append-nil (lined (transcript_lines callers));
-}
+found text rest behind line done current number callers r cut is none gives =
+    let g = gives r.lines r.groups in
+    record {
+      fits = g.fits;
+      own = g.own;
+      spelled = whole_text callers r.lines text rest behind g.all r.parts (cut
+          ∙ ap (λ (x : List ℕ). x ++ 10 ∷ behind) is) ∙ ap (λ (x : List ℕ). lined (transcript_lines callers) ++ x) none
+          ∙ append-nil (lined (transcript_lines callers));
+    }
 
 -- ---- no head
 
@@ -171,6 +184,4 @@ pub read_as : (text : List ℕ) (answer : Result (List (List SeenLine)) TextErro
     → (callers : List (List SeenLine)) → IsTranscriptText text callers → IsReadAs callers answer
 read_as text (Ok found) a callers t = one_transcript text found callers a t
 read_as text (Err (Fault line)) a callers t = a.none callers t
-read_as text (Err TooManyLines) a callers t =
-    subst HasManyLines (one_transcript text a.callers callers a.is t) a.many
 read_as text (Err NoMemory) a callers t = tt

@@ -1,37 +1,21 @@
 -- What reading a text answers.
 use Rattle.std.specs.Prelude.{ℕ, ◌≡◌, ◌<◌, ◌≤◌, ⊤, List, [], ◌∷◌, ◌++◌, length, Result, Ok, Err}
 use Rattle.key_names.specs.SeenLine.{SeenLine}
-use Rattle.key_names.specs.TranscriptGrammar.{all_lines, line_text, LineFits, IsTranscriptText, IsFirstFault}
+use Rattle.key_names.specs.TranscriptGrammar.{line_text, LineFits, IsTranscriptText, IsFirstFault}
 use Rattle.transcript_text.specs.declared.error.TextError.{TextError}
-use Rattle.transcript_text.specs.declared.error.TextError.TheVariants.{Fault, TooManyLines, NoMemory}
+use Rattle.transcript_text.specs.declared.error.TextError.TheVariants.{Fault, NoMemory}
 use Rattle.transcript_text.specs.Grouping.{Groups}
 
--- more lines than a script has events and callers
-abbrev pub HasManyLines : List (List SeenLine) → Type 0
-HasManyLines callers = 65600 < length (all_lines callers)
-
--- the text is a transcript's of so many lines
-pub record IsLongText (text : List ℕ) : Type 0 where
-  pub callers : List (List SeenLine)
-  pub is : IsTranscriptText text callers
-  pub many : HasManyLines callers
-
--- why the text is not read
-abbrev pub IsCause : List ℕ → TextError → Type 0
-IsCause text (Fault line) = IsFirstFault text line
-IsCause text TooManyLines = IsLongText text
-IsCause text NoMemory = ⊤
-
--- the transcript of the text, or why it is not read
+-- the transcript of the text, or its first faulty line, unless memory ran out
 abbrev pub Answers : List ℕ → Result (List (List SeenLine)) TextError → Type 0
 Answers text (Ok callers) = IsTranscriptText text callers
-Answers text (Err error) = IsCause text error
+Answers text (Err (Fault line)) = IsFirstFault text line
+Answers text (Err NoMemory) = ⊤
 
--- this transcript, unless it has too many lines or memory ran out
+-- this transcript, unless memory ran out
 abbrev pub IsReadAs : List (List SeenLine) → Result (List (List SeenLine)) TextError → Type 0
 IsReadAs callers (Ok found) = found ≡ callers
 IsReadAs callers (Err (Fault line)) = ⊥
-IsReadAs callers (Err TooManyLines) = HasManyLines callers
 IsReadAs callers (Err NoMemory) = ⊤
 
 -- the text is one more line, of the current caller or of a later one

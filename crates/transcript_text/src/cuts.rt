@@ -2,14 +2,15 @@
 ghost use Rattle.std.specs.Prelude.{◌≡◌, ◌<◌, ◌∷◌, ◌++◌, ◌↔◌, true, length, IsTrue, MatchOption, decimal};
 ghost use Rattle.transcript_text.specs.Reading.{lacks, Reads};
 
-use event_script::numbers::number_up_to;
+use itoa::Buffer;
 use memchr::memchr;
+use std::str;
 
 /// Whether a text is this one.
 pub(crate) fn spells(text: &[u8], name: &[u8]) -> bool
     ensures { IsTrue result ↔ (text.now ≡ name.now) }
 {
-    text.first() == name.first() && text == name
+    text == name
 }
 
 /// What stands before the first of these bytes, and what stands behind it.
@@ -25,8 +26,18 @@ pub(crate) fn cut(byte: u8, text: &[u8]) -> Option<(&[u8], &[u8])>
 
 /// The number below a limit that a text spells in decimal, without leading zeros.
 pub(crate) fn number_below(limit: u64, text: &[u8]) -> Option<u64>
-    requires { 0 < limit }
     ensures { Reads decimal (λ n. n < limit) text.now result }
 {
-    number_up_to(limit - 1, text)
+    let Ok(plain) = str::from_utf8(text) else {
+        return None;
+    };
+    let Ok(number) = plain.parse::<u64>() else {
+        return None;
+    };
+    let mut digits = Buffer::new();
+    if number < limit && spells(text, digits.format(number).as_bytes()) {
+        Some(number)
+    } else {
+        None
+    }
 }

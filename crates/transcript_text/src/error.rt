@@ -10,9 +10,6 @@ pub enum TextError {
     /// The number, from 1, of the first line that no transcript has there. A line that is missing, or that the end of
     /// the text cuts off, counts as such a line.
     Fault { line: u32 },
-    /// The text is a transcript's, of more than 65,600 lines: more than any script has, with one line for each event and
-    /// one for the end of each caller. None of its lines was kept.
-    TooManyLines,
     /// There was no memory for the transcript.
     NoMemory,
 }

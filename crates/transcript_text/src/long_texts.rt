@@ -1,4 +1,4 @@
-//! Long texts of little sense: each has its end, found in one pass and without memory for more than its own bytes.
+//! Long texts of little sense: each has its fault, found in one pass and without memory for more than its own bytes.
 ghost use Rattle.std.specs.Prelude.{◌≤◌, ◌^◌, length};
 
 use crate::{TextError, read};
@@ -23,69 +23,60 @@ fn text_of(
     Ok(text)
 }
 
-/// Whether a text is read, or why not.
-fn outcome(alloc: Global, text: &[u8]) -> Result<(), TextError> {
+/// The first faulty line, or 0 for a transcript, or the greatest number where memory ran out.
+fn fault(alloc: Global, text: &[u8]) -> u32 {
     if text.len() > 1 << 31 {
-        return Err(TextError::NoMemory);
+        return u32::MAX;
     }
-    let _transcript = read(alloc, text)?;
-    Ok(())
-}
-
-fn fault(line: u32) -> Result<(), TextError> {
-    Err(TextError::Fault { line })
+    match read(alloc, text) {
+        Ok(_) => 0,
+        Err(TextError::Fault { line }) => line,
+        Err(TextError::NoMemory) => u32::MAX,
+    }
 }
 
 #[test]
 fn one_byte_without_end(rt: HostRuntime) -> Result<(), Fail> {
     for byte in [0, b'\n', b' ', b',', b'0', b'~', 0xff] {
         let text = text_of(rt.alloc(), b"", byte, LONG, b"")?;
-        assert_eq!(rt; outcome(rt.alloc(), &text), fault(1), "byte {byte}");
+        assert_eq!(rt; fault(rt.alloc(), &text), 1, "byte {byte}");
         let text = text_of(rt.alloc(), HEAD, byte, LONG, b"")?;
-        assert_eq!(rt; outcome(rt.alloc(), &text), fault(2), "byte {byte}");
+        assert_eq!(rt; fault(rt.alloc(), &text), 2, "byte {byte}");
     }
     Ok(())
 }
 
 #[test]
 fn one_long_field(rt: HostRuntime) -> Result<(), Fail> {
-    let rows: [(&[u8], u8, &[u8], Result<(), TextError>); 7] = [
-        (b"0", b'0', b".0 read ok - -\nend\n", fault(2)),
-        (b"0.", b'9', b" read ok - -\nend\n", fault(2)),
-        (b"0.0 ", b'a', b" ok - -\nend\n", fault(2)),
-        (b"0.0 read ok ~0", b',', b" -\nend\n", fault(2)),
-        (b"0.0 bits ok - 1", b'0', b"\nend\n", fault(2)),
-        (b"0.0 read ok - 0", b'0', b"\nend\n", fault(2)),
-        (b"0.0 read ok - ", b'0', b"\nend\n", Ok(())),
+    let rows: [(&[u8], u8, &[u8], u32); 7] = [
+        (b"0", b'0', b".0 read ok - -\nend\n", 2),
+        (b"0.", b'9', b" read ok - -\nend\n", 2),
+        (b"0.0 ", b'a', b" ok - -\nend\n", 2),
+        (b"0.0 read ok ~0", b',', b" -\nend\n", 2),
+        (b"0.0 bits ok - 1", b'0', b"\nend\n", 2),
+        (b"0.0 read ok - 0", b'0', b"\nend\n", 2),
+        (b"0.0 read ok - ", b'0', b"\nend\n", 0),
     ];
-    for (row, (front, byte, back, ends)) in rows.iter().enumerate() {
+    for (row, (front, byte, back, line)) in rows.iter().enumerate() {
         let mut whole = HEAD.to_vec(rt.alloc())?;
         whole.extend_from_slice(front)?;
         let text = text_of(rt.alloc(), &whole, *byte, LONG, back)?;
-        assert_eq!(rt; outcome(rt.alloc(), &text), *ends, "row {row}");
+        assert_eq!(rt; fault(rt.alloc(), &text), *line, "row {row}");
     }
     Ok(())
 }
 
 #[test]
-fn lines_beyond_those_of_any_script(rt: HostRuntime) -> Result<(), Fail> {
-    let mut front = HEAD.to_vec(rt.alloc())?;
-    for _ in 0..65_600 {
-        front.extend_from_slice(b"0.0 read ok ~0 -\n")?;
+fn many_lines(rt: HostRuntime) -> Result<(), Fail> {
+    let mut text = HEAD.to_vec(rt.alloc())?;
+    for _ in 0..70_000 {
+        text.extend_from_slice(b"0.0 read ok ~0 -\n")?;
     }
-    let rows: [(&[u8], Result<(), TextError>); 7] = [
-        (b"end\n", Ok(())),
-        (b"1.0 read ok - -\nend\n", Err(TextError::TooManyLines)),
-        (b"1.0 read ok - -\n0.0 read ok - -\nend\n", fault(65_603)),
-        (b"0.0 read ok ~0 0\nend\n", fault(65_602)),
-        (b"64.0 read ok - -\nend\n", fault(65_602)),
-        (b"0.0 read ok - -\n", fault(65_603)),
-        (b"0.0 read ok - -\nend\n\n", fault(65_604)),
-    ];
-    for (row, (back, ends)) in rows.iter().enumerate() {
-        let mut text = front.to_vec(rt.alloc())?;
-        text.extend_from_slice(back)?;
-        assert_eq!(rt; outcome(rt.alloc(), &text), *ends, "row {row}");
-    }
+    let lines = text.len();
+    text.extend_from_slice(b"end\n")?;
+    assert_eq!(rt; fault(rt.alloc(), &text), 0);
+    text.truncate(lines);
+    text.extend_from_slice(b"0.0 read ok ~0 0\nend\n")?;
+    assert_eq!(rt; fault(rt.alloc(), &text), 70_002);
     Ok(())
 }

@@ -2,7 +2,7 @@
 ghost use Rattle.std.specs.Prelude.{◌≡◌, ◌+◌, ◌*◌, ◌<◌, ◌≤◌, ◌∷◌, ◌++◌, [], length, decimal, slice_index};
 ghost use Rattle.hex.specs.Hex.{encode_lower, lower_digits};
 
-use itoa::write_digits;
+use itoa::Buffer;
 use std::marker::Model;
 
 /// The most bytes of a piece.
@@ -77,9 +77,8 @@ impl Piece {
         ensures text { self.new ≡ self.old ++ decimal number }
         ensures short { length (decimal number) ≤ 20 }
     {
-        let end = self.len + digit_count(number);
-        write_digits(number, &mut self.bytes, end);
-        self.len = end;
+        let mut digits = Buffer::new();
+        self.append(digits.format(number).as_bytes());
     }
 
     /// The bytes in hex.
@@ -91,21 +90,6 @@ impl Piece {
         write_hex(&mut self.bytes[self.len..end], bytes);
         self.len = end;
     }
-}
-
-/// How many decimal digits a number has.
-#[tactic(auto, using(itoa::proofs::Decimal::length_one, itoa::proofs::Decimal::length_two, itoa::proofs::Decimal::length_pair))]
-fn digit_count(number: u64) -> usize
-    ensures count { result ≡ length (decimal number) }
-    ensures few { result ≤ 20 }
-{
-    let mut left = number;
-    let mut count = 0;
-    while left >= 100 {
-        left /= 100;
-        count += 2;
-    }
-    if left < 10 { count + 1 } else { count + 2 }
 }
 
 // Digits by arithmetic: the compiler makes many of them at once, where a table such as that of `hex` takes a load for

@@ -356,7 +356,7 @@ fn fault(rt: &impl Abort, alloc: Global, rest: &str) -> Result<u32, AllocError> 
     match read(alloc, text.as_bytes()) {
         Ok(_) => Ok(0),
         Err(TextError::Fault { line }) => Ok(line),
-        Err(TextError::TooManyLines | TextError::NoMemory) => Err(AllocError),
+        Err(TextError::NoMemory) => Err(AllocError),
     }
 }
 

@@ -38,8 +38,7 @@ returns-then-spells c =
     found c.args.text.now c.loop-line.rest.now c.in-Some-cut.behind.now c.in-Some-cut.line.now
     (seen_callers c.loop-line.done.items) c.loop-line.current.lines c.loop-line.number c.in_ok-finish.field-0
     c.loop-line.invariant.so_far c.in-Some-cut.ensures.0 (c.spells-in-Some-cut.ensures.0 c.if-spells.true)
-    (nil_from_length c.in-Some-cut.behind.now (eqb-true _ _ (sym c.if-not-is_empty.ensures)))
-    (c.in_ok-finish.ensures c.loop-line.invariant.so_far.lines c.loop-line.invariant.so_far.groups)
+    (nil_from_length c.in-Some-cut.behind.now (eqb-true _ _ (sym c.if-not-is_empty.ensures))) c.in_ok-finish.ensures
 
 pub returns-then-not-branch : goal.returns-then-not-branch
 returns-then-not-branch c =

@@ -1,7 +1,7 @@
 use Rattle.std.proofs.Common.{◌+◌, ◌≤◌, length}
 use Rattle.transcript_text.specs.Grouping.{seen_callers}
+use Rattle.transcript_text.proofs.ReadingOn.{ReadSoFar}
 use Rattle.transcript_text.proofs.reading.read_text.Given as goal
-use Rattle.transcript_text.specs.SoFar.{ReadSoFar}
 
 abbrev pub invariant-loop-line : goal.invariant-loop-line
 invariant-loop-line l = record {
