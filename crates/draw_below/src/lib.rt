@@ -1,0 +1,13 @@
+//! Draws below a bound out of 32-bit words.
+#![tactic(auto)]
+
+pub mod draws;
+pub mod laws;
+pub mod rejected;
+pub mod shuffles;
+pub mod words;
+
+pub use draws::{DrawSpent, below, between};
+pub use rejected::Rejected;
+pub use shuffles::shuffle;
+pub use words::{ListWords, Words};
