@@ -2,12 +2,15 @@
 #![tactic(auto)]
 
 pub mod draws;
+pub mod lane_reads;
+pub mod lane_words;
 pub mod laws;
 pub mod rejected;
 pub mod shuffles;
 pub mod words;
 
 pub use draws::{DrawSpent, below, between};
+pub use lane_words::LaneWords;
 pub use rejected::Rejected;
 pub use shuffles::shuffle;
 pub use words::{ListWords, Words};
