@@ -22,19 +22,26 @@ pub one_more : {W : Type 0} (gives : W → ℕ → W → Type 0) (c : ℕ) (w : 
     false ≡ nat_le (4294967296 % c) (c * r % 4294967296) → rs' ≡ rs ++ r ∷ [] → Rejects gives c w rs' v (n + 1)
 one_more gives c w rs u r v n rs' some had gave rejected is =
     let refused : IsRejected c r = rw (ne_eqb c 0 some) (sym rejected) in
-    subst (λ xs. Rejects gives c w xs v (n + 1)) (sym is)
-    (length-append rs (r ∷ []) ∙ ap (λ m. m + 1) had.0, all_more (IsRejected c) rs r had.1 refused,
-        takes_more gives w rs u r v had.2 gave)
+    subst (λ xs. Rejects gives c w xs v (n + 1)) (sym is) (
+      length-append rs (r ∷ []) ∙ ap (λ m. m + 1) had.0,
+      all_more (IsRejected c) rs r had.1 refused,
+      takes_more gives w rs u r v had.2 gave,
+    )
 
 pub accepted_draw : {W : Type 0} (gives : W → ℕ → W → Type 0) (c : ℕ) (w : W) (rs : List ℕ) (u : W) (r : ℕ) (v : W)
     (n : ℕ) → c ≢ 0 → Rejects gives c w rs u n → n < 128 → r < 4294967296 → gives u r v →
     true ≡ nat_le (4294967296 % c) (c * r % 4294967296) → Draws gives c w rs (c * r / 4294967296) v
 accepted_draw gives c w rs u r v n some had few small gave accepted = record {
-    few = subst (λ m. m < 128) (sym had.0) few;
-    rejects = had.1;
-    word = r;
-    is_word = small;
-    accepted = rw (ne_eqb c 0 some) (sym accepted);
-    takes = takes_more gives w rs u r v had.2 gave;
-    answers = rw (ne_eqb c 0 some) refl;
-  }
+  few = subst (λ m. m < 128) (sym had.0) few;
+  rejects = had.1;
+  word = r;
+  is_word = small;
+  accepted = rw (ne_eqb c 0 some) (sym accepted);
+  takes = takes_more gives w rs u r v had.2 gave;
+  answers = rw (ne_eqb c 0 some) refl;
+}
+
+pub takes_append : {W : Type 0} (gives : W → ℕ → W → Type 0) (w : W) (xs : List ℕ) (u : W) (ys : List ℕ) (v : W) →
+    Takes gives w xs u → Takes gives u ys v → Takes gives w (xs ++ ys) v
+takes_append gives w [] u ys v t s = subst (λ x. Takes gives x ys v) (sym t) s
+takes_append gives w (x ∷ xs) u ys v t s = (t.0, t.1, takes_append gives t.0 xs u ys v t.2 s)

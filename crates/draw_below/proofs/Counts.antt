@@ -20,9 +20,9 @@ ceiling_below : (c x r : ℕ) → 0 < c → ceiling c x ≤ r → x ≤ c * r
 ceiling_below c x r pos h =
     ⊎_elim
     (λ low.
-        let whole : suc r * c ≤ x + (c - 1) = omega arith in
-        let past : suc r ≤ ceiling c x = (le-div_iff_mul-le pos).1 whole in
-        omega arith)
+    let whole : suc r * c ≤ x + (c - 1) = omega arith in
+    let past : suc r ≤ ceiling c x = (le-div_iff_mul-le pos).1 whole in
+    omega arith)
     (λ high. high) (cases_lt (c * r) x)
 
 abbrev passes : ℕ → ℕ → ℕ → Bool
@@ -62,28 +62,28 @@ counted c v zero a b pos small from to = omega arith
 counted c v (suc n) a b pos small from to =
     let before = counted c v n a b pos small from to in
     let one : (b : Bool) → gives_value c v n ≡ b → count c v (suc n) ≡ count c v n + cond b 1 0 =
-        λ b e. ap (λ p. count c v n + cond p 1 0) e in
+    λ b e. ap (λ p. count c v n + cond p 1 0) e in
     ⊎_elim
     (λ low.
-        let short : c * n < v * 4294967296 + 4294967296 % c =
-            below_ceiling c (v * 4294967296 + 4294967296 % c) n pos (omega arith) in
-        let more = one false (passes_is c v n pos ∙ under (4294967296 % c) (c * n) v short small) in
-        omega arith)
+    let short : c * n < v * 4294967296 + 4294967296 % c =
+    below_ceiling c (v * 4294967296 + 4294967296 % c) n pos (omega arith) in
+    let more = one false (passes_is c v n pos ∙ under (4294967296 % c) (c * n) v short small) in
+    omega arith)
     (λ reached.
-        let long : v * 4294967296 + 4294967296 % c ≤ c * n =
-            ceiling_below c (v * 4294967296 + 4294967296 % c) n pos (omega arith) in
-        ⊎_elim
-        (λ low.
-            let short : c * n < v * 4294967296 + 4294967296 =
-                below_ceiling c (v * 4294967296 + 4294967296) n pos (omega arith) in
-            let more = one true (passes_is c v n pos ∙ within (4294967296 % c) (c * n) v long short) in
-            omega arith)
-        (λ past.
-            let behind : v * 4294967296 + 4294967296 ≤ c * n =
-                ceiling_below c (v * 4294967296 + 4294967296) n pos (omega arith) in
-            let more = one false (passes_is c v n pos ∙ over (4294967296 % c) (c * n) v behind) in
-            omega arith)
-        (cases_lt n b))
+    let long : v * 4294967296 + 4294967296 % c ≤ c * n =
+    ceiling_below c (v * 4294967296 + 4294967296 % c) n pos (omega arith) in
+    ⊎_elim
+    (λ low.
+    let short : c * n < v * 4294967296 + 4294967296 =
+    below_ceiling c (v * 4294967296 + 4294967296) n pos (omega arith) in
+    let more = one true (passes_is c v n pos ∙ within (4294967296 % c) (c * n) v long short) in
+    omega arith)
+    (λ past.
+    let behind : v * 4294967296 + 4294967296 ≤ c * n =
+    ceiling_below c (v * 4294967296 + 4294967296) n pos (omega arith) in
+    let more = one false (passes_is c v n pos ∙ over (4294967296 % c) (c * n) v behind) in
+    omega arith)
+    (cases_lt n b))
     (cases_lt n a)
 
 pub each_value_is_as_likely : EachValueIsAsLikely
@@ -93,12 +93,12 @@ each_value_is_as_likely c v low fits =
     let a : ℕ = ceiling c (v * 4294967296 + 4294967296 % c) in
     let b : ℕ = ceiling c (v * 4294967296 + 4294967296) in
     let parts : v * 4294967296 + 4294967296 + (c - 1) ≡ v * 4294967296 + 4294967296 % c + (c - 1) + 4294967296 / c * c =
-        let whole = div-add-mod 4294967296 c in omega arith in
+    let whole = div-add-mod 4294967296 c in omega arith in
     let apart : b ≡ a + 4294967296 / c =
-        ap (λ m. m / c) parts
-        ∙ add-mul-div_right (v * 4294967296 + 4294967296 % c + (c - 1)) (4294967296 / c) pos in
+    ap (λ m. m / c) parts
+    ∙ add-mul-div_right (v * 4294967296 + 4294967296 % c + (c - 1)) (4294967296 / c) pos in
     let within_words : b ≤ 4294967296 = ⊎_elim
-        (λ out. let short = below_ceiling c (v * 4294967296 + 4294967296) 4294967296 pos out in omega arith) (λ h. h)
-        (cases_lt 4294967296 b) in
+    (λ out. let short = below_ceiling c (v * 4294967296 + 4294967296) 4294967296 pos out in omega arith) (λ h. h)
+    (cases_lt 4294967296 b) in
     let total = counted c v 4294967296 a b pos rest refl refl in
     omega arith

@@ -9,9 +9,13 @@ use Rattle.draw_below.specs.Orders.{AreDraws, DrawsEach, Shuffles, exchanged}
 drawn_more : {W : Type 0} (gives : W → ℕ → W → Type 0) (last : ℕ) (w : W) (ds : List ℕ) (u : W) (c d : ℕ)
     (rejected : List ℕ) (v : W) → last - length ds + 1 ≡ c → DrawsEach gives last w ds u →
     Draws gives c u rejected d v → DrawsEach gives last w (ds ++ d ∷ []) v
-drawn_more gives last w [] u c d rejected v is drawn next =
-    (v, rejected, subst (λ x. Draws gives (last + 1) x rejected d v) (sym drawn)
-        (subst (λ n. Draws gives n u rejected d v) (sym is ∙ omega arith) next), refl)
+drawn_more gives last w [] u c d rejected v is drawn next = (
+  v,
+  rejected,
+  subst (λ x. Draws gives (last + 1) x rejected d v) (sym drawn)
+      (subst (λ n. Draws gives n u rejected d v) (sym is ∙ omega arith) next),
+  refl,
+)
 drawn_more gives last w (e ∷ ds) u c d rejected v is drawn next =
     (drawn.0, drawn.1, drawn.2, drawn_more gives (last - 1) drawn.0 ds u c d rejected v (omega arith) drawn.3 next)
 
@@ -45,15 +49,20 @@ one_more_exchange gives before w now u done d rejected v next more had draw low 
     let ds = had.0 in
     let n : length ds + 1 ≡ done = had.1 in
     let place : length before - 1 - length ds ≡ length before - done = omega arith in
-    let longer = length-append ds (d ∷ []) in
-    (ds ++ d ∷ [], ap (λ m. m + 1) (longer ∙ n), omega arith, record {
-            drawn = drawn_more gives (length before - 1) w ds u (length before - done + 1) d rejected v
-                (ap (λ m. m + 1) place) had.3.drawn draw;
-            none_above = draws_more (length before - 1) ds d (omega arith) had.3.none_above;
-            exchanges = is ∙ ap (λ l. swap l (length before - done) d) had.3.exchanges
-                ∙ ap (λ m. swap (exchanged (length before - 1) ds before) m d) (sym place)
-                ∙ sym (exchanged_more (length before - 1) ds d before);
-        }, IsPermutation-trans before now next had.4 moved)
+    let longer = length-append ds (d ∷ []) in (
+      ds ++ d ∷ [],
+      ap (λ m. m + 1) (longer ∙ n),
+      omega arith,
+      record {
+        drawn = drawn_more gives (length before - 1) w ds u (length before - done + 1) d rejected v
+            (ap (λ m. m + 1) place) had.3.drawn draw;
+        none_above = draws_more (length before - 1) ds d (omega arith) had.3.none_above;
+        exchanges = is ∙ ap (λ l. swap l (length before - done) d) had.3.exchanges
+            ∙ ap (λ m. swap (exchanged (length before - 1) ds before) m d) (sym place)
+            ∙ sym (exchanged_more (length before - 1) ds d before);
+      },
+      IsPermutation-trans before now next had.4 moved,
+    )
 
 pub whole : {W : Type 0} (gives : W → ℕ → W → Type 0) (before : List ℕ) (w : W) (now : List ℕ) (u : W) (done : ℕ) →
     IsSoFar gives before w now u done → length before ≤ done →
