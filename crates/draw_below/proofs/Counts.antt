@@ -2,7 +2,7 @@
 --
 -- A word r is accepted with the value v where c * r lies from v * 2^32 + 2^32 % c to below (v + 1) * 2^32. That is a
 -- stretch of c * (2^32 / c) numbers, so that it has 2^32 / c multiples of c.
-use Rattle.std.proofs.Common.{◌≡◌, ◌≢◌, ◌<◌, ◌≤◌, ◌↔◌, ◌⊎◌, ◌+◌, ◌-◌, ◌*◌, ◌/◌, ◌%◌, ℕ, zero, suc, Bool, true, false, cond, refl, ap, sym, ◌∙◌, subst, arith, eq-eqb, nat_eq, nat_le, ⊎_elim}
+use Rattle.std.proofs.Common.{◌≡◌, ◌≢◌, ◌<◌, ◌≤◌, ◌+◌, ◌-◌, ◌*◌, ◌/◌, ◌%◌, ℕ, zero, suc, Bool, true, false, cond, refl, ap, ◌∙◌, arith, eq-eqb, nat_eq, nat_le, ⊎_elim}
 use Rattle.std.proofs.lemmas.Bool.{cases_lt, le-leb, lt-leb, ne_eqb}
 use Rattle.std.proofs.lemmas.Nat.{mod_below}
 use Rattle.std.proofs.Math.Nat.{le-div_iff_mul-le, add-mul-div_right, div-add-mod}

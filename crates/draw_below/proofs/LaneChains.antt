@@ -1,5 +1,5 @@
 -- Words out of the lanes: the source stays over the same pass, and each word was read of what the pass knew.
-use Rattle.std.proofs.Common.{◌≡◌, ℕ, List, [], ◌∷◌, refl, sym, ap, ◌∙◌, subst}
+use Rattle.std.proofs.Common.{ℕ, List, [], ◌∷◌, refl, ap, ◌∙◌, subst}
 use Rattle.lane_table.specs.Calls.{view}
 use Rattle.rng_core.specs.declared.setting.Setting.{Setting}
 use Rattle.draw_below.specs.Draws.{Takes}

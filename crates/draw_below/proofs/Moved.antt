@@ -1,7 +1,7 @@
 -- Where an item stands after an exchange.
 use Rattle.std.proofs.Common.{◌≡◌, ◌≢◌, ◌<◌, ℕ, List, length, get_or, cond, nat_eq, refl, ap, sym, ◌∙◌, subst, eq-eqb, ⊎_elim}
 use Rattle.std.proofs.lemmas.Bool.{cases_eq, ne_eqb}
-use Rattle.std.proofs.lemmas.List.Edits.{swapped_from_swap, length-swap}
+use Rattle.std.proofs.lemmas.List.Edits.{swapped_from_swap}
 use Rattle.std.specs.List.{swap}
 
 -- the other of two places, and each place but these two itself

@@ -8,7 +8,6 @@ use Rattle.key_names.specs.SeenLine.{bytes_or_none}
 use Rattle.lane_table.specs.declared.view.View.{View}
 use Rattle.lane_table.specs.Calls.{view}
 use Rattle.rng_core.specs.declared.setting.Setting.{Setting}
-use Rattle.rng_core.specs.Told.{Moment}
 use Rattle.rng_core.specs.Did.{Did, Fulfils, setting_of}
 use Rattle.draw_below.specs.declared.lane_words.LaneWords.{LaneWords}
 

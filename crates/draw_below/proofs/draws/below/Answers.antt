@@ -1,4 +1,4 @@
-use Rattle.std.proofs.Common.{rules, ◌<◌, ◌≢◌, arith}
+use Rattle.std.proofs.Common.{rules, ◌<◌}
 use Rattle.draw_below.proofs.Bound.{value_below}
 use Rattle.draw_below.proofs.Chains.{accepted_draw, one_more}
 use Rattle.draw_below.proofs.draws.below.Goals as goal

@@ -1,4 +1,4 @@
-use Rattle.std.proofs.Common.{List, ℕ, arith, rules, sym, subst, ◌<◌, ◌≡◌}
+use Rattle.std.proofs.Common.{List, ℕ, rules, sym, subst, ◌≡◌}
 use Rattle.draw_below.proofs.Folds.{IsAnswered, all_answered, none_answered, one_answered, then_spent}
 use Rattle.draw_below.proofs.table_draws.draw_each.Goals as goal
 
