@@ -217,7 +217,7 @@ fn faults_are_told(rt: HostRuntime) -> Result<(), Fail> {
 #[test]
 fn other_words_read_and_write_nothing(rt: HostRuntime) -> Result<(), Fail> {
     let alloc = rt.alloc();
-    let rows: [&[&str]; 17] = [
+    let rows: [&[&str]; 22] = [
         &[],
         &["check"],
         &["run", "run"],
@@ -235,6 +235,11 @@ fn other_words_read_and_write_nothing(rt: HostRuntime) -> Result<(), Fail> {
         &["load", "1", "1", "1001"],
         &["load", "4294967296", "1", "8"],
         &["load", "1", "1", ""],
+        &["draw", "6"],
+        &["draw", "4294967296", "1"],
+        &["draw", "06", "1"],
+        &["draw", "6", "0"],
+        &["draw", "6", "1001"],
     ];
     for (row, texts) in rows.iter().enumerate() {
         let (status, mut source, sink) = run_over(&rt, alloc, texts, FIRST_SCRIPT, WHOLE)?;
@@ -394,5 +399,33 @@ fn a_script_that_is_cut_is_refused(rt: HostRuntime) -> Result<(), Fail> {
         assert_eq!(rt; sink.held(), refusal.as_bytes(), "{len} bytes");
         line += u32::from(*byte == b'\n');
     }
+    Ok(())
+}
+
+// The words are those that another implementation of the core gives for a script of `add` and `int32`.
+#[test]
+fn draws_are_told(rt: HostRuntime) -> Result<(), Fail> {
+    let alloc = rt.alloc();
+    let rows: [(&[&str], &[u8]); 4] = [
+        (&["draw", "6", "10"], b"1\n1\n5\n1\n0\n0\n0\n4\n2\n0\n"),
+        (&["draw", "1", "3"], b"0\n0\n0\n"),
+        (&["draw", "0", "2"], b"903136048\n950660814\n"),
+        (
+            &["draw", "2147483649", "3"],
+            b"2033629397\n456454579\n91363622\n",
+        ),
+    ];
+    for (words, text) in rows {
+        let (status, _, sink) = run_over(&rt, alloc, words, b"", WHOLE)?;
+        assert_eq!(rt; status, Status::Done);
+        assert_eq!(rt; sink.held(), text);
+    }
+    let edges = Edges {
+        failing_put: 1,
+        ..WHOLE
+    };
+    let (status, _, sink) = run_over(&rt, alloc, &["draw", "6", "10"], b"", edges)?;
+    assert_eq!(rt; status, Status::WriteFault);
+    assert_eq!(rt; sink.held(), b"".as_slice());
     Ok(())
 }
