@@ -391,13 +391,16 @@ fn a_sink_that_cannot_be_flushed_holds_all(rt: HostRuntime) -> Result<(), Fail> 
 #[test]
 fn a_script_that_is_cut_is_refused(rt: HostRuntime) -> Result<(), Fail> {
     let alloc = rt.alloc();
-    let mut line = 1;
+    let mut line = 1u32;
     for (len, byte) in EARLY_SCRIPT.iter().enumerate() {
-        let (status, _, sink) = run_over(&rt, alloc, &["run"], &EARLY_SCRIPT[..len], WHOLE)?;
+        let front = EARLY_SCRIPT.get(..len).ok_or("a front")?;
+        let (status, _, sink) = run_over(&rt, alloc, &["run"], front, WHOLE)?;
         let refusal = format!(in alloc; "refused {line} 12\n")?;
         assert_eq!(rt; status, Status::Refused, "{len} bytes");
         assert_eq!(rt; sink.held(), refusal.as_bytes(), "{len} bytes");
-        line += u32::from(*byte == b'\n');
+        if *byte == b'\n' {
+            line = line.saturating_add(1);
+        }
     }
     Ok(())
 }
