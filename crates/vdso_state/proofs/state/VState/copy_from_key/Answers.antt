@@ -1,4 +1,4 @@
-use Rattle.std.proofs.Common.{◌≡◌, ◌+◌, ◌*◌, ◌/◌, ◌%◌, length, take, drop, refl, ap, ◌∙◌, arith}
+use Rattle.std.proofs.Common.{◌≡◌, ◌+◌, ◌*◌, ◌/◌, ◌%◌, length, refl, ap, ◌∙◌, arith}
 use Rattle.key_names.specs.Keystream.{keystream}
 use Rattle.key_names.specs.VgetrandomState.{VgetrandomState}
 use Rattle.vdso_state.proofs.Copies.{state_at, bytes_at}

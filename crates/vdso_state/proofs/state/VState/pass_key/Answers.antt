@@ -1,4 +1,4 @@
-use Rattle.std.proofs.Common.{◌≡◌, ◌%◌, length, rules}
+use Rattle.std.proofs.Common.{◌%◌, rules}
 use Rattle.vdso_state.proofs.Copies.{state_at}
 use Rattle.vdso_state.proofs.state.VState.pass_key.Goals as goal
 
