@@ -228,6 +228,7 @@ impl VState {
         ensures key { result.key ≡ self.old.key }
         ensures state { self.new ≡ state_after_copy self.old next_block len }
         ensures next { result.next_block ≡ block_after_copy self.old next_block len }
+        ensures near { result.next_block ≤ next_block + 2 ^ 14 + 2 }
     {
         let len = len as usize;
         let left = self.left();

@@ -45,11 +45,11 @@ behind_look n flags ready seen =
     if ready || is_insecure flags then read n ready seen
     else (if is_nonblock flags then no_more Again seen else waited n seen)
 
+abbrev pub by_look : ℕ → ℕ → List Seen → Option Called
+by_look n flags (Unready ∷ rest) = behind_look n flags false rest
+by_look n flags (Ready found ∷ rest) = behind_look n flags true rest
+by_look n flags _ = None
+
 -- a system call of n bytes with these flags, where its steps are those of one
 abbrev pub called : ℕ → ℕ → List Seen → Option Called
-called n flags seen = if is_bad flags then no_more Invalid seen else by_look seen
-  where
-    by_look : List Seen → Option Called
-    by_look (Unready ∷ rest) = behind_look n flags false rest
-    by_look (Ready found ∷ rest) = behind_look n flags true rest
-    by_look _ = None
+called n flags seen = if is_bad flags then no_more Invalid seen else by_look n flags seen

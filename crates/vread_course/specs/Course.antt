@@ -114,7 +114,7 @@ tried_once n flags (Some b) =
     if b.tried.holds
     then leaving (state_after_call b.state) (at_end b.tried.served (reached_by b.tried.keyed) b.rest)
     else tried_again n flags (reached_by b.tried.keyed)
-        (attempted (inside_of []) n b.tried.next_block b.state b.rest)
+    (attempted (inside_of []) n b.tried.next_block b.state b.rest)
 
 -- behind a look that found the core ready
 abbrev pub from_ready : ℕ → ℕ → Inside → VgetrandomState → List Seen → Option Followed
@@ -146,5 +146,5 @@ abbrev pub followed : ℕ → ℕ → Inside → VgetrandomState → List Seen �
 followed n flags inside s seen =
     if rises 0 seen
     then (if inside.any || (n == 0 || is_bad flags) then by_vgetrandom n flags inside s seen
-        else copy_or_call n flags inside s seen)
+    else copy_or_call n flags inside s seen)
     else None

@@ -1,5 +1,5 @@
 //! An attempt of a vgetrandom call, followed over its steps.
-ghost use Rattle.std.specs.Prelude.{◌≡◌, ◌^◌, ◌≤◌, MatchOption, Some, None};
+ghost use Rattle.std.specs.Prelude.{◌≡◌, ◌+◌, ◌^◌, ◌≤◌, IfSome, MatchOption, Some, None};
 ghost use Rattle.key_names.specs.VgetrandomState.{state_left};
 ghost use Rattle.vread_course.specs.Course.{published, copied, from_serve, key_in_front, from_start, attempted};
 
@@ -44,9 +44,10 @@ fn copied<'a>(
 ) -> Option<(Tried, &'a [Seen])>
     requires near { next_block ≤ 2 ^ 20 }
     requires short { len ≤ 2 ^ 20 }
-    ensures { MatchOption result (copied inside len next_block keyed st.old seen.now ≡ None)
+    ensures tries { MatchOption result (copied inside len next_block keyed st.old seen.now ≡ None)
         (λ r. copied inside len next_block keyed st.old seen.now
         ≡ Some (record { tried = r.0; state = st.new; rest = r.1.now })) }
+    ensures near { IfSome result (λ r. r.0.next_block ≤ next_block + 2 ^ 14 + 2) }
 {
     match seen {
         [Seen::Ready(found), rest @ ..] => {
@@ -74,9 +75,10 @@ fn from_serve<'a>(
 ) -> Option<(Tried, &'a [Seen])>
     requires near { next_block ≤ 2 ^ 20 }
     requires short { len ≤ 2 ^ 20 }
-    ensures { MatchOption result (from_serve inside len next_block keyed st.old seen.now ≡ None)
+    ensures tries { MatchOption result (from_serve inside len next_block keyed st.old seen.now ≡ None)
         (λ r. from_serve inside len next_block keyed st.old seen.now
         ≡ Some (record { tried = r.0; state = st.new; rest = r.1.now })) }
+    ensures near { IfSome result (λ r. r.0.next_block ≤ next_block + 2 ^ 14 + 2) }
 {
     leave(st, inside.serve);
     copied(st, inside, len, next_block, keyed, seen)
@@ -113,9 +115,10 @@ fn from_start<'a>(
 ) -> Option<(Tried, &'a [Seen])>
     requires near { next_block ≤ 2 ^ 20 }
     requires short { len ≤ 2 ^ 20 }
-    ensures { MatchOption result (from_start inside len next_block st.old generation seen.now ≡ None)
+    ensures tries { MatchOption result (from_start inside len next_block st.old generation seen.now ≡ None)
         (λ r. from_start inside len next_block st.old generation seen.now
         ≡ Some (record { tried = r.0; state = st.new; rest = r.1.now })) }
+    ensures near { IfSome result (λ r. r.0.next_block ≤ next_block + 2 ^ 14 + 2) }
 {
     if st.generation() == generation {
         from_serve(st, inside, len, next_block, false, seen)
@@ -140,9 +143,10 @@ pub fn attempt<'a>(
 ) -> Option<(Tried, &'a [Seen])>
     requires near { next_block ≤ 2 ^ 20 }
     requires short { len ≤ 2 ^ 20 }
-    ensures { MatchOption result (attempted inside len next_block st.old seen.now ≡ None)
+    ensures tries { MatchOption result (attempted inside len next_block st.old seen.now ≡ None)
         (λ r. attempted inside len next_block st.old seen.now
         ≡ Some (record { tried = r.0; state = st.new; rest = r.1.now })) }
+    ensures near { IfSome result (λ r. r.0.next_block ≤ next_block + 2 ^ 14 + 2) }
 {
     match seen {
         [Seen::Ready(found), rest @ ..] => {

@@ -67,13 +67,7 @@ fn try_again(
     }
 }
 
-fn try_twice(
-    st: &mut VState,
-    len: u32,
-    flags: u32,
-    inside: Inside,
-    seen: &[Seen],
-) -> Option<Course>
+fn try_twice(st: &mut VState, len: u32, flags: u32, inside: Inside, seen: &[Seen]) -> Option<Course>
     requires short { len ≤ 2 ^ 20 }
     ensures { leaving st.new result ≡ tried_once len flags (attempted inside len 0 st.old seen.now) }
 {
@@ -138,7 +132,13 @@ fn serves_locally(st: &VState, found: u64, len: u32) -> bool
     published(found) == st.generation() && !st.is_in_use() && len as usize <= st.left()
 }
 
-fn copy_or_call(st: &mut VState, len: u32, flags: u32, inside: Inside, seen: &[Seen]) -> Option<Course>
+fn copy_or_call(
+    st: &mut VState,
+    len: u32,
+    flags: u32,
+    inside: Inside,
+    seen: &[Seen],
+) -> Option<Course>
     requires short { len ≤ 2 ^ 20 }
     ensures { leaving st.new result ≡ copy_or_call len flags inside st.old seen.now }
 {

@@ -1,5 +1,6 @@
 //! The acts inside a call.
-ghost use Rattle.std.specs.Prelude.{◌≡◌, []};
+ghost use Rattle.std.specs.Prelude.{◌≡◌, ◌==◌, ◌&&◌, ◌||◌, []};
+ghost use Rattle.key_names.specs.VreadSteps.{is_wipe};
 ghost use Rattle.vread_course.specs.Inside.{inside_of, includes};
 ghost use Rattle.vread_course.specs.InsideSteps.{inside_after};
 
@@ -34,13 +35,19 @@ impl Inside {
     pub fn add(&mut self, point: u8, act: InsideAct)
         ensures { self.new ≡ inside_after self.old point act }
     {
-        let wipes = matches!(act, InsideAct::Wipe);
         self.any = true;
-        self.start = self.start || (point == 1 && wipes);
-        self.written = self.written || (point == 2 && wipes);
-        self.serve = self.serve || (point == 3 && wipes);
-        self.end = self.end || (point == 4 && wipes);
+        self.start = is_wiped(self.start, 1, point, act);
+        self.written = is_wiped(self.written, 2, point, act);
+        self.serve = is_wiped(self.serve, 3, point, act);
+        self.end = is_wiped(self.end, 4, point, act);
     }
+}
+
+// Whether a point is wiped, with one act more, which may be at another point.
+fn is_wiped(wiped: bool, here: u8, point: u8, act: InsideAct) -> bool
+    ensures { result ≡ (wiped || (point == here && is_wipe act)) }
+{
+    wiped || (point == here && matches!(act, InsideAct::Wipe))
 }
 
 /// Which points the first attempt of a call came to.

@@ -1,4 +1,7 @@
 //! How the bytes of a read are made.
+ghost use Rattle.std.specs.Prelude.{◌≡◌, ◌+◌, ◌^◌, ◌<◌, ◌↔◌, ◌++◌, length, IsTrue, IfOk};
+ghost use Rattle.key_names.specs.Keystream.{keystream};
+
 use chacha_blocks::{derive_key, fill};
 use std::alloc::AllocError;
 use std::marker::Model;
@@ -93,6 +96,7 @@ impl Served {
         requires short { len ≤ 2 ^ 20 }
         ensures served { result.0 ≡ copy_recipe st.old next_block len }
         ensures next { result.1 ≡ block_after_copy st.old next_block len }
+        ensures near { result.1 ≤ next_block + 2 ^ 14 + 2 }
         ensures state { st.new ≡ state_after_copy st.old next_block len }
     {
         let Passed {
@@ -127,40 +131,53 @@ impl Served {
         ensures { IfOk result (λ _. out.new.items ≡ out.old.items ++ bytes_made self.now) }
     {
         out.extend_from_slice(&self.front[..usize::from(self.front_len)])?;
-        let mut piece = [0; PIECE_BYTES];
-        let mut done = 0;
-        let len = self.len as usize;
-        while done < len {
-            let next = PIECE_BYTES.min(len - done);
-            fill(&self.key, self.from + done as u64, &mut piece[..next]);
-            out.extend_from_slice(&piece[..next])?;
-            done += next;
-        }
-        Ok(())
+        put_key(&self.key, self.from, self.len as usize, out)
     }
 
     /// Whether the bytes are these.
     pub fn is(&self, bytes: &[u8]) -> bool
         ensures { IsTrue result ↔ (bytes.now ≡ bytes_made self.now) }
     {
-        let front_len = usize::from(self.front_len);
-        if bytes.len() != front_len + self.len as usize {
+        let front = &self.front[..usize::from(self.front_len)];
+        if bytes.len() != self.len() {
             return false;
         }
-        if bytes[..front_len] != self.front[..front_len] {
-            return false;
-        }
-        let rest = &bytes[front_len..];
-        let mut piece = [0; PIECE_BYTES];
-        let mut done = 0;
-        while done < rest.len() {
-            let next = PIECE_BYTES.min(rest.len() - done);
-            fill(&self.key, self.from + done as u64, &mut piece[..next]);
-            if piece[..next] != rest[done..done + next] {
-                return false;
-            }
-            done += next;
-        }
-        true
+        let (first, rest) = bytes.split_at(front.len());
+        first == front && is_key(&self.key, self.from, rest)
     }
+}
+
+/// Puts bytes of the key's stream behind those of `out`, a piece at a time.
+fn put_key(key: &[u8; 32], from: u64, len: usize, out: &mut Vec<u8>) -> Result<(), AllocError>
+    requires { from + len < 2 ^ 40 }
+    ensures { IfOk result (λ _. out.new.items ≡ out.old.items ++ keystream key.now from len) }
+{
+    let mut piece = [0; PIECE_BYTES];
+    let mut done = 0;
+    while done < len {
+        let next = PIECE_BYTES.min(len - done);
+        let part = &mut piece[..next];
+        fill(key, from + done as u64, part);
+        out.extend_from_slice(part)?;
+        done += next;
+    }
+    Ok(())
+}
+
+/// Whether the bytes are those of the key's stream from this position on, a piece at a time.
+fn is_key(key: &[u8; 32], from: u64, bytes: &[u8]) -> bool
+    requires { from + length bytes.now < 2 ^ 40 }
+    ensures { IsTrue result ↔ (bytes.now ≡ keystream key.now from (length bytes.now)) }
+{
+    let mut piece = [0; PIECE_BYTES];
+    let mut done = 0;
+    while done < bytes.len() {
+        let next = PIECE_BYTES.min(bytes.len() - done);
+        fill(key, from + done as u64, &mut piece[..next]);
+        if piece[..next] != bytes[done..done + next] {
+            return false;
+        }
+        done += next;
+    }
+    true
 }
