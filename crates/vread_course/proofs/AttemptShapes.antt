@@ -1,5 +1,5 @@
 -- The shapes of an attempt: what stands behind its steps, what it gives, and that its course is told.
-use Rattle.std.proofs.Common.{◌≡◌, ℕ, zero, suc, ◌<◌, ◌≤◌, ◌+◌, ◌^◌, Bool, true, false, List, [], ◌∷◌, ◌++◌, Some, None, ◌⊎◌, inl, inr, refl, sym, subst, ap, ◌∙◌, arith}
+use Rattle.std.proofs.Common.{◌≡◌, ℕ, zero, suc, ◌<◌, ◌≤◌, ◌+◌, ◌^◌, Bool, true, false, List, [], ◌∷◌, ◌++◌, Some, None, ◌⊎◌, inl, inr, refl, sym, subst, ap, ◌∙◌, append_assoc, arith}
 use Rattle.std.specs.Prelude.{◌==◌, ◌&&◌, not, ⊤, MatchBool, Option, if◌then◌else◌}
 use Rattle.key_names.specs.declared.point.Point.{Point}
 use Rattle.key_names.specs.declared.point.Point.TheVariants.{Start, Written, Serve, End}
@@ -194,7 +194,7 @@ module _ (set : Setting) (more : List HostStep) where
             (MatchBool (32 == 0) (r ≡ []) (ReadForm set (User 32) g r))
 
         go : ReadForm set (User 32) g r → KeyRead seen rest answer
-        go (inl f) = (let none : g ≡ 0 = f.0 in absurd (omega arith))
+        go (inl f) = (let none : g ≡ 0 = f.0 in absurd (omega (arith, some)))
         go (inr f) = key_by g r is f
 
   -- ---- an attempt
@@ -206,14 +206,16 @@ module _ (set : Setting) (more : List HostStep) where
     pub rest : b.rest ≡ behind
     pub keyed_is : b.tried.keyed ≡ keyed
 
-  pub record AttemptShape (n c : ℕ) (s : VgetrandomState) (steps : List HostStep) (seen : List Seen)
+  pub record AttemptShape (n c : ℕ) (s : VgetrandomState) (steps : List HostStep) (ds : List Deed) (seen : List Seen)
       (a : Attempt) : Type 0 where
     pub w1 : Bool
     pub w2 : Bool
     pub w3 : Bool
     pub w4 : Bool
     pub keyed : Bool
+    pub front : List Deed
     pub rest : List Deed
+    pub deeds_are : ds ≡ front ++ rest
     pub behind : List Seen
     pub sees : AllSeen set.cpu behind rest
     pub known : Known rest
@@ -240,7 +242,7 @@ module _ (set : Setting) (more : List HostStep) where
 
   pub attempt_shape : (n c : ℕ) (s : VgetrandomState) (steps : List HostStep) (ds : List Deed) (seen : List Seen)
       (a : Attempt) → IsAttempt n c s steps a → Shows set (steps ++ more) ds → AllSeen set.cpu seen ds → Known ds →
-      AttemptShape n c s steps seen a
+      AttemptShape n c s steps ds seen a
   attempt_shape n c s steps ds seen a t shows sees known = go (s1.generation == published g) refl goes
     where
       st : AtPoint Start (FromStart n c t.published) s t.rest a
@@ -270,7 +272,7 @@ module _ (set : Setting) (more : List HostStep) where
           subst P (y.3.0 ∙ published_is g k.0 k.1) st.goes_on
 
       current : (s1.generation == published g) ≡ true → AtPoint Serve (FromServe n c) s1 st.rest st.attempt_after →
-          AttemptShape n c s steps seen a
+          AttemptShape n c s steps ds seen a
       current e x =
           let cp = copied n c s1 st.rest y.1 st.attempt_after x y.3.1 in
           let kk = known_at cp.deeds_are k.2 in
@@ -281,7 +283,9 @@ module _ (set : Setting) (more : List HostStep) where
             w3 = cp.w3;
             w4 = cp.w4;
             keyed = false;
+            front = looked g ∷ looked cp.h ∷ [];
             rest = cp.rest;
+            deeds_are = y.2 ∙ ap (λ x. looked g ∷ x) cp.deeds_are;
             behind = ll.behind;
             sees = ll.sees;
             known = kk.2;
@@ -304,7 +308,7 @@ module _ (set : Setting) (more : List HostStep) where
 
       rekeyed : (s1.generation == published g) ≡ false →
           AtPoint Written (FromWritten n c) (record s1 { generation = published g }) st.rest st.attempt_after →
-          AttemptShape n c s steps seen a
+          AttemptShape n c s steps ds seen a
       rekeyed e x =
           let s2 = state_left x.wiped (record s1 { generation = published g }) in
           let w = x.goes_on in
@@ -325,7 +329,10 @@ module _ (set : Setting) (more : List HostStep) where
             w3 = cp.w3;
             w4 = cp.w4;
             keyed = true;
+            front = looked g ∷ call.call ++ looked cp.h ∷ [];
             rest = cp.rest;
+            deeds_are = y.2 ∙ ap (λ x. looked g ∷ x) (call.deeds_are ∙ ap (λ x. call.call ++ x) cp.deeds_are
+                ∙ sym (append_assoc call.call (looked cp.h ∷ []) cp.rest));
             behind = ll.behind;
             sees = ll.sees;
             known = kk.2;
@@ -360,6 +367,6 @@ module _ (set : Setting) (more : List HostStep) where
       go : (b : Bool) → (s1.generation == published g) ≡ b →
           MatchBool b (AtPoint Serve (FromServe n c) s1 st.rest st.attempt_after)
           (AtPoint Written (FromWritten n c) (record s1 { generation = published g }) st.rest st.attempt_after) →
-          AttemptShape n c s steps seen a
+          AttemptShape n c s steps ds seen a
       go true e x = current e x
       go false e x = rekeyed e x

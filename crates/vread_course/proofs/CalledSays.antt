@@ -84,7 +84,7 @@ draw_bytes : (key : List ℕ) (n : ℕ) (e : BaseEntry) (serves : List ℕ) (roo
 draw_bytes key n e serves root is by = user_bytes key n ∙ sym (by ∙ ap (base_serves key) is)
 
 -- the answer of a call whose flags are good, by its tests
-answered : (flags : ℕ) (deeds : List Deed) (u w : Bool) → is_bad flags ≡ false →
+pub answered : (flags : ℕ) (deeds : List Deed) (u w : Bool) → is_bad flags ≡ false →
     (found_unready deeds && (is_nonblock flags && not (is_insecure flags))) ≡ u → was_interrupted deeds ≡ w →
     system_answer flags deeds ≡ (if u then Again else (if w then Interrupted else Done))
 answered flags deeds u w good again stopped =

@@ -3,3 +3,7 @@ pub mod SeenShapes
 pub mod CalledRows
 pub mod CalledSays
 pub mod AttemptShapes
+pub mod AttemptsTold
+pub mod CallPoints
+pub mod CallsTold
+pub mod CallsFollowed

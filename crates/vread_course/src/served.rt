@@ -117,7 +117,8 @@ impl Served {
 
     /// How many bytes there are.
     pub fn len(&self) -> usize
-        ensures { result ≡ length (bytes_made self.now) }
+        ensures bytes { result ≡ length (bytes_made self.now) }
+        ensures short { result < 2 ^ 33 }
     {
         usize::from(self.front_len) + self.len as usize
     }
@@ -143,8 +144,14 @@ impl Served {
             return false;
         }
         let (first, rest) = bytes.split_at(front.len());
-        first == front && is_key(&self.key, self.from, rest)
+        are_same(first, front) && is_key(&self.key, self.from, rest)
     }
+}
+
+fn are_same(a: &[u8], b: &[u8]) -> bool
+    ensures { IsTrue result ↔ (a.now ≡ b.now) }
+{
+    a == b
 }
 
 /// Puts bytes of the key's stream behind those of `out`, a piece at a time.
@@ -173,8 +180,9 @@ fn is_key(key: &[u8; 32], from: u64, bytes: &[u8]) -> bool
     let mut done = 0;
     while done < bytes.len() {
         let next = PIECE_BYTES.min(bytes.len() - done);
-        fill(key, from + done as u64, &mut piece[..next]);
-        if piece[..next] != bytes[done..done + next] {
+        let part = &mut piece[..next];
+        fill(key, from + done as u64, part);
+        if !are_same(part, &bytes[done..done + next]) {
             return false;
         }
         done += next;
