@@ -39,6 +39,10 @@ pub published_is : (g : ℕ) → 1 ≤ g → g < 2 ^ 63 → published_by g ≡ p
 published_is zero some small = absurd (omega arith)
 published_is (suc g) some small = omega arith
 
+pub published_some : (g : ℕ) → 1 ≤ g → (published_by g == 0) ≡ false
+published_some zero some = absurd (omega arith)
+published_some (suc g) some = is_some (suc (suc g)) (omega arith)
+
 -- each look found the core ready, and is one that a transcript can have
 abbrev pub Known : List Deed → Type 0
 Known [] = ⊤

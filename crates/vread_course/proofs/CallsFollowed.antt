@@ -16,7 +16,9 @@ use Rattle.key_names.specs.VreadSteps.{PointReached, points_of, published_by, Sh
 use Rattle.line_forms.specs.declared.kind.Kind.{Kind}
 use Rattle.line_forms.specs.Kinds.{kinds_of}
 use Rattle.line_forms.specs.Rows.{IsSystemCall}
+use Rattle.key_names.specs.declared.entries.Taken.TheVariants.{User}
 use Rattle.line_forms.specs.LaneFacts.{LaneFacts, AllFit}
+use Rattle.line_forms.specs.Told.{AllFill, FillsPart}
 use Rattle.line_forms.specs.declared.told.Sign.TheVariants.{Nowhere as nowhere}
 use Rattle.line_forms.proofs.ToldReads.{last_told}
 use Rattle.line_forms.proofs.FormRows.{system_form}
@@ -36,8 +38,8 @@ use Rattle.vread_course.specs.Course.{Behind, Followed, attempted, leaving, at_e
 use Rattle.vread_course.proofs.SeenShapes.{shaped, deeds_in, kinds_seen, seen_nothing, see_at, look_seen}
 use Rattle.vread_course.proofs.CalledRows.{row_called}
 use Rattle.vread_course.proofs.CalledSays.{Says, called_says}
-use Rattle.vread_course.proofs.AttemptShapes.{Known, known_at, wiping, Matches, ToldAs, AttemptShape, attempt_shape}
-use Rattle.vread_course.proofs.CallPoints.{attempt_points, EndPoints, Second, none_reached, which_reached, first_as_told, second_not_wiped}
+use Rattle.vread_course.proofs.AttemptShapes.{published_some, Known, known_at, wiping, Matches, ToldAs, AttemptShape, attempt_shape}
+use Rattle.vread_course.proofs.CallPoints.{attempt_points, EndPoints, Second, none_reached, which_reached, AsTold, first_as_told, NotWiped, second_not_wiped}
 
 fit_behind : (c : LaneFacts) (front rest : List Deed) → AllFit c (front ++ rest) → AllFit c rest
 fit_behind c [] rest fit = fit
@@ -132,10 +134,10 @@ module _ (cf : LaneFacts) (set : Setting) (n flags : ℕ) where
         reached = refl;
       })
 
-  after_at : {Outdated : ℕ → VgetrandomState → List HostStep → Outcome → Type 0} (a : Attempt) (steps : List HostStep)
+  after_at : (Outdated : ℕ → VgetrandomState → List HostStep → Outcome → Type 0) (a : Attempt) (steps : List HostStep)
       (outcome : Outcome) {end end' : AttemptEnd} → end ≡ end' → AfterAttempt n flags Outdated end a steps outcome →
       AfterAttempt n flags Outdated end' a steps outcome
-  after_at {Outdated = Outdated} a steps outcome {end = end} {end' = end'} is after =
+  after_at Outdated a steps outcome {end = end} {end' = end'} is after =
       let P : AttemptEnd → Type 0 = λ x. AfterAttempt n flags Outdated x a steps outcome in subst P is after
 
   -- ---- the second attempt
@@ -201,7 +203,7 @@ module _ (cf : LaneFacts) (set : Setting) (n flags : ℕ) where
 
       goes_on : AfterAttempt n flags (AfterBoth n flags) (if t.b.tried.holds then holds else outdated) by.attempt by.rest
           by.outcome_after
-      goes_on = after_at by.attempt by.rest by.outcome_after t.matches.end by.goes_on
+      goes_on = after_at (AfterBoth n flags) by.attempt by.rest by.outcome_after t.matches.end by.goes_on
 
       no_more : points_of by.rest ≡ []
       no_more = go t.b.tried.holds goes_on
@@ -218,7 +220,7 @@ module _ (cf : LaneFacts) (set : Setting) (n flags : ℕ) where
           (if z then at_end t.b.tried.served r t.b.rest else course.by_system n flags r t.b.rest)) h)
           (ap (λ (o : Outcome). o.ending) by.outcome_is) (ap (λ (o : Outcome). o.state) by.outcome_is)
           (batch_followed r by.attempt t.b t.matches sh.rest by.rest by.outcome_after
-          (after_at by.attempt by.rest by.outcome_after (ap (λ z. if z then holds else outdated) h) goes_on) sh.shows
+          (after_at (AfterBoth n flags) by.attempt by.rest by.outcome_after (ap (λ z. if z then holds else outdated) h) goes_on) sh.shows
           sees')
       ends false h =
           follows_at (ap (tried_again n flags r) t.is ∙ ap (λ z. leaving (state_after_call t.b.state)
@@ -226,7 +228,7 @@ module _ (cf : LaneFacts) (set : Setting) (n flags : ℕ) where
           (ap (λ (o : Outcome). o.ending) by.outcome_is) (ap (λ (o : Outcome). o.state) by.outcome_is)
           (system_followed r (state_after_call by.attempt.state) (state_after_call t.b.state)
           (ap state_after_call t.matches.state) t.b.rest sh.rest by.rest by.outcome_after
-          (after_at by.attempt by.rest by.outcome_after (ap (λ z. if z then holds else outdated) h) goes_on) sh.shows fit'
+          (after_at (AfterBoth n flags) by.attempt by.rest by.outcome_after (ap (λ z. if z then holds else outdated) h) goes_on) sh.shows fit'
           sees')
 
   -- ---- the first attempt
@@ -279,7 +281,7 @@ module _ (cf : LaneFacts) (set : Setting) (n flags : ℕ) where
 
       goes_on : AfterAttempt n flags (SecondAttempt n flags) (if t.b.tried.holds then holds else outdated) by.attempt
           by.rest by.outcome_after
-      goes_on = after_at by.attempt by.rest by.outcome_after t.matches.end by.goes_on
+      goes_on = after_at (SecondAttempt n flags) by.attempt by.rest by.outcome_after t.matches.end by.goes_on
 
       which : EndPoints (points_of by.rest) → (act : BoundAct) →
           is_reached (points_of steps) act ≡ includes (reached_by t.b.tried.keyed) act.point
@@ -300,7 +302,7 @@ module _ (cf : LaneFacts) (set : Setting) (n flags : ℕ) where
           FirstFollows (tried_once n flags (attempted (inside_of acts) n 0 s seen)) outcome.ending outcome.state
           (points_of steps)
       ends true h =
-          let after = after_at by.attempt by.rest by.outcome_after (ap (λ z. if z then holds else outdated) h) goes_on in
+          let after = after_at (SecondAttempt n flags) by.attempt by.rest by.outcome_after (ap (λ z. if z then holds else outdated) h) goes_on in
           record {
             r = reached_by t.b.tried.keyed;
             follows = follows_at (follow_is true h) (ap (λ (o : Outcome). o.ending) by.outcome_is)
@@ -310,7 +312,7 @@ module _ (cf : LaneFacts) (set : Setting) (n flags : ℕ) where
             which = which (inl (ap points_of after.steps_are));
           }
       ends false h =
-          let after = after_at by.attempt by.rest by.outcome_after (ap (λ z. if z then holds else outdated) h) goes_on in
+          let after = after_at (SecondAttempt n flags) by.attempt by.rest by.outcome_after (ap (λ z. if z then holds else outdated) h) goes_on in
           let A : ℕ → Type 0 = λ c. SecondAttempt n flags c by.attempt.state by.rest by.outcome_after in
           let B : VgetrandomState → Type 0 = λ z. SecondAttempt n flags t.b.tried.next_block z by.rest by.outcome_after in
           let second = second_followed acts sh.keyed sh.w1 sh.w2 sh.w3 sh.w4 (points_of steps)
@@ -381,35 +383,48 @@ module _ (cf : LaneFacts) (set : Setting) (n flags : ℕ) where
       AllFit cf deeds → AllSeen set.cpu seen deeds → WipesStand acts (points_of steps) →
       ((g : ℕ) (rest : List Deed) → deeds ≡ looked g ∷ rest → 1 ≤ g → Known rest) →
       CallFollows (from_look n flags (inside_of acts) s seen) outcome.ending outcome.state (points_of steps)
-  look_followed acts s seen deeds steps outcome by shows fit sees stand known = at y.0 y.2 y.3.0 by.goes_on
+  look_followed acts s seen deeds steps outcome by shows fit sees stand known =
+      let P : List PointReached → Type 0 = λ x.
+      CallFollows (from_look n flags (inside_of acts) s seen) outcome.ending outcome.state x in
+      subst P (sym (ap points_of by.steps_are)) (go seen (see_at set.cpu seen y.2 sees))
     where
       y : Shows set (publishes by.published ∷ by.rest) deeds
       y = let P : List HostStep → Type 0 = λ x. Shows set x deeds in subst P by.steps_are shows
 
-      points : points_of steps ≡ points_of by.rest
-      points = ap points_of by.steps_are
-
       fits : AllFit cf (looked y.0 ∷ y.1)
       fits = let P : List Deed → Type 0 = λ x. AllFit cf x in subst P y.2 fit
 
-      shown : AllSeen set.cpu seen (looked y.0 ∷ y.1)
-      shown = see_at set.cpu seen y.2 sees
-
       stands : WipesStand acts (points_of by.rest)
-      stands = let P : List PointReached → Type 0 = λ x. WipesStand acts x in subst P points stand
+      stands =
+          let P : List PointReached → Type 0 = λ x. WipesStand acts x in subst P (ap points_of by.steps_are) stand
 
-      onward : {o : Option Followed} → CallFollows o outcome.ending outcome.state (points_of by.rest) →
-          CallFollows o outcome.ending outcome.state (points_of steps)
-      onward {o = o} k =
-          let P : List PointReached → Type 0 = λ x. CallFollows o outcome.ending outcome.state x in subst P (sym points) k
+      go : (seen : List Seen) → AllSeen set.cpu seen (looked y.0 ∷ y.1) →
+          CallFollows (from_look n flags (inside_of acts) s seen) outcome.ending outcome.state (points_of by.rest)
+      go [] h = absurd h
+      go (Unready ∷ xs) h =
+          let P : ℕ → Type 0 = λ p. FromPublished n flags s p by.rest outcome in
+          system_alone s xs y.1 by.rest outcome (subst P (y.3.0 ∙ ap published_by h.0) by.goes_on) y.3.1 fits.1 h.1
+      go (Ready g ∷ xs) h =
+          let S : ℕ → Type 0 = λ x. 1 ≤ x in
+          let some : 1 ≤ y.0 = subst S (sym h.0.0) h.0.1 in
+          let P : Bool → Type 0 = λ b. MatchBool b (BySystem n flags s by.rest outcome)
+          (MatchBool (n == 0) (ByNothing s by.rest outcome)
+          (MatchBool s.in_use (BySystem n flags s by.rest outcome)
+          (FirstAttempt n flags (record s { in_use = true }) by.rest outcome))) in
+          ready_followed acts s xs y.1 by.rest outcome
+          (subst P (ap (λ p. p == 0) y.3.0 ∙ published_some y.0 some) by.goes_on) y.3.1 fits.1 h.1
+          (known y.0 y.1 y.2 some) stands
+      go (x ∷ xs) h = absurd h.0
 
-      told : {o o' : Option Followed} → o' ≡ o → CallFollows o outcome.ending outcome.state (points_of by.rest) →
-          CallFollows o' outcome.ending outcome.state (points_of by.rest)
-      told {o = o} {o' = o'} p k =
-          let P : Option Followed → Type 0 = λ x. CallFollows x outcome.ending outcome.state (points_of by.rest) in
-          subst P (sym p) k
-
-      at : (g : ℕ) → y.0 ≡ g → by.published ≡ published_by y.0 →
-          FromPublished n flags s by.published by.rest outcome →
-          CallFollows (from_look n flags (inside_of acts) s seen) outcome.ending outcome.state (points_of steps)
-      at g is p goes = ?
+  pub vgetrandom_followed : (acts : List BoundAct) (s : VgetrandomState) (seen : List Seen) (deeds : List Deed)
+      (steps : List HostStep) (outcome : Outcome) → IsCall n flags s steps outcome → Shows set steps deeds →
+      AllFit cf deeds → AllSeen set.cpu seen deeds → WipesStand acts (points_of steps) →
+      ((g : ℕ) (rest : List Deed) → deeds ≡ looked g ∷ rest → 1 ≤ g → Known rest) →
+      CallFollows (by_vgetrandom n flags (inside_of acts) s seen) outcome.ending outcome.state (points_of steps)
+  vgetrandom_followed acts s seen deeds steps outcome by shows fit sees stand known = go (is_bad flags) by
+    where
+      go : (z : Bool) → MatchBool z (BySystem n flags s steps outcome) (FromLook n flags s steps outcome) →
+          CallFollows (if z then leaving s (course.by_system n flags Nothing seen)
+          else from_look n flags (inside_of acts) s seen) outcome.ending outcome.state (points_of steps)
+      go true by = system_alone s seen deeds steps outcome by shows fit sees
+      go false by = look_followed acts s seen deeds steps outcome by shows fit sees stand known

@@ -16,7 +16,6 @@ use Rattle.key_names.specs.VreadSteps.{PointReached, points_of, published_by, Sh
 use Rattle.line_forms.specs.LaneFacts.{LaneFacts}
 use Rattle.line_forms.specs.declared.told.Sign.{Sign}
 use Rattle.line_forms.proofs.RowReads.{last_row}
-use Rattle.line_forms.proofs.RowShapes.{is_some}
 use Rattle.key_names.proofs.Attempts.{match_false}
 use Rattle.vread_course.specs.declared.seen.Seen.{Seen}
 use Rattle.vread_course.specs.declared.seen.Seen.TheVariants.{Unready, Ready, Pool, Base, Resumed, Cpu, Elsewhere}
@@ -33,6 +32,7 @@ use Rattle.vread_course.specs.Course as course
 use Rattle.vread_course.specs.Course.{Behind, Followed, attempted, leaving, at_end, tried_again, tried_once, from_ready, from_look, by_vgetrandom}
 use Rattle.vread_course.proofs.SeenShapes.{Shape, deeds_in}
 use Rattle.vread_course.proofs.CalledSays.{called_says}
+use Rattle.vread_course.proofs.AttemptShapes.{published_some}
 use Rattle.vread_course.proofs.AttemptsTold.{Fill, Found, attempt_found, row_of_called}
 use Rattle.vread_course.proofs.CallPoints.{attempt_points, EndPoints, Unwiped, none_stand, wipes_stand, none_reached, which_reached}
 
@@ -294,10 +294,10 @@ module _ (cf : LaneFacts) (set : Setting) (n flags : ℕ) (first : Sign) where
         (FirstAttempt n flags (record s { in_use = true }) steps outcome))
 
     -- with other words for what a call leads to
-    as : {L M : List HostStep → Outcome → Type 0} {deeds : List Deed} {f : Followed} →
+    turned : {L M : List HostStep → Outcome → Type 0} {deeds : List Deed} {f : Followed} →
         ((steps : List HostStep) (outcome : Outcome) → L steps outcome → M steps outcome) → Call acts L deeds f →
         Call acts M deeds f
-    as turn k = record {
+    turned turn k = record {
       steps = k.steps;
       outcome = k.outcome;
       leads = turn k.steps k.outcome k.leads;
@@ -320,12 +320,12 @@ module _ (cf : LaneFacts) (set : Setting) (n flags : ℕ) (first : Sign) where
             Call acts (λ steps outcome. MatchBool z (ByNothing s steps outcome)
             (MatchBool u (BySystem n flags s steps outcome)
             (FirstAttempt n flags (record s { in_use = true }) steps outcome))) (ds seen sh) f
-        go true u e = as (λ steps outcome h. h) (no_points acts (ByNothing s) (ds seen sh) f (nothing_told s seen sh f e))
+        go true u e = turned (λ steps outcome h. h) (no_points acts (ByNothing s) (ds seen sh) f (nothing_told s seen sh f e))
         go false true e =
-            as (λ steps outcome h. h) (no_points acts (BySystem n flags s) (ds seen sh) f
+            turned (λ steps outcome h. h) (no_points acts (BySystem n flags s) (ds seen sh) f
             (system_told Nothing s s refl seen sh f x y fill e))
         go false false e =
-            as (λ steps outcome h. h) (tried_points acts (record s { in_use = true }) (ds seen sh) f
+            turned (λ steps outcome h. h) (tried_points acts (record s { in_use = true }) (ds seen sh) f
             (first_told (inside_of acts) (record s { in_use = true }) seen sh f x y fill fits e))
 
     behind_look : (g : ℕ) (deeds : List Deed) (f : Followed) → Call acts (FromPublished n flags s (published_by g)) deeds f →
@@ -342,18 +342,14 @@ module _ (cf : LaneFacts) (set : Setting) (n flags : ℕ) (first : Sign) where
       which = k.which;
     }
 
-    published_some : (g : ℕ) → 1 ≤ g → (published_by g == 0) ≡ false
-    published_some zero some = absurd (omega arith)
-    published_some (suc g) some = is_some (suc (suc g)) (omega arith)
-
     look_told : (seen : List Seen) (sh : Shape set.cpu seen) (f : Followed) (x y : Sign) → F x y (ds seen sh) →
         AllByRecursion LookFits seen → from_look n flags (inside_of acts) s seen ≡ Some f →
         Call acts (FromLook n flags s) (ds seen sh) f
     look_told (Unready ∷ seen) sh f x y fill fits e =
-        behind_look 0 (ds seen sh.1) f (as (λ steps outcome h. h) (no_points acts (BySystem n flags s) (ds seen sh.1) f
+        behind_look 0 (ds seen sh.1) f (turned (λ steps outcome h. h) (no_points acts (BySystem n flags s) (ds seen sh.1) f
         (system_told Nothing s s refl seen sh.1 f y _ fill.1 e)))
     look_told (Ready g ∷ seen) sh f x y fill fits e =
-        behind_look g (ds seen sh.1) f (as (λ steps outcome h. match_false (BySystem n flags s steps outcome)
+        behind_look g (ds seen sh.1) f (turned (λ steps outcome h. match_false (BySystem n flags s steps outcome)
         (Ready_ steps outcome) (published_by g == 0) (published_some g sh.0) h)
         (ready_told seen sh.1 f y _ fill.1 fits.1 e))
     look_told _ sh f x y fill fits e = absurd cc
@@ -368,6 +364,6 @@ module _ (cf : LaneFacts) (set : Setting) (n flags : ℕ) (first : Sign) where
             Call acts (λ steps outcome. MatchBool z (BySystem n flags s steps outcome) (FromLook n flags s steps outcome))
             (ds seen sh) f
         go true e =
-            as (λ steps outcome h. h) (no_points acts (BySystem n flags s) (ds seen sh) f
+            turned (λ steps outcome h. h) (no_points acts (BySystem n flags s) (ds seen sh) f
             (system_told Nothing s s refl seen sh f x y fill e))
-        go false e = as (λ steps outcome h. h) (look_told seen sh f x y fill fits e)
+        go false e = turned (λ steps outcome h. h) (look_told seen sh f x y fill fits e)

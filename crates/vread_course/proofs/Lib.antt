@@ -7,3 +7,4 @@ pub mod AttemptsTold
 pub mod CallPoints
 pub mod CallsTold
 pub mod CallsFollowed
+pub mod Vreads

@@ -10,6 +10,7 @@
 pub mod attempt;
 pub mod follow;
 pub mod inside;
+pub mod laws;
 pub mod seen;
 pub mod served;
 pub mod system_call;
