@@ -81,17 +81,17 @@ matches_at a a' b is m = let P : Attempt → Type 0 = λ x. Matches x b in subst
 module _ (set : Setting) (more : List HostStep) where
   -- ---- from Serve on
 
-  record Copied (n c : ℕ) (s : VgetrandomState) (steps : List HostStep) (ds : List Deed) (a : Attempt) : Type 0 where
-    w3 : Bool
-    w4 : Bool
-    h : ℕ
-    rest : List Deed
-    deeds_are : ds ≡ looked h ∷ rest
-    attempt_is : a ≡ copy_attempt n c (published_by h) w3 w4 s
-    shows : Shows set more rest
-    points : points_of (steps ++ more) ≡ reached Serve w3 ∷ reached End w4 ∷ points_of more
+  pub record Copied (n c : ℕ) (s : VgetrandomState) (steps : List HostStep) (ds : List Deed) (a : Attempt) : Type 0 where
+    pub w3 : Bool
+    pub w4 : Bool
+    pub h : ℕ
+    pub rest : List Deed
+    pub deeds_are : ds ≡ looked h ∷ rest
+    pub attempt_is : a ≡ copy_attempt n c (published_by h) w3 w4 s
+    pub shows : Shows set more rest
+    pub points : points_of (steps ++ more) ≡ reached Serve w3 ∷ reached End w4 ∷ points_of more
 
-  copied : (n c : ℕ) (s : VgetrandomState) (steps : List HostStep) (ds : List Deed) (a : Attempt) →
+  pub copied : (n c : ℕ) (s : VgetrandomState) (steps : List HostStep) (ds : List Deed) (a : Attempt) →
       AtPoint Serve (FromServe n c) s steps a → Shows set (steps ++ more) ds → Copied n c s steps ds a
   copied n c s steps ds a at shows =
       let f = at.goes_on in

@@ -41,7 +41,7 @@ use Rattle.vread_course.proofs.CalledSays.{Says, called_says}
 use Rattle.vread_course.proofs.AttemptShapes.{published_some, Known, known_at, wiping, Matches, ToldAs, AttemptShape, attempt_shape}
 use Rattle.vread_course.proofs.CallPoints.{attempt_points, EndPoints, Second, none_reached, which_reached, AsTold, first_as_told, NotWiped, second_not_wiped}
 
-fit_behind : (c : LaneFacts) (front rest : List Deed) → AllFit c (front ++ rest) → AllFit c rest
+pub fit_behind : (c : LaneFacts) (front rest : List Deed) → AllFit c (front ++ rest) → AllFit c rest
 fit_behind c [] rest fit = fit
 fit_behind c (d ∷ front) rest fit = fit_behind c front rest fit.1
 

@@ -8,3 +8,4 @@ pub mod CallPoints
 pub mod CallsTold
 pub mod CallsFollowed
 pub mod Vreads
+pub mod VreadTold

@@ -27,6 +27,11 @@ use Rattle.vread_course.specs.Course.{Followed, followed}
 abbrev pub VreadFills : LaneFacts → Setting → ℕ → List Deed → Type 0
 VreadFills c set n deeds = AllFill (FillsPart c set (User 32) (User n) (first_sign deeds)) nowhere nowhere deeds
 
+-- in lists where all entries fit, the visits of a vread are as its steps tell
+abbrev pub VreadIsTold : Type 0
+VreadIsTold = (c : LaneFacts) (n flags : ℕ) (acts : List BoundAct) (m : CallMeaning) → VreadMeans n flags acts m →
+    AllFit c m.own.deeds → VreadFills c m.before.setting n m.own.deeds
+
 -- what a vread means that was followed
 abbrev pub meaning_of : CallerState → List Deed → List LineMeaning → List VEntry → Followed → CallMeaning
 meaning_of before deeds acts entries f = record {

