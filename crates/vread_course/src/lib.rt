@@ -14,3 +14,5 @@ pub mod laws;
 pub mod seen;
 pub mod served;
 pub mod system_call;
+#[cfg(test)]
+mod tests;
