@@ -188,7 +188,7 @@ module _ (cf : LaneFacts) (set : Setting) (n flags : ℕ) (first : Sign) where
     where
       after : (end : AttemptEnd) → AfterAttempt n flags Outdated end by.attempt by.rest by.outcome_after →
           (rest : List Deed) → Shows set by.rest rest → AllFit cf rest → Filled rest
-      after holds k rest shows fit x y = fill_at x y (shows_at rest k.steps_are shows) tt
+      after holds k rest shows fit = λ x y. fill_at x y (shows_at rest k.steps_are shows) tt
       after outdated k rest shows fit =
           again by.attempt.next_block by.attempt.state by.rest by.outcome_after rest k shows fit
       after not_keyed k rest shows fit = system_filled _ by.rest by.outcome_after rest k shows fit
@@ -213,16 +213,16 @@ module _ (cf : LaneFacts) (set : Setting) (n flags : ℕ) (first : Sign) where
               (MatchBool u (BySystem n flags s steps outcome)
               (FirstAttempt n flags (record s { in_use = true }) steps outcome))) → Filled ds
           go true z u by = system_filled s steps outcome ds by shows fit
-          go false true u by x y = fill_at x y (shows_at ds by.steps_are shows) tt
+          go false true u by = λ x y. fill_at x y (shows_at ds by.steps_are shows) tt
           go false false true by = system_filled s steps outcome ds by shows fit
           go false false false by = first_filled good (record s { in_use = true }) steps outcome ds by shows fit
 
       go : (b : Bool) → is_bad flags ≡ b → MatchBool b (BySystem n flags s steps outcome)
           (FromLook n flags s steps outcome) → Filled ds
       go true bad by = system_filled s steps outcome ds by shows fit
-      go false good by x y =
+      go false good by =
           let look = shows_at ds by.steps_are shows in
-          fill_at x y look.2 (
+          λ x y. fill_at x y look.2 (
             tt,
             published good by.published by.rest look.1 by.goes_on look.3.1 (fit_at look.2 fit).1 y
                 (sign_of (looked look.0)),

@@ -97,7 +97,10 @@ fn a_long_read_in_pieces(rt: HostRuntime) -> Result<(), Fail> {
     let mut bytes = made(rt.alloc(), &served)?;
     assert_eq!(rt; bytes.len(), 10_000);
     assert_eq!(rt; bytes.len(), served.len());
-    assert_eq!(rt; &bytes[9_992..], [8, 31, 19, 237, 100, 118, 58, 57].as_slice());
+    assert_eq!(rt;
+        &bytes[9_992..],
+        [8, 31, 19, 237, 100, 118, 58, 57].as_slice()
+    );
     assert_eq!(rt; &bytes[4_090..4_094], [43, 79, 93, 18].as_slice());
     assert!(rt; served.is(&bytes));
     assert!(rt; !served.is(&bytes[..9_999]));
@@ -120,20 +123,60 @@ fn system_calls_by_their_steps(rt: HostRuntime) {
     let base = Seen::Base([0; 32]);
     let cpu = Seen::Cpu([0; 32]);
     let rows = [
-        Row { len: 8, flags: 6, seen: &[], answer: Some(Answer::Invalid) },
-        Row { len: 8, flags: 1, seen: &[Seen::Unready], answer: Some(Answer::Again) },
-        Row { len: 8, flags: 4, seen: &[Seen::Unready, Seen::Pool, base], answer: Some(Answer::Ok) },
-        Row { len: 8, flags: 0, seen: &[Seen::Unready, base, base], answer: Some(Answer::Interrupted) },
+        Row {
+            len: 8,
+            flags: 6,
+            seen: &[],
+            answer: Some(Answer::Invalid),
+        },
+        Row {
+            len: 8,
+            flags: 1,
+            seen: &[Seen::Unready],
+            answer: Some(Answer::Again),
+        },
+        Row {
+            len: 8,
+            flags: 4,
+            seen: &[Seen::Unready, Seen::Pool, base],
+            answer: Some(Answer::Ok),
+        },
+        Row {
+            len: 8,
+            flags: 0,
+            seen: &[Seen::Unready, base, base],
+            answer: Some(Answer::Interrupted),
+        },
         Row {
             len: 8,
             flags: 0,
             seen: &[Seen::Unready, base, Seen::Resumed, Seen::Ready(1), cpu],
             answer: Some(Answer::Ok),
         },
-        Row { len: 8, flags: 0, seen: &[Seen::Ready(1), Seen::Ready(1), base, cpu], answer: Some(Answer::Ok) },
-        Row { len: 0, flags: 0, seen: &[Seen::Ready(1)], answer: Some(Answer::Ok) },
-        Row { len: 8, flags: 0, seen: &[Seen::Ready(1)], answer: None },
-        Row { len: 8, flags: 0, seen: &[Seen::Ready(1), Seen::Ready(1), Seen::Elsewhere], answer: None },
+        Row {
+            len: 8,
+            flags: 0,
+            seen: &[Seen::Ready(1), Seen::Ready(1), base, cpu],
+            answer: Some(Answer::Ok),
+        },
+        Row {
+            len: 0,
+            flags: 0,
+            seen: &[Seen::Ready(1)],
+            answer: Some(Answer::Ok),
+        },
+        Row {
+            len: 8,
+            flags: 0,
+            seen: &[Seen::Ready(1)],
+            answer: None,
+        },
+        Row {
+            len: 8,
+            flags: 0,
+            seen: &[Seen::Ready(1), Seen::Ready(1), Seen::Elsewhere],
+            answer: None,
+        },
     ];
     for (i, row) in rows.iter().enumerate() {
         let answer = system_call(row.len, row.flags, row.seen).map(|c| c.answer);
