@@ -4,6 +4,7 @@ use crate::seen::Seen;
 use crate::served::Served;
 use crate::system_call::system_call;
 use key_names::{Answer, InsideAct};
+use std::alloc::Global;
 use std::test::Fail;
 use vdso_state::VState;
 
@@ -67,7 +68,7 @@ fn a_key_is_read_first(rt: HostRuntime) -> Result<(), Fail> {
 }
 
 #[test]
-fn a_wipe_at_the_end_leads_to_a_second_attempt(rt: HostRuntime) -> Result<(), Fail> {
+fn a_wipe_and_a_reseed_lead_to_the_system_call(rt: HostRuntime) -> Result<(), Fail> {
     let seen = [
         Seen::Ready(1),
         Seen::Ready(1),
@@ -76,6 +77,7 @@ fn a_wipe_at_the_end_leads_to_a_second_attempt(rt: HostRuntime) -> Result<(), Fa
         Seen::Ready(1),
         Seen::Ready(1),
         Seen::Cpu([0; 32]),
+        Seen::Ready(2),
         Seen::Ready(2),
         Seen::Ready(2),
         Seen::Cpu([0; 32]),
@@ -111,6 +113,7 @@ fn a_long_read_in_pieces(rt: HostRuntime) -> Result<(), Fail> {
     Ok(())
 }
 
+#[derive(Drop)]
 struct Row<'a> {
     len: u32,
     flags: u32,
