@@ -105,8 +105,9 @@ fn a_long_read_in_pieces(rt: HostRuntime) -> Result<(), Fail> {
     );
     assert_eq!(rt; &bytes[4_090..4_094], [43, 79, 93, 18].as_slice());
     assert!(rt; served.is(&bytes));
-    assert!(rt; !served.is(&bytes[..9_999]));
-    bytes[9_999] ^= 1;
+    let _last = bytes.pop();
+    assert!(rt; !served.is(&bytes));
+    bytes.push(0)?;
     assert!(rt; !served.is(&bytes));
     assert!(rt; Served::of_int(&[0; 32], 4, 3).is(&[184, 216, 74, 55]));
     assert!(rt; Served::none().is(&[]));
