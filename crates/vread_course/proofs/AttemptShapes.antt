@@ -1,36 +1,32 @@
 -- The shapes of an attempt: what stands behind its steps, what it gives, and that its course is told.
-use Rattle.std.proofs.Common.{◌≡◌, ℕ, zero, suc, ◌<◌, ◌≤◌, ◌+◌, ◌^◌, Bool, true, false, List, [], ◌∷◌, ◌++◌, Some, None, ◌⊎◌, inl, inr, refl, sym, subst, ap, ◌∙◌, append_assoc, arith}
+use Rattle.std.proofs.Common.{◌≡◌, ℕ, zero, suc, ◌<◌, ◌≤◌, ◌^◌, Bool, true, false, List, [], ◌∷◌, ◌++◌, Some, None, ◌⊎◌, inl, inr, refl, sym, subst, ap, ◌∙◌, append_assoc, arith}
 use Rattle.std.specs.Prelude.{◌==◌, ◌&&◌, not, ⊤, MatchBool, Option, if◌then◌else◌}
 use Rattle.key_names.specs.declared.point.Point.{Point}
 use Rattle.key_names.specs.declared.point.Point.TheVariants.{Start, Written, Serve, End}
 use Rattle.key_names.specs.declared.entries.Taken.TheVariants.{User}
 use Rattle.key_names.specs.declared.entries.VEntry.{VEntry}
-use Rattle.key_names.specs.declared.entries.BaseEntry.TheVariants.{Refill}
 use Rattle.key_names.specs.declared.entries.CpuEntry.{CpuEntry}
 use Rattle.key_names.specs.declared.entries.CpuEntry.TheVariants.{Read as CpuRead}
-use Rattle.key_names.specs.Flags.{is_bad, is_nonblock, is_insecure}
+use Rattle.key_names.specs.Flags.{is_nonblock, is_insecure}
 use Rattle.key_names.specs.Calls.{Setting}
 use Rattle.key_names.specs.Keystream.{keystream}
-use Rattle.key_names.specs.KeyInUse.{taken_bytes}
-use Rattle.key_names.specs.Deeds.{Deed, looked, at_pool, at_base, at_cpu, nothing_there, BaseVisit, CpuVisit}
+use Rattle.key_names.specs.Deeds.{Deed, looked, at_pool, at_base, at_cpu, nothing_there}
 use Rattle.key_names.specs.Forms.{SysForm, ReadForm, CpuReadForm, WaitedInVain, Waited}
 use Rattle.key_names.specs.Answers.{served_bytes, was_interrupted}
 use Rattle.key_names.specs.VgetrandomState.{VgetrandomState, state_left}
-use Rattle.key_names.specs.BatchCopy.{copy_bytes, state_after_copy, block_after_copy, copy_entries}
-use Rattle.key_names.specs.Vgetrandom.{CpuPlace, SystemAnswer, read, HostStep, publishes, system_call, at_point, Attempt, AttemptEnd, holds, outdated, attempt_behind, wipe_entry}
-use Rattle.key_names.specs.Vgetrandom.{rekey_entry, AtPoint, FromEnd, FromServe, Keyed, AfterKeyRead, FromWritten, FromStart, IsAttempt}
-use Rattle.key_names.specs.VreadSteps.{PointReached, points_of, published_by, Shows, answer_behind, answer_with, errno_of, last_place, SystemCallShows}
-use Rattle.key_names.proofs.Attempts.{served_attempt, copy_attempt}
+use Rattle.key_names.specs.BatchCopy.{state_after_copy, copy_entries}
+use Rattle.key_names.specs.Vgetrandom.{CpuPlace, SystemAnswer, read, HostStep, publishes, system_call, at_point, Attempt, holds, outdated, attempt_behind, wipe_entry}
+use Rattle.key_names.specs.Vgetrandom.{rekey_entry, AtPoint, FromServe, Keyed, AfterKeyRead, FromWritten, FromStart, IsAttempt}
+use Rattle.key_names.specs.VreadSteps.{PointReached, points_of, published_by, Shows, answer_behind, answer_with, errno_of, last_place}
+use Rattle.key_names.proofs.Attempts.{copy_attempt}
 use Rattle.line_forms.proofs.RowShapes.{is_some}
-use Rattle.line_forms.specs.declared.kind.Kind.TheVariants.{Base as BaseKind}
 use Rattle.line_forms.specs.Kinds.{base_kind}
 use Rattle.vread_course.specs.declared.seen.Seen.{Seen}
-use Rattle.vread_course.specs.declared.seen.Seen.TheVariants.{Ready, Base, Cpu}
+use Rattle.vread_course.specs.declared.seen.Seen.TheVariants.{Ready, Base}
 use Rattle.vread_course.specs.declared.inside.Inside.{Inside}
-use Rattle.vread_course.specs.declared.attempt.Tried.{Tried}
-use Rattle.vread_course.specs.Recipe.{bytes_made, copy_recipe}
+use Rattle.vread_course.specs.Recipe.{bytes_made}
 use Rattle.vread_course.specs.Seen.{AllSeen, ServesBy}
-use Rattle.vread_course.specs.Course.{published, Behind, looked_again, key_in_front, from_serve, with_key, from_start, attempted}
+use Rattle.vread_course.specs.Course.{published, Behind, looked_again, key_in_front, from_serve, with_key, attempted}
 use Rattle.vread_course.proofs.SeenShapes.{SeenLook, look_seen, cpu_seen, base_seen, see_at}
 use Rattle.vread_course.proofs.CalledSays.{answered}
 

@@ -1,8 +1,8 @@
 -- An attempt that is told is one.
-use Rattle.std.proofs.Common.{◌≡◌, ℕ, ◌<◌, ◌≤◌, ◌^◌, Bool, true, false, List, [], ◌∷◌, ◌++◌, Some, None, Option, refl, sym, subst, ap, ◌∙◌}
-use Rattle.std.specs.Prelude.{◌==◌, map, if◌then◌else◌}
+use Rattle.std.proofs.Common.{◌≡◌, ℕ, ◌<◌, ◌≤◌, ◌^◌, Bool, true, false, List, [], ◌∷◌, ◌++◌, Some, refl, sym, subst, ap, ◌∙◌}
+use Rattle.std.specs.Prelude.{◌==◌, if◌then◌else◌}
 use Rattle.std.specs.List.{AllByRecursion}
-use Rattle.key_names.specs.declared.point.Point.TheVariants.{Start, Written, Serve, End}
+use Rattle.key_names.specs.declared.point.Point.TheVariants.{Start, Serve, End}
 use Rattle.key_names.specs.declared.entries.Taken.TheVariants.{User}
 use Rattle.key_names.specs.Calls.{Setting}
 use Rattle.key_names.specs.Keystream.{keystream}
@@ -11,7 +11,7 @@ use Rattle.key_names.specs.Forms.{SysForm}
 use Rattle.key_names.specs.VgetrandomState.{VgetrandomState, state_left}
 use Rattle.key_names.specs.BatchCopy.{state_after_copy}
 use Rattle.key_names.specs.Vgetrandom.{read, HostStep, Attempt, IsAttempt}
-use Rattle.key_names.specs.VreadSteps.{points_of, published_by, Shows, answer_behind, answer_with, errno_of, last_place}
+use Rattle.key_names.specs.VreadSteps.{points_of, Shows, answer_behind, answer_with, errno_of, last_place}
 use Rattle.key_names.proofs.Attempts.{current_attempt, current_steps, keyed_attempt, keyed_steps}
 use Rattle.line_forms.specs.LaneFacts.{LaneFacts}
 use Rattle.line_forms.specs.declared.kind.Kind.{Kind}
@@ -21,13 +21,13 @@ use Rattle.line_forms.specs.Told.{AllFill, FillsPart, AllThere}
 use Rattle.line_forms.specs.declared.told.Sign.{Sign}
 use Rattle.line_forms.proofs.RowReads.{key_row, the_front}
 use Rattle.vread_course.specs.declared.seen.Seen.{Seen}
-use Rattle.vread_course.specs.declared.seen.Seen.TheVariants.{Unready, Ready, Pool, Base, Resumed, Cpu, Elsewhere}
+use Rattle.vread_course.specs.declared.seen.Seen.TheVariants.{Ready, Base, Cpu}
 use Rattle.vread_course.specs.declared.inside.Inside.{Inside}
 use Rattle.vread_course.specs.declared.system_call.Called.{Called}
 use Rattle.vread_course.specs.Recipe.{user_recipe}
-use Rattle.vread_course.specs.Seen.{seen_kind, LookFits}
+use Rattle.vread_course.specs.Seen.{LookFits}
 use Rattle.vread_course.specs.Called.{serving, called}
-use Rattle.vread_course.specs.Course.{published, Behind, looked_again, key_in_front, from_serve, with_key, from_start, attempted}
+use Rattle.vread_course.specs.Course.{published, Behind, looked_again, key_in_front, from_serve, with_key, attempted}
 use Rattle.vread_course.proofs.SeenShapes.{Shape, deeds_in, kinds_seen, shape_seen}
 use Rattle.vread_course.proofs.CalledRows.{called_row}
 use Rattle.vread_course.proofs.CalledSays.{called_says}

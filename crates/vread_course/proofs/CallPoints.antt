@@ -1,14 +1,13 @@
 -- The points of a call: where the acts stand, and which of them the first attempt came to.
-use Rattle.std.proofs.Common.{◌≡◌, ℕ, ◌⊎◌, inl, inr, Bool, true, false, List, [], ◌∷◌, refl, sym, subst, ap, ◌∙◌}
-use Rattle.std.specs.Prelude.{◌==◌, MatchBool}
-use Rattle.std.specs.List.{list_any, AllByRecursion}
+use Rattle.std.proofs.Common.{◌≡◌, ◌⊎◌, inl, inr, Bool, true, false, List, [], ◌∷◌, refl, sym, subst, ap, ◌∙◌}
+use Rattle.std.specs.Prelude.{MatchBool}
+use Rattle.std.specs.List.{AllByRecursion}
 use Rattle.key_names.specs.declared.point.Point.TheVariants.{Start, Written, Serve, End}
 use Rattle.key_names.specs.Calls.{Setting, BoundAct}
-use Rattle.key_names.specs.VreadSteps.{PointReached, WipesStand, is_wiped, is_reached, first_points, second_points}
+use Rattle.key_names.specs.VreadSteps.{PointReached, WipesStand, is_wiped, is_reached}
 use Rattle.key_names.specs.Meaning.{LineMeaning, ActMeans, ActsMean, unused_line}
 use Rattle.vread_course.specs.declared.inside.Inside.{Inside}
-use Rattle.vread_course.specs.declared.inside.Reached.{Reached}
-use Rattle.vread_course.specs.declared.inside.Reached.TheVariants.{Nothing, AllButWritten, All}
+use Rattle.vread_course.specs.declared.inside.Reached.TheVariants.{Nothing}
 use Rattle.vread_course.specs.Inside.{inside_of, includes, reached_by}
 use Rattle.vread_course.proofs.AttemptShapes.{reached, with_written}
 

@@ -1,18 +1,17 @@
 -- A system call is told exactly where the kinds of what is seen are a row of one.
-use Rattle.std.proofs.Common.{◌≡◌, ℕ, Bool, true, false, ◌⊎◌, inl, inr, List, [], ◌∷◌, Option, Some, None, refl, sym, subst, ap, ◌∙◌}
+use Rattle.std.proofs.Common.{◌≡◌, ℕ, Bool, true, false, ◌⊎◌, inl, inr, List, [], ◌∷◌, Option, Some, refl, subst}
 use Rattle.std.specs.Prelude.{◌==◌, ◌&&◌, ◌||◌, not, map, MatchBool, if◌then◌else◌}
 use Rattle.key_names.specs.declared.events.Answer.{Answer}
-use Rattle.key_names.specs.declared.events.Answer.TheVariants.{Ok as Done, Again, Invalid, Interrupted}
+use Rattle.key_names.specs.declared.events.Answer.TheVariants.{Ok as Done, Again, Invalid}
 use Rattle.key_names.specs.Flags.{is_bad, is_nonblock, is_insecure}
 use Rattle.line_forms.specs.declared.kind.Kind.{Kind}
-use Rattle.line_forms.specs.declared.kind.Kind.TheVariants.{Unready as UnreadyKind, Ready as ReadyKind, Pool as PoolKind}
-use Rattle.line_forms.specs.declared.kind.Kind.TheVariants.{Base as BaseKind, Resumed as ResumedKind, Cpu as CpuKind}
+use Rattle.line_forms.specs.declared.kind.Kind.TheVariants.{Unready as UnreadyKind, Ready as ReadyKind}
 use Rattle.line_forms.specs.Rows.{IsDraw, IsCpuRead, IsRead, GoesOn, IsWait, IsBehindLook, IsSystemCall}
 use Rattle.vread_course.specs.declared.seen.Seen.{Seen}
-use Rattle.vread_course.specs.declared.seen.Seen.TheVariants.{Unready, Ready, Pool, Base, Resumed, Cpu, Elsewhere}
+use Rattle.vread_course.specs.declared.seen.Seen.TheVariants.{Unready, Ready, Pool, Base, Resumed, Cpu}
 use Rattle.vread_course.specs.declared.system_call.Called.{Called}
 use Rattle.vread_course.specs.Seen.{seen_kind}
-use Rattle.vread_course.specs.Called.{serving, no_more, cpu_read, unready_read, read, waited, behind_look, by_look, called}
+use Rattle.vread_course.specs.Called.{no_more, cpu_read, unready_read, read, waited, behind_look, by_look, called}
 
 abbrev kinds : List Seen → List Kind
 kinds seen = map seen_kind seen

@@ -1,5 +1,5 @@
 -- What a system call that is told answers and serves, out of what stands behind its steps.
-use Rattle.std.proofs.Common.{◌≡◌, ℕ, ◌≤◌, Bool, true, false, List, [], ◌∷◌, Option, Some, None, refl, sym, subst, ap, ◌∙◌, arith}
+use Rattle.std.proofs.Common.{◌≡◌, ℕ, Bool, true, false, List, [], ◌∷◌, Option, Some, None, refl, sym, subst, ap, ◌∙◌}
 use Rattle.std.specs.Prelude.{◌==◌, ◌&&◌, ◌||◌, not, nat_lt, nat_le, if◌then◌else◌}
 use Rattle.key_names.specs.declared.entries.Taken.{Taken}
 use Rattle.key_names.specs.declared.entries.Taken.TheVariants.{User}
@@ -17,8 +17,8 @@ use Rattle.key_names.specs.Keystream.{keystream}
 use Rattle.key_names.specs.KeyInUse.{taken_bytes}
 use Rattle.key_names.specs.Deeds.{Deed, looked, base_serves}
 use Rattle.key_names.specs.Answers.{system_answer, served_bytes, found_unready, was_interrupted, is_interrupt}
-use Rattle.key_names.specs.SeenLine.{Shown, no_data, bytes_or_none}
-use Rattle.key_names.specs.VreadSteps.{answer_behind, answer_with, errno_of, answer_of_errno, last_place}
+use Rattle.key_names.specs.SeenLine.{bytes_or_none}
+use Rattle.key_names.specs.VreadSteps.{answer_behind, answer_with, errno_of, answer_of_errno}
 use Rattle.key_names.specs.VreadSteps.{system_line_answer, system_line_shown}
 use Rattle.line_forms.specs.declared.kind.Kind.TheVariants.{Base as BaseKind, Resumed as ResumedKind}
 use Rattle.line_forms.specs.Kinds.{base_kind}
@@ -28,7 +28,7 @@ use Rattle.line_forms.specs.declared.told.Sign.{Sign}
 use Rattle.line_forms.specs.declared.told.Sign.TheVariants.{Saw as saw}
 use Rattle.line_forms.proofs.RowShapes.{is_some}
 use Rattle.vread_course.specs.declared.seen.Seen.{Seen}
-use Rattle.vread_course.specs.declared.seen.Seen.TheVariants.{Unready, Ready, Pool, Base, Resumed, Cpu, Elsewhere}
+use Rattle.vread_course.specs.declared.seen.Seen.TheVariants.{Unready, Ready, Pool, Base, Resumed, Cpu}
 use Rattle.vread_course.specs.declared.system_call.Called.{Called}
 use Rattle.vread_course.specs.Recipe.{Recipe, bytes_made, no_recipe, user_recipe}
 use Rattle.vread_course.specs.Seen.{ServesBy}

@@ -1,6 +1,6 @@
 -- A call is told: its course is followed over what is seen of its steps.
-use Rattle.std.proofs.Common.{◌≡◌, ℕ, zero, suc, ◌<◌, ◌≤◌, ◌^◌, ◌⊎◌, inl, inr, Bool, true, false, List, [], ◌∷◌, ◌++◌, Some, None, Option, refl, sym, subst, ap, ◌∙◌, append-nil, arith}
-use Rattle.std.specs.Prelude.{◌==◌, map, MatchBool, if◌then◌else◌}
+use Rattle.std.proofs.Common.{◌≡◌, ℕ, ◌≤◌, inl, inr, Bool, true, false, List, [], ◌∷◌, ◌++◌, Some, Option, refl, sym, subst, ap, ◌∙◌, append-nil}
+use Rattle.std.specs.Prelude.{◌==◌, MatchBool, if◌then◌else◌}
 use Rattle.std.specs.Option.{option_map}
 use Rattle.key_names.specs.declared.events.Answer.TheVariants.{Ok as Done}
 use Rattle.key_names.specs.declared.point.Point.TheVariants.{Written}
@@ -10,11 +10,10 @@ use Rattle.key_names.specs.Deeds.{Deed, looked}
 use Rattle.key_names.specs.Forms.{SysForm}
 use Rattle.key_names.specs.SeenLine.{bytes_or_none}
 use Rattle.key_names.specs.VgetrandomState.{VgetrandomState}
-use Rattle.key_names.specs.Vgetrandom.{HostStep, publishes, system_call, AttemptEnd, holds, outdated, Attempt, Outcome, Ending, outcome_behind, by_system, by_batch, no_bytes}
-use Rattle.key_names.specs.Vgetrandom.{BySystem, ByBatch, ByNothing, state_after_call, AfterAttempt, AttemptAndRest, AfterBoth, SecondAttempt, FirstAttempt, FromPublished, FromLook, IsCall, IsAttempt}
+use Rattle.key_names.specs.Vgetrandom.{HostStep, publishes, AttemptEnd, holds, outdated, Attempt, Outcome, Ending, by_system, by_batch}
+use Rattle.key_names.specs.Vgetrandom.{BySystem, ByBatch, ByNothing, state_after_call, AfterAttempt, AfterBoth, SecondAttempt, FirstAttempt, FromPublished, FromLook, IsCall}
 use Rattle.key_names.specs.VreadSteps.{PointReached, points_of, published_by, Shows, answer_behind, WipesStand, is_wiped, is_reached, ending_answer, ending_shown}
 use Rattle.line_forms.specs.declared.kind.Kind.{Kind}
-use Rattle.line_forms.specs.Kinds.{kinds_of}
 use Rattle.line_forms.specs.Rows.{IsSystemCall}
 use Rattle.key_names.specs.declared.entries.Taken.TheVariants.{User}
 use Rattle.line_forms.specs.LaneFacts.{LaneFacts, AllFit}
@@ -28,17 +27,16 @@ use Rattle.vread_course.specs.declared.inside.Inside.{Inside}
 use Rattle.vread_course.specs.declared.inside.Reached.{Reached}
 use Rattle.vread_course.specs.declared.inside.Reached.TheVariants.{Nothing}
 use Rattle.vread_course.specs.declared.system_call.Called.{Called}
-use Rattle.vread_course.specs.declared.follow.Course.{Course}
 use Rattle.vread_course.specs.Recipe.{bytes_made, no_recipe}
-use Rattle.vread_course.specs.Seen.{AllSeen, seen_kind}
+use Rattle.vread_course.specs.Seen.{AllSeen}
 use Rattle.vread_course.specs.Inside.{inside_of, includes, reached_by}
 use Rattle.vread_course.specs.Called.{called}
 use Rattle.vread_course.specs.Course as course
 use Rattle.vread_course.specs.Course.{Behind, Followed, attempted, leaving, at_end, tried_again, tried_once, from_ready, from_look, by_vgetrandom}
-use Rattle.vread_course.proofs.SeenShapes.{shaped, deeds_in, kinds_seen, seen_nothing, see_at, look_seen}
+use Rattle.vread_course.proofs.SeenShapes.{shaped, kinds_seen, seen_nothing, see_at}
 use Rattle.vread_course.proofs.CalledRows.{row_called}
 use Rattle.vread_course.proofs.CalledSays.{Says, called_says}
-use Rattle.vread_course.proofs.AttemptShapes.{published_some, Known, known_at, wiping, Matches, ToldAs, AttemptShape, attempt_shape}
+use Rattle.vread_course.proofs.AttemptShapes.{published_some, Known, wiping, Matches, ToldAs, AttemptShape, attempt_shape}
 use Rattle.vread_course.proofs.CallPoints.{attempt_points, EndPoints, Second, none_reached, which_reached, AsTold, first_as_told, NotWiped, second_not_wiped}
 
 pub fit_behind : (c : LaneFacts) (front rest : List Deed) → AllFit c (front ++ rest) → AllFit c rest

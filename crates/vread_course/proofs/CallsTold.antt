@@ -1,5 +1,5 @@
 -- A call that is told is one.
-use Rattle.std.proofs.Common.{◌≡◌, ℕ, zero, suc, ◌≤◌, arith, ◌⊎◌, inl, inr, Bool, true, false, List, [], ◌∷◌, ◌++◌, Some, None, Option, refl, sym, subst, ap, ◌∙◌, append-nil}
+use Rattle.std.proofs.Common.{◌≡◌, ℕ, inl, inr, Bool, true, false, List, [], ◌∷◌, ◌++◌, Some, None, Option, refl, sym, subst, ap, ◌∙◌, append-nil}
 use Rattle.std.specs.Prelude.{◌==◌, MatchBool, if◌then◌else◌}
 use Rattle.std.specs.List.{AllByRecursion}
 use Rattle.std.specs.Option.{option_map}
@@ -7,23 +7,21 @@ use Rattle.key_names.specs.declared.entries.Taken.TheVariants.{User}
 use Rattle.key_names.specs.Flags.{is_bad}
 use Rattle.key_names.specs.Calls.{Setting, BoundAct}
 use Rattle.key_names.specs.Deeds.{Deed, looked}
-use Rattle.key_names.specs.Forms.{SysForm}
 use Rattle.key_names.specs.SeenLine.{bytes_or_none}
 use Rattle.key_names.specs.VgetrandomState.{VgetrandomState}
 use Rattle.key_names.specs.Vgetrandom.{HostStep, publishes, system_call, AttemptEnd, holds, outdated, Attempt, Outcome, outcome_behind, by_system, by_batch, no_bytes}
-use Rattle.key_names.specs.Vgetrandom.{BySystem, ByBatch, ByNothing, state_after_call, AfterAttempt, AttemptAndRest, AfterBoth, SecondAttempt, FirstAttempt, FromPublished, FromLook, IsCall, IsAttempt}
+use Rattle.key_names.specs.Vgetrandom.{BySystem, ByBatch, ByNothing, state_after_call, AfterAttempt, AttemptAndRest, SecondAttempt, FirstAttempt, FromPublished, FromLook, IsCall, IsAttempt}
 use Rattle.key_names.specs.VreadSteps.{PointReached, points_of, published_by, Shows, answer_behind, WipesStand, is_reached, ending_answer, ending_shown}
 use Rattle.line_forms.specs.LaneFacts.{LaneFacts}
 use Rattle.line_forms.specs.declared.told.Sign.{Sign}
 use Rattle.line_forms.proofs.RowReads.{last_row}
 use Rattle.key_names.proofs.Attempts.{match_false}
 use Rattle.vread_course.specs.declared.seen.Seen.{Seen}
-use Rattle.vread_course.specs.declared.seen.Seen.TheVariants.{Unready, Ready, Pool, Base, Resumed, Cpu, Elsewhere}
+use Rattle.vread_course.specs.declared.seen.Seen.TheVariants.{Unready, Ready}
 use Rattle.vread_course.specs.declared.inside.Inside.{Inside}
 use Rattle.vread_course.specs.declared.inside.Reached.{Reached}
 use Rattle.vread_course.specs.declared.inside.Reached.TheVariants.{Nothing}
 use Rattle.vread_course.specs.declared.system_call.Called.{Called}
-use Rattle.vread_course.specs.declared.follow.Course.{Course}
 use Rattle.vread_course.specs.Recipe.{Recipe, bytes_made, no_recipe}
 use Rattle.vread_course.specs.Seen.{LookFits}
 use Rattle.vread_course.specs.Inside.{inside_of, includes, reached_by}

@@ -1,5 +1,5 @@
 -- What stands behind steps of which this is seen, and what is seen of what stands there.
-use Rattle.std.proofs.Common.{◌≡◌, ℕ, ◌≤◌, Bool, true, false, List, [], ◌∷◌, refl, sym, subst, ap, ◌∙◌, arith}
+use Rattle.std.proofs.Common.{◌≡◌, ℕ, ◌≤◌, true, false, List, [], ◌∷◌, refl, sym, subst, ap, arith}
 use Rattle.std.specs.Prelude.{◌==◌, ⊤, map}
 use Rattle.std.proofs.lemmas.Bool.Decides.{nat_tests}
 use Rattle.key_names.specs.declared.entries.BaseEntry.TheVariants.{Resume}

@@ -1,10 +1,10 @@
 -- The bytes of a recipe, in parts.
-use Rattle.std.proofs.Common.{◌≡◌, ℕ, ◌+◌, ◌-◌, ◌≤◌, List, ◌++◌, length, take, drop, min, refl, sym, ap, ◌∙◌, append_assoc, arith}
+use Rattle.std.proofs.Common.{◌≡◌, ℕ, ◌+◌, ◌-◌, ◌≤◌, List, ◌++◌, length, take, drop, refl, sym, ap, ◌∙◌, append_assoc, arith}
 use Rattle.std.specs.Prelude.{slice_range}
-use Rattle.std.proofs.Math.Seq.{take-add, take-append_seam, drop-append_seam, take-length}
+use Rattle.std.proofs.Math.Seq.{take-add, take-append_seam, drop-append_seam}
 use Rattle.std.proofs.lemmas.List.{length-append, length-take-le, take-append-drop}
 use Rattle.key_names.specs.Keystream.{keystream}
-use Rattle.key_names.proofs.Keystreams.{length-keystream, keystream-append, slice_range-keystream, take-keystream}
+use Rattle.key_names.proofs.Keystreams.{length-keystream, keystream-append, slice_range-keystream}
 
 pub length_made : (front key : List ℕ) (k from len : ℕ) → k ≤ length front →
     k + len ≡ length (take k front ++ keystream key from len)

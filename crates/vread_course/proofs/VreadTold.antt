@@ -4,22 +4,22 @@ use Rattle.std.specs.Prelude.{◌==◌, ◌&&◌, not, MatchBool}
 use Rattle.key_names.specs.declared.entries.Taken.TheVariants.{User}
 use Rattle.key_names.specs.declared.point.Point.TheVariants.{Start, Written, Serve}
 use Rattle.key_names.specs.Flags.{is_bad, is_nonblock, is_insecure}
-use Rattle.key_names.specs.Calls.{Setting, BoundAct}
-use Rattle.key_names.specs.Deeds.{Deed, looked, at_pool, at_base, at_cpu}
+use Rattle.key_names.specs.Calls.{Setting}
+use Rattle.key_names.specs.Deeds.{Deed, looked}
 use Rattle.key_names.specs.Forms.{SysForm, LookedForm, ReadForm, CpuReadForm, DrawForm, WaitedInVain, Waited, Looked}
 use Rattle.key_names.specs.VgetrandomState.{VgetrandomState, state_left}
-use Rattle.key_names.specs.Vgetrandom.{SystemAnswer, read, failed, HostStep, publishes, system_call, at_point, AttemptEnd, holds, outdated, not_keyed, Attempt, attempt_behind, wipe_entry}
+use Rattle.key_names.specs.Vgetrandom.{SystemAnswer, read, failed, HostStep, publishes, at_point, AttemptEnd, holds, outdated, not_keyed, Attempt, attempt_behind, wipe_entry}
 use Rattle.key_names.specs.Vgetrandom.{Outcome, AtPoint, FromServe, AfterKeyRead, FromWritten, FromStart, IsAttempt, BySystem, ByNothing, AfterAttempt, AttemptAndRest, AfterBoth, SecondAttempt, FirstAttempt, FromPublished, FromLook, IsCall}
 use Rattle.key_names.specs.BatchCopy.{serves_locally}
 use Rattle.key_names.specs.VreadSteps.{Shows, published_by}
-use Rattle.key_names.specs.Meaning.{CallMeaning, current_state, ByLocalCopy, ByVgetrandom, LocalOrCall, tries_local}
+use Rattle.key_names.specs.Meaning.{current_state, ByLocalCopy, ByVgetrandom, LocalOrCall, tries_local}
 use Rattle.line_forms.specs.LaneFacts.{LaneFacts, AllFit}
 use Rattle.line_forms.specs.Told.{AllFill, FillsPart, AllThere, first_sign, sign_of}
 use Rattle.line_forms.specs.declared.told.Sign.{Sign}
 use Rattle.line_forms.specs.declared.told.Sign.TheVariants.{Nowhere as nowhere}
 use Rattle.line_forms.proofs.ToldReads.{key_told, last_told}
 use Rattle.vread_course.specs.Laws.{VreadIsTold}
-use Rattle.vread_course.proofs.AttemptShapes.{Copied, copied}
+use Rattle.vread_course.proofs.AttemptShapes.{copied}
 use Rattle.vread_course.proofs.CallsFollowed.{fit_behind}
 
 there_at : {ds xs : List Deed} → ds ≡ xs → AllThere xs → AllThere ds

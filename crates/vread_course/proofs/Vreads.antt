@@ -1,5 +1,5 @@
 -- A vread is followed exactly where it is one.
-use Rattle.std.proofs.Common.{◌≡◌, ℕ, zero, suc, ◌<◌, ◌≤◌, ◌^◌, Bool, true, false, List, [], ◌∷◌, ◌++◌, length, Some, None, Option, refl, sym, subst, ap, ◌∙◌, arith}
+use Rattle.std.proofs.Common.{◌≡◌, ℕ, suc, ◌≤◌, Bool, true, false, List, [], ◌∷◌, ◌++◌, length, Some, None, Option, refl, sym, subst, ap, ◌∙◌, arith}
 use Rattle.std.specs.Prelude.{◌==◌, ◌&&◌, ◌||◌, not, nat_le, MatchBool, if◌then◌else◌}
 use Rattle.std.specs.List.{AllByRecursion, list_any}
 use Rattle.std.proofs.lemmas.Bool.Decides.{nat_tests}
@@ -7,7 +7,7 @@ use Rattle.key_names.specs.declared.entries.VEntry.{VEntry}
 use Rattle.key_names.specs.declared.events.Answer.TheVariants.{Ok as Done}
 use Rattle.key_names.specs.Flags.{is_bad}
 use Rattle.key_names.specs.Calls.{Setting, BoundAct}
-use Rattle.key_names.specs.Deeds.{Deed, looked, at_pool, at_base, at_cpu, nothing_there}
+use Rattle.key_names.specs.Deeds.{Deed, looked, at_cpu, nothing_there}
 use Rattle.key_names.specs.Forms.{Looked}
 use Rattle.key_names.specs.VgetrandomState.{VgetrandomState}
 use Rattle.key_names.specs.BatchCopy.{copy_entries, state_after_copy, serves_locally}
@@ -19,24 +19,22 @@ use Rattle.line_forms.specs.LaneFacts.{LaneFacts, AllFit}
 use Rattle.key_names.specs.declared.entries.Taken.TheVariants.{User}
 use Rattle.key_names.specs.Answers.{system_answer, served_bytes}
 use Rattle.line_forms.specs.Told.{AllFill, FillsPart, first_sign}
-use Rattle.line_forms.specs.declared.told.Sign.{Sign}
 use Rattle.line_forms.specs.declared.told.Sign.TheVariants.{Nowhere as nowhere}
 use Rattle.line_forms.proofs.RowShapes.{is_zero, is_some}
 use Rattle.vread_course.specs.declared.seen.Seen.{Seen}
 use Rattle.vread_course.specs.declared.seen.Seen.TheVariants.{Unready, Ready, Pool, Base, Resumed, Cpu, Elsewhere}
-use Rattle.vread_course.specs.declared.inside.Inside.{Inside}
 use Rattle.vread_course.specs.declared.inside.Reached.TheVariants.{Nothing}
 use Rattle.vread_course.specs.Recipe.{bytes_made, copy_recipe}
 use Rattle.vread_course.specs.Seen.{AllSeen, LookFits, rises}
 use Rattle.vread_course.specs.Inside.{inside_of, includes}
 use Rattle.vread_course.specs.Course.{published, Followed, leaving, at_end, by_vgetrandom, copy_or_call, followed}
 use Rattle.vread_course.specs.Laws.{VreadFills, meaning_of, FollowedIsVread, IsFollowed, VreadIsFollowed, CalledSays, ActJoins}
-use Rattle.vread_course.proofs.SeenShapes.{Shape, deeds_in, shaped, shape_seen, seen_nothing, see_at}
+use Rattle.vread_course.proofs.SeenShapes.{Shape, deeds_in, shaped, seen_nothing, see_at}
 use Rattle.vread_course.proofs.AttemptShapes.{published_is, Known}
 use Rattle.vread_course.proofs.CalledSays.{called_says}
 use Rattle.vread_course.proofs.CallPoints.{acts_by}
 use Rattle.vread_course.proofs.CallsTold.{Call, vgetrandom_told}
-use Rattle.vread_course.proofs.CallsFollowed.{CallFollows, vgetrandom_followed}
+use Rattle.vread_course.proofs.CallsFollowed.{vgetrandom_followed}
 
 -- ---- looks
 

@@ -1,5 +1,5 @@
 -- One act more inside a call.
-use Rattle.std.specs.Prelude.{ℕ, ◌==◌, ◌&&◌, ◌||◌, Bool, true, false}
+use Rattle.std.specs.Prelude.{ℕ, ◌==◌, ◌&&◌, ◌||◌, true}
 use Rattle.key_names.specs.declared.events.InsideAct.{InsideAct}
 use Rattle.key_names.specs.VreadSteps.{is_wipe}
 use Rattle.vread_course.specs.declared.inside.Inside.{Inside}

@@ -1,5 +1,5 @@
 -- The laws of courses. The functions of src/laws.rt state each as a contract.
-use Rattle.std.specs.Prelude.{ℕ, ◌≡◌, Option, Some, List, [], ◌∷◌, ◌++◌, map}
+use Rattle.std.specs.Prelude.{ℕ, ◌≡◌, Some, List, [], ◌∷◌, ◌++◌, map}
 use Rattle.std.specs.List.{AllByRecursion}
 use Rattle.key_names.specs.declared.entries.Taken.TheVariants.{User}
 use Rattle.key_names.specs.declared.entries.VEntry.{VEntry}
@@ -7,7 +7,6 @@ use Rattle.key_names.specs.Calls.{Setting, BoundAct}
 use Rattle.key_names.specs.Deeds.{Deed}
 use Rattle.key_names.specs.Answers.{system_answer, served_bytes}
 use Rattle.key_names.specs.SeenLine.{bytes_or_none}
-use Rattle.key_names.specs.VgetrandomState.{VgetrandomState}
 use Rattle.key_names.specs.Meaning.{CallerState, current_state, with_state, LineMeaning, CallMeaning, ActsMean, VreadMeans}
 use Rattle.line_forms.specs.LaneFacts.{LaneFacts, AllFit}
 use Rattle.line_forms.specs.Rows.{IsSystemCall}

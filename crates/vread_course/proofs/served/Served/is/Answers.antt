@@ -1,4 +1,4 @@
-use Rattle.std.proofs.Common.{◌≡◌, ◌≤◌, ◌+◌, ◌++◌, List, ℕ, IsTrue, length, take, sym, ap, ◌∙◌, rules, arith}
+use Rattle.std.proofs.Common.{◌≡◌, ◌+◌, ◌++◌, List, ℕ, IsTrue, length, take, sym, ap, ◌∙◌, rules, arith}
 use Rattle.std.proofs.lemmas.List.{length-append}
 use Rattle.key_names.specs.Keystream.{keystream}
 use Rattle.key_names.proofs.Keystreams.{length-keystream}
