@@ -1,18 +1,17 @@
 -- The base along its list, on what is kept of the pool.
-use Rattle.std.proofs.Common.{◌≡◌, ◌<◌, ◌≤◌, ◌+◌, ℕ, zero, suc, List, [], ◌∷◌, ◌++◌, length, take, true, Option, Some, None, refl, sym, subst, ap, ◌∙◌, arith, ◌⊎◌, inl, inr}
+use Rattle.std.proofs.Common.{◌≡◌, ◌<◌, ◌≤◌, ◌+◌, ℕ, suc, List, [], ◌∷◌, ◌++◌, length, take, true, Option, Some, None, refl, sym, subst, ap, ◌∙◌, arith, ◌⊎◌, inl, inr}
 use Rattle.std.specs.Prelude.{slice_get, option_and_then, nat_le, if◌then◌else◌}
 use Rattle.key_names.specs.declared.entries.PoolEntry.{PoolEntry}
 use Rattle.key_names.specs.declared.entries.PoolEntry.TheVariants.{Mix, Input, Bits, Extract}
 use Rattle.key_names.specs.declared.entries.BaseEntry.{BaseEntry}
 use Rattle.key_names.specs.declared.entries.BaseEntry.TheVariants.{Early, Reseed, Tick, Draw, Refill, Fork, End, Wait, Resume, Interrupt, Stall, Unstall}
-use Rattle.key_names.specs.PoolList.{Crossing, PoolState, pool_after, base_place_of, extraction_at, root_value, root_given}
+use Rattle.key_names.specs.PoolList.{PoolState, pool_after, base_place_of, extraction_at, root_value, root_given}
 use Rattle.key_names.specs.BaseList.{BaseState, BaseFits, BaseMayCome, RootStands, base_start, base_step, base_after, base_erases, root_of, roots_after, reseeds_at, generation_after}
-use Rattle.key_names.specs.KeyInUse.{zero_key, root_value_or, base_value_step, base_value_after, base_value_at, base_used_at}
+use Rattle.key_names.specs.KeyInUse.{zero_key, base_value_step, base_value_after, base_value_at, base_used_at}
 use Rattle.key_names.specs.Book.{Lists}
-use Rattle.key_names.specs.Deeds.{BaseVisit, base_visit}
+use Rattle.key_names.specs.Deeds.{base_visit}
 use Rattle.base_gen.specs.BaseValue.{BaseValue, after_entry, base_at, key_in_use}
 use Rattle.base_gen.proofs.Rows.{HandsRoot, after_entry-base_at, key_in_use-root}
-use Rattle.input_pool.specs.PoolStands.{crossing_of}
 use Rattle.line_forms.specs.declared.told.BaseTold.{BaseTold}
 use Rattle.line_forms.specs.declared.told.BaseTold.TheVariants.{Is as base_is, Crossed as crossed, Woken as woken}
 use Rattle.line_forms.specs.LaneFacts.{facts_of, crossed_by}
@@ -20,9 +19,9 @@ use Rattle.line_forms.specs.Told.{crossed_entry}
 use Rattle.list_replay.specs.declared.kept.Root.{Root}
 use Rattle.list_replay.specs.declared.kept.KeptPool.{KeptPool}
 use Rattle.list_replay.specs.declared.kept.KeptBase.{KeptBase}
-use Rattle.list_replay.specs.BaseLane.{state_of, Fits, crossing_kept, crossed_of, base_closed, root_in, root_value_in, RootStandsIn, AllBaseMay}
+use Rattle.list_replay.specs.BaseLane.{Fits, crossing_kept, crossed_of, base_closed, root_in, root_value_in, RootStandsIn, AllBaseMay}
 use Rattle.list_replay.specs.Closed.{closed, base_entry}
-use Rattle.list_replay.specs.Kept.{root_kept, KeepsPool, KeepsBase, KeepsPoolLane}
+use Rattle.list_replay.specs.Kept.{root_kept, KeepsBase, KeepsPoolLane}
 use Rattle.list_replay.specs.Tables.{Tables}
 use Rattle.std.proofs.lemmas.Option.{slice_get_within}
 use Rattle.list_replay.proofs.Dumps.{some_or_none, and_then_is}

@@ -1,18 +1,18 @@
 -- A CPU along its list, on what is kept of the base.
-use Rattle.std.proofs.Common.{◌≡◌, ◌<◌, ◌≤◌, ◌+◌, ◌/◌, ℕ, zero, suc, List, [], ◌∷◌, ◌++◌, length, take, true, false, Bool, not, Option, Some, None, refl, sym, subst, ap, ◌∙◌, arith, ◌⊎◌, inl, inr}
-use Rattle.std.specs.Prelude.{slice_get, option_and_then, option_map, IsSome, nat_le, ◌||◌, ◌==◌, ◌↔◌}
+use Rattle.std.proofs.Common.{◌≡◌, ◌<◌, ◌≤◌, ◌+◌, ◌/◌, ℕ, suc, List, [], ◌∷◌, ◌++◌, take, true, false, Bool, not, Option, Some, None, refl, sym, subst, ap, ◌∙◌, arith, inl, inr}
+use Rattle.std.specs.Prelude.{slice_get, option_and_then, option_map, IsSome, nat_le, ◌||◌, ◌==◌}
 use Rattle.key_names.specs.declared.names.KeyName.{KeyName}
 use Rattle.key_names.specs.declared.entries.BaseEntry.{BaseEntry}
 use Rattle.key_names.specs.declared.entries.BaseEntry.TheVariants.{Early, Reseed, Tick, Draw, Refill, Fork, End, Wait, Resume, Interrupt, Stall, Unstall}
 use Rattle.key_names.specs.declared.entries.CpuEntry.{CpuEntry}
 use Rattle.key_names.specs.declared.entries.CpuEntry.TheVariants.{Read, Int, Irq, Dump, Prepare, Online}
 use Rattle.key_names.specs.Keystream.{keystream}
-use Rattle.key_names.specs.BaseList.{BaseState, base_after, base_erases, refill_of, refill_at, reseeds_at, generation_after, generation_at}
+use Rattle.key_names.specs.BaseList.{base_after, base_erases, refill_of, refill_at, reseeds_at, generation_after, generation_at}
 use Rattle.key_names.specs.Batches.{Fill, fills_after, must_fill, one_more_served}
 use Rattle.key_names.specs.CpuList.{CpuState, CpuFits, CpuMayCome, RefillStands, base_refill_of, cpu_key_in_use, cpu_start, cpu_step, cpu_after}
 use Rattle.key_names.specs.KeyInUse.{zero_key, base_used_at, base_call_value, cpu_value_in_use, cpu_value_step, cpu_value_after, cpu_value_at, cpu_used_at}
 use Rattle.key_names.specs.Book.{Lists, list_at, cpu_list}
-use Rattle.key_names.specs.Deeds.{BaseVisit, base_visit, cpu_visit}
+use Rattle.key_names.specs.Deeds.{cpu_visit}
 use Rattle.cpu_gen.specs.CpuValue.{CpuValue, cpu_at, start}
 use Rattle.cpu_gen.proofs.Entries.{handed_at}
 use Rattle.line_forms.specs.declared.told.CpuTold.{CpuTold}
@@ -23,8 +23,8 @@ use Rattle.list_replay.specs.declared.last_fills.LastFill.{LastFill}
 use Rattle.list_replay.specs.declared.last_fills.LastFills.{LastFills}
 use Rattle.list_replay.specs.declared.told.ToldCpu.{ToldCpu}
 use Rattle.list_replay.specs.Closed.{closed, cpu_told_entry}
-use Rattle.list_replay.specs.CpuLane.{slot, put, no_fills, wants_kept, one_more_kept, HasRoom, RoomFor, cpu_closed, FitsKept, KeysKept, NamesIn, RefillStandsIn, HandedStands, refill_named, used, key_used, cpu_entered, fills_entered, source_kept, source_entered, AllCpuMay}
-use Rattle.list_replay.specs.Kept.{Source, no_source, source_in, source_of, KeepsBase, KeepsCpu, KeepsBaseLane}
+use Rattle.list_replay.specs.CpuLane.{slot, put, no_fills, wants_kept, one_more_kept, HasRoom, RoomFor, cpu_closed, FitsKept, KeysKept, NamesIn, RefillStandsIn, HandedStands, refill_named, key_used, cpu_entered, fills_entered, source_kept, source_entered, AllCpuMay}
+use Rattle.list_replay.specs.Kept.{source_in, source_of, KeepsCpu, KeepsBaseLane}
 use Rattle.list_replay.specs.Tables.{Tables, IsWidth, EntryIsWide, CpuIsWide}
 use Rattle.std.proofs.lemmas.Grind.{common_steps}
 use Rattle.list_replay.proofs.Dumps.{some_or_none}
@@ -300,7 +300,7 @@ module _ (lists : Lists) (base : List KeptBase) (keeps : KeepsBaseLane base list
       go : (o : Option KeptBase) → slice_get base b ≡ o → NamesIn c place look o
       go None is = elim (some_or_none (slice_get lists.base b)) [
         | inl none ↦ (let never : None ≡ Some (c, place) = sym (ap (option_and_then refill_of) none) ∙ named in cc)
-        | inr e ↦ (let k = at_too base lists.base b e.0 keeps.count e.1 in
+        | inr e ↦ (let k : (x : KeptBase) × (slice_get base b ≡ Some x) = at_too base lists.base b e.0 keeps.count e.1 in
             let never : None ≡ Some k.0 = sym is ∙ k.1 in cc)
       ]
       go (Some k) is =

@@ -1,5 +1,5 @@
 -- Fast pools along told visits, and the dumps that the pool mixes.
-use Rattle.std.proofs.Common.{◌≡◌, ◌<◌, ◌+◌, ℕ, zero, suc, List, [], ◌∷◌, ◌++◌, length, take, map, get_or, Bool, Option, Some, None, refl, sym, subst, ap, ◌∙◌, arith, ◌⊎◌, inl, inr}
+use Rattle.std.proofs.Common.{◌≡◌, ◌<◌, ◌+◌, ℕ, zero, suc, List, [], ◌∷◌, ◌++◌, length, Bool, Option, Some, None, refl, sym, subst, ap, ◌∙◌, arith, ◌⊎◌, inl, inr}
 use Rattle.std.specs.Prelude.{slice_get, option_and_then}
 use Rattle.key_names.specs.declared.entries.PoolEntry.{PoolEntry}
 use Rattle.key_names.specs.declared.entries.PoolEntry.TheVariants.{Mix}
@@ -19,13 +19,13 @@ use Rattle.list_replay.specs.declared.told.ToldPool.TheVariants.{Is as pool_is, 
 use Rattle.list_replay.specs.declared.told.ToldCpu.{ToldCpu}
 use Rattle.list_replay.specs.Closed.{closed, fast_told}
 use Rattle.list_replay.specs.Dumps.{DueTold, DueAt, DumpIs, dump_by, dump_told, fast_at, AllDumps}
-use Rattle.list_replay.specs.Fills.{Fills, pool_entry}
+use Rattle.list_replay.specs.Fills.{pool_entry}
 use Rattle.list_replay.specs.Lawful.{DueStands, DumpsAt}
 use Rattle.list_replay.specs.Places.{AllPlaces, AllKept}
 use Rattle.list_replay.specs.PoolLane.{dump_in, mix_of, entry_found, MixStands}
 use Rattle.list_replay.specs.Tables.{Tables}
 use Rattle.list_replay.proofs.Filling.{closed_fills, fills_fast}
-use Rattle.list_replay.proofs.Loops.{Behind, behind_more, behind_all, at_too, fold_at}
+use Rattle.list_replay.proofs.Loops.{Behind, behind_more, at_too, fold_at}
 
 -- ---- options and lists of lists
 

@@ -6,7 +6,6 @@ use Rattle.key_names.specs.PoolList.{PoolState, pool_step}
 use Rattle.input_pool.specs.PoolStands.{PoolParts, PoolStands}
 use Rattle.input_pool.proofs.Callers.{mixed, mixed_and_credited, input_bytes, credit-none, PoolStands-timed, PoolStands-untimed, pool_step-timed, pool_step-untimed}
 use Rattle.sample_credit.specs.LastInput.{LastInput}
-use Rattle.list_replay.specs.declared.pool_list.Lane.{Lane}
 use Rattle.list_replay.specs.PoolLane.{LaneStands}
 
 -- the sample of an event with another value was mixed, and its value kept

@@ -1,11 +1,10 @@
 -- Lanes of CPUs, held in vectors.
-use Rattle.std.proofs.Common.{◌≡◌, ◌<◌, ◌+◌, ℕ, zero, suc, List, [], ◌∷◌, ◌++◌, length, map, get_or, Vec, Global, Some, refl, sym, subst, ap, ◌∙◌, arith}
-use Rattle.std.specs.Prelude.{slice_get, slice_index_or, All}
+use Rattle.std.proofs.Common.{◌≡◌, ◌<◌, ◌+◌, ℕ, zero, suc, List, [], ◌∷◌, ◌++◌, length, map, get_or, Vec, Global, refl, sym, subst, ap, arith}
+use Rattle.std.specs.Prelude.{slice_index_or, All}
 use Rattle.std.proofs.lemmas.List.{length-map}
 use Rattle.key_names.specs.Book.{list_at}
 use Rattle.list_replay.proofs.Dumps.{list_within}
-use Rattle.list_replay.proofs.Loops.{Behind, behind_more, behind_all}
-use Rattle.list_replay.specs.Places.{AllPlaces, AllKept}
+use Rattle.list_replay.proofs.Loops.{Behind, behind_more}
 
 module _ {T : Type 0} where
   abbrev pub items_of : List (Vec T Global) → List (List T)

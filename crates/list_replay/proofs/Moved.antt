@@ -2,8 +2,6 @@
 use Rattle.std.proofs.Common.{◌≡◌, ℕ, List, [], ◌∷◌, take, Option, Some, None, true, false, refl, sym, subst, ap, ◌∙◌}
 use Rattle.std.specs.Prelude.{slice_get, if◌then◌else◌}
 use Rattle.std.specs.List.{fold}
-use Rattle.key_names.specs.declared.entries.PoolEntry.{PoolEntry}
-use Rattle.key_names.specs.declared.entries.BaseEntry.{BaseEntry}
 use Rattle.key_names.specs.declared.entries.CpuEntry.{CpuEntry}
 use Rattle.key_names.specs.declared.entries.CpuEntry.TheVariants.{Read, Int, Irq, Dump, Prepare, Online}
 use Rattle.key_names.specs.declared.entries.VEntry.{VEntry}
@@ -13,8 +11,8 @@ use Rattle.key_names.specs.Keystream.{keystream}
 use Rattle.key_names.specs.KeyInUse.{call_value_or, cpu_value_in_use, cpu_value_step, cpu_value_after, cpu_value_at, cpu_used_at, zero_key}
 use Rattle.key_names.specs.Book.{Lists, LawfulLanes, cpu_list}
 use Rattle.list_replay.specs.declared.kept.Lists.{Lists as KeptLists}
-use Rattle.list_replay.specs.Kept.{Keeps, KeepsPool, KeepsBase, KeepsCpu, source_of, source_in}
-use Rattle.list_replay.specs.Lawful.{Lawful, DumpsAt}
+use Rattle.list_replay.specs.Kept.{Keeps, source_of, source_in}
+use Rattle.list_replay.specs.Lawful.{Lawful}
 use Rattle.list_replay.specs.Tables.{Tables}
 use Rattle.list_replay.proofs.Filling.{SameLanes}
 

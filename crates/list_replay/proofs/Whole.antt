@@ -1,8 +1,6 @@
 -- The closed lists are lawful exactly where each lane was found so, and each name is answered in what is kept.
-use Rattle.std.proofs.Common.{◌≡◌, ℕ, zero, suc, List, [], ◌∷◌, length, take, map, Option, Some, None, refl, sym, subst, ap, ◌∙◌}
+use Rattle.std.proofs.Common.{◌≡◌, ℕ, zero, suc, List, [], ◌∷◌, length, map, Option, Some, None, refl, sym, subst, ap, ◌∙◌}
 use Rattle.std.specs.Prelude.{slice_get, option_and_then}
-use Rattle.key_names.specs.declared.entries.BaseEntry.{BaseEntry}
-use Rattle.key_names.specs.declared.entries.CpuEntry.{CpuEntry}
 use Rattle.key_names.specs.PoolList.{extraction_at}
 use Rattle.key_names.specs.BaseList.{BaseMayCome, base_start, base_step, root_of, root_at, refill_of, refill_at}
 use Rattle.key_names.specs.CpuList.{CpuMayCome, cpu_start, cpu_step, base_refill_of, base_refill_at}

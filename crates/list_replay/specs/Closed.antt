@@ -1,6 +1,6 @@
 -- The lists that are as told: made by closing what is told lane by lane, first of CPUs what changes their fast pools,
 -- then the pool, the base and the CPUs.
-use Rattle.std.specs.Prelude.{ℕ, suc, ◌≡◌, true, false, Bool, Option, Some, None, List, [], ◌∷◌, map, take, nat_le, if◌then◌else◌, slice_get}
+use Rattle.std.specs.Prelude.{ℕ, suc, None, List, [], ◌∷◌, map, take, nat_le, if◌then◌else◌, slice_get}
 use Rattle.std.specs.List.{fold}
 use Rattle.key_names.specs.declared.entries.PoolEntry.{PoolEntry}
 use Rattle.key_names.specs.declared.entries.BaseEntry.{BaseEntry}
@@ -19,7 +19,6 @@ use Rattle.line_forms.specs.declared.told.CpuTold.{CpuTold}
 use Rattle.line_forms.specs.declared.told.CpuTold.TheVariants.{Is as cpu_is, Batch as batch}
 use Rattle.line_forms.specs.LaneFacts.{LaneFacts, crossed_by}
 use Rattle.line_forms.specs.Told.{crossed_entry}
-use Rattle.list_replay.specs.declared.told.ToldPool.{ToldPool}
 use Rattle.list_replay.specs.declared.told.ToldCpu.{ToldCpu}
 use Rattle.list_replay.specs.Fills.{pool_entry}
 use Rattle.list_replay.specs.Tables.{Tables}

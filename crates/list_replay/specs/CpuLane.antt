@@ -1,11 +1,10 @@
 -- A CPU as it goes along its list.
-use Rattle.std.specs.Prelude.{ℕ, suc, ◌+◌, ◌/◌, ◌≡◌, ◌≤◌, ◌<◌, ◌↔◌, ◌⊎◌, ⊤, Bool, true, false, not, ◌||◌, ◌==◌, nat_le}
-use Rattle.std.specs.Prelude.{Option, Some, None, List, take, slice_get, option_and_then, IsSome, if◌then◌else◌}
+use Rattle.std.specs.Prelude.{ℕ, ◌+◌, ◌/◌, ◌≡◌, ◌≤◌, ◌<◌, ◌↔◌, ◌⊎◌, ⊤, Bool, true, false, not, ◌||◌, ◌==◌, nat_le}
+use Rattle.std.specs.Prelude.{Option, Some, None, List, take, slice_get, IsSome, if◌then◌else◌}
 use Rattle.key_names.specs.declared.entries.CpuEntry.{CpuEntry}
 use Rattle.key_names.specs.declared.entries.CpuEntry.TheVariants.{Read, Int, Irq, Dump, Prepare, Online}
 use Rattle.key_names.specs.Keystream.{keystream}
 use Rattle.key_names.specs.BaseList.{base_erases, refill_of}
-use Rattle.key_names.specs.Batches.{Fill}
 use Rattle.key_names.specs.CpuList.{CpuMayCome, cpu_after}
 use Rattle.key_names.specs.Book.{Lists, cpu_list}
 use Rattle.cpu_gen.specs.CpuValue.{CpuValue, erased, prepared}

@@ -1,5 +1,5 @@
 -- Lists that are as told.
-use Rattle.std.specs.Prelude.{ℕ, ◌≡◌, Some, List, length, slice_get}
+use Rattle.std.specs.Prelude.{ℕ, ◌≡◌, Some, length, slice_get}
 use Rattle.key_names.specs.declared.entries.PoolEntry.{PoolEntry}
 use Rattle.key_names.specs.declared.entries.PoolEntry.TheVariants.{Mix}
 use Rattle.key_names.specs.declared.entries.BaseEntry.{BaseEntry}

@@ -1,15 +1,14 @@
 -- What is kept of lists.
-use Rattle.std.specs.Prelude.{ℕ, ◌≡◌, Option, Some, None, List, map, length, true, false}
+use Rattle.std.specs.Prelude.{ℕ, ◌≡◌, Option, Some, None, List, map, true, false}
 use Rattle.key_names.specs.declared.entries.PoolEntry.{PoolEntry}
 use Rattle.key_names.specs.declared.entries.PoolEntry.TheVariants.{Mix, Input, Bits, Extract}
-use Rattle.key_names.specs.declared.entries.BaseEntry.{BaseEntry}
 use Rattle.key_names.specs.declared.entries.CpuEntry.{CpuEntry}
 use Rattle.key_names.specs.declared.entries.CpuEntry.TheVariants.{Read, Int, Irq, Dump, Prepare, Online}
 use Rattle.key_names.specs.PoolList.{PoolState, crossing, root_of_extraction}
 use Rattle.key_names.specs.BaseList.{base_erases}
 use Rattle.key_names.specs.Batches.{Fill}
 use Rattle.key_names.specs.KeyInUse.{base_used_at, cpu_used_at}
-use Rattle.key_names.specs.Book.{Lists, list_at, cpu_list}
+use Rattle.key_names.specs.Book.{Lists}
 use Rattle.key_names.specs.Deeds.{PoolVisit, BaseVisit, CpuVisit, pool_visit, base_visit, cpu_visit}
 use Rattle.input_pool.specs.PoolStands.{crossing_of}
 use Rattle.list_replay.specs.declared.kept.Root.{Root}

@@ -4,7 +4,6 @@ use Rattle.key_names.specs.declared.entries.CpuEntry.{CpuEntry}
 use Rattle.key_names.specs.declared.entries.CpuEntry.TheVariants.{Read, Int, Irq, Dump, Prepare, Online}
 use Rattle.key_names.specs.FastPool.{FastPool, fast_after, makes_due}
 use Rattle.key_names.specs.Book.{Lists, LawfulLanes, list_at, cpu_list}
-use Rattle.list_replay.specs.declared.told.ToldPool.{ToldPool}
 use Rattle.list_replay.specs.declared.told.ToldPool.TheVariants.{Dumped as dumped}
 use Rattle.list_replay.specs.declared.told.ToldCpu.{ToldCpu}
 use Rattle.list_replay.specs.Tables.{Tables}

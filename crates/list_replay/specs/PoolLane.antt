@@ -1,10 +1,10 @@
 -- The pool as it goes along its list.
-use Rattle.std.specs.Prelude.{ℕ, ◌≡◌, ⊤, Option, Some, None, List, length, slice_get, option_and_then}
+use Rattle.std.specs.Prelude.{ℕ, ◌≡◌, ⊤, Option, Some, List, slice_get, option_and_then}
 use Rattle.key_names.specs.declared.entries.PoolEntry.{PoolEntry}
 use Rattle.key_names.specs.declared.entries.PoolEntry.TheVariants.{Mix}
 use Rattle.key_names.specs.PoolList.{PoolState}
 use Rattle.key_names.specs.PoolNotes.{entry_of}
-use Rattle.key_names.specs.Book.{Lists, list_at}
+use Rattle.key_names.specs.Book.{Lists}
 use Rattle.input_pool.specs.PoolStands.{PoolStands}
 use Rattle.sample_credit.specs.declared.fast_pool.Dump.{Dump}
 use Rattle.list_replay.specs.declared.pool_list.Lane.{Lane}

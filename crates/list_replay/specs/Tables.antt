@@ -1,5 +1,5 @@
 -- The tables of what is told, as lists, and the entries that are told. Numbers of tables are in ranges that all lines keep.
-use Rattle.std.specs.Prelude.{ℕ, ◌≡◌, ◌<◌, ◌^◌, ◌⊎◌, ⊤, Option, Some, None, List, map, length, All, if◌then◌else◌, nat_le}
+use Rattle.std.specs.Prelude.{ℕ, ◌≡◌, ◌<◌, ◌^◌, ◌⊎◌, ⊤, List, map, length, All}
 use Rattle.key_names.specs.declared.notes.PoolNote.{PoolNote}
 use Rattle.key_names.specs.declared.notes.PoolNote.TheVariants.{Mix as MixNote, Device, Input as InputNote}
 use Rattle.key_names.specs.declared.notes.PoolNote.TheVariants.{Bits as BitsNote, Extract as ExtractNote}

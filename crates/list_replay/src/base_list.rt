@@ -1,5 +1,6 @@
 //! The base's list.
-ghost use Rattle.std.specs.Prelude.{◌≡◌, ◌↔◌, ◌<◌, ◌^◌, ℕ, All, IsTrue, IfOk, IfSome, IsSome, MatchOption, length, true};
+ghost use Rattle.std.specs.Prelude.{◌≡◌, ◌↔◌, ◌<◌, ◌^◌, ℕ, All, IsTrue, IfOk, IfSome, IsSome, MatchOption, length};
+ghost use Rattle.std.specs.Prelude.{true};
 ghost use Rattle.base_gen.specs.BaseValue.{after_entry, key_in_use};
 ghost use Rattle.key_names.specs.BaseList.{base_erases, root_of};
 ghost use Rattle.list_replay.specs.BaseLane.{Fits, RootStandsIn, root_value_in, base_closed, crossed_of, AllBaseMay};
@@ -34,7 +35,8 @@ fn fits(base: &Base, entry: BaseEntry) -> bool
     }
 }
 
-/// The base after an entry that fits it, given the root that the entry names; and the key in use, if the entry erases it.
+/// The base after an entry that fits it, given the root that the entry names; and the key in use, if the entry erases
+/// it.
 fn enter(base: &mut Base, entry: BaseEntry, root: [u8; 32]) -> Option<[u8; 32]>
     requires fits { Fits base.old entry }
     requires generation { base.old.generation < 2 ^ 63 }
@@ -104,8 +106,8 @@ fn root_of(entry: BaseEntry) -> Option<u64>
     }
 }
 
-/// The value of the root that is named, zeros where none is; `None` where it is below `least`, or its extraction does not
-/// name this place.
+/// The value of the root that is named, zeros where none is; `None` where it is below `least`, or its extraction does
+/// not name this place.
 fn root_value(pool: &[KeptPool], least: u64, place: u64, named: Option<u64>) -> Option<[u8; 32]>
     ensures { MatchOption result (RootStandsIn pool.now least place named → ⊥) (λ value.
         RootStandsIn pool.now least place named × ((r : ℕ) → named ≡ Some r → root_value_in pool.now r ≡ Some value)) }

@@ -1,9 +1,13 @@
 //! The list of a CPU.
 ghost use Rattle.key_names.specs.Keystream.{keystream};
-ghost use Rattle.std.specs.Prelude.{ℕ, List, slice_get, ◌≡◌, ◌↔◌, ◌<◌, ◌^◌, All, IsTrue, IfOk, IfSome, IsSome, MatchOption, length, map, vec_len};
+ghost use Rattle.std.specs.Prelude.{ℕ, List, slice_get, ◌≡◌, ◌↔◌, ◌<◌, ◌^◌, All, IsTrue, IfOk, IfSome, IsSome};
+ghost use Rattle.std.specs.Prelude.{MatchOption, length, map};
 ghost use Rattle.key_names.specs.Book.{cpu_list, list_at};
 ghost use Rattle.list_replay.specs.Closed.{closed};
-ghost use Rattle.list_replay.specs.CpuLane.{KeysKept, NamesIn, slot, put, one_more_kept, source_kept, RoomFor, key_used, RefillStandsIn, HandedStands, FitsKept, HasRoom, cpu_closed, cpu_entered, fills_entered, source_entered, AllCpuMay, AllCpusMay, refill_named};
+ghost use Rattle.list_replay.specs.CpuLane.{KeysKept, NamesIn, slot, put, one_more_kept, source_kept, RoomFor};
+ghost use Rattle.list_replay.specs.CpuLane.{key_used, RefillStandsIn, HandedStands, FitsKept, HasRoom, cpu_closed};
+ghost use Rattle.list_replay.specs.CpuLane.{cpu_entered, fills_entered, source_entered, AllCpuMay, AllCpusMay};
+ghost use Rattle.list_replay.specs.CpuLane.{refill_named};
 ghost use Rattle.list_replay.specs.Kept.{KeepsBaseLane, KeepsCpuLane};
 ghost use Rattle.list_replay.specs.Places.{AllKept};
 ghost use Rattle.list_replay.specs.Tables.{tables_of, EntryIsWide, CpuIsWide};
@@ -175,8 +179,8 @@ impl Lane {
         }
     }
 
-    /// The lane after an entry that fits it, given what the base handed over in the refill that it names; and what its bytes
-    /// come from.
+    /// The lane after an entry that fits it, given what the base handed over in the refill that it names; and what its
+    /// bytes come from.
     fn enter(&mut self, entry: CpuEntry, handed: Option<Cpu>) -> Source
         requires wide { EntryIsWide entry }
         requires room { RoomFor self.old.fills entry }

@@ -2,7 +2,8 @@
 //! takes its key.
 ghost use Rattle.std.specs.Prelude.{◌≡◌, ◌↔◌, ◌<◌, ◌^◌, IsTrue, map, option_and_then};
 ghost use Rattle.key_names.specs.BaseList.{refill_of};
-ghost use Rattle.list_replay.specs.Names.{AnsweredBy, root_named_in, refill_named_in, AllExtractionsAnswered, AllRefillsAnswered};
+ghost use Rattle.list_replay.specs.Names.{AnsweredBy, root_named_in, refill_named_in, AllExtractionsAnswered};
+ghost use Rattle.list_replay.specs.Names.{AllRefillsAnswered};
 
 use crate::kept::{KeptBase, KeptCpu, KeptPool};
 use key_names::{BaseEntry, CpuEntry};

@@ -1,5 +1,5 @@
 //! The fast pools of the CPUs: whether dumps are due where they are told, and what each dump gives.
-ghost use Rattle.std.specs.Prelude.{◌≡◌, ◌↔◌, ◌<◌, IsTrue, IfOk, IfSome, IsSome, map, vec_len, length};
+ghost use Rattle.std.specs.Prelude.{◌≡◌, ◌↔◌, ◌<◌, IsTrue, IfOk, IfSome, IsSome, map, length};
 ghost use Rattle.key_names.specs.Book.{list_at, cpu_list};
 ghost use Rattle.list_replay.specs.Closed.{closed, fast_told};
 ghost use Rattle.list_replay.specs.Places.{AllPlaces, AllKept};

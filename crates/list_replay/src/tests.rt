@@ -8,8 +8,8 @@ use key_names::{BaseEntry, CpuEntry, PoolNote, Taken};
 use line_forms::told::{BaseTold, CpuTold};
 use std::alloc::{AllocError, Global};
 
-// The first root of a pool that "abc" was mixed into, by Python's hashlib; bytes 32 to 64 of its keystream, and bytes 0 to
-// 32 of theirs, by a ChaCha20 of Python that was compared with RFC 8439.
+// The first root of a pool that "abc" was mixed into, by Python's hashlib; bytes 32 to 64 of its keystream, and bytes
+// 0 to 32 of theirs, by a ChaCha20 of Python that was compared with the first block of a zero key.
 const ROOT: [u8; 32] = *b"\x9d\x59\x8e\x47\xdd\x3e\x9a\x6d\x9a\xfd\x89\x9d\x2d\xd9\x0d\x9e\
           \x4d\xe1\xae\x08\xe9\x40\x57\xb0\x37\x48\x00\x45\xc0\x1c\x69\x37";
 

@@ -19,8 +19,8 @@ pub struct ToldCpu {
     pub dumps: bool,
 }
 
-/// What a transcript's steps tell of the lanes: of each lane one entry a visit, in the order of their places, and of CPUs as
-/// many as the script has.
+/// What a transcript's steps tell of the lanes: of each lane one entry a visit, in the order of their places, and of
+/// CPUs as many as the script has.
 #[derive(Drop)]
 pub struct Told<'a> {
     pub pool: Vec<ToldPool<'a>>,

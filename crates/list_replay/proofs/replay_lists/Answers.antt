@@ -1,5 +1,4 @@
-use Rattle.std.proofs.Common.{◌≡◌, ◌<◌, ◌^◌, ℕ, List, length, map, Option, Some, None, Vec, Global, IfSome, IsSome, refl, sym, subst, ap, ◌∙◌, false, true, arith}
-use Rattle.key_names.specs.Book.{Lists as BookLists}
+use Rattle.std.proofs.Common.{◌≡◌, ◌<◌, ◌^◌, length, map, Option, Some, None, Vec, Global, IfSome, IsSome, refl, sym, subst, ap, false, true, arith}
 use Rattle.sample_credit.specs.declared.fast_pool.Dump.{Dump}
 use Rattle.list_replay.specs.declared.kept.KeptPool.{KeptPool}
 use Rattle.list_replay.specs.declared.kept.KeptBase.{KeptBase}
@@ -9,7 +8,7 @@ use Rattle.list_replay.specs.BaseLane.{AllBaseMay}
 use Rattle.list_replay.specs.Closed.{closed}
 use Rattle.list_replay.specs.CpuLane.{AllCpusMay}
 use Rattle.list_replay.specs.Dumps.{AllDue, AllDumps}
-use Rattle.list_replay.specs.Kept.{Keeps, KeepsPoolLane, KeepsBaseLane, KeepsCpuLane}
+use Rattle.list_replay.specs.Kept.{KeepsPoolLane, KeepsBaseLane, KeepsCpuLane}
 use Rattle.list_replay.specs.Lawful.{Lawful}
 use Rattle.list_replay.specs.Names.{AllExtractionsAnswered, AllRefillsAnswered}
 use Rattle.list_replay.specs.Places.{AllKept}

@@ -1,12 +1,11 @@
-use Rattle.std.proofs.Common.{◌≡◌, ◌≤◌, ◌<◌, ◌+◌, ◌^◌, ◌++◌, [], ◌∷◌, ℕ, suc, Option, Some, None, length, refl, sym, subst, ap, ◌∙◌, false, true, arith}
+use Rattle.std.proofs.Common.{◌≡◌, ◌≤◌, ◌<◌, ◌+◌, ◌^◌, ◌++◌, [], ◌∷◌, suc, Some, length, refl, sym, subst, ap, ◌∙◌, false, true, arith}
 use Rattle.key_names.specs.declared.entries.BaseEntry.{BaseEntry}
 use Rattle.key_names.specs.BaseList.{root_of, roots_after}
 use Rattle.base_gen.specs.BaseValue.{BaseValue}
-use Rattle.list_replay.specs.declared.kept.KeptBase.{KeptBase}
-use Rattle.list_replay.specs.BaseLane.{Fits, RootStandsIn}
+use Rattle.list_replay.specs.BaseLane.{RootStandsIn}
 use Rattle.list_replay.specs.Closed.{closed}
-use Rattle.list_replay.specs.Tables.{tables_of, Tables}
-use Rattle.list_replay.proofs.BaseSteps.{BaseBehind, BaseMay, BaseKeeps, base_stops_at_root, base_stops, base_more, base_next, root_within}
+use Rattle.list_replay.specs.Tables.{tables_of}
+use Rattle.list_replay.proofs.BaseSteps.{BaseMay, BaseKeeps, base_stops_at_root, base_stops, base_more, base_next, root_within}
 use Rattle.list_replay.proofs.Filling.{closed_fills}
 use Rattle.list_replay.proofs.Loops.{found, behind_all}
 use Rattle.list_replay.proofs.base_list.replay_base.Goals as goal

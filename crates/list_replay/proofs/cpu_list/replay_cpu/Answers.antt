@@ -1,4 +1,4 @@
-use Rattle.std.proofs.Common.{◌≡◌, ◌≤◌, ◌<◌, ◌+◌, ◌++◌, [], ◌∷◌, ℕ, length, refl, sym, subst, ap, ◌∙◌, false, true, arith}
+use Rattle.std.proofs.Common.{◌≡◌, ◌≤◌, ◌+◌, ◌++◌, [], ◌∷◌, length, refl, ap, ◌∙◌, false, true, arith}
 use Rattle.key_names.specs.declared.entries.CpuEntry.{CpuEntry}
 use Rattle.key_names.specs.Book.{list_at, cpu_list}
 use Rattle.cpu_gen.specs.CpuValue.{CpuValue, start}
@@ -7,7 +7,7 @@ use Rattle.list_replay.specs.declared.told.ToldCpu.{ToldCpu}
 use Rattle.list_replay.specs.Closed.{closed}
 use Rattle.list_replay.specs.CpuLane.{no_fills, cpu_entered}
 use Rattle.list_replay.specs.Tables.{tables_of, CpuIsWide}
-use Rattle.list_replay.proofs.CpuSteps.{CpuMay, CpuKeeps, keys_kept, cpu_begin, cpu_next, cpu_stops_at_refill, cpu_stops, cpu_room, cpu_more}
+use Rattle.list_replay.proofs.CpuSteps.{CpuMay, CpuKeeps, keys_kept, cpu_begin, cpu_next, cpu_stops_at_refill, cpu_stops, cpu_more}
 use Rattle.list_replay.proofs.Filling.{closed_fills}
 use Rattle.list_replay.proofs.Lanes.{lane_is, element_at}
 use Rattle.list_replay.proofs.Loops.{found, behind_all}

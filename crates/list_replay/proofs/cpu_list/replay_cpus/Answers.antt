@@ -1,5 +1,5 @@
-use Rattle.std.proofs.Common.{◌≡◌, ◌≤◌, ◌<◌, ◌+◌, List, [], ℕ, length, map, All, Option, Vec, Global, IfSome, refl, sym, subst, ap, ◌∙◌, false, true, arith}
-use Rattle.key_names.specs.Book.{list_at, cpu_list}
+use Rattle.std.proofs.Common.{◌≡◌, ◌<◌, ◌+◌, List, length, map, All, Option, Vec, Global, IfSome, sym, subst, arith}
+use Rattle.key_names.specs.Book.{cpu_list}
 use Rattle.list_replay.specs.declared.kept.KeptCpu.{KeptCpu}
 use Rattle.list_replay.specs.declared.told.ToldCpu.{ToldCpu}
 use Rattle.list_replay.specs.Closed.{closed}

@@ -1,4 +1,4 @@
-use Rattle.std.proofs.Common.{◌≡◌, ◌≤◌, ◌<◌, ◌+◌, ◌++◌, [], ◌∷◌, ℕ, length, map, sym, ap, ◌∙◌, arith}
+use Rattle.std.proofs.Common.{◌≡◌, ◌≤◌, ◌+◌, ◌++◌, [], ◌∷◌, length, map, ap, ◌∙◌, arith}
 use Rattle.key_names.specs.PoolList.{crossing}
 use Rattle.list_replay.specs.Tables.{tables_of}
 use Rattle.list_replay.proofs.Loops.{found}

@@ -1,5 +1,5 @@
-use Rattle.std.proofs.Common.{◌≡◌, ◌≤◌, ◌<◌, ◌+◌, List, [], ℕ, length, map, Option, Vec, Global, IfSome, IsSome, refl, sym, subst, ap, ◌∙◌, false, true, arith}
-use Rattle.key_names.specs.Book.{list_at, cpu_list}
+use Rattle.std.proofs.Common.{◌≡◌, ◌<◌, ◌+◌, List, length, map, Option, Vec, Global, IfSome, IsSome, sym, subst, arith}
+use Rattle.key_names.specs.Book.{cpu_list}
 use Rattle.sample_credit.specs.declared.fast_pool.Dump.{Dump}
 use Rattle.list_replay.specs.Closed.{closed}
 use Rattle.list_replay.specs.Dumps.{DueAt, DumpIs}

@@ -1,7 +1,7 @@
-use Rattle.std.proofs.Common.{◌≡◌, ◌≤◌, ◌<◌, ◌+◌, ◌++◌, [], ◌∷◌, ℕ, length, refl, sym, subst, ap, ◌∙◌, false, true, not, Bool, IsTrue, arith}
+use Rattle.std.proofs.Common.{◌≡◌, ◌≤◌, ◌+◌, ◌++◌, [], ◌∷◌, length, refl, sym, subst, ap, ◌∙◌, false, true, not, Bool, IsTrue, arith}
 use Rattle.key_names.specs.Book.{list_at, cpu_list}
 use Rattle.list_replay.specs.Closed.{closed}
-use Rattle.list_replay.specs.Dumps.{DueAt, DumpIs, fast_at}
+use Rattle.list_replay.specs.Dumps.{DueAt, DumpIs}
 use Rattle.list_replay.specs.Tables.{tables_of}
 use Rattle.list_replay.proofs.Dumps.{sample_stops, sample_more}
 use Rattle.list_replay.proofs.Filling.{closed_fills}
