@@ -1,7 +1,8 @@
 #!/bin/sh
 # Counts the instructions of the primitives and of whole runs, and prints them and their ratios: run by hand.
 # Instruction counts (valgrind --tool=callgrind) are what is compared, since other work on the machine does not change
-# them; `time` then shows the same ratios as seconds, for a machine that does nothing else.
+# them; `time` then shows the same ratios as seconds, for a machine that does nothing else. Whole runs are also held
+# against plain_core.c, by time and by instructions.
 set -eu
 cd "$(dirname "$0")/.."
 bytes=16777216
@@ -71,6 +72,24 @@ instructions() {
         awk '/Collected/ { print $NF }'
 }
 
+# of_each TURN: a script of as many events as a script may have, each of which the awk function turn(j) in TURN prints.
+of_each() {
+    awk -v n="$events" "$1"'
+    BEGIN {
+        print "rngscript 1\ncpus 1\ncaller 0\ncredit 256"
+        for (j = 0; j < n - 1; j++) print turn(j)
+        print "end"
+    }'
+}
+
+of_each 'function turn(j) { return "irq " j " 0" }' >"$room/interrupts"
+of_each 'function turn(j) { return "int64" }' >"$room/integers"
+of_each 'function turn(j) { return "vread 16 0" }' >"$room/vreads"
+of_each 'function turn(j) { return j % 2 ? "read 16 0" : "kread 16" }' >"$room/reads"
+of_each 'function turn(j) { return "tick" }' >"$room/ticks"
+of_each 'function turn(j) { return "bits" }' >"$room/bits"
+of_each 'function turn(j) { return "at " j }' >"$room/moments"
+
 # seconds COMMAND..: the least of five runs on the script.
 seconds() {
     for _ in 1 2 3 4 5; do
@@ -114,6 +133,23 @@ of_text() {
 ratio() {
     awk -v name="$1" -v a="$2" -v b="$3" -v limit="$4" 'BEGIN { printf "%-52s %6.2f  (%s)\n", name, a / b, limit }'
 }
+
+# beside_plain NAME SCRIPT: `rng run` beside plain_core, which writes the same transcript: the ratio of instructions, and
+# for each way out that of the median wall seconds and of the median processor seconds of 15 runs in turn.
+beside_plain() {
+    "$room/plain_core" <"$2" >"$room/plain" && "$program" run <"$2" | cmp - "$room/plain" >&2
+    printf '%-34s %6s' "$1" "$(echo "$(instructions "$program" run <"$2")" \
+        "$(instructions "$room/plain_core" <"$2")" | awk '{ printf "%.2f", $1 / $2 }')"
+    for out in null pipe "$room/file"; do
+        "$room/interleaved" 15 "$2" "$out" "$program" run -- "$room/plain_core" |
+            awk '{ printf "   %4.2f %4.2f", $1 / $2, $3 / $4 }'
+    done
+    echo
+}
+
+for name in plain_core interleaved; do
+    "${CC:-cc}" -O2 -o "$room/$name" "bench/$name.c"
+done
 
 keystream=$(beyond_start keystream "$bytes")
 plain=$(beyond_start plain "$bytes")
@@ -187,6 +223,18 @@ printf '%-52s %12s\n' "the least seconds of five runs of two events" \
     "KiB of $events small events" "$(of_run %M "$room/small_events")" \
     "seconds of 16 reads of 1 MiB" "$(of_run %e "$room/large_reads")" \
     "seconds of $events small events" "$(of_run %e "$room/small_events")"
+
+echo "rng run to plain_core: instructions; wall and processor seconds to /dev/null, a pipe, a file"
+beside_plain "a load's mix" "$room/small_events"
+beside_plain 'interrupts' "$room/interrupts"
+beside_plain 'integers of 64 bits' "$room/integers"
+beside_plain 'vreads of 16 bytes' "$room/vreads"
+beside_plain 'reads of 16 bytes' "$room/reads"
+beside_plain 'ticks' "$room/ticks"
+beside_plain 'credits read' "$room/bits"
+beside_plain 'moments' "$room/moments"
+beside_plain '16 reads of 1 MiB' "$room/large_reads"
+beside_plain 'a script of 16 MiB' "$room/long_script"
 
 echo "nanoseconds of each, by the least of five"
 printf '%-52s %12s\n' "BLAKE2s of a sample, many at once" "$(nanoseconds bulk $((16 * samples)))" \

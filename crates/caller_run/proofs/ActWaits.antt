@@ -53,6 +53,7 @@ pub record Keeps (event : Event) (c e : Caller) (before after : Gathered) (acts 
   pub on : GoesOn event c e
   pub lines : after.lines ≡ before.lines ++ idle_line c ∷ []
   pub line_room : after.line_room + 1 ≡ before.line_room
+  pub step_room : before.step_room ≤ after.step_room
   pub byte_room : before.byte_room ≤ after.byte_room
   pub kept : left ≡ acts ++ new_bound point act c.set.event ∷ []
 
@@ -78,7 +79,7 @@ module _ {event : Event} {c e : Caller} {before after : Gathered} {acts left : L
       can_next c refl g.ready.has g.states k.on
       (subst (λ (y : Event). Fills y before after acts left) (sym k.event_is)
       (subst (Fills (Inside (number_of k.point) k.act) before after acts) (sym k.kept)
-      (fills_act before after line k.lines k.line_room k.point k.act c.set.event acts k.byte_room range.2 g.at g.fresh
+      (fills_act before after line k.lines k.line_room k.point k.act c.set.event acts k.step_room k.byte_room range.2 g.at g.fresh
       g.told))) g
 
   module _ (at : c.set.event ≡ length before.lines) (begun : Start) (events rest : List Event) (kids : List Start)

@@ -63,6 +63,7 @@ first_can {event = event} {rest = rest} can = let g = can.goes in record {
     numbers = (let a = g.numbers in omega arith);
     at = g.at;
     line_room = (let a = g.line_room in omega arith);
+    step_room = (let a = g.step_room in omega arith);
     byte_room = (let a = g.byte_room in omega (
       arith,
       sum_by-cons most_shown event rest,
@@ -105,6 +106,7 @@ module _ {t : Lanes} {event : Event} {c e : Caller} {before after : Gathered} {a
         numbers = (let a = g.numbers in let b = on.event in omega arith);
         at = (let a = g.at in let b = on.event in let l = fills.lines in omega arith);
         line_room = (let a = g.line_room in let b = fills.line_room in omega arith);
+        step_room = (let a = g.step_room in let b = fills.step_room in omega arith);
         byte_room = (let a = g.byte_room in let b = fills.byte_room in
             omega (arith, sum_by-cons most_shown event rest));
         longest = g.longest.1;

@@ -25,6 +25,7 @@ use Rattle.caller_run.proofs.ToldAnew.{AreTold, told_more}
 pub record Fills (event : Event) (before after : Gathered) (acts left : List Bound) : Type 0 where
   pub lines : length after.lines ≡ length before.lines + 1
   pub line_room : after.line_room + 1 ≡ before.line_room
+  pub step_room : before.step_room + 20 * length left ≤ after.step_room + 20 * (length acts + 1)
   pub byte_room : before.byte_room + all_wanted (asks_of left) ≤ after.byte_room +
       (most_shown event + all_wanted (asks_of acts))
   pub wanted : all_wanted (asks_of left) ≤ read_inside event + all_wanted (asks_of acts)
@@ -68,12 +69,13 @@ module _ (before after : Gathered) (line : SeenLine) (lines : after.lines ≡ be
   one_line = ap length lines ∙ length-append before.lines (line ∷ [])
 
   -- a call of the core
-  pub fills_call : {event : Event} {acts : List Bound} → IsCall event →
+  pub fills_call : {event : Event} {acts : List Bound} → IsCall event → before.step_room ≤ after.step_room + 20 →
       before.byte_room ≤ after.byte_room + most_shown event →
       AllByRecursion IsFresh acts → AreTold (length before.lines) (asks_of acts) → Fills event before after acts acts
-  fills_call {event = event} {acts = acts} is bytes fresh told = record {
+  fills_call {event = event} {acts = acts} is steps bytes fresh told = record {
     lines = one_line;
     line_room = line_room;
+    step_room = omega arith;
     byte_room = omega arith;
     wanted = omega arith;
     many = sym (waits_same (length acts) event is);
@@ -84,10 +86,10 @@ module _ (before after : Gathered) (line : SeenLine) (lines : after.lines ≡ be
 
   -- an act that waits
   pub fills_act : (point : Point) (act : InsideAct) (event : ℕ) (acts : List Bound) →
-      before.byte_room ≤ after.byte_room → ActInRange act →
+      before.step_room ≤ after.step_room → before.byte_room ≤ after.byte_room → ActInRange act →
       event ≡ length before.lines → AllByRecursion IsFresh acts → AreTold (length before.lines) (asks_of acts) →
       Fills (Inside (number_of point) act) before after acts (acts ++ new_bound point act event ∷ [])
-  fills_act point act event acts bytes range at fresh told =
+  fills_act point act event acts steps bytes range at fresh told =
       let b = new_bound point act event in
       let asks : asks_of (acts ++ b ∷ []) ≡ asks_of acts ++ ask_of b ∷ [] = map-append ask_of acts (b ∷ []) in
       let more : all_wanted (asks_of (acts ++ b ∷ [])) ≡ all_wanted (asks_of acts) + wants act =
@@ -96,6 +98,7 @@ module _ (before after : Gathered) (line : SeenLine) (lines : after.lines ≡ be
       record {
         lines = one_line;
         line_room = line_room;
+        step_room = omega (arith, length-append acts (b ∷ []));
         byte_room = omega arith;
         wanted = omega arith;
         many = length-append acts (b ∷ []);
@@ -109,14 +112,16 @@ module _ (before after : Gathered) (line : SeenLine) (lines : after.lines ≡ be
 -- a vread, behind which no act waits
 pub fills_read : {before after : Gathered} {n flags : ℕ} {acts left : List Bound} →
     length after.lines ≡ length before.lines + 1 →
-    after.line_room + 1 ≡ before.line_room → before.byte_room ≤ after.byte_room + (n + all_wanted (asks_of acts)) →
+    after.line_room + 1 ≡ before.line_room → before.step_room ≤ after.step_room + 20 * (length acts + 1) →
+    before.byte_room ≤ after.byte_room + (n + all_wanted (asks_of acts)) →
     left ≡ [] →
     Fills (Vread n flags) before after acts left
-fills_read {after = after} {left = left} lines line_room bytes none =
+fills_read {after = after} {left = left} lines line_room steps bytes none =
     let wanted : all_wanted (asks_of left) ≡ 0 = ap (λ (l : List Bound). all_wanted (asks_of l)) none in
     record {
       lines = lines;
       line_room = line_room;
+      step_room = omega (arith, ap length none);
       byte_room = omega arith;
       wanted = omega arith;
       many = ap length none;

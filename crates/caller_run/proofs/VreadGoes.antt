@@ -1,5 +1,5 @@
 -- A caller that goes on by a vread, with the acts inside that waited for it.
-use Rattle.std.proofs.Common.{◌≡◌, ℕ, ◌+◌, ◌≤◌, List, [], ◌∷◌, ◌++◌, length, refl, sym, ap, ◌∙◌, subst, arith, length-append}
+use Rattle.std.proofs.Common.{◌≡◌, ℕ, ◌+◌, ◌*◌, ◌≤◌, List, [], ◌∷◌, ◌++◌, length, refl, sym, ap, ◌∙◌, subst, arith, length-append}
 use Rattle.key_names.specs.declared.events.Event.{Event}
 use Rattle.key_names.specs.declared.events.Event.TheVariants.{Vread}
 use Rattle.key_names.specs.declared.events.Word.TheVariants.{Vread as VreadWord}
@@ -45,6 +45,7 @@ pub record HasRead (t : Lanes) (event : Event) (c d e : Caller) (before after : 
       ≡ told_anew before.lines (asks_of acts) (act_lines d.set (asks_of acts) zs)
       ++ line_of d.set VreadWord served said steps ∷ []
   pub line_room : after.line_room + 1 ≡ before.line_room
+  pub step_room : before.step_room ≤ after.step_room + 20 * (length acts + 1)
   pub byte_room : before.byte_room ≤ after.byte_room + (len + all_wanted (asks_of acts))
   pub none : left ≡ []
 
@@ -67,7 +68,7 @@ module _ {t : Lanes} {event : Event} {c d e : Caller} {before after : Gathered} 
       let anew = anew_long before.lines asks told in
       can_next d kept.set kept.has (kept.states g.states) k.on
       (subst (λ (x : Event). Fills x before after acts left) (sym k.event_is)
-      (fills_read (omega arith) k.line_room k.byte_room k.none)) g
+      (fills_read (omega arith) k.line_room k.step_room k.byte_room k.none)) g
 
   pub gone_read : (begun : Start) (events rest : List Event) (kids : List Start) →
       HasGone begun events (event ∷ rest) c before.lines asks kids →

@@ -168,6 +168,7 @@ can_still t c d log {served = served} {inside = inside} {rest = rest} set states
         numbers = can.goes.numbers;
         at = can.goes.at;
         line_room = can.goes.line_room;
+        step_room = can.goes.step_room;
         byte_room = can.goes.byte_room;
         longest = can.goes.longest;
         wanted = can.goes.wanted;
@@ -203,12 +204,14 @@ module _ (set : Setting) (m n : Moment) (here : RanHere set m n) where
 
 -- the line of a fork
 module _ (before after : Gathered) (line : SeenLine) (lines : after.lines ≡ before.lines ++ line ∷ [])
-    (line_room : after.line_room + 1 ≡ before.line_room) (byte_room : before.byte_room ≤ after.byte_room) where
+    (line_room : after.line_room + 1 ≡ before.line_room) (step_room : before.step_room ≤ after.step_room + 20)
+    (byte_room : before.byte_room ≤ after.byte_room) where
   fills_fork : (child : ℕ) (acts : List Bound) → AllByRecursion IsFresh acts →
       AreTold (length before.lines) (asks_of acts) → Fills (Fork child) before after acts acts
   fills_fork child acts fresh told = record {
     lines = ap length lines ∙ length-append before.lines (line ∷ []);
     line_room = line_room;
+    step_room = omega arith;
     byte_room = omega arith;
     wanted = omega arith;
     many = refl;
@@ -392,6 +395,7 @@ module _ (t : Lanes) (script : Script) (set : Setting) (p : Pass) (a : Plot) (sh
           let b = can.well.events in omega arith);
       at = none_yet ∙ ap length (sym new.lines);
       line_room = (let n = new.line_room in omega arith);
+      step_room = (let n = new.step_room in let none = ap length new.acts in omega arith);
       byte_room = (let n = new.byte_room in let b = ap (λ (l : List Bound). all_wanted (asks_of l)) new.acts in
           omega arith);
       longest = recursion_from_All (λ event. most_shown event ≤ vec_len x.sheet.served) events new.longest;

@@ -1,5 +1,5 @@
 -- Where a caller stands between two of its events, and what it needs for the next.
-use Rattle.std.specs.Prelude.{◌≡◌, ℕ, ◌+◌, ◌<◌, ◌≤◌, true, Some, List, ◌∷◌, ◌++◌, length, slice_get, sum_by, vec_capacity}
+use Rattle.std.specs.Prelude.{◌≡◌, ℕ, ◌+◌, ◌*◌, ◌<◌, ◌≤◌, true, Some, List, ◌∷◌, ◌++◌, length, slice_get, sum_by, vec_capacity}
 use Rattle.std.specs.List.{AllByRecursion, fold}
 use Rattle.key_names.specs.declared.events.Event.{Event}
 use Rattle.key_names.specs.declared.events.Event.TheVariants.{Inside, Fork}
@@ -47,6 +47,7 @@ pub record CanGoWith (t : Lanes) (c : Caller) (lines : Gathered) (acts : List Bo
   pub numbers : c.set.event + length rest ≤ 65536
   pub at : c.set.event ≡ length lines.lines
   pub line_room : length rest < lines.line_room
+  pub step_room : 20 * (length rest + length acts + 1) ≤ lines.step_room
   pub byte_room : sum_by most_shown rest + all_wanted (asks_of acts) ≤ lines.byte_room
   pub longest : AllByRecursion (λ event. most_shown event ≤ served) rest
   pub wanted : sum_by read_inside rest + all_wanted (asks_of acts) ≤ inside

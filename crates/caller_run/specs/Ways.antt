@@ -1,5 +1,5 @@
 -- What the run of a caller asks, and what it tells of itself and of all that it forks.
-use Rattle.std.specs.Prelude.{replicate, ◌≡◌, ℕ, ◌+◌, ◌<◌, ◌≤◌, ◌^◌, List, [], ◌∷◌, ◌++◌, length, map, sum_by, All, vec_len, vec_capacity}
+use Rattle.std.specs.Prelude.{replicate, ◌≡◌, ℕ, ◌+◌, ◌*◌, ◌<◌, ◌≤◌, ◌^◌, List, [], ◌∷◌, ◌++◌, length, map, sum_by, All, vec_len, vec_capacity}
 use Rattle.std.specs.List.{AllByRecursion}
 use Rattle.std.specs.Global.{Vec as GlobalVec}
 use Rattle.key_names.specs.declared.events.Event.{Event}
@@ -42,6 +42,7 @@ use Rattle.caller_run.specs.Took.{Took}
 pub record IsNewSheet (s : Sheet) (events : List Event) : Type 0 where
   pub lines : s.log.lines.lines ≡ []
   pub line_room : s.log.lines.line_room ≡ length events + 1
+  pub step_room : s.log.lines.step_room ≡ 20 * (length events + 1)
   pub byte_room : s.log.lines.byte_room ≡ sum_by most_shown events
   pub acts : s.log.acts.items ≡ []
   pub act_room : 8 ≤ vec_capacity s.log.acts

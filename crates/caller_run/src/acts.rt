@@ -1,5 +1,5 @@
 //! Acts that wait for a caller's next `vread`.
-ghost use Rattle.std.specs.Prelude.{◌≡◌, ◌+◌, ◌<◌, ◌≤◌, ◌^◌, ◌∷◌, ℕ, List, [], length, slice_set};
+ghost use Rattle.std.specs.Prelude.{◌≡◌, ◌+◌, ◌*◌, ◌<◌, ◌≤◌, ◌^◌, ◌∷◌, ℕ, List, [], length, slice_set};
 ghost use Rattle.std.specs.List.{AllByRecursion};
 ghost use Rattle.key_names.specs.TranscriptGrammar.{StepFits};
 ghost use Rattle.key_names.specs.VreadSteps.{number_of};
@@ -14,10 +14,9 @@ ghost use Rattle.caller_run.specs.Waiting.{act_lines, told_anew};
 use crate::caller::Caller;
 use crate::logs::Log;
 use crate::said::Said;
-use key_names::{Answer, Data, Event, InsideAct, Line, Point, Trace, Word};
+use key_names::{Answer, Event, InsideAct, Point, Trace, Word};
 use rng_core::Bound;
-use std::mem;
-use transcript_text::CallerLines;
+use transcript_text::{CallerLines, LineView, Shown};
 
 fn point_of(number: u8) -> Point
     requires { (0 < number) × (number ≤ 4) }
@@ -56,48 +55,52 @@ impl Caller {
             → HasGone begun events rest self.new log.new.lines.lines (waiting_in log.new) kids }
     {
         let unused = Said::only(Answer::Unused);
-        self.tell(&mut log.lines, Word::Inside, unused, Trace::empty(), &[]);
+        self.tell(&mut log.lines, Word::Inside, unused, &Trace::empty(), &[]);
         let bound = Bound::of(point_of(point), act, self.set.event);
         log.acts.push_reserved(bound);
         self.go_on(event);
     }
 
     // Tells the line of an act anew, with these bytes of it.
-    fn tell_act(&self, lines: &mut CallerLines, bound: &mut Bound, bytes: &[u8])
-        requires told { bound.old.event < length lines.old.lines }
+    fn tell_act(&self, lines: &mut CallerLines, bound: &Bound, bytes: &[u8])
+        requires told { bound.now.event < length lines.old.lines }
+        requires step_room { 20 ≤ lines.old.step_room }
         requires byte_room { length bytes.now ≤ lines.old.byte_room }
         requires short { length bytes.now < 2 ^ 32 }
-        requires steps { AllByRecursion StepFits bound.old.trace }
-        ensures lines { lines.new.lines ≡ slice_set lines.old.lines bound.old.event
-            (act_line self.now.set (ask_of bound.old) (outcome_of bound.old bytes.now)) }
+        requires steps { AllByRecursion StepFits bound.now.trace }
+        ensures lines { lines.new.lines ≡ slice_set lines.old.lines bound.now.event
+            (act_line self.now.set (ask_of bound.now) (outcome_of bound.now bytes.now)) }
         ensures line_room { lines.new.line_room ≡ lines.old.line_room }
+        ensures step_room { lines.old.step_room ≤ lines.new.step_room + 20 }
         ensures byte_room { lines.old.byte_room ≤ lines.new.byte_room + length bytes.now }
     {
         let said = Said::of_act(bound.done, bound.answer);
-        let line = Line {
+        let line = LineView {
             caller: self.set.caller,
             event: bound.event,
             word: Word::Inside,
             answer: said.answer,
-            trace: mem::replace(&mut bound.trace, Trace::empty()),
-            shown: Data::None,
+            steps: bound.trace.steps(),
+            shown: Shown::Bytes(said.bytes(bytes)),
         };
-        lines.replace_showing(bound.event as usize, line, said.bytes(bytes));
+        lines.replace(bound.event as usize, line);
     }
 
     /// Tells the lines of acts anew, behind the `vread` that they waited for. Their bytes follow each other.
-    pub(crate) fn tell_acts(&self, lines: &mut CallerLines, acts: &mut [Bound], bytes: &[u8])
-        requires told { AllByRecursion (λ a. a.event < length lines.old.lines) (asks_of acts.old) }
-        requires fits { length bytes.now ≡ all_wanted (asks_of acts.old) }
+    pub(crate) fn tell_acts(&self, lines: &mut CallerLines, acts: &[Bound], bytes: &[u8])
+        requires told { AllByRecursion (λ a. a.event < length lines.old.lines) (asks_of acts.now) }
+        requires fits { length bytes.now ≡ all_wanted (asks_of acts.now) }
+        requires step_room { 20 * length acts.now ≤ lines.old.step_room }
         requires byte_room { length bytes.now ≤ lines.old.byte_room }
         requires short { length bytes.now < 2 ^ 32 }
-        requires steps { AllByRecursion (λ z. AllByRecursion StepFits z.steps) (outcomes_of acts.old bytes.now) }
-        ensures lines { lines.new.lines ≡ told_anew lines.old.lines (asks_of acts.old)
-            (act_lines self.now.set (asks_of acts.old) (outcomes_of acts.old bytes.now)) }
+        requires steps { AllByRecursion (λ z. AllByRecursion StepFits z.steps) (outcomes_of acts.now bytes.now) }
+        ensures lines { lines.new.lines ≡ told_anew lines.old.lines (asks_of acts.now)
+            (act_lines self.now.set (asks_of acts.now) (outcomes_of acts.now bytes.now)) }
         ensures line_room { lines.new.line_room ≡ lines.old.line_room }
+        ensures step_room { lines.old.step_room ≤ lines.new.step_room + 20 * length acts.now }
         ensures byte_room { lines.old.byte_room ≤ lines.new.byte_room + length bytes.now }
     {
-        if let Some((first, rest)) = acts.split_first_mut() {
+        if let Some((first, rest)) = acts.split_first() {
             let (of_first, of_rest) = bytes.split_at(first.wanted());
             self.tell_act(lines, first, of_first);
             self.tell_acts(lines, rest, of_rest);

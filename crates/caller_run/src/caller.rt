@@ -46,7 +46,7 @@ impl Caller {
         let mut trace = Trace::empty();
         let served = &mut served[..most_shown(event) as usize];
         let said = self.call(rt, lanes, &mut trace, served, event);
-        self.tell(&mut log.lines, word_of(event), said, trace, served);
+        self.tell(&mut log.lines, word_of(event), said, &trace, served);
         self.go_on(event);
     }
 
@@ -91,6 +91,6 @@ impl Caller {
         let mut trace = Trace::empty();
         end(rt, lanes, &mut self.pass, &mut trace, &self.set);
         let done = Said::only(Answer::Ok);
-        self.tell(&mut log.lines, Word::End, done, trace, &[]);
+        self.tell(&mut log.lines, Word::End, done, &trace, &[]);
     }
 }

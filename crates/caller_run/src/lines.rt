@@ -3,12 +3,13 @@ ghost use Rattle.std.specs.Prelude.{◌≡◌, ◌+◌, ◌<◌, ◌≤◌, ◌^
 ghost use Rattle.std.specs.List.{AllByRecursion};
 ghost use Rattle.key_names.specs.ScriptGrammar.{event_word};
 ghost use Rattle.key_names.specs.TranscriptGrammar.{StepFits};
+ghost use Rattle.transcript_text.specs.Views.{bytes_of, seen, seen_shown};
 ghost use Rattle.caller_run.specs.Says.{line_of, ShowsFit};
 
 use crate::caller::Caller;
 use crate::said::{Said, Shows};
-use key_names::{Answer, Data, Event, Line, Trace, Word};
-use transcript_text::CallerLines;
+use key_names::{Answer, Event, Step, Trace, Word};
+use transcript_text::{CallerLines, LineView, Shown};
 
 /// The word of an event's line.
 pub(crate) fn word_of(event: &Event) -> Word
@@ -47,22 +48,31 @@ pub(crate) fn word_of(event: &Event) -> Word
 }
 
 impl Caller {
-    fn line(&self, word: Word, answer: Answer, trace: Trace, shown: Data) -> Line
-        ensures { result ≡ record {
+    // A line of the event that the caller is at.
+    fn line<'a>(
+        &self,
+        word: Word,
+        answer: Answer,
+        steps: &'a [Step],
+        shown: Shown<'a>,
+    ) -> LineView<'a>
+        ensures line { seen result ≡ record {
           caller = self.now.set.caller;
           event = self.now.set.event;
           word = word;
           answer = answer;
-          trace = trace;
-          shown = shown;
+          steps = steps.now;
+          shown = seen_shown shown.entry;
         } }
+        ensures steps { result.steps.now ≡ steps.now }
+        ensures bytes { bytes_of result.shown ≡ bytes_of shown.entry }
     {
-        Line {
+        LineView {
             caller: self.set.caller,
             event: self.set.event,
             word,
             answer,
-            trace,
+            steps,
             shown,
         }
     }
@@ -73,24 +83,27 @@ impl Caller {
         lines: &mut CallerLines,
         word: Word,
         said: Said,
-        trace: Trace,
+        trace: &Trace,
         served: &[u8],
     )
         requires line_room { 0 < lines.old.line_room }
+        requires step_room { 20 ≤ lines.old.step_room }
         requires byte_room { length served.now ≤ lines.old.byte_room }
         requires short { length served.now < 2 ^ 32 }
         requires shows { ShowsFit word said.shows }
-        requires steps { AllByRecursion StepFits trace }
-        ensures lines { lines.new.lines ≡ lines.old.lines ++ line_of self.now.set word served.now said trace ∷ [] }
+        requires steps { AllByRecursion StepFits trace.now }
+        ensures lines { lines.new.lines ≡ lines.old.lines ++ line_of self.now.set word served.now said trace.now ∷ [] }
         ensures line_room { lines.new.line_room + 1 ≡ lines.old.line_room }
+        ensures step_room { lines.old.step_room ≤ lines.new.step_room + length trace.now }
         ensures byte_room { lines.old.byte_room ≤ lines.new.byte_room + length served.now }
+        ensures few_steps { length trace.now ≤ 20 }
     {
+        let answer = said.answer;
+        let steps = trace.steps();
         match said.shows {
-            Shows::Nothing => lines.push(self.line(word, said.answer, trace, Data::None)),
-            Shows::Count(n) => lines.push(self.line(word, said.answer, trace, Data::Count(n))),
-            Shows::Served => {
-                lines.push_showing(self.line(word, said.answer, trace, Data::None), served);
-            }
+            Shows::Nothing => lines.push(self.line(word, answer, steps, Shown::None)),
+            Shows::Count(n) => lines.push(self.line(word, answer, steps, Shown::Count(n))),
+            Shows::Served => lines.push(self.line(word, answer, steps, Shown::Bytes(served))),
         }
     }
 }

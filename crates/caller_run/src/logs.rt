@@ -1,10 +1,11 @@
 //! A caller's lines, the acts that wait for its next `vread`, and how much room both need.
-ghost use Rattle.std.specs.Prelude.{◌≡◌, ◌+◌, ◌≤◌, [], All, IfOk, length, sum_by, vec_capacity, vec_len};
+ghost use Rattle.std.specs.Prelude.{◌≡◌, ◌+◌, ◌*◌, ◌≤◌, [], All, IfOk, length, sum_by, vec_capacity, vec_len};
 ghost use Rattle.caller_run.specs.Says.{most_shown};
 ghost use Rattle.caller_run.specs.Standing.{read_inside};
 ghost use Rattle.rng_core.specs.Acts.{wants};
 
 use event_script::reads::bytes_read;
+use key_names::trace::MOST_STEPS;
 use key_names::{Event, InsideAct};
 use rng_core::Bound;
 use std::alloc::{AllocError, Global};
@@ -91,12 +92,15 @@ impl Log {
         requires { length events.now ≤ 65536 }
         ensures lines { IfOk result (λ log. log.lines.lines ≡ []) }
         ensures line_room { IfOk result (λ log. log.lines.line_room ≡ length events.now + 1) }
+        ensures step_room { IfOk result (λ log. log.lines.step_room ≡ 20 * (length events.now + 1)) }
         ensures byte_room { IfOk result (λ log. log.lines.byte_room ≡ sum_by most_shown events.now) }
         ensures acts { IfOk result (λ log. log.acts.items ≡ []) }
         ensures act_room { IfOk result (λ log. 8 ≤ vec_capacity log.acts) }
     {
+        let lines = events.len() + 1;
+        let steps = MOST_STEPS as usize * lines;
         Ok(Log {
-            lines: CallerLines::with_room(alloc, events.len() + 1, all_shown(events) as usize)?,
+            lines: CallerLines::with_room(alloc, lines, steps, all_shown(events) as usize)?,
             acts: Vec::with_capacity(alloc, MOST_ACTS)?,
         })
     }

@@ -82,7 +82,7 @@ impl Plan {
         let root = Room::prepare(alloc, script, 0)?;
         let mut slots = Vec::new(alloc);
         for _ in 0..script.callers() {
-            slots.push(CallerLines::with_room(alloc, 0, 0)?)?;
+            slots.push(CallerLines::with_room(alloc, 0, 0, 0)?)?;
         }
         Ok(Plan { root, slots })
     }

@@ -144,7 +144,7 @@ fn run_from<R: Threads + Wait + Sync, G: Gate>(
                 { run_family(rt, lanes, theirs, script, set, kid, gate, children) },
             ) {
                 Ok(handle) => {
-                    way.tell_fork(trace, child);
+                    way.tell_fork(&trace, child);
                     let way = run_from(rt, lanes, script, rest, way, gate, children);
                     let (theirs, kid) = handle.join(rt);
                     (way, theirs, kid)
@@ -159,7 +159,7 @@ fn run_from<R: Threads + Wait + Sync, G: Gate>(
                         &mut trace,
                         refused.value,
                     );
-                    way.tell_fork(trace, child);
+                    way.tell_fork(&trace, child);
                     let way = run_from(rt, lanes, script, rest, way, gate, children);
                     (way, theirs, kid)
                 }

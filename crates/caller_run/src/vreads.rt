@@ -74,8 +74,8 @@ impl Caller {
         let served = &mut served[..most_shown(event) as usize];
         let inside = &mut inside[..all_wanted(&log.acts)];
         let said = self.vread(rt, lanes, &mut trace, served, flags, &mut log.acts, inside);
-        self.tell_acts(&mut log.lines, &mut log.acts, inside);
-        self.tell(&mut log.lines, Word::Vread, said, trace, served);
+        self.tell_acts(&mut log.lines, &log.acts, inside);
+        self.tell(&mut log.lines, Word::Vread, said, &trace, served);
         log.acts.clear();
         self.go_on(event);
     }

@@ -120,15 +120,15 @@ impl Way {
     }
 
     /// The line of a fork.
-    pub(crate) fn tell_fork(&mut self, trace: Trace, child: u32)
+    pub(crate) fn tell_fork(&mut self, trace: &Trace, child: u32)
         requires can { (t : Lanes) × (rest : List Event) × CanGoIn t self.old (Fork child ∷ rest) }
-        requires fits { AllByRecursion StepFits trace }
+        requires fits { AllByRecursion StepFits trace.now }
         ensures can { (t : Lanes) (rest : List Event)
             → CanGoIn t self.old (Fork child ∷ rest) → CanGoIn t self.new rest }
         ensures pass { self.new.caller.pass ≡ self.old.caller.pass }
         ensures kids { self.new.kids ≡ self.old.kids }
         ensures gone { (begun : Start) (events rest : List Event) (kids : List Start) (m : Caller) (u : View)
-            → TookFrom m self.old.caller child u trace → begun.caller < child
+            → TookFrom m self.old.caller child u trace.now → begun.caller < child
             → GoneIn begun events (Fork child ∷ rest) m self.old kids
             → GoneIn begun events rest self.new.caller self.new (kids ++ kid_of m child u ∷ []) }
     {

@@ -31,11 +31,13 @@ after_take s n = record s { left = drop n s.left; calls = next_count s.calls }
 abbrev pub after_failed_take : SourceState → SourceState
 after_failed_take s = record s { calls = next_count s.calls; faults = next_count s.faults }
 
--- a sink in memory: what it holds, the most that a call takes, the numbers of the calls that fail, and its room
+-- a sink in memory: what it holds, the most that a put takes, the numbers of the puts that fail, whether a flush fails,
+-- and its room
 pub record SinkState : Type 0 where
   pub held : List ℕ
   pub step : ℕ
   pub fails : List ℕ
+  pub flush_fails : Bool
   pub room : ℕ
   pub calls : ℕ
   pub faults : ℕ
@@ -55,3 +57,7 @@ after_put s piece n = record s { held = s.held ++ take n piece; calls = next_cou
 -- after a call that failed
 abbrev pub after_failed_put : SinkState → SinkState
 after_failed_put s = record s { calls = next_count s.calls; faults = next_count s.faults }
+
+-- after a flush that failed
+abbrev pub after_failed_flush : SinkState → SinkState
+after_failed_flush s = record s { faults = next_count s.faults }

@@ -1,5 +1,5 @@
 //! What a source and a sink promise.
-ghost use Rattle.std.specs.Prelude.{◌≡◌, ◌<◌, ◌≤◌, ℕ, List, Option, length, take, IfOk, OnErr};
+ghost use Rattle.std.specs.Prelude.{◌≡◌, ◌<◌, ◌≤◌, [], ℕ, List, Option, length, take, IfOk, OnOk, OnErr};
 ghost use Rattle.std.specs.Io.{ReadsAtMost, WritesAtMost};
 ghost use Rattle.std.specs.Io.KnownBytes.{Keeps, Appends, Consumes, IsAtEnd};
 ghost use Rattle.io_edges.specs.Faults.{Rose};
@@ -32,10 +32,13 @@ pub trait Source {
         ensures never_falls { faults self.old ≤ faults self.new };
 }
 
-/// Where bytes go.
+/// Where bytes go. A sink may keep bytes back until it is flushed.
 pub trait Sink {
-    /// The bytes that it holds, where the sink tells them.
+    /// The bytes that it holds, where the sink tells them. Those that it keeps back are among them.
     ghost held: { Self → Option (List ℕ) };
+
+    /// The last of the bytes that it holds: those that it keeps back.
+    ghost kept_back: { Self → List ℕ };
 
     /// How often it has failed. The count never falls, and stands still at `u64::MAX`.
     ghost faults: { Self → ℕ };
@@ -50,6 +53,18 @@ pub trait Sink {
         ensures some { IfOk result (λ n. 0 < length piece.now → 0 < n) }
         ensures appended { IfOk result (λ n. Appends (held self.old) (held self.new) (take n piece.now)) }
         ensures not_appended { OnErr result (Keeps (held self.old) (held self.new)) }
+        ensures cause { OnErr result (Rose (faults self.old) (faults self.new)) }
+        ensures never_falls { faults self.old ≤ faults self.new };
+
+    /// Hands on what was kept back, as at the end of the output.
+    ///
+    /// # Errors
+    ///
+    /// `Failed` where the count of faults rose in this call, or stood at `u64::MAX` already. What was kept back is then
+    /// handed on in part.
+    fn flush(&mut self) -> Result<(), Failed>
+        ensures handed_on { OnOk result (kept_back self.new ≡ []) }
+        ensures kept { Keeps (held self.old) (held self.new) }
         ensures cause { OnErr result (Rose (faults self.old) (faults self.new)) }
         ensures never_falls { faults self.old ≤ faults self.new };
 }

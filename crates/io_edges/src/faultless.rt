@@ -1,5 +1,5 @@
 //! A source and a sink that never fail.
-ghost use Rattle.std.specs.Prelude.{◌≡◌, length, Some, None};
+ghost use Rattle.std.specs.Prelude.{◌≡◌, [], length, Some, None, IsOk};
 
 use crate::{Failed, Sink, Source};
 use std::marker::Model;
@@ -59,11 +59,19 @@ impl NoFaultSink {
 impl Sink for NoFaultSink {
     ghost held = { λ _. None };
 
+    ghost kept_back = { λ _. [] };
+
     ghost faults = { λ _. 0 };
 
     fn put(&mut self, piece: &[u8]) -> Result<usize, Failed>
         ensures { result ≡ Ok (length piece.now) }
     {
         Ok(piece.len())
+    }
+
+    fn flush(&mut self) -> Result<(), Failed>
+        ensures { IsOk result }
+    {
+        Ok(())
     }
 }

@@ -1,10 +1,10 @@
 //! A source and a sink in memory that give and take little at a time, and fail when they are told to.
-ghost use Rattle.std.specs.Prelude.{◌≡◌, ◌<◌, ◌≤◌, ◌↔◌, ◌++◌, [], length, take, drop, Some, IfOk, OnErr, IsErr};
+ghost use Rattle.std.specs.Prelude.{◌≡◌, ◌<◌, ◌≤◌, ◌↔◌, ◌++◌, [], false, true, IsTrue, length, take, drop, Some, IfOk, OnOk, OnErr, IsErr};
 ghost use Rattle.std.specs.Io.{ReadsAtMost};
 ghost use Rattle.std.specs.Io.KnownBytes.{Consumes};
 ghost use Rattle.io_edges.specs.Faults.{next_count};
 ghost use Rattle.io_edges.specs.Memory.{is_listed, TakeFails, count_given, after_take, after_failed_take};
-ghost use Rattle.io_edges.specs.Memory.{PutFails, count_taken, after_put, after_failed_put};
+ghost use Rattle.io_edges.specs.Memory.{PutFails, count_taken, after_put, after_failed_put, after_failed_flush};
 
 use crate::{Failed, NoMemory, Sink, Source};
 use std::alloc::Global;
@@ -121,16 +121,17 @@ impl Source for MemSource {
     }
 }
 
-/// A sink in memory that takes at most `step` bytes a call.
+/// A sink in memory that takes at most `step` bytes a put. It keeps nothing back.
 ///
-/// Calls are numbered from 1 up to `u64::MAX`, which all later calls share. Those with a listed number fail, and those
-/// that have something to put where no room is left, and no others.
+/// Puts are numbered from 1 up to `u64::MAX`, which all later puts share. Those with a listed number fail, and those
+/// that have something to put where no room is left, and no others. Either all flushes fail or none.
 #[derive(Drop)]
 pub struct MemSink {
     bytes: Vec<u8>,
     room: usize,
     step: usize,
     calls: Calls,
+    flush_fails: bool,
 }
 
 impl Model for MemSink {
@@ -143,6 +144,7 @@ impl Model for MemSink {
       held = s.bytes.items;
       step = s.step;
       fails = s.calls.fails.items;
+      flush_fails = s.flush_fails;
       room = s.room;
       calls = s.calls.calls;
       faults = s.calls.faults;
@@ -152,7 +154,7 @@ impl Model for MemSink {
 }
 
 impl MemSink {
-    /// An empty sink with room for `room` bytes, all of it taken here. No call was made yet.
+    /// An empty sink with room for `room` bytes, all of it taken here, whose flushes do not fail. No call was made yet.
     ///
     /// # Errors
     ///
@@ -160,14 +162,33 @@ impl MemSink {
     pub fn of(alloc: Global, step: usize, fails: Vec<u64>, room: usize) -> Result<MemSink, NoMemory>
         requires { 0 < step }
         ensures { IfOk result (λ s.
-            s ≡ record { held = []; step = step; fails = fails.items; room = room; calls = 0; faults = 0 }) }
+            s ≡ record {
+              held = [];
+              step = step;
+              fails = fails.items;
+              flush_fails = false;
+              room = room;
+              calls = 0;
+              faults = 0;
+            }) }
     {
         Ok(MemSink {
             bytes: Vec::with_capacity(alloc, room)?,
             room,
             step,
             calls: Calls::of(fails),
+            flush_fails: false,
         })
+    }
+
+    /// The same sink, but that all its flushes fail.
+    pub fn failing_at_flush(self) -> MemSink
+        ensures { result ≡ record self { flush_fails = true } }
+    {
+        MemSink {
+            flush_fails: true,
+            ..self
+        }
     }
 
     /// The bytes that it holds, in the order in which they were put.
@@ -180,6 +201,8 @@ impl MemSink {
 
 impl Sink for MemSink {
     ghost held = { λ s. Some s.held };
+
+    ghost kept_back = { λ _. [] };
 
     ghost faults = { λ s. s.faults };
 
@@ -202,5 +225,19 @@ impl Sink for MemSink {
             Ok(()) => Ok(count),
             Err(_) => unreachable!(),
         }
+    }
+
+    fn flush(&mut self) -> Result<(), Failed>
+        ensures fails { IsErr result ↔ IsTrue self.old.flush_fails }
+        ensures same { OnOk result (self.new ≡ self.old) }
+        ensures failed { OnErr result (self.new ≡ after_failed_flush self.old) }
+
+        // What each sink promises.
+        ensures never_falls { self.old.faults ≤ self.new.faults }
+    {
+        if self.flush_fails {
+            return Err(self.calls.fault());
+        }
+        Ok(())
     }
 }

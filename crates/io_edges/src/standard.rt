@@ -1,12 +1,13 @@
 //! Readers and writers of the standard library as sources and sinks.
-ghost use Rattle.std.specs.Prelude.{◌≡◌, ◌<◌, ◌≤◌, length, take, IfOk, OnOk, OnErr};
+ghost use Rattle.std.specs.Prelude.{◌≡◌, ◌<◌, ◌≤◌, [], length, take, IfOk, OnOk, OnErr};
 ghost use Rattle.std.specs.Io.{ReadsAtMost, WritesAtMost};
+ghost use Rattle.std.specs.Io.Buffered.{writer_buffer, writer_contents};
 ghost use Rattle.std.specs.Io.KnownBytes.{Keeps, Appends, Consumes, IsAtEnd};
 ghost use Rattle.io_edges.specs.Faults.{next_count};
 ghost use Rattle.io_edges.specs.Standard.{source_reader, source_faults, sink_writer, sink_faults};
 
 use crate::{Failed, Sink, Source};
-use std::io::{ErrorKind, Read, Write};
+use std::io::{BufWriter, ErrorKind, Read, Write};
 
 /// A reader as a source. It tells what its reader tells, which is nothing for standard input.
 #[derive(Drop)]
@@ -58,17 +59,17 @@ impl<I: Read + Drop> Source for StdSource<I> {
     }
 }
 
-/// A writer as a sink. It tells what its writer tells, which is nothing for standard output. It never flushes, so
-/// the writer should be one that keeps nothing back.
+/// A writer as a sink. It tells what its writer tells, which is nothing for standard output. Puts are gathered in the
+/// writer's buffer, and one that is as long as the buffer goes past it.
 #[derive(Drop)]
 pub struct StdSink<O: Write + Drop> {
-    writer: O,
+    writer: BufWriter<O>,
     faults: u64,
 }
 
 impl<O: Write + Drop> StdSink<O> {
     /// A sink that puts to the writer, and has not failed.
-    pub fn of(writer: O) -> StdSink<O>
+    pub fn of(writer: BufWriter<O>) -> StdSink<O>
         ensures writer { sink_writer result ≡ writer }
         ensures faults { sink_faults result ≡ 0 }
     {
@@ -77,7 +78,9 @@ impl<O: Write + Drop> StdSink<O> {
 }
 
 impl<O: Write + Drop> Sink for StdSink<O> {
-    ghost held = { λ s. O.contents s.writer };
+    ghost held = { λ s. writer_contents O.contents s.writer };
+
+    ghost kept_back = { λ s. writer_buffer s.writer };
 
     ghost faults = { λ s. s.faults };
 
@@ -91,16 +94,38 @@ impl<O: Write + Drop> Sink for StdSink<O> {
         // What each sink promises.
         ensures bound { WritesAtMost result piece.now }
         ensures some { IfOk result (λ n. 0 < length piece.now → 0 < n) }
-        ensures appended { IfOk result (λ n.
-            Appends (O.contents (sink_writer self.old)) (O.contents (sink_writer self.new)) (take n piece.now)) }
-        ensures not_appended { OnErr result
-            (Keeps (O.contents (sink_writer self.old)) (O.contents (sink_writer self.new))) }
+        ensures appended { IfOk result (λ n. Appends (writer_contents O.contents (sink_writer self.old))
+            (writer_contents O.contents (sink_writer self.new)) (take n piece.now)) }
+        ensures not_appended { OnErr result (Keeps (writer_contents O.contents (sink_writer self.old))
+            (writer_contents O.contents (sink_writer self.new))) }
         ensures never_falls { sink_faults self.old ≤ sink_faults self.new }
     {
         for _ in 0..u64::MAX {
             match self.writer.write(piece) {
                 Ok(0) if !piece.is_empty() => break,
                 Ok(count) => return Ok(count),
+                Err(e) if e.kind() == ErrorKind::Interrupted => {}
+                Err(_) => break,
+            }
+        }
+        self.faults = self.faults.saturating_add(1);
+        Err(Failed)
+    }
+
+    // A flush that a signal interrupts is tried again, as a write is.
+    fn flush(&mut self) -> Result<(), Failed>
+        ensures same { OnOk result (sink_faults self.new ≡ sink_faults self.old) }
+        ensures counted { OnErr result (sink_faults self.new ≡ next_count (sink_faults self.old)) }
+
+        // What each sink promises.
+        ensures handed_on { OnOk result (writer_buffer (sink_writer self.new) ≡ []) }
+        ensures kept { Keeps (writer_contents O.contents (sink_writer self.old))
+            (writer_contents O.contents (sink_writer self.new)) }
+        ensures never_falls { sink_faults self.old ≤ sink_faults self.new }
+    {
+        for _ in 0..u64::MAX {
+            match self.writer.flush() {
+                Ok(()) => return Ok(()),
                 Err(e) if e.kind() == ErrorKind::Interrupted => {}
                 Err(_) => break,
             }

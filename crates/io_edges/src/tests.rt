@@ -6,7 +6,7 @@ use crate::{
     StdSource, put_all, read_to_limit,
 };
 use std::alloc::{AllocError, Global};
-use std::io::{self, ErrorKind, Read, Write};
+use std::io::{self, BufWriter, ErrorKind, Read, Write};
 use std::process::Abort;
 use std::test::Fail;
 
@@ -201,11 +201,11 @@ fn a_reader_is_a_source(rt: HostRuntime) -> Result<(), Fail> {
 fn a_writer_is_a_sink(rt: HostRuntime) -> Result<(), Fail> {
     let alloc = rt.alloc();
     let mut text = Vec::new(alloc);
-    let mut sink = StdSink::of(&mut text);
+    let mut sink = StdSink::of(BufWriter::with_capacity(alloc, 0, &mut text)?);
     assert_eq!(rt; put_all(&mut sink, TEXT), Ok(()));
     drop(sink);
     assert_eq!(rt; text.as_slice(), TEXT);
-    let mut flaky = StdSink::of(Flaky { calls: 0 });
+    let mut flaky = StdSink::of(BufWriter::with_capacity(alloc, 0, Flaky { calls: 0 })?);
     assert_eq!(rt; flaky.put(TEXT), Err(Failed));
     assert_eq!(rt; flaky.put(TEXT), Err(Failed));
     assert_eq!(rt; flaky.put(TEXT), Ok(37));

@@ -6,6 +6,7 @@ use Rattle.key_names.specs.declared.events.Word.{Word}
 use Rattle.key_names.specs.declared.lines.Data.{Data}
 use Rattle.key_names.specs.declared.lines.Data.TheVariants.{None as NoData, Bytes, Count}
 use Rattle.key_names.specs.declared.lines.Line.{Line}
+use Rattle.key_names.specs.declared.lines.StepSpan.{StepSpan}
 use Rattle.key_names.specs.declared.names.Step.{Step}
 
 -- what a line shows behind its steps
@@ -28,19 +29,23 @@ shown_in kept NoData = no_data
 shown_in kept (Bytes start len) = bytes (take len (drop start kept))
 shown_in kept (Count n) = count n
 
--- a line of a caller that has these bytes
-abbrev pub seen_line : List ℕ → Line → SeenLine
-seen_line kept line = record {
+-- the steps of a line whose caller has these steps
+abbrev pub steps_in : List Step → StepSpan → List Step
+steps_in kept span = take span.len (drop span.start kept)
+
+-- a line of a caller that has these bytes and steps
+abbrev pub seen_line : List ℕ → List Step → Line → SeenLine
+seen_line kept steps line = record {
   caller = line.caller;
   event = line.event;
   word = line.word;
   answer = line.answer;
-  steps = line.trace;
+  steps = steps_in steps line.steps;
   shown = shown_in kept line.shown;
 }
 
-abbrev pub seen_lines : List ℕ → List Line → List SeenLine
-seen_lines kept lines = map (seen_line kept) lines
+abbrev pub seen_lines : List ℕ → List Step → List Line → List SeenLine
+seen_lines kept steps lines = map (seen_line kept steps) lines
 
 -- the bytes that a line shows
 abbrev pub bytes_in : Shown → List ℕ

@@ -1,6 +1,5 @@
 //! The lines of a transcript.
 use crate::events::{Answer, Word};
-use crate::trace::Trace;
 
 /// What a line shows behind its steps.
 #[derive(Clone, Copy, Debug, PartialEq, Eq)]
@@ -12,13 +11,20 @@ pub enum Data {
     Count(u32),
 }
 
+/// The `len` steps from `start` on among the steps that are kept for a caller.
+#[derive(Clone, Copy, Debug, PartialEq, Eq)]
+pub struct StepSpan {
+    pub start: u64,
+    pub len: u32,
+}
+
 /// One line of a transcript: an event of a caller, or the caller's end.
-#[derive(Drop)]
+#[derive(Clone, Copy, Debug, PartialEq, Eq)]
 pub struct Line {
     pub caller: u32,
     pub event: u32,
     pub word: Word,
     pub answer: Answer,
-    pub trace: Trace,
+    pub steps: StepSpan,
     pub shown: Data,
 }

@@ -15,7 +15,6 @@ ghost use Rattle.rng_core.specs.Acts.{asks_of, all_wanted, outcomes_of};
 ghost use Rattle.rng_core.specs.InsideDid.{IsFresh, InsideDid};
 
 use crate::acts::Bound;
-use crate::attempt::Attempt;
 use crate::host_call::call_host;
 use crate::lane_host::LaneHost;
 use crate::setting::Setting;
@@ -69,17 +68,6 @@ pub fn vread_inside<R: Wait>(
         (λ last. act_stand (stand set.entry.now pass.new trace.new) last (asks_of acts.new)
         (outcomes_of acts.new out.new)) }
 {
-    let mut host = LaneHost {
-        rt,
-        lanes,
-        pass,
-        trace,
-        set,
-        acts,
-        out,
-        attempt: Attempt::Before,
-        looks: 5,
-        calls: 3,
-    };
+    let mut host = LaneHost::over(rt, lanes, pass, trace, set, acts, out);
     call_host(&mut host, st, buf, flags)
 }

@@ -30,6 +30,7 @@ pub use forks::fork;
 pub use inside::vread_inside;
 pub use integers::int;
 pub use interrupts::irq;
+pub use lane_host::LaneHost;
 pub use reads::{kernel_read, urandom_file};
 pub use reseeds::{reseed, tick};
 pub use running::{end, stall, unstall};

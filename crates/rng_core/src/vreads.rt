@@ -9,7 +9,6 @@ ghost use Rattle.rng_core.specs.Told.{moment};
 ghost use Rattle.rng_core.specs.Did.{result_answer, given};
 ghost use Rattle.rng_core.specs.VreadDid.{LocalRead, VreadDid};
 
-use crate::attempt::Attempt;
 use crate::host_call::call_host;
 use crate::lane_host::{LaneHost, publish};
 use crate::setting::Setting;
@@ -86,18 +85,7 @@ pub fn vread<R: Wait>(
     match vread_local(lanes, pass, trace, set, st, buf, flags) {
         Local::Served => Ok(()),
         Local::NeedsSystem => {
-            let mut host = LaneHost {
-                rt,
-                lanes,
-                pass,
-                trace,
-                set,
-                acts: &mut [],
-                out: &mut [],
-                attempt: Attempt::Before,
-                looks: 5,
-                calls: 3,
-            };
+            let mut host = LaneHost::over(rt, lanes, pass, trace, set, &mut [], &mut []);
             call_host(&mut host, st, buf, flags)
         }
     }

@@ -1,14 +1,16 @@
 -- What an input is a script of, and what it calls for.
 use Rattle.std.proofs.Common.{ℕ, ◌+◌, ◌≡◌, ◌≤◌, ◌<◌, ◌⊎◌, true, ltb, List, Option, None, Some, length, take, sym, ap, ◌∙◌, subst, arith, inl, inr, refl}
 use Rattle.std.specs.Prelude.{IfSome}
-use Rattle.std.specs.Io.KnownBytes.{Appends, Consumes, IsAtEnd}
+use Rattle.std.specs.Io.KnownBytes.{Appends, Consumes, IsAtEnd, Keeps}
 use Rattle.std.proofs.lemmas.Bool.{cases_lt, lt-ltb}
 use Rattle.std.proofs.lemmas.List.{take_all, length-take}
 use Rattle.key_names.specs.declared.faults.FaultKind.TheVariants.{TooLong}
 use Rattle.key_names.specs.ScriptFaults.{first_fault, script_of}
 use Rattle.key_names.specs.ScriptGrammar.{Script, IsScript}
 use Rattle.io_edges.specs.Pieces.{AppendsPrefix}
-use Rattle.rng_tool.specs.Outcome.{IsRefusal, CallsFor, CallsForRun, WasRun, WasRefused, WasCutShort}
+use Rattle.rng_tool.specs.Outcome.{IsRefusal, CallsFor, CallsForRun, RunEnds, WasRun, WasRefused, WasCutShort}
+use Rattle.rng_tool.specs.declared.status.Status.{Status}
+use Rattle.rng_tool.specs.declared.status.Status.TheVariants.{Done, Refused, WriteFault, NoMemory}
 
 script_is_short : (script : Script) (input : List ℕ) → IsScript script input → length input ≤ 16777216
 script_is_short script input is =
@@ -91,3 +93,20 @@ module _ (left left_after held held_after : Option (List ℕ)) (input bytes : Li
       of_all = refusal_of_all left input ran.0 front refusal;
       written = ran.2;
     }
+
+-- how the answer of an input ends the command
+pub run_ends : (status : Status) (left left_after held held_after : Option (List ℕ)) →
+    (status ≡ Done) ⊎ (status ≡ Refused) ⊎ (status ≡ WriteFault) ⊎ (status ≡ NoMemory) →
+    (status ≡ Done → WasRun left left_after held held_after) →
+    (status ≡ Refused → WasRefused left left_after held held_after) →
+    (status ≡ WriteFault → WasCutShort left left_after held held_after) →
+    (status ≡ NoMemory → Keeps held held_after) →
+    RunEnds status left left_after held held_after
+run_ends status left left_after held held_after either done refused cut kept =
+    let Ends : Status → Type 0 = λ s. RunEnds s left left_after held held_after in
+    elim either [
+      | inl is ↦ subst Ends (sym is) (done is)
+      | inr (inl is) ↦ subst Ends (sym is) (refused is)
+      | inr (inr (inl is)) ↦ subst Ends (sym is) (cut is)
+      | inr (inr (inr is)) ↦ subst Ends (sym is) (kept is)
+    ]

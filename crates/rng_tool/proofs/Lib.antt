@@ -1,4 +1,5 @@
 pub mod Inputs
 pub mod Runs
 pub mod ShownBytes
-pub mod LoadWords
+pub mod NumberWords
+pub mod Endings

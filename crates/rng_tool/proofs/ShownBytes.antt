@@ -9,9 +9,10 @@ use Rattle.std.proofs.lemmas.List.Sums.{sum_by-cons}
 use Rattle.key_names.specs.declared.lines.Data.{Data}
 use Rattle.key_names.specs.declared.lines.Data.TheVariants.{None as NoData, Bytes, Count}
 use Rattle.key_names.specs.declared.lines.Line.{Line}
+use Rattle.key_names.specs.declared.names.Step.{Step}
 use Rattle.key_names.specs.SeenLine.{SeenLine, bytes_in, bytes_shown, shown_in, seen_lines}
 use Rattle.key_names.specs.TranscriptGrammar.{all_lines}
-use Rattle.transcript_text.specs.Gathered.{IsWithin}
+use Rattle.transcript_text.specs.Gathered.{IsWithin, LineWithin}
 use Rattle.rng_tool.specs.LoadOutcome.{data_len}
 
 length-shown : (kept : List ℕ) (shown : Data) → IsWithin (length kept) shown
@@ -19,26 +20,26 @@ length-shown : (kept : List ℕ) (shown : Data) → IsWithin (length kept) shown
 length-shown kept NoData within = refl
 length-shown kept (Count n) within = refl
 length-shown kept (Bytes start len) within =
-    omega (arith, length-take len (drop start kept), length-drop start kept)
+    omega (arith, length-take len (drop start kept), length-drop start kept, within.1)
 
-length-shown_lines : (kept : List ℕ) (lines : List Line)
-    → AllByRecursion (λ line. IsWithin (length kept) line.shown) lines
-    → length (bytes_shown (seen_lines kept lines)) ≡ sum_by (λ line. data_len line.shown) lines
-length-shown_lines kept [] within = refl
-length-shown_lines kept (line ∷ lines) within = omega (
+length-shown_lines : (kept : List ℕ) (steps : List Step) (lines : List Line)
+    → AllByRecursion (LineWithin (length kept) (length steps)) lines
+    → length (bytes_shown (seen_lines kept steps lines)) ≡ sum_by (λ line. data_len line.shown) lines
+length-shown_lines kept steps [] within = refl
+length-shown_lines kept steps (line ∷ lines) within = omega (
   arith,
   sum_by-cons (λ (l : Line). data_len l.shown) line lines,
-  length-append (bytes_in (shown_in kept line.shown)) (bytes_shown (seen_lines kept lines)),
-  length-shown kept line.shown within.0,
-  length-shown_lines kept lines within.1,
+  length-append (bytes_in (shown_in kept line.shown)) (bytes_shown (seen_lines kept steps lines)),
+  length-shown kept line.shown within.0.shown,
+  length-shown_lines kept steps lines within.1,
 )
 
--- the lines of a caller that has these bytes
-pub sum_of_data : (kept : List ℕ) (raw : List Line) (lines : List SeenLine) → seen_lines kept raw ≡ lines
-    → All (λ line. IsWithin (length kept) line.shown) raw
+-- the lines of a caller that has these bytes and steps
+pub sum_of_data : (kept : List ℕ) (steps : List Step) (raw : List Line) (lines : List SeenLine)
+    → seen_lines kept steps raw ≡ lines → All (LineWithin (length kept) (length steps)) raw
     → sum_by (λ line. data_len line.shown) raw ≡ length (bytes_shown lines)
-sum_of_data kept raw lines seen within =
-    sym (length-shown_lines kept raw (recursion_from_All (λ line. IsWithin (length kept) line.shown) raw within))
+sum_of_data kept steps raw lines seen within =
+    sym (length-shown_lines kept steps raw (recursion_from_All (LineWithin (length kept) (length steps)) raw within))
     ∙ ap (λ (ls : List SeenLine). length (bytes_shown ls)) seen
 
 -- the lines of all callers

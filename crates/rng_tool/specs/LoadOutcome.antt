@@ -1,17 +1,15 @@
 -- What a load promises.
 use Rattle.std.specs.Prelude.{ℕ, ◌≡◌, ◌<◌, ◌≤◌, ◌^◌, List, [], ◌∷◌, Option, String, string_bytes, codes, decimal, length, map, sum_by}
-use Rattle.std.specs.Io.KnownBytes.{Appends, Keeps}
-use Rattle.io_edges.specs.Pieces.{AppendsPrefix}
 use Rattle.key_names.specs.declared.lines.Data.{Data}
 use Rattle.key_names.specs.declared.lines.Data.TheVariants.{Bytes}
 use Rattle.key_names.specs.SeenLine.{SeenLine, bytes_shown}
 use Rattle.key_names.specs.Spelling.{lined, spaced}
 use Rattle.key_names.specs.TranscriptGrammar.{all_lines}
 use Rattle.event_script.specs.LoadScript.{load_script}
-use Rattle.rng_tool.specs.Outcome.{IsRun, IsRunOf}
+use Rattle.rng_tool.specs.Ends.{EndsWith}
+use Rattle.rng_tool.specs.Outcome.{IsRunOf}
 use Rattle.rng_tool.specs.declared.load.Load.{Load}
 use Rattle.rng_tool.specs.declared.status.Status.{Status}
-use Rattle.rng_tool.specs.declared.status.Status.TheVariants.{Done, No, Usage, ReadFault, WriteFault, Refused, NoMemory}
 
 -- the texts are `load START CALLERS EVENTS`, with numbers in their ranges
 pub record AskLoad (texts : List (List ℕ)) (start callers events : ℕ) : Type 0 where
@@ -28,11 +26,6 @@ pub record IsSmall (load : Load) : Type 0 where
 -- the words of a load
 abbrev pub IsLoad : {A : Type 0} → List (String A) → ℕ → ℕ → ℕ → Type 0
 IsLoad words start callers events = AskLoad (map string_bytes words) start callers events
-
--- the words are no form of the command line
-pub record IsNoForm {A : Type 0} (words : List (String A)) : Type 0 where
-  pub no_run : IsRun words → ⊥
-  pub no_load : (start callers events : ℕ) → IsLoad words start callers events → ⊥
 
 abbrev pub load_line : ℕ → ℕ → ℕ → List ℕ
 load_line callers events bytes =
@@ -53,12 +46,4 @@ pub record LoadOf (start callers events : ℕ) (output : List ℕ) : Type 0 wher
 
 -- how a load ends, and what the sink then holds
 abbrev pub LoadEnds : ℕ → ℕ → ℕ → Status → Option (List ℕ) → Option (List ℕ) → Type 0
-LoadEnds start callers events Done held held_after = (output : List ℕ) × LoadOf start callers events output
-    × Appends held held_after output
-LoadEnds start callers events WriteFault held held_after = (output : List ℕ) × LoadOf start callers events output
-    × AppendsPrefix held held_after output
-LoadEnds start callers events NoMemory held held_after = Keeps held held_after
-LoadEnds start callers events No held held_after = ⊥
-LoadEnds start callers events Usage held held_after = ⊥
-LoadEnds start callers events ReadFault held held_after = ⊥
-LoadEnds start callers events Refused held held_after = ⊥
+LoadEnds start callers events = EndsWith (LoadOf start callers events)

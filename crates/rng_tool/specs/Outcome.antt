@@ -1,6 +1,6 @@
 -- What a run of the program promises for each way to end.
 use Rattle.std.specs.Prelude.{ℕ, ◌≡◌, ◌⊎◌, List, [], ◌∷◌, Option, Some, String, string_bytes, codes, map, IfSome}
-use Rattle.std.specs.Io.KnownBytes.{Appends, Consumes, IsAtEnd}
+use Rattle.std.specs.Io.KnownBytes.{Appends, Consumes, IsAtEnd, Keeps}
 use Rattle.io_edges.specs.Pieces.{AppendsPrefix}
 use Rattle.key_names.specs.Book.{Book, lists_of}
 use Rattle.key_names.specs.IsTranscript.{IsTranscriptBy}
@@ -82,6 +82,16 @@ pub record WasCutShort (left left_after held held_after : Option (List ℕ)) : T
   pub output_is : CallsFor input output
   pub of_all : IfSome left (λ all. CallsFor all output)
   pub written : AppendsPrefix held held_after output
+
+-- how the command `run` ends, what the source then has left and what the sink holds
+abbrev pub RunEnds : Status → Option (List ℕ) → Option (List ℕ) → Option (List ℕ) → Option (List ℕ) → Type 0
+RunEnds Done left left_after held held_after = WasRun left left_after held held_after
+RunEnds Refused left left_after held held_after = WasRefused left left_after held held_after
+RunEnds WriteFault left left_after held held_after = WasCutShort left left_after held held_after
+RunEnds ReadFault left left_after held held_after = Keeps held held_after
+RunEnds NoMemory left left_after held held_after = Keeps held held_after
+RunEnds No left left_after held held_after = ⊥
+RunEnds Usage left left_after held held_after = ⊥
 
 -- the words of a run
 abbrev pub IsRun : {A : Type 0} → List (String A) → Type 0

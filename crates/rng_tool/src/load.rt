@@ -7,11 +7,11 @@ ghost use Rattle.key_names.specs.TranscriptGrammar.{all_lines};
 ghost use Rattle.rng_tool.specs.LoadOutcome.{AskLoad, IsLoad, IsSmall, LoadEnds, LoadOf, data_len, load_line};
 
 use crate::callers::transcript_of;
+use crate::numbers::number_in;
 use crate::short_line::{ShortLine, add_number};
 use crate::status::Status;
 use arrayvec::ArrayString;
 use event_script::Script;
-use event_script::numbers::number_up_to;
 use io_edges::{Failed, Gate, NoMemory, Sink, put_all};
 use key_names::Data;
 use std::alloc::Global;
@@ -31,20 +31,6 @@ pub(crate) struct Load {
     pub(crate) start: u32,
     pub(crate) callers: u32,
     pub(crate) events: u32,
-}
-
-/// The number that a word spells, from `least` to `most`.
-fn number_in(least: u32, most: u32, word: &str) -> Option<u32>
-    ensures found { IfSome result (λ n. (word.now ≡ decimal n) × (least ≤ n) × (n ≤ most)) }
-    ensures only { (n : ℕ) → word.now ≡ decimal n → least ≤ n → n ≤ most → result ≡ Some n }
-{
-    let Some(number) = number_up_to(u64::from(most), word.as_bytes()) else {
-        return None;
-    };
-    if number < u64::from(least) {
-        return None;
-    }
-    Some(number as u32)
 }
 
 /// The load that four words ask for.
@@ -176,6 +162,7 @@ pub(crate) fn run_load<R: Threads + Wait + Sync, K: Sink, G: Gate>(
     ensures ends { LoadEnds load.start load.callers load.events result (K.held sink.old) (K.held sink.new) }
     ensures cut { result ≡ Status.WriteFault → Rose (K.faults sink.old) (K.faults sink.new) }
     ensures silent { result ≡ Status.NoMemory → sink.new ≡ sink.old }
+    ensures never_falls { K.faults sink.old ≤ K.faults sink.new }
 {
     let Ok(line) = summary(rt, alloc, load, gate) else {
         return Status::NoMemory;

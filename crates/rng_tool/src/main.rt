@@ -4,19 +4,34 @@
 #[cfg(test)]
 mod caller_tests;
 mod callers;
+mod command;
+mod ending;
+mod kept;
 mod load;
+mod numbers;
 mod refusal;
 mod run;
+mod run_script;
 mod short_line;
 mod status;
 #[cfg(test)]
 mod tests;
+mod told;
 
+use crate::kept::KeptSource;
 use crate::run::run;
 use crate::status::Status;
-use io_edges::{OpenGate, StdSink, StdSource};
+use crate::told::tell;
+use io_edges::{OpenGate, Source, StdSink, StdSource};
+use std::alloc::Global;
+use std::io::{BufWriter, Write};
 use std::process::ExitCode;
+use std::sync::Wait;
+use std::thread::Threads;
 use std::{env, io};
+
+/// How many bytes of output are gathered to one write.
+const GATHERED: usize = 64 * 1024;
 
 /// The words behind the program's name, or how a run ends without them.
 fn words(rt: &HostRuntime) -> Result<Vec<String>, Status> {
@@ -34,17 +49,27 @@ fn words(rt: &HostRuntime) -> Result<Vec<String>, Status> {
     Ok(words)
 }
 
+/// Runs the command of the words over this source, and gathers its output for the writer.
+fn run_gathered<R: Threads + Wait + Sync, S: Source, O: Write + Drop>(
+    rt: &R,
+    alloc: Global,
+    words: &[String],
+    source: &mut S,
+    output: O,
+) -> Status {
+    let Ok(output) = BufWriter::with_capacity(alloc, GATHERED, output) else {
+        return Status::NoMemory;
+    };
+    let mut sink = StdSink::of(output);
+    run(rt, alloc, words, source, &mut sink, &OpenGate)
+}
+
 fn main(rt: HostRuntime) -> ExitCode {
+    let mut source = KeptSource::of(rt.alloc(), StdSource::of(rt.stdin()));
     let status = match words(&rt) {
-        Ok(words) => {
-            let mut source = StdSource::of(rt.stdin());
-            let mut sink = StdSink::of(rt.stdout());
-            run(&rt, rt.alloc(), &words, &mut source, &mut sink, &OpenGate)
-        }
+        Ok(words) => run_gathered(&rt, rt.alloc(), &words, &mut source, rt.stdout()),
         Err(status) => status,
     };
-    if status == Status::Usage {
-        let _told = eprintln!(rt; "usage: rng run | rng load START CALLERS EVENTS");
-    }
+    tell(&rt, rt.alloc(), status, source.given());
     ExitCode::from(status.code())
 }

@@ -1,103 +1,19 @@
-//! The top call: words in, a script in, a transcript out.
-ghost use Rattle.std.specs.Prelude.{◌≡◌, ◌≢◌, ◌↔◌, ◌⊎◌, ℕ, [], ◌∷◌, List, IsTrue, IfOk};
-ghost use Rattle.std.specs.Io.KnownBytes.{Appends};
+//! The top call: the words of a command line in, its answer out.
+ghost use Rattle.std.specs.Prelude.{◌≡◌, ◌≢◌, ◌↔◌, ◌⊎◌, [], ℕ};
 ghost use Rattle.io_edges.specs.Faults.{Rose};
-ghost use Rattle.io_edges.specs.Pieces.{AppendsPrefix};
-ghost use Rattle.key_names.specs.ScriptGrammar.{WellFormed};
-ghost use Rattle.rng_tool.specs.LoadOutcome.{IsLoad, IsNoForm, LoadEnds};
-ghost use Rattle.rng_tool.specs.Outcome.{CallsFor, CallsForRun, IsRefusal, IsRun, RunOf, WasCutShort, WasRefused, WasRun};
-ghost use Rattle.rng_tool.specs.Refusal.{refusal_line};
+ghost use Rattle.rng_tool.specs.Commands.{IsNoForm, TakesInput};
+ghost use Rattle.rng_tool.specs.LoadOutcome.{IsLoad, LoadEnds};
+ghost use Rattle.rng_tool.specs.Outcome.{IsRun, RunEnds};
 
-use crate::callers::transcript_of;
-use crate::load::{load_of, run_load};
-use crate::refusal::refusal_line;
+use crate::command::Command;
+use crate::ending::end_output;
+use crate::load::run_load;
+use crate::run_script::run_input;
 use crate::status::Status;
-use event_script::{Script, ScriptError, read};
-use io_edges::{Failed, Gate, ReadError, Sink, Source, put_all, read_to_limit};
-use key_names::ScriptFault;
+use io_edges::{Gate, Sink, Source};
 use std::alloc::Global;
 use std::sync::Wait;
 use std::thread::Threads;
-use transcript_text::write_all;
-
-/// The most bytes of a script: 16 MiB.
-const MOST_INPUT: usize = 16_777_216;
-
-/// Whether the words are those of a run.
-fn is_run(words: &[String]) -> bool
-    ensures { IsTrue result ↔ IsRun words.now }
-{
-    match words {
-        [word] => word.as_str() == "run",
-        _ => false,
-    }
-}
-
-// The refusal of an input with this fault.
-fn refuse<K: Sink>(fault: ScriptFault, sink: &mut K) -> Status
-    ensures either { (result ≡ Status.Refused) ⊎ (result ≡ Status.WriteFault) }
-    ensures whole { result ≡ Status.Refused → Appends (K.held sink.old) (K.held sink.new) (refusal_line fault) }
-    ensures cut { result ≡ Status.WriteFault → Rose (K.faults sink.old) (K.faults sink.new) }
-    ensures prefix { result ≡ Status.WriteFault
-        → AppendsPrefix (K.held sink.old) (K.held sink.new) (refusal_line fault) }
-{
-    match put_all(sink, refusal_line(fault).as_str().as_bytes()) {
-        Ok(()) => Status::Refused,
-        Err(Failed) => Status::WriteFault,
-    }
-}
-
-// The run of an accepted script.
-fn run_script<R: Threads + Wait + Sync, K: Sink, G: Gate>(
-    rt: &R,
-    alloc: Global,
-    script: &Script,
-    sink: &mut K,
-    gate: &G,
-) -> Status
-    requires { WellFormed script.now }
-    ensures either { (result ≡ Status.Done) ⊎ (result ≡ Status.WriteFault) ⊎ (result ≡ Status.NoMemory) }
-    ensures whole { result ≡ Status.Done
-        → (output : List ℕ) × RunOf script.now output × Appends (K.held sink.old) (K.held sink.new) output }
-    ensures cut { result ≡ Status.WriteFault → Rose (K.faults sink.old) (K.faults sink.new) }
-    ensures prefix { result ≡ Status.WriteFault
-        → (output : List ℕ) × RunOf script.now output × AppendsPrefix (K.held sink.old) (K.held sink.new) output }
-    ensures silent { result ≡ Status.NoMemory → sink.new ≡ sink.old }
-{
-    let Ok(transcript) = transcript_of(rt, alloc, script, gate) else {
-        return Status::NoMemory;
-    };
-    match write_all(sink, &transcript) {
-        Ok(()) => Status::Done,
-        Err(Failed) => Status::WriteFault,
-    }
-}
-
-// What an input calls for.
-fn answer<R: Threads + Wait + Sync, K: Sink, G: Gate>(
-    rt: &R,
-    alloc: Global,
-    input: &[u8],
-    sink: &mut K,
-    gate: &G,
-) -> Status
-    ensures either { (result ≡ Status.Done) ⊎ (result ≡ Status.Refused) ⊎ (result ≡ Status.WriteFault) ⊎
-        (result ≡ Status.NoMemory) }
-    ensures done { result ≡ Status.Done → (output : List ℕ) × CallsForRun input.now output
-        × Appends (K.held sink.old) (K.held sink.new) output }
-    ensures refused { result ≡ Status.Refused → (output : List ℕ) × IsRefusal input.now output
-        × Appends (K.held sink.old) (K.held sink.new) output }
-    ensures cut { result ≡ Status.WriteFault → Rose (K.faults sink.old) (K.faults sink.new) }
-    ensures prefix { result ≡ Status.WriteFault → (output : List ℕ) × CallsFor input.now output
-        × AppendsPrefix (K.held sink.old) (K.held sink.new) output }
-    ensures silent { result ≡ Status.NoMemory → sink.new ≡ sink.old }
-{
-    match read(alloc, input) {
-        Ok(script) => run_script(rt, alloc, &script, sink, gate),
-        Err(ScriptError::Fault(fault)) => refuse(fault, sink),
-        Err(ScriptError::NoMemory) => Status::NoMemory,
-    }
-}
 
 /// Runs a command.
 ///
@@ -115,9 +31,12 @@ fn answer<R: Threads + Wait + Sync, K: Sink, G: Gate>(
 /// - `Usage`: exactly where the words are neither. Nothing is read or written.
 /// - `ReadFault`: the source failed. Nothing is written.
 /// - `Refused`: the input has a fault, and the line that tells the first was written.
-/// - `WriteFault`: the sink failed. What it got in this call is a prefix of the output.
+/// - `WriteFault`: the sink failed at a put, or at the flush behind the last. What it got in this call is a prefix of the
+///   output.
 /// - `NoMemory`: there was no memory, before the first caller started. Nothing is written.
 /// - `Done`: the input of `run` was read to its end, and the whole output was written.
+///
+/// Where the output was written whole, the sink keeps nothing of it back.
 pub fn run<R: Threads + Wait + Sync, S: Source, K: Sink, G: Gate>(
     rt: &R,
     alloc: Global,
@@ -127,31 +46,21 @@ pub fn run<R: Threads + Wait + Sync, S: Source, K: Sink, G: Gate>(
     gate: &G,
 ) -> Status
     ensures usage { result ≡ Status.Usage ↔ IsNoForm words.now }
-    ensures unread { (IsRun words.now → ⊥) → source.new ≡ source.old }
+    ensures unread { (TakesInput words.now → ⊥) → source.new ≡ source.old }
     ensures silent { (result ≡ Status.Usage) ⊎ (result ≡ Status.ReadFault) ⊎ (result ≡ Status.NoMemory)
         → sink.new ≡ sink.old }
     ensures read_fault { result ≡ Status.ReadFault → Rose (S.faults source.old) (S.faults source.new) }
     ensures write_fault { result ≡ Status.WriteFault → Rose (K.faults sink.old) (K.faults sink.new) }
-    ensures done { IsRun words.now → result ≡ Status.Done
-        → WasRun (S.left source.old) (S.left source.new) (K.held sink.old) (K.held sink.new) }
-    ensures refused { result ≡ Status.Refused
-        → WasRefused (S.left source.old) (S.left source.new) (K.held sink.old) (K.held sink.new) }
-    ensures cut_short { IsRun words.now → result ≡ Status.WriteFault
-        → WasCutShort (S.left source.old) (S.left source.new) (K.held sink.old) (K.held sink.new) }
+    ensures handed_on { (result ≡ Status.Done) ⊎ (result ≡ Status.Refused) → K.kept_back sink.new ≡ [] }
+    ensures ran { IsRun words.now
+        → RunEnds result (S.left source.old) (S.left source.new) (K.held sink.old) (K.held sink.new) }
     ensures loaded { (start callers events : ℕ) → IsLoad words.now start callers events
         → LoadEnds start callers events result (K.held sink.old) (K.held sink.new) }
     ensures no_check { result ≢ Status.No }
 {
-    if let Some(load) = load_of(words) {
-        return run_load(rt, alloc, load, sink, gate);
+    match Command::of(words) {
+        None => Status::Usage,
+        Some(Command::Run) => end_output(run_input(rt, alloc, source, sink, gate), sink),
+        Some(Command::Load(load)) => end_output(run_load(rt, alloc, load, sink, gate), sink),
     }
-    if !is_run(words) {
-        return Status::Usage;
-    }
-    let input = match read_to_limit(alloc, source, MOST_INPUT) {
-        Ok(input) => input,
-        Err(ReadError::Fault) => return Status::ReadFault,
-        Err(ReadError::NoMemory) => return Status::NoMemory,
-    };
-    answer(rt, alloc, &input, sink, gate)
 }

@@ -1,5 +1,5 @@
--- Another line of a caller, at the end or in the place of one, leaves the others, and shows the bytes that were added.
-use Rattle.std.proofs.Common.{◌≡◌, ℕ, ◌≤◌, List, [], ◌∷◌, ◌++◌, length, take, drop, set, refl, ap, ◌∙◌, All, arith}
+-- What is kept behind the bytes and the steps of some lines leaves these lines, and a line names what was kept for it.
+use Rattle.std.proofs.Common.{◌≡◌, ℕ, zero, suc, ◌+◌, ◌<◌, ◌≤◌, Some, List, [], ◌∷◌, ◌++◌, length, take, drop, set, map, slice_get, get_or, refl, ap, sym, subst, ◌∙◌, All, arith}
 use Rattle.std.specs.List.{AllByRecursion}
 use Rattle.std.proofs.lemmas.List.{length-append, length-drop, take-append-le, drop-append-le, take_all, drop_at, map_push, map-set}
 use Rattle.std.proofs.lemmas.List.Elements.{All-from_recursion}
@@ -7,99 +7,138 @@ use Rattle.key_names.proofs.Each.{each_more, each_set}
 use Rattle.key_names.specs.declared.lines.Data.{Data}
 use Rattle.key_names.specs.declared.lines.Data.TheVariants.{None as NoData, Bytes, Count}
 use Rattle.key_names.specs.declared.lines.Line.{Line}
-use Rattle.key_names.specs.SeenLine.{bytes, shown_in, seen_line, seen_lines, bytes_or_none, showing}
+use Rattle.key_names.specs.declared.names.Step.{Step}
+use Rattle.key_names.specs.SeenLine.{SeenLine, bytes, shown_in, steps_in, seen_line, seen_lines, bytes_or_none}
 use Rattle.key_names.specs.TranscriptGrammar.{LineFits}
-use Rattle.transcript_text.specs.Gathered.{IsWithin, IsKept, data_from}
+use Rattle.transcript_text.specs.declared.view.LineView.{LineView}
+use Rattle.transcript_text.specs.declared.view.Shown.{Shown}
+use Rattle.transcript_text.specs.declared.view.Shown.TheVariants.{None as ShowsNone, Bytes as ShowsBytes, Count as ShowsCount}
+use Rattle.transcript_text.specs.Gathered.{IsWithin, LineWithin, IsKept, bytes_from, data_from, kept_line}
+use Rattle.transcript_text.specs.Views.{bytes_of, seen, seen_shown}
+
+-- items that stand within a list stay where more is put behind it
+part_more : {X : Type 0} (start len : ℕ) (kept more : List X) → start + len ≤ length kept
+    → take len (drop start (kept ++ more)) ≡ take len (drop start kept)
+part_more start len kept more within =
+    let a : start ≤ length kept = omega arith in
+    let b : len ≤ length (drop start kept) = omega (arith, length-drop start kept) in
+    ap (take len) (drop-append-le start kept more a) ∙ take-append-le len (drop start kept) more b
+
+-- what is put behind a list is found there
+part_at : {X : Type 0} (kept more : List X) → take (length more) (drop (length kept) (kept ++ more)) ≡ more
+part_at kept more = ap (take (length more)) (drop_at kept more (length kept) refl) ∙ take_all (length more) more (omega arith)
 
 shown_in-more : (kept more : List ℕ) (shown : Data) → IsWithin (length kept) shown
     → shown_in (kept ++ more) shown ≡ shown_in kept shown
 shown_in-more kept more NoData within = refl
 shown_in-more kept more (Count n) within = refl
-shown_in-more kept more (Bytes start len) within =
-    let a : start ≤ length kept = omega arith in
-    let b : len ≤ length (drop start kept) = omega (arith, length-drop start kept) in
-    ap bytes (ap (take len) (drop-append-le start kept more a) ∙ take-append-le len (drop start kept) more b)
-
-pub seen_lines-more : (kept more : List ℕ) (lines : List Line)
-    → AllByRecursion (λ line. IsWithin (length kept) line.shown) lines
-    → seen_lines (kept ++ more) lines ≡ seen_lines kept lines
-seen_lines-more kept more [] within = refl
-seen_lines-more kept more (line ∷ lines) within =
-    rw (shown_in-more kept more line.shown within.0, seen_lines-more kept more lines within.1) refl
+shown_in-more kept more (Bytes start len) within = ap bytes (part_more start len kept more within.1)
 
 within_more : (kept more : List ℕ) (shown : Data) → IsWithin (length kept) shown
     → IsWithin (length (kept ++ more)) shown
 within_more kept more NoData within = tt
 within_more kept more (Count n) within = tt
-within_more kept more (Bytes start len) within = omega (arith, length-append kept more)
+within_more kept more (Bytes start len) within = (within.0, omega (arith, length-append kept more))
 
-all_within_more : (kept more : List ℕ) (lines : List Line)
-    → AllByRecursion (λ line. IsWithin (length kept) line.shown) lines
-    → AllByRecursion (λ line. IsWithin (length (kept ++ more)) line.shown) lines
-all_within_more kept more [] within = tt
-all_within_more kept more (line ∷ lines) within = (
-  within_more kept more line.shown within.0,
-  all_within_more kept
-      more lines within.1,
-)
+shown_in-bytes_from : (kept shown : List ℕ)
+    → shown_in (kept ++ shown) (bytes_from (length kept) shown) ≡ bytes_or_none shown
+shown_in-bytes_from kept [] = refl
+shown_in-bytes_from kept (b ∷ bs) = ap bytes (part_at kept (b ∷ bs))
 
-shown_in-data_from : (kept shown : List ℕ) → shown_in (kept ++ shown) (data_from (length kept) shown) ≡ bytes_or_none
-    shown
-shown_in-data_from kept [] = refl
-shown_in-data_from kept (b ∷ bs) = ap bytes (ap (take (length (b ∷ bs))) (drop_at kept (b ∷ bs) (length kept) refl)
-    ∙ take_all (length (b ∷ bs)) (b ∷ bs) (omega arith))
+bytes_from_within : (kept shown : List ℕ) → IsWithin (length (kept ++ shown)) (bytes_from (length kept) shown)
+bytes_from_within kept [] = tt
+bytes_from_within kept (b ∷ bs) = (omega arith, omega (arith, length-append kept (b ∷ bs)))
 
-data_from_within : (kept shown : List ℕ) → IsWithin (length (kept ++ shown)) (data_from (length kept) shown)
-data_from_within kept [] = tt
-data_from_within kept (b ∷ bs) = omega (arith, length-append kept (b ∷ bs))
+data_from_within : (kept : List ℕ) (shown : Shown)
+    → IsWithin (length (kept ++ bytes_of shown)) (data_from (length kept) shown)
+data_from_within kept ShowsNone = tt
+data_from_within kept (ShowsCount n) = tt
+data_from_within kept (ShowsBytes shown) = bytes_from_within kept shown.now
 
-abbrev pub with_data : Line → Data → Line
-with_data line shown = record line { shown = shown }
+shown_in-data_from : (kept : List ℕ) (shown : Shown)
+    → shown_in (kept ++ bytes_of shown) (data_from (length kept) shown) ≡ seen_shown shown
+shown_in-data_from kept ShowsNone = refl
+shown_in-data_from kept (ShowsCount n) = refl
+shown_in-data_from kept (ShowsBytes shown) = shown_in-bytes_from kept shown.now
 
--- the lines as they are seen after one more
-pub seen_after : (kept shown : List ℕ) (lines : List Line) (line : Line) → IsKept kept lines
-    → seen_lines (kept ++ shown) (lines ++ with_data line (data_from (length kept) shown) ∷ [])
-    ≡ seen_lines kept lines ++ showing shown (seen_line [] line) ∷ []
-seen_after kept shown lines line old =
-    map_push (seen_line (kept ++ shown)) lines (with_data line (data_from (length kept) shown))
-    ∙ rw (seen_lines-more kept shown lines old.within, shown_in-data_from kept shown) refl
+module _ (bs more : List ℕ) (steps others : List Step) where
+  pub seen_lines-more : (lines : List Line) → AllByRecursion (LineWithin (length bs) (length steps)) lines
+      → seen_lines (bs ++ more) (steps ++ others) lines ≡ seen_lines bs steps lines
+  seen_lines-more [] within = refl
+  seen_lines-more (line ∷ lines) within = rw (
+    shown_in-more bs more line.shown within.0.shown,
+    part_more line.steps.start line.steps.len steps others within.0.steps',
+    seen_lines-more lines within.1,
+  ) refl
 
-pub kept_after : (kept shown : List ℕ) (lines : List Line) (line : Line) → IsKept kept lines
-    → LineFits (showing shown (seen_line [] line))
-    → IsKept (kept ++ shown) (lines ++ with_data line (data_from (length kept) shown) ∷ [])
-kept_after kept shown lines line old fits = record {
-  within = each_more (λ l. IsWithin (length (kept ++ shown)) l.shown) lines
-      (with_data line (data_from (length kept) shown)) (all_within_more kept shown lines old.within)
-      (data_from_within kept shown);
-  fits = rw (seen_after kept shown lines line old) (each_more LineFits (seen_lines kept lines)
-      (showing shown (seen_line [] line)) old.fits fits);
-}
+  all_within_more : (lines : List Line) → AllByRecursion (LineWithin (length bs) (length steps)) lines
+      → AllByRecursion (LineWithin (length (bs ++ more)) (length (steps ++ others))) lines
+  all_within_more [] within = tt
+  all_within_more (line ∷ lines) within = (
+    record {
+      shown = within_more bs more line.shown within.0.shown;
+      steps' = omega (arith, length-append steps others, within.0.steps');
+    },
+    all_within_more lines within.1,
+  )
 
--- another line stands in the place of line `number`, and names what was kept for it
-module _ (kept shown after : List ℕ) (named : Data) (number : ℕ) (lines : List Line) (line : Line)
-    (longer : after ≡ kept ++ shown) (there : named ≡ data_from (length kept) shown) (old : IsKept kept lines) where
-  pub seen_replaced : seen_lines after (set lines number (with_data line named))
-      ≡ set (seen_lines kept lines) number (showing shown (seen_line [] line))
-  seen_replaced = map-set (seen_line after) lines number (with_data line named)
-      ∙ rw (longer, there, seen_lines-more kept shown lines old.within, shown_in-data_from kept shown) refl
-
-  pub kept_replaced : LineFits (showing shown (seen_line [] line)) → IsKept after (set lines number (with_data line named))
-  kept_replaced fits = record {
-    within = rw (longer, there) (each_set (λ l. IsWithin (length (kept ++ shown)) l.shown) lines number
-        (with_data line (data_from (length kept) shown)) (all_within_more kept shown lines old.within)
-        (data_from_within kept shown));
-    fits = rw seen_replaced (each_set LineFits (seen_lines kept lines) number
-        (showing shown (seen_line [] line)) old.fits fits);
+  -- lines stay lines of a caller where more is kept
+  pub kept_more : (lines : List Line) → IsKept bs steps lines → IsKept (bs ++ more) (steps ++ others) lines
+  kept_more lines old = record {
+    within = all_within_more lines old.within;
+    fits = rw (seen_lines-more lines old.within) old.fits;
   }
 
-few_steps : (kept : List ℕ) (lines : List Line) → AllByRecursion LineFits (seen_lines kept lines)
-    → AllByRecursion (λ line. length line.trace ≤ 20) lines
-few_steps kept [] fits = tt
-few_steps kept (line ∷ lines) fits = (fits.0.few_steps, few_steps kept lines fits.1)
+-- a line of a caller for which its bytes and steps were kept last
+module _ (bs after_bs : List ℕ) (steps after_steps : List Step) (line : LineView) (named : Line)
+    (bytes_are : after_bs ≡ bs ++ bytes_of line.shown) (steps_are : after_steps ≡ steps ++ line.steps.now)
+    (named_is : named ≡ kept_line (length steps) (length bs) line) where
+  pub seen_named : seen_line after_bs after_steps named ≡ seen line
+  seen_named = rw (named_is, bytes_are, steps_are, shown_in-data_from bs line.shown, part_at steps line.steps.now) refl
 
-pub all_few_steps : (kept : List ℕ) (lines : List Line) → IsKept kept lines → All (λ line. length line.trace ≤ 20) lines
-all_few_steps kept lines old = All-from_recursion (λ line. length line.trace ≤ 20) lines (few_steps kept lines old.fits)
+  named_within : LineWithin (length after_bs) (length after_steps) named
+  named_within = rw (named_is, bytes_are, steps_are) (record {
+    shown = data_from_within bs line.shown;
+    steps' = omega (arith, length-append steps line.steps.now);
+  })
 
-pub all_within : (kept : List ℕ) (lines : List Line) → IsKept kept lines
-    → All (λ line. IsWithin (length kept) line.shown) lines
-all_within kept lines old = All-from_recursion (λ line. IsWithin (length kept) line.shown) lines old.within
+  pub seen_pushed : (lines : List Line) (before : List SeenLine) → seen_lines after_bs after_steps lines ≡ before
+      → seen_lines after_bs after_steps (lines ++ named ∷ []) ≡ before ++ seen line ∷ []
+  seen_pushed lines before e = map_push (seen_line after_bs after_steps) lines named ∙ rw (e, seen_named) refl
+
+  pub kept_pushed : (lines : List Line) → LineFits (seen line) → IsKept after_bs after_steps lines
+      → IsKept after_bs after_steps (lines ++ named ∷ [])
+  kept_pushed lines fits old = record {
+    within = each_more (LineWithin (length after_bs) (length after_steps)) lines named old.within named_within;
+    fits = rw (seen_pushed lines _ refl) (each_more LineFits (seen_lines after_bs after_steps lines) (seen line)
+        old.fits fits);
+  }
+
+  pub seen_replaced : (number : ℕ) (lines : List Line) (before : List SeenLine)
+      → seen_lines after_bs after_steps lines ≡ before
+      → seen_lines after_bs after_steps (set lines number named) ≡ set before number (seen line)
+  seen_replaced number lines before e = map-set (seen_line after_bs after_steps) lines number named
+      ∙ rw (e, seen_named) refl
+
+  pub kept_replaced : (number : ℕ) (lines : List Line) → LineFits (seen line) → IsKept after_bs after_steps lines
+      → IsKept after_bs after_steps (set lines number named)
+  kept_replaced number lines fits old = record {
+    within = each_set (LineWithin (length after_bs) (length after_steps)) lines number named old.within named_within;
+    fits = rw (seen_replaced number lines _ refl) (each_set LineFits (seen_lines after_bs after_steps lines) number
+        (seen line) old.fits fits);
+  }
+
+fits_at : (see : Line → SeenLine) (lines : List Line) (i : ℕ) (d : Line) → AllByRecursion LineFits (map see lines)
+    → i < length lines → LineFits (see (get_or lines i d))
+fits_at see [] i d fits lt = absurd (omega arith)
+fits_at see (line ∷ lines) zero d fits lt = fits.0
+fits_at see (line ∷ lines) (suc i) d fits lt = fits_at see lines i d fits.1 (omega arith)
+
+pub all_within : (bs : List ℕ) (steps : List Step) (lines : List Line) → IsKept bs steps lines
+    → All (LineWithin (length bs) (length steps)) lines
+all_within bs steps lines old = All-from_recursion (LineWithin (length bs) (length steps)) lines old.within
+
+pub line_fits : (bs : List ℕ) (steps : List Step) (lines : List Line) (i : ℕ) (line : Line) → IsKept bs steps lines
+    → i < length lines → line ≡ get_or lines i line → LineFits (seen_line bs steps line)
+line_fits bs steps lines i line old lt is = subst (λ (l : Line). LineFits (seen_line bs steps l)) (sym is)
+    (fits_at (seen_line bs steps) lines i line old.fits lt)

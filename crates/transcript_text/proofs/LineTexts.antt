@@ -308,7 +308,7 @@ hex_long (b ∷ shown) = omega (arith, length-encode_with lower_digits (b ∷ sh
 
 pub short_shows : (shows : Shows) (line : SeenLine) → line.shown ≡ seen_shows shows → length (line_text line) < 2 ^ 32
     → IsShort shows
-short_shows (Count n) line e short = tt
+short_shows (Count n) line e short = omega arith
 short_shows (Bytes shown) line e short =
     let same : length (shown_text line.shown) ≡ length (hex shown.items) =
     ap length (ap shown_text e ∙ shown_text-bytes shown.items) in

@@ -31,21 +31,18 @@ unfolding steps_text
 no_steps old new [] none e = e
 no_steps old new (step ∷ steps) none e = absurd (omega arith)
 
-pub first_step : (old new : List ℕ) (steps : List Step) (step : Step) → slice_get steps 0 ≡ Some step
-    → new ≡ old ++ step_text step
-    → new ++ flat_map next_text (drop 1 steps) ≡ old ++ steps_text steps
-first_step old new [] step at e = absurd cc
-first_step old new (s ∷ steps) step at e =
-    let p : step ≡ s = cc in
-    rw (e, p, steps_text-cons s steps) (append_assoc old (step_text s) (flat_map next_text steps))
+pub first_step : (old new : List ℕ) (step : Step) (rest : List Step) → new ≡ old ++ step_text step
+    → new ++ flat_map next_text rest ≡ old ++ steps_text (step ∷ rest)
+first_step old new step rest e =
+    rw (e, steps_text-cons step rest) (append_assoc old (step_text step) (flat_map next_text rest))
 
 pub next_step : (old comma new : List ℕ) (steps : List Step) (i : ℕ) (step : Step) (whole : List ℕ)
-    → slice_get steps i ≡ Some step
+    → drop i steps ≡ step ∷ drop (i + 1) steps
     → comma ≡ old ++ codes "," → new ≡ comma ++ step_text step → old ++ flat_map next_text (drop i steps) ≡ whole
     → new ++ flat_map next_text (drop (i + 1) steps) ≡ whole
 next_step old comma new steps i step whole at e f so_far =
     let rest = flat_map next_text (drop (i + 1) steps) in
     let here : old ++ (next_text step ++ rest) ≡ whole =
-    ap (λ (ss : List Step). old ++ flat_map next_text ss) (sym (drop_from_get steps i step at)) ∙ so_far in
+    ap (λ (ss : List Step). old ++ flat_map next_text ss) (sym at) ∙ so_far in
     rw (f, e) (ap (λ (x : List ℕ). x ++ rest) (append_assoc old (codes ",") (step_text step))
     ∙ append_assoc old (next_text step) rest ∙ here)

@@ -1,45 +1,41 @@
 -- The text of a line from its head and its data, and the text of a transcript from its callers' lines.
-use Rattle.std.proofs.Common.{◌≡◌, ℕ, ◌+◌, ◌<◌, ◌≤◌, Option, List, [], ◌∷◌, ◌++◌, length, get_or, drop, map, refl, ap, sym, subst, ◌∙◌, append_assoc}
+use Rattle.std.proofs.Common.{◌≡◌, ℕ, ◌+◌, ◌<◌, ◌≤◌, Option, Some, List, [], ◌∷◌, ◌++◌, length, get_or, slice_get, drop, map, refl, ap, sym, subst, ◌∙◌, append_assoc}
 use Rattle.std.specs.Prelude.{codes}
 use Rattle.std.specs.List.{flat_map}
 use Rattle.std.proofs.lemmas.List.{drop_more, drop_all}
 use Rattle.std.specs.Io.KnownBytes.{Appends}
 use Rattle.std.proofs.lemmas.List.Concat.{flat_map-append}
-use Rattle.key_names.specs.declared.lines.Line.{Line}
-use Rattle.key_names.specs.SeenLine.{SeenLine, shown_in, seen_line, seen_lines}
+use Rattle.key_names.specs.SeenLine.{SeenLine}
 use Rattle.key_names.specs.Spelling.{lined}
 use Rattle.key_names.specs.TranscriptGrammar.{shown_text, line_text, all_lines, transcript_text}
 use Rattle.transcript_text.specs.Heads.{head_text}
 use Rattle.transcript_text.specs.Lines.{whole_line, text_of}
 use Rattle.transcript_text.specs.Putting.{PutSoFar}
+use Rattle.transcript_text.specs.Views.{seen, seen_shown}
+use Rattle.transcript_text.specs.declared.view.LineView.{LineView}
+use Rattle.transcript_text.proofs.StepLists.{drop_from_get}
 
-pub line_is : (kept : List ℕ) (line : Line) (head : List ℕ)
-    → head ≡ head_text line.caller line.event line.word line.answer line.trace
-    → head ++ shown_text (shown_in kept line.shown) ≡ line_text (seen_line kept line)
+pub line_is : (line : LineView) (head : List ℕ)
+    → head ≡ head_text line.caller line.event line.word line.answer line.steps.now
+    → head ++ shown_text (seen_shown line.shown) ≡ line_text (seen line)
 unfolding line_text head_text
-line_is kept line head e = rw e (simp append_assoc)
+line_is line head e = rw e (simp append_assoc)
 
-pub next_line : (kept : List ℕ) (lines : List Line) (i : ℕ) (line : Line) → i < length lines
-    → line ≡ get_or lines i line
-    → text_of kept (drop i lines) ≡ whole_line (seen_line kept line) ++ text_of kept (drop (i + 1) lines)
-next_line kept lines i line lt is =
-    ap (text_of kept) (drop_more lines i line lt) ∙ ap (λ (x : Line).
-    whole_line (seen_line kept x) ++ text_of kept (drop (i + 1) lines)) (sym is)
-
-abbrev pub caller_text : List SeenLine → List ℕ
-caller_text lines = flat_map whole_line lines
+pub next_line : (lines : List SeenLine) (i : ℕ) (line : SeenLine) → slice_get lines i ≡ Some line
+    → text_of (drop i lines) ≡ whole_line line ++ text_of (drop (i + 1) lines)
+next_line lines i line at = ap text_of (drop_from_get lines i line at)
 
 abbrev pub callers_text : List (List SeenLine) → List ℕ
-callers_text callers = flat_map caller_text callers
+callers_text callers = flat_map text_of callers
 
-lines_text : (lines : List SeenLine) → lined (map line_text lines) ≡ caller_text lines
+lines_text : (lines : List SeenLine) → lined (map line_text lines) ≡ text_of lines
 lines_text [] = refl
 lines_text (line ∷ lines) = ap (λ (x : List ℕ). whole_line line ++ x) (lines_text lines)
 
-callers_lines : (callers : List (List SeenLine)) → caller_text (all_lines callers) ≡ callers_text callers
+callers_lines : (callers : List (List SeenLine)) → text_of (all_lines callers) ≡ callers_text callers
 callers_lines [] = refl
 callers_lines (lines ∷ callers) = flat_map-append whole_line lines (all_lines callers)
-    ∙ ap (λ (x : List ℕ). caller_text lines ++ x) (callers_lines callers)
+    ∙ ap (λ (x : List ℕ). text_of lines ++ x) (callers_lines callers)
 
 pub transcript_text-parts : (callers : List (List SeenLine))
     → transcript_text callers ≡ codes "rngtranscript 1\n" ++ (callers_text callers ++ codes "end\n")
@@ -50,21 +46,15 @@ transcript_text-parts callers =
     ∙ ap (λ (x : List ℕ). x ++ codes "end\n") (lines_text (all_lines callers) ∙ callers_lines callers) in
     ap (λ (x : List ℕ). codes "rngtranscript 1\n" ++ x) middle
 
--- the lines of a caller that has these bytes
-pub text_of-kept : (bytes kept : List ℕ) (raw : List Line) (lines : List SeenLine) → bytes ≡ kept
-    → seen_lines kept raw ≡ lines
-    → text_of bytes raw ≡ caller_text lines
-text_of-kept bytes kept raw lines e seen = ap (λ (k : List ℕ). text_of k raw) e ∙ ap caller_text seen
-
 -- what is still to come from a caller on
 abbrev pub rest_from : ℕ → List (List SeenLine) → List ℕ
 rest_from i callers = callers_text (drop i callers) ++ codes "end\n"
 
 pub next_caller : (callers : List (List SeenLine)) (i : ℕ) → i < length callers
-    → rest_from i callers ≡ caller_text (get_or callers i []) ++ rest_from (i + 1) callers
+    → rest_from i callers ≡ text_of (get_or callers i []) ++ rest_from (i + 1) callers
 next_caller callers i lt =
     ap (λ (x : List ℕ). x ++ codes "end\n") (ap callers_text (drop_more callers i [] lt))
-    ∙ append_assoc (caller_text (get_or callers i [])) (callers_text (drop (i + 1) callers)) (codes "end\n")
+    ∙ append_assoc (text_of (get_or callers i [])) (callers_text (drop (i + 1) callers)) (codes "end\n")
 
 pub no_caller : (callers : List (List SeenLine)) (i : ℕ) → length callers ≤ i → rest_from i callers ≡ codes "end\n"
 no_caller callers i past = ap (λ (cs : List (List SeenLine)). callers_text cs ++ codes "end\n")

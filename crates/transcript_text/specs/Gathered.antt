@@ -1,30 +1,59 @@
 -- The lines of one caller while they are gathered.
-use Rattle.std.specs.Prelude.{ℕ, ◌+◌, ◌≤◌, ⊤, List, [], ◌∷◌, length}
+use Rattle.std.specs.Prelude.{ℕ, ◌+◌, ◌<◌, ◌≤◌, ⊤, List, [], ◌∷◌, length}
 use Rattle.std.specs.List.{AllByRecursion}
 use Rattle.key_names.specs.declared.lines.Data.{Data}
-use Rattle.key_names.specs.declared.lines.Data.TheVariants.{None as NoData, Bytes}
+use Rattle.key_names.specs.declared.lines.Data.TheVariants.{None as NoData, Bytes, Count}
 use Rattle.key_names.specs.declared.lines.Line.{Line}
+use Rattle.key_names.specs.declared.lines.StepSpan.{StepSpan}
+use Rattle.key_names.specs.declared.names.Step.{Step}
 use Rattle.key_names.specs.SeenLine.{SeenLine, seen_lines}
 use Rattle.key_names.specs.TranscriptGrammar.{LineFits}
+use Rattle.transcript_text.specs.declared.view.Shown.{Shown}
+use Rattle.transcript_text.specs.declared.view.Shown.TheVariants.{None as ShowsNone, Bytes as ShowsBytes, Count as ShowsCount}
+use Rattle.transcript_text.specs.declared.view.LineView.{LineView}
 
--- the lines so far, the bytes in the order in which they were told, and for how many more of both there is room
+-- the lines so far, their bytes and their steps in the order in which they were told, and for how many more of each
+-- there is room
 pub record Gathered : Type 0 where
   pub lines : List SeenLine
-  pub kept : List ℕ
+  pub bytes : List ℕ
+  pub steps : List Step
   pub line_room : ℕ
   pub byte_room : ℕ
+  pub step_room : ℕ
 
--- the bytes that it shows are among the first n
+-- the bytes that it shows, of which there are some, are among the first n
 abbrev pub IsWithin : ℕ → Data → Type 0
-IsWithin n (Bytes start len) = start + len ≤ n
+IsWithin n (Bytes start len) = (0 < len) × (start + len ≤ n)
 IsWithin n _ = ⊤
 
--- the lines name places in the bytes that are kept, and fit a transcript with what stands there
-pub record IsKept (kept : List ℕ) (lines : List Line) : Type 0 where
-  pub within : AllByRecursion (λ line. IsWithin (length kept) line.shown) lines
-  pub fits : AllByRecursion LineFits (seen_lines kept lines)
+-- the bytes and the steps of a line are among the first ones
+pub record LineWithin (bytes steps : ℕ) (line : Line) : Type 0 where
+  pub shown : IsWithin bytes line.shown
+  pub steps' : line.steps.start + line.steps.len ≤ steps
 
--- the data of a line that shows these bytes, which are kept from start on
-abbrev pub data_from : ℕ → List ℕ → Data
-data_from start [] = NoData
-data_from start (b ∷ bs) = Bytes start (length (b ∷ bs))
+-- the lines name places in the bytes and steps that are kept, and fit a transcript with what stands there
+pub record IsKept (bytes : List ℕ) (steps : List Step) (lines : List Line) : Type 0 where
+  pub within : AllByRecursion (LineWithin (length bytes) (length steps)) lines
+  pub fits : AllByRecursion LineFits (seen_lines bytes steps lines)
+
+abbrev pub bytes_from : ℕ → List ℕ → Data
+bytes_from start [] = NoData
+bytes_from start (b ∷ bs) = Bytes start (length (b ∷ bs))
+
+-- the data of a line that shows this, its bytes being kept from start on
+abbrev pub data_from : ℕ → Shown → Data
+data_from start ShowsNone = NoData
+data_from start (ShowsBytes shown) = bytes_from start shown.now
+data_from start (ShowsCount n) = Count n
+
+-- a line as it is kept: its steps and its bytes stand from these places on
+abbrev pub kept_line : ℕ → ℕ → LineView → Line
+kept_line steps bytes line = record {
+  caller = line.caller;
+  event = line.event;
+  word = line.word;
+  answer = line.answer;
+  steps = record { start = steps; len = length line.steps.now };
+  shown = data_from bytes line.shown;
+}

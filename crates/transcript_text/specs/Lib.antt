@@ -7,3 +7,4 @@ pub mod ReadLines
 pub mod ReadTexts
 pub mod Reading
 pub mod Shows
+pub mod Views

@@ -1,6 +1,6 @@
 -- A line and its fields, read.
 use Rattle.std.specs.Prelude.{ℕ, ◌≡◌, ◌<◌, ◌^◌, true, List, [], ◌∷◌, ◌++◌, codes, decimal}
-use Rattle.key_names.specs.SeenLine.{SeenLine, seen_line}
+use Rattle.key_names.specs.SeenLine.{SeenLine}
 use Rattle.key_names.specs.Spelling.{spaced}
 use Rattle.transcript_text.specs.declared.line.Numbers.{Numbers}
 use Rattle.transcript_text.specs.declared.line.ReadLine.{ReadLine}
@@ -23,4 +23,11 @@ pub record IsSplit (line numbers word answer steps shown : List ℕ) : Type 0 wh
   pub fourth : lacks 32 steps ≡ true
 
 abbrev pub seen_read : ReadLine → SeenLine
-seen_read read = record (seen_line [] read.line) { shown = seen_shows read.shows }
+seen_read read = record {
+  caller = read.caller;
+  event = read.event;
+  word = read.word;
+  answer = read.answer;
+  steps = read.trace;
+  shown = seen_shows read.shows;
+}

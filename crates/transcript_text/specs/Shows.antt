@@ -1,5 +1,5 @@
 -- What was read behind the steps of a line.
-use Rattle.std.specs.Prelude.{◌<◌, ◌^◌, ⊤, length}
+use Rattle.std.specs.Prelude.{ℕ, ◌<◌, ◌^◌, List, [], length}
 use Rattle.key_names.specs.SeenLine.{Shown, count, bytes_or_none}
 use Rattle.transcript_text.specs.declared.shown.Shows.{Shows}
 use Rattle.transcript_text.specs.declared.shown.Shows.TheVariants.{Bytes, Count}
@@ -8,7 +8,11 @@ abbrev pub seen_shows : Shows → Shown
 seen_shows (Bytes shown) = bytes_or_none shown.items
 seen_shows (Count n) = count n
 
+-- the bytes
+abbrev pub bytes_read : Shows → List ℕ
+bytes_read (Bytes shown) = shown.items
+bytes_read (Count n) = []
+
 -- the bytes fit a line
 abbrev pub IsShort : Shows → Type 0
-IsShort (Bytes shown) = length shown.items < 2 ^ 32
-IsShort (Count n) = ⊤
+IsShort shows = length (bytes_read shows) < 2 ^ 32

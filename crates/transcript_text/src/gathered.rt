@@ -1,19 +1,22 @@
-//! The lines of one caller, and the bytes that they show.
-ghost use Rattle.std.specs.Prelude.{◌≡◌, ◌+◌, ◌-◌, ◌<◌, ◌≤◌, ◌^◌, ◌∷◌, ◌++◌, [], length, All, vec_len, vec_capacity, slice_set, IfOk, OnOk};
+//! The lines of one caller, with their steps and the bytes that they show.
+ghost use Rattle.std.specs.Prelude.{◌≡◌, ◌==◌, ◌+◌, ◌<◌, ◌≤◌, ◌^◌, ◌∷◌, ◌++◌, [], Some, length, All, vec_len, vec_capacity, slice_get, slice_set, IfOk, OnOk};
 ghost use Rattle.std.specs.List.{AllByRecursion};
-ghost use Rattle.key_names.specs.SeenLine.{seen_line, seen_lines, showing};
+ghost use Rattle.key_names.specs.SeenLine.{seen_lines, shown_in};
 ghost use Rattle.key_names.specs.TranscriptGrammar.{LineFits};
-ghost use Rattle.transcript_text.specs.Gathered.{data_from, IsWithin};
+ghost use Rattle.transcript_text.specs.Gathered.{bytes_from, data_from, kept_line, IsWithin, LineWithin};
+ghost use Rattle.transcript_text.specs.Views.{bytes_of, seen, seen_shown};
 
-use key_names::{Data, Line};
+use crate::view::{LineView, Shown};
+use key_names::{Data, Line, Step, StepSpan};
 use std::alloc::{AllocError, Global};
 use std::marker::Model;
 
-/// The lines of one caller so far, and room for more of them. The bytes that they show are kept in the order in which
-/// they were told. Contracts see the lines with the bytes themselves.
+/// The lines of one caller so far, and room for more of them. Their steps, and the bytes that they show, are kept in the
+/// order in which they were told. Contracts see the lines with the steps and the bytes themselves.
 #[derive(Drop)]
 pub struct CallerLines {
     lines: Vec<Line>,
+    steps: Vec<Step>,
     bytes: Vec<u8>,
 }
 
@@ -25,127 +28,232 @@ impl Model for CallerLines {
     ghost Value = { Gathered };
 
     ghost view = { λ c. record {
-      lines = seen_lines c.bytes.items c.lines.items;
-      kept = c.bytes.items;
+      lines = seen_lines c.bytes.items c.steps.items c.lines.items;
+      bytes = c.bytes.items;
+      steps = c.steps.items;
       line_room = vec_capacity c.lines - vec_len c.lines;
       byte_room = vec_capacity c.bytes - vec_len c.bytes;
+      step_room = vec_capacity c.steps - vec_len c.steps;
     } };
 
-    ghost invariant = { λ c. IsKept c.bytes.items c.lines.items };
-}
-
-// The data of a line that shows these bytes, which are kept from `start` on.
-fn data_at(start: u64, shown: &[u8]) -> Data
-    requires { length shown.now < 2 ^ 32 }
-    ensures { result ≡ data_from start shown.now }
-{
-    if shown.is_empty() {
-        Data::None
-    } else {
-        Data::Bytes {
-            start,
-            len: shown.len() as u32,
-        }
-    }
+    ghost invariant = { λ c. IsKept c.bytes.items c.steps.items c.lines.items };
 }
 
 // Keeps more bytes where there is room, and gives the data of a line that shows them.
-fn keep(bytes: &mut Vec<u8>, shown: &[u8]) -> Data
-    requires room { vec_len bytes.old + length shown.now ≤ vec_capacity bytes.old }
+fn keep_bytes(kept: &mut Vec<u8>, shown: &[u8]) -> Data
+    requires room { vec_len kept.old + length shown.now ≤ vec_capacity kept.old }
     requires short { length shown.now < 2 ^ 32 }
-    ensures data { result ≡ data_from (length bytes.old.items) shown.now }
-    ensures items { bytes.new.items ≡ bytes.old.items ++ shown.now }
-    ensures capacity { vec_capacity bytes.old ≤ vec_capacity bytes.new }
-    ensures len { vec_len bytes.new ≡ vec_len bytes.old + length shown.now }
+    ensures data { result ≡ bytes_from (length kept.old.items) shown.now }
+    ensures items { kept.new.items ≡ kept.old.items ++ shown.now }
+    ensures capacity { vec_capacity kept.old ≤ vec_capacity kept.new }
+    ensures len { vec_len kept.new ≡ vec_len kept.old + length shown.now }
 {
-    let start = bytes.len() as u64;
-    let _fits = bytes.extend_from_slice(shown);
-    data_at(start, shown)
+    let start = kept.len() as u64;
+    let _fits = kept.extend_from_slice(shown);
+    if shown.is_empty() {
+        return Data::None;
+    }
+    Data::Bytes {
+        start,
+        len: shown.len() as u32,
+    }
+}
+
+// Keeps what a line shows, and gives the line's data.
+fn keep_shown(kept: &mut Vec<u8>, shown: Shown<'_>) -> Data
+    requires room { vec_len kept.old + length (bytes_of shown) ≤ vec_capacity kept.old }
+    requires short { length (bytes_of shown) < 2 ^ 32 }
+    ensures data { result ≡ data_from (length kept.old.items) shown.entry }
+    ensures items { kept.new.items ≡ kept.old.items ++ bytes_of shown.entry }
+    ensures capacity { vec_capacity kept.old ≤ vec_capacity kept.new }
+    ensures len { vec_len kept.new ≡ vec_len kept.old + length (bytes_of shown.entry) }
+{
+    match shown {
+        Shown::None => Data::None,
+        Shown::Bytes(bytes) => keep_bytes(kept, bytes),
+        Shown::Count(number) => Data::Count(number),
+    }
+}
+
+// Keeps more steps where there is room, and says where they stand.
+fn keep_steps(kept: &mut Vec<Step>, steps: &[Step]) -> StepSpan
+    requires room { vec_len kept.old + length steps.now ≤ vec_capacity kept.old }
+    requires few { length steps.now ≤ 20 }
+    ensures span { result ≡ record { start = length kept.old.items; len = length steps.now } }
+    ensures items { kept.new.items ≡ kept.old.items ++ steps.now }
+    ensures capacity { vec_capacity kept.old ≤ vec_capacity kept.new }
+    ensures len { vec_len kept.new ≡ vec_len kept.old + length steps.now }
+{
+    let start = kept.len() as u64;
+    let _fits = kept.extend_from_slice(steps);
+    StepSpan {
+        start,
+        len: steps.len() as u32,
+    }
 }
 
 impl CallerLines {
-    /// No lines, with room for this many lines and bytes.
+    /// No lines, with room for this many lines, steps and bytes.
     ///
     /// # Errors
     ///
     /// `AllocError` where there is no memory for them.
-    pub fn with_room(alloc: Global, lines: usize, bytes: usize) -> Result<CallerLines, AllocError>
+    pub fn with_room(
+        alloc: Global,
+        lines: usize,
+        steps: usize,
+        bytes: usize,
+    ) -> Result<CallerLines, AllocError>
         ensures lines { IfOk result (λ c. c.lines ≡ []) }
         ensures line_room { IfOk result (λ c. c.line_room ≡ lines) }
+        ensures step_room { IfOk result (λ c. c.step_room ≡ steps) }
         ensures byte_room { IfOk result (λ c. c.byte_room ≡ bytes) }
     {
         Ok(CallerLines {
             lines: Vec::with_capacity(alloc, lines)?,
+            steps: Vec::with_capacity(alloc, steps)?,
             bytes: Vec::with_capacity(alloc, bytes)?,
         })
     }
 
-    /// Makes room for one more line and this many bytes.
+    /// Makes room for this line.
     ///
     /// # Errors
     ///
-    /// `AllocError` where there is no memory for them.
-    pub fn reserve(&mut self, bytes: usize) -> Result<(), AllocError>
+    /// `AllocError` where there is no memory for it.
+    pub fn reserve(&mut self, line: LineView<'_>) -> Result<(), AllocError>
         ensures lines { self.new.lines ≡ self.old.lines }
         ensures line_room { OnOk result (0 < self.new.line_room) }
-        ensures byte_room { OnOk result (bytes ≤ self.new.byte_room) }
+        ensures step_room { OnOk result (length line.entry.steps.now ≤ self.new.step_room) }
+        ensures byte_room { OnOk result (length (bytes_of line.entry.shown) ≤ self.new.byte_room) }
     {
         self.lines.reserve(1)?;
-        self.bytes.reserve(bytes)
+        self.steps.reserve(line.steps.len())?;
+        self.bytes.reserve(line.shown.bytes().len())
     }
 
-    /// One more line that shows no bytes. It takes no memory.
-    pub fn push(&mut self, line: Line)
-        requires room { 0 < self.old.line_room }
-        requires fits { LineFits (seen_line [] line) }
-        ensures lines { self.new.lines ≡ self.old.lines ++ seen_line [] line ∷ [] }
-        ensures line_room { self.new.line_room + 1 ≡ self.old.line_room }
-        ensures byte_room { self.new.byte_room ≡ self.old.byte_room }
-    {
-        self.lines.push_reserved(line);
-    }
-
-    /// One more line that shows these bytes, whatever data the line names. It takes no memory.
-    pub fn push_showing(&mut self, mut line: Line, shown: &[u8])
-        requires line_room { 0 < self.old.line_room }
-        requires byte_room { length shown.now ≤ self.old.byte_room }
-        requires short { length shown.now < 2 ^ 32 }
-        requires fits { LineFits (showing shown.now (seen_line [] line)) }
-        ensures lines { self.new.lines ≡ self.old.lines ++ showing shown.now (seen_line [] line) ∷ [] }
-        ensures line_room { self.new.line_room + 1 ≡ self.old.line_room }
-        ensures byte_room { self.old.byte_room ≤ self.new.byte_room + length shown.now }
-    {
-        line.shown = keep(&mut self.bytes, shown);
-        self.lines.push_reserved(line);
-    }
-
-    /// Another line in the place of line `number`; it shows these bytes, whatever data the line names. It takes no memory.
-    pub fn replace_showing(&mut self, number: usize, mut line: Line, shown: &[u8])
-        requires number { number < length self.old.lines }
-        requires byte_room { length shown.now ≤ self.old.byte_room }
-        requires short { length shown.now < 2 ^ 32 }
-        requires fits { LineFits (showing shown.now (seen_line [] line)) }
-        ensures lines { self.new.lines ≡ slice_set self.old.lines number (showing shown.now (seen_line [] line)) }
+    // Keeps the steps and the bytes of a line, and gives the line that names them.
+    fn keep(&mut self, line: LineView<'_>) -> Line
+        requires step_room { length line.steps.now ≤ self.old.step_room }
+        requires byte_room { length (bytes_of line.shown) ≤ self.old.byte_room }
+        requires few { length line.steps.now ≤ 20 }
+        requires short { length (bytes_of line.shown) < 2 ^ 32 }
+        ensures line { result ≡ kept_line (length self.old.steps) (length self.old.bytes) line.entry }
+        ensures lines { self.new.lines ≡ self.old.lines }
+        ensures bytes { self.new.bytes ≡ self.old.bytes ++ bytes_of line.entry.shown }
+        ensures steps { self.new.steps ≡ self.old.steps ++ line.entry.steps.now }
         ensures line_room { self.new.line_room ≡ self.old.line_room }
-        ensures byte_room { self.old.byte_room ≤ self.new.byte_room + length shown.now }
+        ensures step_room { self.old.step_room ≤ self.new.step_room + length line.entry.steps.now }
+        ensures byte_room { self.old.byte_room ≤ self.new.byte_room + length (bytes_of line.entry.shown) }
     {
-        line.shown = keep(&mut self.bytes, shown);
-        self.lines[number] = line;
+        Line {
+            caller: line.caller,
+            event: line.event,
+            word: line.word,
+            answer: line.answer,
+            steps: keep_steps(&mut self.steps, line.steps),
+            shown: keep_shown(&mut self.bytes, line.shown),
+        }
     }
 
-    /// The lines. Where they show bytes, they name places in `bytes`.
+    /// One more line. It takes no memory.
+    pub fn push(&mut self, line: LineView<'_>)
+        requires line_room { 0 < self.old.line_room }
+        requires step_room { length line.steps.now ≤ self.old.step_room }
+        requires byte_room { length (bytes_of line.shown) ≤ self.old.byte_room }
+        requires short { length (bytes_of line.shown) < 2 ^ 32 }
+        requires fits { LineFits (seen line) }
+        ensures lines { self.new.lines ≡ self.old.lines ++ seen line.entry ∷ [] }
+        ensures line_room { self.new.line_room + 1 ≡ self.old.line_room }
+        ensures step_room { self.old.step_room ≤ self.new.step_room + length line.entry.steps.now }
+        ensures byte_room { self.old.byte_room ≤ self.new.byte_room + length (bytes_of line.entry.shown) }
+    {
+        let kept = self.keep(line);
+        self.lines.push_reserved(kept);
+    }
+
+    /// Another line in the place of line `number`. It takes no memory.
+    pub fn replace(&mut self, number: usize, line: LineView<'_>)
+        requires number { number < length self.old.lines }
+        requires step_room { length line.steps.now ≤ self.old.step_room }
+        requires byte_room { length (bytes_of line.shown) ≤ self.old.byte_room }
+        requires short { length (bytes_of line.shown) < 2 ^ 32 }
+        requires fits { LineFits (seen line) }
+        ensures lines { self.new.lines ≡ slice_set self.old.lines number (seen line.entry) }
+        ensures line_room { self.new.line_room ≡ self.old.line_room }
+        ensures step_room { self.old.step_room ≤ self.new.step_room + length line.entry.steps.now }
+        ensures byte_room { self.old.byte_room ≤ self.new.byte_room + length (bytes_of line.entry.shown) }
+    {
+        let kept = self.keep(line);
+        self.lines[number] = kept;
+    }
+
+    /// How many lines there are.
+    pub fn len(&self) -> usize
+        ensures { result ≡ length self.now.lines }
+    {
+        self.lines.len()
+    }
+
+    /// Whether there is no line.
+    pub fn is_empty(&self) -> bool
+        ensures { result ≡ (length self.now.lines == 0) }
+    {
+        self.lines.is_empty()
+    }
+
+    // What a line shows whose data are these.
+    fn shown(&self, named: Data) -> Shown<'_>
+        requires { IsWithin (length self.now.bytes) named }
+        ensures { seen_shown result ≡ shown_in self.now.bytes named }
+    {
+        match named {
+            Data::None => Shown::None,
+            Data::Bytes { start, len } => {
+                let start = start as usize;
+                Shown::Bytes(&self.bytes[start..start + len as usize])
+            }
+            Data::Count(number) => Shown::Count(number),
+        }
+    }
+
+    /// Line `number`, from 0.
+    pub fn line(&self, number: usize) -> LineView<'_>
+        requires { number < length self.now.lines }
+        ensures line { slice_get self.now.lines number ≡ Some (seen result) }
+        ensures fits { LineFits (seen result) }
+    {
+        let line = self.lines[number];
+        let start = line.steps.start as usize;
+        LineView {
+            caller: line.caller,
+            event: line.event,
+            word: line.word,
+            answer: line.answer,
+            steps: &self.steps[start..start + line.steps.len as usize],
+            shown: self.shown(line.shown),
+        }
+    }
+
+    /// The lines. They name places in `steps`, and where they show bytes, in `bytes`.
     pub fn lines(&self) -> &[Line]
-        ensures seen { seen_lines self.now.kept result.now ≡ self.now.lines }
+        ensures seen { seen_lines self.now.bytes self.now.steps result.now ≡ self.now.lines }
         ensures fit { AllByRecursion LineFits self.now.lines }
-        ensures within { All (λ line. IsWithin (length self.now.kept) line.shown) result.now }
-        ensures few_steps { All (λ line. length line.trace ≤ 20) result.now }
+        ensures within { All (LineWithin (length self.now.bytes) (length self.now.steps)) result.now }
     {
         &self.lines
     }
 
+    /// The steps of the lines, in the order in which they were told, and those of lines that were replaced.
+    pub fn steps(&self) -> &[Step]
+        ensures { result.now ≡ self.now.steps }
+    {
+        &self.steps
+    }
+
     /// The bytes that the lines show, in the order in which they were told, and those of lines that were replaced.
     pub fn bytes(&self) -> &[u8]
-        ensures { result.now ≡ self.now.kept }
+        ensures { result.now ≡ self.now.bytes }
     {
         &self.bytes
     }

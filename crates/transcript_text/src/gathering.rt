@@ -8,30 +8,19 @@ ghost use Rattle.transcript_text.specs.Shows.{IsShort};
 
 use crate::gathered::CallerLines;
 use crate::line::ReadLine;
-use crate::shown::Shows;
 use crate::transcript::Transcript;
-use key_names::Data;
 use std::alloc::{AllocError, Global};
 use std::mem;
 
 /// One more line of a caller.
-fn push_read(lines: &mut CallerLines, read: ReadLine) -> Result<(), AllocError>
-    requires fits { LineFits (seen_read read) }
-    requires short { IsShort read.shows }
-    ensures { OnOk result (lines.new.lines ≡ lines.old.lines ++ seen_read read ∷ []) }
+fn push_read(lines: &mut CallerLines, read: &ReadLine) -> Result<(), AllocError>
+    requires fits { LineFits (seen_read read.now) }
+    requires short { IsShort read.now.shows }
+    ensures { OnOk result (lines.new.lines ≡ lines.old.lines ++ seen_read read.now ∷ []) }
 {
-    let ReadLine { mut line, shows } = read;
-    match shows {
-        Shows::Bytes(bytes) => {
-            lines.reserve(bytes.len())?;
-            lines.push_showing(line, &bytes);
-        }
-        Shows::Count(number) => {
-            lines.reserve(0)?;
-            line.shown = Data::Count(number);
-            lines.push(line);
-        }
-    }
+    let line = read.view();
+    lines.reserve(line)?;
+    lines.push(line);
     Ok(())
 }
 
@@ -48,7 +37,7 @@ fn go_on_to(
         → Groups (seen_callers done.new.items) current.new.lines lines) }
 {
     while done.len() < caller as usize {
-        let next = CallerLines::with_room(alloc, 0, 0)?;
+        let next = CallerLines::with_room(alloc, 0, 0, 0)?;
         done.push(mem::replace(current, next))?;
     }
     Ok(())
@@ -59,17 +48,17 @@ pub(crate) fn add_line(
     alloc: Global,
     done: &mut Vec<CallerLines>,
     current: &mut CallerLines,
-    read: ReadLine,
+    read: &ReadLine,
 ) -> Result<(), AllocError>
-    requires later { vec_len done.old ≤ (seen_read read).caller }
-    requires fits { LineFits (seen_read read) }
-    requires short { IsShort read.shows }
-    ensures len { OnOk result (vec_len done.new ≡ (seen_read read).caller) }
+    requires later { vec_len done.old ≤ (seen_read read.now).caller }
+    requires fits { LineFits (seen_read read.now) }
+    requires short { IsShort read.now.shows }
+    ensures len { OnOk result (vec_len done.new ≡ (seen_read read.now).caller) }
     ensures some { OnOk result (0 < length current.new.lines) }
     ensures groups { OnOk result ((lines : List SeenLine) → Groups (seen_callers done.old.items) current.old.lines lines
-        → Groups (seen_callers done.new.items) current.new.lines (lines ++ seen_read read ∷ [])) }
+        → Groups (seen_callers done.new.items) current.new.lines (lines ++ seen_read read.now ∷ [])) }
 {
-    go_on_to(alloc, done, current, read.line.caller)?;
+    go_on_to(alloc, done, current, read.caller)?;
     push_read(current, read)
 }
 
@@ -83,7 +72,7 @@ pub(crate) fn finish(
     ensures { IfOk result (λ t. (lines : List SeenLine)
         → Groups (seen_callers done.items) current.lines lines → Gives t lines) }
 {
-    if current.lines().is_empty() {
+    if current.is_empty() {
         return Ok(Transcript::of(done));
     }
     done.push(current)?;

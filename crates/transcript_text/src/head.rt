@@ -5,7 +5,8 @@ ghost use Rattle.transcript_text.specs.Heads.{head_text};
 
 use crate::fields::{answer_name, word_name};
 use crate::piece::Piece;
-use key_names::{LaneId, Line, Step, Trace};
+use crate::view::LineView;
+use key_names::{LaneId, Step};
 
 #[tactic(auto, unfolding(key_names::specs::TranscriptGrammar::lane_text))]
 fn append_lane(piece: &mut Piece, lane: LaneId)
@@ -45,29 +46,30 @@ fn append_step(piece: &mut Piece, step: Step)
 }
 
 /// The steps, with commas between them.
-fn append_steps(piece: &mut Piece, trace: &Trace)
+fn append_steps(piece: &mut Piece, steps: &[Step])
     requires room { length piece.old ≤ 1024 }
-    requires few { length trace.now ≤ 20 }
-    ensures text { piece.new ≡ piece.old ++ steps_text trace.now }
+    requires few { length steps.now ≤ 20 }
+    ensures text { piece.new ≡ piece.old ++ steps_text steps.now }
     ensures short { length piece.new ≤ length piece.old + 1280 }
 {
-    if trace.len() == 0 {
+    let Some((first, rest)) = steps.split_first() else {
         piece.push(b'-');
         return;
-    }
-    append_step(piece, trace.get(0));
-    for i in 1..trace.len() {
+    };
+    append_step(piece, *first);
+    for step in rest {
         piece.push(b',');
-        append_step(piece, trace.get(i));
+        append_step(piece, *step);
     }
 }
 
 /// The line up to the space before its data.
 #[tactic(auto, unfolding(crate::specs::Heads::head_text))]
-pub(crate) fn append_head(piece: &mut Piece, line: &Line)
+pub(crate) fn append_head(piece: &mut Piece, line: LineView<'_>)
     requires room { piece.old ≡ [] }
-    requires few { length line.now.trace ≤ 20 }
-    ensures text { piece.new ≡ head_text line.now.caller line.now.event line.now.word line.now.answer line.now.trace }
+    requires few { length line.steps.now ≤ 20 }
+    ensures text { piece.new ≡ head_text line.entry.caller line.entry.event line.entry.word line.entry.answer
+        line.entry.steps.now }
     ensures short { length piece.new ≤ 1400 }
 {
     piece.append_number(line.caller as u64);
@@ -78,6 +80,6 @@ pub(crate) fn append_head(piece: &mut Piece, line: &Line)
     piece.push(b' ');
     piece.append(answer_name(line.answer));
     piece.push(b' ');
-    append_steps(piece, &line.trace);
+    append_steps(piece, line.steps);
     piece.push(b' ');
 }

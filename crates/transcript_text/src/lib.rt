@@ -19,10 +19,12 @@ mod steps;
 #[cfg(test)]
 mod tests;
 mod transcript;
+mod view;
 mod writing;
 
 pub use error::TextError;
 pub use gathered::CallerLines;
 pub use reading::read;
 pub use transcript::Transcript;
+pub use view::{LineView, Shown};
 pub use writing::write_all;

@@ -4,12 +4,15 @@ ghost use Rattle.std.specs.Option.{option_map};
 ghost use Rattle.key_names.specs.TranscriptGrammar.{line_text, LineFits};
 ghost use Rattle.transcript_text.specs.ReadLines.{IsSplit, numbers_text, NumbersFit, seen_read};
 ghost use Rattle.transcript_text.specs.Reading.{Reads};
+ghost use Rattle.transcript_text.specs.Shows.{bytes_read};
+ghost use Rattle.transcript_text.specs.Views.{bytes_of, seen};
 
 use crate::cuts::{cut, number_below};
 use crate::names::{answer_of, word_of};
 use crate::shown::{Shows, shown_of};
 use crate::steps::steps_of;
-use key_names::{Data, Line};
+use crate::view::LineView;
+use key_names::{Answer, Trace, Word};
 use std::alloc::{AllocError, Global};
 
 /// The caller's and the event's number.
@@ -29,11 +32,32 @@ struct Fields<'a> {
     shown: &'a [u8],
 }
 
-/// A line, and what it shows.
+/// A line as it was read.
 #[derive(Drop)]
 pub(crate) struct ReadLine {
-    pub(crate) line: Line,
+    pub(crate) caller: u32,
+    pub(crate) event: u32,
+    pub(crate) word: Word,
+    pub(crate) answer: Answer,
+    pub(crate) trace: Trace,
     pub(crate) shows: Shows,
+}
+
+impl ReadLine {
+    /// The line.
+    pub(crate) fn view(&self) -> LineView<'_>
+        ensures line { seen result ≡ seen_read self.now }
+        ensures bytes { bytes_of result.shown ≡ bytes_read self.now.shows }
+    {
+        LineView {
+            caller: self.caller,
+            event: self.event,
+            word: self.word,
+            answer: self.answer,
+            steps: self.trace.steps(),
+            shown: self.shows.view(),
+        }
+    }
 }
 
 fn numbers_of(text: &[u8]) -> Option<Numbers>
@@ -87,13 +111,12 @@ pub(crate) fn line_of(alloc: Global, text: &[u8]) -> Result<Option<ReadLine>, Al
     let Some(shows) = shown_of(alloc, word, fields.shown)? else {
         return Ok(None);
     };
-    let line = Line {
+    Ok(Some(ReadLine {
         caller: numbers.caller,
         event: numbers.event,
         word,
         answer,
         trace,
-        shown: Data::None,
-    };
-    Ok(Some(ReadLine { line, shows }))
+        shows,
+    }))
 }

@@ -32,13 +32,13 @@ fn take_line(
     let Some(read) = line_of(alloc, text)? else {
         return Ok(false);
     };
-    if read.line.caller >= MOST_CALLERS {
+    if read.caller >= MOST_CALLERS {
         return Ok(false);
     }
-    if (read.line.caller as usize) < done.len() {
+    if (read.caller as usize) < done.len() {
         return Ok(false);
     }
-    add_line(alloc, done, current, read)?;
+    add_line(alloc, done, current, &read)?;
     Ok(true)
 }
 
@@ -53,7 +53,7 @@ fn read_text(alloc: Global, text: &[u8]) -> Result<Transcript, TextError>
         return Err(TextError::Fault { line: 1 });
     }
     let mut done = Vec::new(alloc);
-    let mut current = CallerLines::with_room(alloc, 0, 0)?;
+    let mut current = CallerLines::with_room(alloc, 0, 0, 0)?;
     let mut rest = behind;
     let mut number = 1;
     while let Some((line, behind)) = cut(b'\n', rest) {

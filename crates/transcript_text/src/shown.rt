@@ -4,9 +4,11 @@ ghost use Rattle.std.specs.Option.{option_map};
 ghost use Rattle.key_names.specs.declared.events.Word.TheVariants.{Bits};
 ghost use Rattle.key_names.specs.TranscriptGrammar.{shown_text, ShownFits};
 ghost use Rattle.transcript_text.specs.Reading.{Reads};
-ghost use Rattle.transcript_text.specs.Shows.{seen_shows};
+ghost use Rattle.transcript_text.specs.Shows.{bytes_read, seen_shows};
+ghost use Rattle.transcript_text.specs.Views.{bytes_of, seen_shown};
 
 use crate::cuts::{number_below, spells};
+use crate::view::Shown;
 use key_names::Word;
 use key_names::hexes::bytes_of;
 use std::alloc::{AllocError, Global};
@@ -16,6 +18,19 @@ use std::alloc::{AllocError, Global};
 pub(crate) enum Shows {
     Bytes(Vec<u8>),
     Count(u32),
+}
+
+impl Shows {
+    /// The same by reference.
+    pub(crate) fn view(&self) -> Shown<'_>
+        ensures shown { seen_shown result ≡ seen_shows self.now }
+        ensures bytes { bytes_of result ≡ bytes_read self.now }
+    {
+        match self {
+            Shows::Bytes(bytes) => Shown::Bytes(bytes),
+            Shows::Count(number) => Shown::Count(*number),
+        }
+    }
 }
 
 fn is_bits(word: Word) -> bool

@@ -1,12 +1,12 @@
 //! Published texts, lines built by hand, sinks that take little at a time or fail, and each fault once.
 ghost use Rattle.std.specs.Prelude.{◌≡◌, ◌+◌, ◌-◌, ◌<◌, ◌≤◌, ◌^◌, [], length};
 ghost use Rattle.std.specs.List.{AllByRecursion};
-ghost use Rattle.key_names.specs.SeenLine.{shown_in};
 ghost use Rattle.key_names.specs.TranscriptGrammar.{ShownFits, StepFits};
+ghost use Rattle.transcript_text.specs.Views.{bytes_of, seen, seen_shown};
 
-use crate::{CallerLines, TextError, Transcript, read, write_all};
+use crate::{CallerLines, LineView, Shown, TextError, Transcript, read, write_all};
 use io_edges::{Failed, MemSink, Sink};
-use key_names::{Answer, Data, LaneId, Line, Mark, Step, Trace, Word};
+use key_names::{Answer, Data, LaneId, Mark, Step, Word};
 use std::alloc::{AllocError, Global};
 use std::process::Abort;
 use std::test::Fail;
@@ -41,47 +41,41 @@ fn visit(lane: LaneId, place: u64, stamp: u64) -> Step
     Step::Visit(Mark { lane, place, stamp })
 }
 
-fn traced(steps: &[Step]) -> Trace
-    requires { length steps.now ≤ 20 }
-    ensures { result ≡ steps.now }
-{
-    let mut trace = Trace::empty();
-    for step in steps {
-        trace.push(*step);
-    }
-    trace
-}
-
-/// One more line of caller 0.
+/// One more line of caller 0, which shows no bytes.
 fn push(
     lines: &mut CallerLines,
     event: u32,
     word: Word,
     answer: Answer,
     steps: &[Step],
-    shown: Data,
+    shown: Shown<'_>,
 )
-    requires room { 0 < lines.old.line_room }
+    requires line_room { 0 < lines.old.line_room }
+    requires step_room { length steps.now ≤ lines.old.step_room }
     requires few { length steps.now ≤ 20 }
     requires steps { AllByRecursion StepFits steps.now }
-    requires shown { ShownFits word (shown_in [] shown) }
-    ensures room { lines.new.line_room + 1 ≡ lines.old.line_room }
+    requires shown { ShownFits word (seen_shown shown) }
+    requires no_bytes { bytes_of shown ≡ [] }
+    ensures line_room { lines.new.line_room + 1 ≡ lines.old.line_room }
+    ensures step_room { lines.old.step_room ≤ lines.new.step_room + length steps.now }
     ensures count { length lines.new.lines ≡ length lines.old.lines + 1 }
 {
-    lines.push(Line {
+    lines.push(LineView {
         caller: 0,
         event,
         word,
         answer,
-        trace: traced(steps),
+        steps,
         shown,
     });
 }
 
 /// The first four lines of the published text.
 fn first_lines(lines: &mut CallerLines)
-    requires { 4 ≤ lines.old.line_room }
-    ensures room { lines.new.line_room + 4 ≡ lines.old.line_room }
+    requires line_room { 4 ≤ lines.old.line_room }
+    requires step_room { 4 ≤ lines.old.step_room }
+    ensures line_room { lines.new.line_room + 4 ≡ lines.old.line_room }
+    ensures step_room { lines.old.step_room ≤ lines.new.step_room + 4 }
 {
     push(
         lines,
@@ -89,10 +83,10 @@ fn first_lines(lines: &mut CallerLines)
         Word::Read,
         Answer::Again,
         &[Step::Look(0)],
-        Data::None,
+        Shown::None,
     );
-    push(lines, 1, Word::Read, Answer::Invalid, &[], Data::None);
-    push(lines, 2, Word::Read, Answer::Invalid, &[], Data::None);
+    push(lines, 1, Word::Read, Answer::Invalid, &[], Shown::None);
+    push(lines, 2, Word::Read, Answer::Invalid, &[], Shown::None);
     let waits = [
         Step::Look(0),
         visit(LaneId::Base, 0, 1),
@@ -104,13 +98,14 @@ fn first_lines(lines: &mut CallerLines)
         Word::Read,
         Answer::Interrupted,
         &waits,
-        Data::None,
+        Shown::None,
     );
 }
 
 /// The other five.
 fn last_lines(lines: &mut CallerLines)
-    requires { 5 ≤ lines.old.line_room }
+    requires line_room { 5 ≤ lines.old.line_room }
+    requires step_room { 5 ≤ lines.old.step_room }
     ensures some { 0 < length lines.new.lines }
 {
     push(
@@ -119,7 +114,7 @@ fn last_lines(lines: &mut CallerLines)
         Word::Reseed,
         Answer::NoData,
         &[Step::Look(0)],
-        Data::None,
+        Shown::None,
     );
     push(
         lines,
@@ -127,7 +122,7 @@ fn last_lines(lines: &mut CallerLines)
         Word::Bits,
         Answer::Ok,
         &[visit(LaneId::Pool, 0, 3)],
-        Data::Count(0),
+        Shown::Count(0),
     );
     push(
         lines,
@@ -135,7 +130,7 @@ fn last_lines(lines: &mut CallerLines)
         Word::Credit,
         Answer::Ok,
         &[visit(LaneId::Pool, 1, 4)],
-        Data::None,
+        Shown::None,
     );
     push(
         lines,
@@ -143,7 +138,7 @@ fn last_lines(lines: &mut CallerLines)
         Word::Bits,
         Answer::Ok,
         &[visit(LaneId::Pool, 2, 5)],
-        Data::Count(100),
+        Shown::Count(100),
     );
     push(
         lines,
@@ -151,12 +146,12 @@ fn last_lines(lines: &mut CallerLines)
         Word::End,
         Answer::Ok,
         &[visit(LaneId::Base, 2, 6)],
-        Data::None,
+        Shown::None,
     );
 }
 
 fn by_hand(alloc: Global) -> Result<Transcript, AllocError> {
-    let mut lines = CallerLines::with_room(alloc, 9, 0)?;
+    let mut lines = CallerLines::with_room(alloc, 9, 9, 0)?;
     first_lines(&mut lines);
     last_lines(&mut lines);
     let mut callers = Vec::new(alloc);
@@ -209,11 +204,17 @@ struct Pieces {
 }
 
 impl Sink for Pieces {
-    ghost use Rattle.std.specs.Prelude.{None};
+    ghost use Rattle.std.specs.Prelude.{[], None};
 
     ghost held = { λ _. None };
 
+    ghost kept_back = { λ _. [] };
+
     ghost faults = { λ _. 0 };
+
+    fn flush(&mut self) -> Result<(), Failed> {
+        Ok(())
+    }
 
     fn put(&mut self, piece: &[u8]) -> Result<usize, Failed> {
         self.puts = self.puts.saturating_add(1);
@@ -224,31 +225,32 @@ impl Sink for Pieces {
 }
 
 /// A line of caller 0 without steps.
-fn plain(event: u32, word: Word, answer: Answer) -> Line
-    ensures { result ≡ record {
+fn plain(event: u32, word: Word, answer: Answer, shown: Shown<'_>) -> LineView<'_>
+    ensures line { seen result ≡ record {
       caller = 0;
       event = event;
       word = word;
       answer = answer;
-      trace = [];
-      shown = Data.None;
+      steps = [];
+      shown = seen_shown shown.entry;
     } }
+    ensures bytes { bytes_of result.shown ≡ bytes_of shown.entry }
 {
-    Line {
+    LineView {
         caller: 0,
         event,
         word,
         answer,
-        trace: Trace::empty(),
-        shown: Data::None,
+        steps: &[],
+        shown,
     }
 }
 
 fn one_read(alloc: Global, bytes: &[u8]) -> Result<Transcript, AllocError>
     requires { (0 < length bytes.now) × (length bytes.now < 2 ^ 32) }
 {
-    let mut lines = CallerLines::with_room(alloc, 1, bytes.len())?;
-    lines.push_showing(plain(0, Word::Read, Answer::Ok), bytes);
+    let mut lines = CallerLines::with_room(alloc, 1, 0, bytes.len())?;
+    lines.push(plain(0, Word::Read, Answer::Ok, Shown::Bytes(bytes)));
     let mut callers = Vec::new(alloc);
     callers.push(lines)?;
     Ok(Transcript::of(callers))
@@ -277,11 +279,14 @@ fn a_long_line_is_put_in_pieces_of_at_most_4096_bytes(rt: HostRuntime) -> Result
 
 #[test]
 fn a_line_is_filled_in_behind_a_later_one(rt: HostRuntime) -> Result<(), Fail> {
-    let mut lines = CallerLines::with_room(rt.alloc(), 3, 7)?;
-    lines.push_showing(plain(0, Word::Read, Answer::Ok), &[1, 2]);
-    lines.push(plain(1, Word::Inside, Answer::Unused));
-    lines.push_showing(plain(2, Word::Vread, Answer::Ok), &[3]);
-    lines.replace_showing(1, plain(1, Word::Inside, Answer::Ok), &[4, 5, 6, 171]);
+    let mut lines = CallerLines::with_room(rt.alloc(), 3, 0, 7)?;
+    lines.push(plain(0, Word::Read, Answer::Ok, Shown::Bytes(&[1, 2])));
+    lines.push(plain(1, Word::Inside, Answer::Unused, Shown::None));
+    lines.push(plain(2, Word::Vread, Answer::Ok, Shown::Bytes(&[3])));
+    lines.replace(
+        1,
+        plain(1, Word::Inside, Answer::Ok, Shown::Bytes(&[4, 5, 6, 171])),
+    );
     assert_eq!(rt; lines.bytes(), [1, 2, 3, 4, 5, 6, 171].as_slice());
     for (number, (start, len)) in [(0, 2), (3, 4), (2, 1)].iter().enumerate() {
         assert_eq!(rt;
@@ -335,11 +340,11 @@ fn the_number_of_bits_is_read(rt: HostRuntime) -> Result<(), Fail> {
         .ok_or("a transcript")?;
     assert_eq!(rt; transcript.callers(), 1);
     let caller = transcript.caller(0);
-    let lines = caller.lines();
-    assert_eq!(rt; lines.len(), 1);
-    assert_eq!(rt; lines[0].shown, Data::Count(7));
-    assert_eq!(rt; lines[0].word, Word::Bits);
-    assert_eq!(rt; lines[0].trace.len(), 1);
+    assert_eq!(rt; caller.len(), 1);
+    let line = caller.line(0);
+    assert_eq!(rt; line.shown, Shown::Count(7));
+    assert_eq!(rt; line.word, Word::Bits);
+    assert_eq!(rt; line.steps, [visit(LaneId::Pool, 0, 1)].as_slice());
     assert_eq!(rt; caller.bytes().len(), 0);
     Ok(())
 }

@@ -45,7 +45,7 @@ impl Transcript {
         self.callers.len() as u32
     }
 
-    /// The lines of a caller, with the bytes that they show.
+    /// The lines of a caller, with their steps and the bytes that they show.
     pub fn caller(&self, caller: u32) -> &CallerLines
         requires { caller < length self.now }
         ensures { result.now.lines ≡ slice_index_or self.now caller [] }

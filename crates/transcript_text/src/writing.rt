@@ -4,17 +4,17 @@ ghost use Rattle.std.specs.Io.KnownBytes.{Appends};
 ghost use Rattle.hex.specs.Hex.{encode_lower};
 ghost use Rattle.io_edges.specs.Faults.{Rose};
 ghost use Rattle.io_edges.specs.Pieces.{AppendsPrefix};
-ghost use Rattle.key_names.specs.SeenLine.{shown_in, seen_line};
 ghost use Rattle.key_names.specs.TranscriptGrammar.{shown_text, line_text, transcript_text};
-ghost use Rattle.transcript_text.specs.Gathered.{IsWithin};
 ghost use Rattle.transcript_text.specs.Lines.{text_of};
 ghost use Rattle.transcript_text.specs.Putting.{PutSoFar};
+ghost use Rattle.transcript_text.specs.Views.{seen, seen_shown};
 
+use crate::gathered::CallerLines;
 use crate::head::append_head;
 use crate::piece::Piece;
 use crate::transcript::Transcript;
+use crate::view::{LineView, Shown};
 use io_edges::{Failed, Sink, put_all};
-use key_names::{Data, Line};
 
 /// Puts the piece, and leaves it empty.
 fn put_piece<K: Sink>(sink: &mut K, piece: &mut Piece) -> Result<(), Failed>
@@ -67,34 +67,25 @@ fn put_hex<K: Sink>(sink: &mut K, piece: &mut Piece, bytes: &[u8]) -> Result<(),
 
 /// Puts what a line shows, and leaves the end of it in the piece.
 #[tactic(auto, using(crate::proofs::PuttingOn::stays), unfolding(key_names::specs::TranscriptGrammar::shown_text))]
-fn put_shown<K: Sink>(
-    sink: &mut K,
-    piece: &mut Piece,
-    shown: Data,
-    bytes: &[u8],
-) -> Result<(), Failed>
+fn put_shown<K: Sink>(sink: &mut K, piece: &mut Piece, shown: Shown<'_>) -> Result<(), Failed>
     requires room { length piece.old ≤ 2048 }
-    requires within { IsWithin (length bytes.now) shown }
     ensures so_far { OnOk result (PutSoFar (K.held sink.old) (K.held sink.new)
-        (piece.old ++ shown_text (shown_in bytes.now shown)) piece.new) }
+        (piece.old ++ shown_text (seen_shown shown.entry)) piece.new) }
     ensures part { OnErr result (AppendsPrefix (K.held sink.old) (K.held sink.new)
-        (piece.old ++ shown_text (shown_in bytes.now shown))) }
+        (piece.old ++ shown_text (seen_shown shown.entry))) }
     ensures cause { OnErr result (Rose (K.faults sink.old) (K.faults sink.new)) }
     ensures never_falls { K.faults sink.old ≤ K.faults sink.new }
 {
     match shown {
-        Data::None => {
-            piece.push(b'-');
-            Ok(())
-        }
-        Data::Bytes { start, len } => {
-            let start = start as usize;
-            put_hex(sink, piece, &bytes[start..start + len as usize])
-        }
-        Data::Count(number) => {
+        Shown::Count(number) => {
             piece.append_number(number as u64);
             Ok(())
         }
+        Shown::None | Shown::Bytes([]) => {
+            piece.push(b'-');
+            Ok(())
+        }
+        Shown::Bytes(bytes) => put_hex(sink, piece, bytes),
     }
 }
 
@@ -111,47 +102,32 @@ fn end_line<K: Sink>(sink: &mut K, piece: &mut Piece) -> Result<(), Failed>
     put_piece(sink, piece)
 }
 
-/// Puts a line of a caller that has these bytes. The piece is empty before and after.
-fn put_line<K: Sink>(
-    sink: &mut K,
-    piece: &mut Piece,
-    line: &Line,
-    bytes: &[u8],
-) -> Result<(), Failed>
+/// Puts a line. The piece is empty before and after.
+fn put_line<K: Sink>(sink: &mut K, piece: &mut Piece, line: LineView<'_>) -> Result<(), Failed>
     requires empty { piece.old ≡ [] }
-    requires within { IsWithin (length bytes.now) line.now.shown }
-    requires few { length line.now.trace ≤ 20 }
-    ensures whole { OnOk result (Appends (K.held sink.old) (K.held sink.new)
-        (line_text (seen_line bytes.now line.now) ++ codes "\n")) }
+    requires few { length line.steps.now ≤ 20 }
+    ensures whole { OnOk result (Appends (K.held sink.old) (K.held sink.new) (line_text (seen line.entry) ++ codes "\n")) }
     ensures emptied { OnOk result (piece.new ≡ []) }
-    ensures prefix { AppendsPrefix (K.held sink.old) (K.held sink.new)
-        (line_text (seen_line bytes.now line.now) ++ codes "\n") }
+    ensures prefix { AppendsPrefix (K.held sink.old) (K.held sink.new) (line_text (seen line.entry) ++ codes "\n") }
     ensures cause { OnErr result (Rose (K.faults sink.old) (K.faults sink.new)) }
     ensures never_falls { K.faults sink.old ≤ K.faults sink.new }
 {
     append_head(piece, line);
-    put_shown(sink, piece, line.shown, bytes)?;
+    put_shown(sink, piece, line.shown)?;
     end_line(sink, piece)
 }
 
 /// Puts the lines of a caller.
-fn put_lines<K: Sink>(
-    sink: &mut K,
-    piece: &mut Piece,
-    lines: &[Line],
-    bytes: &[u8],
-) -> Result<(), Failed>
+fn put_lines<K: Sink>(sink: &mut K, piece: &mut Piece, lines: &CallerLines) -> Result<(), Failed>
     requires empty { piece.old ≡ [] }
-    requires within { All (λ line. IsWithin (length bytes.now) line.shown) lines.now }
-    requires few { All (λ line. length line.trace ≤ 20) lines.now }
-    ensures whole { OnOk result (Appends (K.held sink.old) (K.held sink.new) (text_of bytes.now lines.now)) }
+    ensures whole { OnOk result (Appends (K.held sink.old) (K.held sink.new) (text_of lines.now.lines)) }
     ensures emptied { OnOk result (piece.new ≡ []) }
-    ensures prefix { AppendsPrefix (K.held sink.old) (K.held sink.new) (text_of bytes.now lines.now) }
+    ensures prefix { AppendsPrefix (K.held sink.old) (K.held sink.new) (text_of lines.now.lines) }
     ensures cause { OnErr result (Rose (K.faults sink.old) (K.faults sink.new)) }
     ensures never_falls { K.faults sink.old ≤ K.faults sink.new }
 {
-    for line in lines {
-        put_line(sink, piece, line, bytes)?;
+    for number in 0..lines.len() {
+        put_line(sink, piece, lines.line(number))?;
     }
     Ok(())
 }
@@ -172,8 +148,7 @@ pub fn write_all<K: Sink>(sink: &mut K, transcript: &Transcript) -> Result<(), F
     let mut piece = Piece::empty();
     put_all(sink, b"rngtranscript 1\n")?;
     for number in 0..transcript.callers() {
-        let caller = transcript.caller(number);
-        put_lines(sink, &mut piece, caller.lines(), caller.bytes())?;
+        put_lines(sink, &mut piece, transcript.caller(number))?;
     }
     put_all(sink, b"end\n")
 }

@@ -4,39 +4,30 @@ use Rattle.key_names.specs.Keystream.{keystream}
 use Rattle.key_names.specs.VgetrandomState.{VgetrandomState}
 use Rattle.key_names.specs.BatchCopy.{state_of_same_batch, state_of_new_batch}
 use Rattle.key_names.proofs.Keystreams.{keystream-append, take-keystream}
-use Rattle.chacha_blocks.proofs.Pieces.{part_of}
 
--- whole blocks, and of the two behind them a batch and a key
-pub record Made (key : List ℕ) (c n : ℕ) (blocks two batch next_key : List ℕ) : Type 0 where
-  pub blocks_at : blocks ≡ keystream key (64 * c) (n / 64 * 64)
-  pub two_at : two ≡ keystream key (64 * (c + n / 64)) 128
-  pub batch_is : batch ≡ take 96 two
-  pub key_is : next_key ≡ take 32 (drop 96 two)
+-- a state with a new batch and the next key, of which nothing is served yet
+abbrev pub refilled : VgetrandomState → ℕ → VgetrandomState
+refilled s block = record s {
+  batch = keystream s.key (64 * block) 96;
+  key = keystream s.key (64 * block + 96) 32;
+  pos = 0;
+}
 
-module _ (key : List ℕ) (c n : ℕ) (blocks two batch next_key : List ℕ) (made : Made key c n blocks two batch next_key)
-  where
-    batch_at : batch ≡ keystream key (64 * (c + n / 64)) 96
-    batch_at = part_of key two batch (64 * (c + n / 64)) 128 0 96 _ made.two_at made.batch_is (omega arith) (omega arith)
+-- some of a new batch being served
+pub state_at : (s refilled_state t : VgetrandomState) (block r m : ℕ) → refilled_state ≡ refilled s block → m ≡ r →
+    t ≡ state_of_same_batch refilled_state m → t ≡ state_of_new_batch s block r
+state_at s u t block r m new same is = let sum : 0 + r ≡ r = omega arith in rw (is, new, same, sum) refl
 
-    key_at : next_key ≡ keystream key (64 * (c + n / 64) + 96) 32
-    key_at = part_of key two next_key (64 * (c + n / 64)) 128 96 32 _ made.two_at made.key_is (omega arith) refl
-
-    -- the blocks and the front of the batch are one piece
-    pub bytes_at : (front : List ℕ) → front ≡ take (n % 64) (drop 0 batch) → blocks ++ front ≡ keystream key (64 * c) n
-    bytes_at front is =
-        let within : n % 64 ≤ 96 = omega arith in
-        let all : n / 64 * 64 + n % 64 ≡ n = omega arith in
-        let place : 64 * (c + n / 64) ≡ 64 * c + n / 64 * 64 = omega arith in
-        let front_at : front ≡ keystream key (64 * c + n / 64 * 64) (n % 64) =
-        is ∙ ap (take (n % 64)) batch_at ∙ take-keystream key (64 * (c + n / 64)) 96 (n % 64) within
-        ∙ ap (λ q. keystream key q (n % 64)) place in
-        rw (made.blocks_at, front_at) (keystream-append key (64 * c) (n / 64 * 64) (64 * c + n / 64 * 64) (n % 64) n all
-        (λ some. refl))
-
-    -- the state after the front of the new batch was copied
-    pub state_at : (s t : VgetrandomState) → s.key ≡ key →
-        t ≡ state_of_same_batch (record s { batch = batch; key = next_key; pos = 0 }) (n % 64) →
-        t ≡ state_of_new_batch s (c + n / 64) (n % 64)
-    state_at s t same is =
-        let sum : 0 + n % 64 ≡ n % 64 = omega arith in
-        rw (is, batch_at, key_at, sum, same) refl
+-- whole blocks and the front of the new batch are one piece
+pub bytes_at : (key : List ℕ) (c n : ℕ) (blocks batch front : List ℕ) →
+    blocks ≡ keystream key (64 * c) (n / 64 * 64) → batch ≡ keystream key (64 * (c + n / 64)) 96 →
+    front ≡ take (n % 64) (drop 0 batch) → blocks ++ front ≡ keystream key (64 * c) n
+bytes_at key c n blocks batch front blocks_at batch_at is =
+    let within : n % 64 ≤ 96 = omega arith in
+    let all : n / 64 * 64 + n % 64 ≡ n = omega arith in
+    let place : 64 * (c + n / 64) ≡ 64 * c + n / 64 * 64 = omega arith in
+    let front_at : front ≡ keystream key (64 * c + n / 64 * 64) (n % 64) =
+    is ∙ ap (take (n % 64)) batch_at ∙ take-keystream key (64 * (c + n / 64)) 96 (n % 64) within
+    ∙ ap (λ q. keystream key q (n % 64)) place in
+    rw (blocks_at, front_at) (keystream-append key (64 * c) (n / 64 * 64) (64 * c + n / 64 * 64) (n % 64) n all
+    (λ some. refl))

@@ -1,3 +1,4 @@
 mod Copies
-mod Tries
-mod Runs
+pub mod Leading
+mod Stepping
+mod Calling

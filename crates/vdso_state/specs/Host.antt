@@ -3,6 +3,7 @@ use Rattle.std.specs.Prelude.{ℕ, ◌≡◌, Bool, Ok, Err, Result, List, [], �
 use Rattle.key_names.specs.declared.errno.Errno.{Errno}
 use Rattle.key_names.specs.declared.point.Point.{Point}
 use Rattle.key_names.specs.Vgetrandom.{SystemAnswer, read, failed, HostStep, publishes, system_call, at_point}
+use Rattle.key_names.specs.VgetrandomState.{VgetrandomState}
 
 -- how a host says what it did: what it published; what it answered a system call of some bytes with some flags; and
 -- whether it wiped the state at a point. Each relates the host before, what it was given and did, and the host after
@@ -30,3 +31,9 @@ abbrev pub doings : {H : Type 0} → (H → ℕ → H → Type 0) → (H → ℕ
     (H → Point → Bool → H → Type 0) → Doings H
 doings publishes_as answers_as passes_as =
     record { publishes_as = publishes_as; answers_as = answers_as; passes_as = passes_as }
+
+-- the state after the system call for a new key: what stands in the key after an error is not said
+abbrev pub KeyIsRead : SystemAnswer → Result (Unit {0}) Errno → VgetrandomState → VgetrandomState → Type 0
+KeyIsRead (read key visit) result before after = (result ≡ Ok tt) × (after ≡ record before { key = key; pos = 96 })
+KeyIsRead (failed errno) result before after =
+    (result ≡ Err errno) × ((key : List ℕ) × (after ≡ record before { key = key; generation = 0 }))

@@ -1,4 +1,5 @@
 pub mod Host
-pub mod Tried
 pub mod Call
+pub mod Turns
+pub mod Places
 pub mod Local

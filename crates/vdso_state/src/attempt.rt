@@ -1,62 +1,75 @@
-//! One attempt of a call: the key is made current, the bytes are copied, and the generation is looked at again. Each
-//! `from_..` is the rest of an attempt behind one of its points.
+//! The steps of a call from one of its points to the next one.
 
-ghost use Rattle.std.specs.Prelude.{◌≡◌, ◌+◌, ◌^◌, ◌≤◌, ℕ, length};
-ghost use Rattle.key_names.specs.Vgetrandom.{SystemAnswer, FromServe, FromWritten, FromStart, IsAttempt};
-ghost use Rattle.vdso_state.specs.Host.{doings};
-ghost use Rattle.vdso_state.specs.Tried.{Tries, KeyIsRead, end_of, end_for};
+ghost use Rattle.std.specs.Prelude.{◌≡◌, ◌≢◌, ◌+◌, ◌^◌, ◌<◌, ◌≤◌, length};
+ghost use Rattle.key_names.specs.declared.point.Point.TheVariants.{Written, Serve, End};
+ghost use Rattle.key_names.specs.BatchCopy.{copy_bytes, state_after_copy, block_after_copy};
+ghost use Rattle.key_names.specs.Vgetrandom.{SystemAnswer, BySystem, FromWritten, FromEnd, state_after_call};
+ghost use Rattle.vdso_state.specs.Host.{KeyIsRead, doings};
+ghost use Rattle.vdso_state.specs.Turns.{points_for, turn_number};
+ghost use Rattle.vdso_state.specs.Places.{RestOf, BehindPlace, Ends, CameTo, MayGoOn, MayFinish, points_ahead};
 
 use crate::host::VHost;
+use crate::outcome::VEnd;
+use crate::place::{Came, Place, Turn};
 use crate::state::VState;
 use key_names::{Errno, Point};
 
-/// How an attempt ended.
-#[derive(Clone, Copy, Debug, PartialEq, Eq)]
-pub enum Ended {
-    /// The generation that was published in the end is the state's: the bytes may be given out.
-    Holds,
-    /// It is another one: the state was wiped, or the core was reseeded.
-    Outdated,
-    /// The system call for a new key failed.
-    NotKeyed,
-}
-
-/// Whether the generation that is published now is still the state's.
-pub fn look_again<H: VHost>(host: &mut H, st: &VState) -> Ended
-    requires { 1 ≤ H.looks_left host.old }
-    ensures ends { (published : ℕ) × (end_of result ≡ end_for published st.now)
-        × H.publishes host.old published host.new }
-    ensures looks { H.looks_left host.old ≡ H.looks_left host.new + 1 }
-    ensures calls { H.calls_left host.new ≡ H.calls_left host.old }
+/// Leaves the whole buffer to the system call.
+///
+/// # Errors
+///
+/// The error of the system call. The buffer is then unspecified.
+pub(crate) fn ask_system<H: VHost>(
+    host: &mut H,
+    st: &VState,
+    buf: &mut [u8],
+    flags: u32,
+) -> Result<VEnd, Errno>
+    requires calls { 1 ≤ H.calls_left host.old }
+    requires short { length buf.old ≤ 2 ^ 20 }
+    ensures { Ends (doings H.publishes H.answers H.passes) H.floor (BySystem (length buf.old) flags st.now)
+        host.old host.new (record { state = st.now; result = result; buf = buf.new }) }
 {
-    if host.published() == st.generation() {
-        Ended::Holds
-    } else {
-        Ended::Outdated
+    match host.getrandom(buf, flags) {
+        Ok(()) => Ok(VEnd::System),
+        Err(errno) => Err(errno),
     }
 }
 
-/// Behind the point Serve: copies bytes over all of `buf`, and looks at the generation again.
-pub fn from_serve<H: VHost>(
+/// Leaves the state, and the whole buffer to the system call.
+///
+/// # Errors
+///
+/// The error of the system call. The buffer is then unspecified.
+fn give_up<H: VHost>(
     host: &mut H,
     st: &mut VState,
-    next_block: &mut u64,
     buf: &mut [u8],
-) -> Ended
-    requires looks { 1 ≤ H.looks_left host.old }
-    requires near { next_block.old ≤ 2 ^ 20 }
+    flags: u32,
+) -> Result<VEnd, Errno>
+    requires calls { 1 ≤ H.calls_left host.old }
     requires short { length buf.old ≤ 2 ^ 20 }
-    ensures tries { Tries (doings H.publishes H.answers H.passes)
-        (FromServe (length buf.old) next_block.old st.old)
-        host.old host.new
-        (record { state = st.new; next_block = next_block.new; ended = result; buf = buf.new }) }
-    ensures near { next_block.new ≤ next_block.old + 2 ^ 14 + 2 }
-    ensures looks { H.looks_left host.old ≡ H.looks_left host.new + 1 }
-    ensures calls { H.calls_left host.new ≡ H.calls_left host.old }
+    ensures { Ends (doings H.publishes H.answers H.passes) H.floor
+        (BySystem (length buf.old) flags (state_after_call st.old))
+        host.old host.new (record { state = st.new; result = result; buf = buf.new }) }
 {
-    *next_block = st.copy(*next_block, buf);
-    host.at(Point::End, st);
-    look_again(host, st)
+    st.leave();
+    ask_system(host, st, buf, flags)
+}
+
+/// A state of another generation than the published one takes it, and then a new key.
+fn behind_start(st: &mut VState, place: Place) -> Place
+    ensures current { st.old.generation ≡ place.published →
+        (st.new ≡ st.old) × (result ≡ record place { point = Serve }) }
+    ensures other { st.old.generation ≢ place.published →
+        (st.new ≡ record st.old { generation = place.published }) × (result ≡ record place { point = Written }) }
+{
+    if st.generation() == place.published {
+        place.at(Point::Serve)
+    } else {
+        st.begin_generation(place.published);
+        place.at(Point::Written)
+    }
 }
 
 /// Reads a new key by the system call. Where that fails, the state has no generation.
@@ -64,6 +77,7 @@ fn read_key<H: VHost>(host: &mut H, st: &mut VState) -> Result<(), Errno>
     requires calls { 1 ≤ H.calls_left host.old }
     ensures reads { (answer : SystemAnswer) × KeyIsRead answer result st.old st.new
         × H.answers host.old 32 0 answer host.new }
+    ensures floor { H.floor host.old ≤ H.floor host.new }
     ensures looks { H.looks_left host.new ≡ H.looks_left host.old }
     ensures calls { H.calls_left host.old ≡ H.calls_left host.new + 1 }
 {
@@ -79,85 +93,106 @@ fn read_key<H: VHost>(host: &mut H, st: &mut VState) -> Result<(), Errno>
     }
 }
 
-/// Behind the point Written: reads a new key for the generation that the state has, and goes on.
-pub fn from_written<H: VHost>(
+/// Reads a new key for the generation that the state has.
+fn behind_written<H: VHost>(
     host: &mut H,
     st: &mut VState,
-    next_block: &mut u64,
+    place: Place,
     buf: &mut [u8],
-) -> Ended
-    requires looks { 1 ≤ H.looks_left host.old }
-    requires calls { 1 ≤ H.calls_left host.old }
-    requires near { next_block.old ≤ 2 ^ 20 }
+    flags: u32,
+) -> Came
+    requires point { place.point ≡ Written }
+    requires may { MayGoOn place (H.looks_left host.old) (H.calls_left host.old) (H.floor host.old) }
     requires short { length buf.old ≤ 2 ^ 20 }
-    ensures tries { Tries (doings H.publishes H.answers H.passes)
-        (FromWritten (length buf.old) next_block.old st.old)
-        host.old host.new
-        (record { state = st.new; next_block = next_block.new; ended = result; buf = buf.new }) }
-    ensures near { next_block.new ≤ next_block.old + 2 ^ 14 + 2 }
-    ensures looks { H.looks_left host.old ≤ H.looks_left host.new + 1 }
-    ensures calls { H.calls_left host.old ≤ H.calls_left host.new + 1 }
+    ensures came { CameTo (doings H.publishes H.answers H.passes) H.floor
+        (RestOf place.turn (length buf.old) flags (FromWritten (length buf.old) place.next_block st.old))
+        (length buf.old) flags result host.old host.new st.new buf.new }
+    ensures may { MayFinish result (turn_number place.turn)
+        (H.looks_left host.new) (H.calls_left host.new) (H.floor host.new) }
+    ensures ahead { points_ahead result < points_for place.turn place.point }
 {
     match read_key(host, st) {
-        Ok(()) => {
-            host.at(Point::Serve, st);
-            from_serve(host, st, next_block, buf)
-        }
-        Err(_) => Ended::NotKeyed,
+        Ok(()) => Came::At(place.at(Point::Serve)),
+        Err(_) => Came::Ended(give_up(host, st, buf, flags)),
     }
 }
 
-/// Behind the point Start: a state of another generation than the published one takes it, and then a new key.
-pub fn from_start<H: VHost>(
-    host: &mut H,
-    st: &mut VState,
-    published: u64,
-    next_block: &mut u64,
-    buf: &mut [u8],
-) -> Ended
-    requires looks { 1 ≤ H.looks_left host.old }
-    requires calls { 1 ≤ H.calls_left host.old }
-    requires near { next_block.old ≤ 2 ^ 20 }
+/// Copies bytes over all of `buf`.
+fn behind_serve(st: &mut VState, place: Place, buf: &mut [u8]) -> Place
+    requires near { place.next_block ≤ 2 ^ 20 }
     requires short { length buf.old ≤ 2 ^ 20 }
-    ensures tries { Tries (doings H.publishes H.answers H.passes)
-        (FromStart (length buf.old) next_block.old published st.old)
-        host.old host.new
-        (record { state = st.new; next_block = next_block.new; ended = result; buf = buf.new }) }
-    ensures near { next_block.new ≤ next_block.old + 2 ^ 14 + 2 }
-    ensures looks { H.looks_left host.old ≤ H.looks_left host.new + 1 }
-    ensures calls { H.calls_left host.old ≤ H.calls_left host.new + 1 }
+    ensures bytes { buf.new ≡ copy_bytes st.old place.next_block (length buf.old) }
+    ensures state { st.new ≡ state_after_copy st.old place.next_block (length buf.old) }
+    ensures place { result ≡ record place {
+      point = End;
+      next_block = block_after_copy st.old place.next_block (length buf.old);
+    } }
+    ensures near { result.next_block ≤ place.next_block + 2 ^ 14 + 2 }
 {
-    if st.generation() == published {
-        host.at(Point::Serve, st);
-        from_serve(host, st, next_block, buf)
-    } else {
-        st.begin_generation(published);
-        host.at(Point::Written, st);
-        from_written(host, st, next_block, buf)
+    let next_block = st.copy(place.next_block, buf);
+    Place {
+        point: Point::End,
+        next_block,
+        ..place
     }
 }
 
-/// One attempt to copy bytes over all of `buf`. The key's next block is `next_block`, which goes on where the attempt
-/// stopped, also where it does not hold: no block is used twice.
-pub fn attempt<H: VHost>(
+/// The bytes may be given out where the generation that is published now is still the state's. Where the state was
+/// wiped or the core reseeded, the second attempt begins, or the system call has to serve.
+fn behind_end<H: VHost>(
     host: &mut H,
     st: &mut VState,
-    next_block: &mut u64,
+    place: Place,
     buf: &mut [u8],
-) -> Ended
-    requires looks { 2 ≤ H.looks_left host.old }
-    requires calls { 1 ≤ H.calls_left host.old }
-    requires near { next_block.old ≤ 2 ^ 20 }
+    flags: u32,
+) -> Came
+    requires point { place.point ≡ End }
+    requires may { MayGoOn place (H.looks_left host.old) (H.calls_left host.old) (H.floor host.old) }
     requires short { length buf.old ≤ 2 ^ 20 }
-    ensures tries { Tries (doings H.publishes H.answers H.passes)
-        (IsAttempt (length buf.old) next_block.old st.old)
-        host.old host.new
-        (record { state = st.new; next_block = next_block.new; ended = result; buf = buf.new }) }
-    ensures near { next_block.new ≤ next_block.old + 2 ^ 14 + 2 }
-    ensures looks { H.looks_left host.old ≤ H.looks_left host.new + 2 }
-    ensures calls { H.calls_left host.old ≤ H.calls_left host.new + 1 }
+    ensures came { CameTo (doings H.publishes H.answers H.passes) H.floor
+        (RestOf place.turn (length buf.old) flags (FromEnd buf.old place.next_block st.old))
+        (length buf.old) flags result host.old host.new st.new buf.new }
+    ensures may { MayFinish result (turn_number place.turn)
+        (H.looks_left host.new) (H.calls_left host.new) (H.floor host.new) }
+    ensures ahead { points_ahead result < points_for place.turn place.point }
 {
     let published = host.published();
-    host.at(Point::Start, st);
-    from_start(host, st, published, next_block, buf)
+    if published == st.generation() {
+        st.leave();
+        return Came::Ended(Ok(VEnd::Batch));
+    }
+    match place.turn {
+        Turn::First => Came::At(Place {
+            turn: Turn::Second,
+            point: Point::Start,
+            published: host.published(),
+            next_block: place.next_block,
+        }),
+        Turn::Second => Came::Ended(give_up(host, st, buf, flags)),
+    }
+}
+
+/// Goes on from where a call stands, behind its point: to the next point, or to the end of the call.
+pub fn behind<H: VHost>(
+    host: &mut H,
+    st: &mut VState,
+    place: Place,
+    buf: &mut [u8],
+    flags: u32,
+) -> Came
+    requires may { MayGoOn place (H.looks_left host.old) (H.calls_left host.old) (H.floor host.old) }
+    requires short { length buf.old ≤ 2 ^ 20 }
+    ensures came { CameTo (doings H.publishes H.answers H.passes) H.floor
+        (BehindPlace (length buf.old) flags place buf.old st.old)
+        (length buf.old) flags result host.old host.new st.new buf.new }
+    ensures may { MayFinish result (turn_number place.turn)
+        (H.looks_left host.new) (H.calls_left host.new) (H.floor host.new) }
+    ensures ahead { points_ahead result < points_for place.turn place.point }
+{
+    match place.point {
+        Point::Start => Came::At(behind_start(st, place)),
+        Point::Written => behind_written(host, st, place, buf, flags),
+        Point::Serve => Came::At(behind_serve(st, place, buf)),
+        Point::End => behind_end(host, st, place, buf, flags),
+    }
 }

@@ -1,89 +1,77 @@
 //! The call vgetrandom, for any host.
 
-ghost use Rattle.std.specs.Prelude.{◌≡◌, ◌+◌, ◌^◌, ◌≤◌, true, length};
-ghost use Rattle.key_names.specs.Vgetrandom.{IsCall, BySystem, SecondAttempt, FirstAttempt};
+ghost use Rattle.std.specs.Prelude.{◌≡◌, ◌^◌, ◌≤◌, length};
+ghost use Rattle.key_names.specs.Vgetrandom.{IsCall};
 ghost use Rattle.vdso_state.specs.Host.{doings};
-ghost use Rattle.vdso_state.specs.Call.{Runs};
+ghost use Rattle.vdso_state.specs.Places.{BehindPlace, Ends, CameTo, MayGoOn, MayFinish};
 
-use crate::attempt::{Ended, attempt};
+use crate::attempt::{ask_system, behind};
 use crate::host::VHost;
 use crate::outcome::VEnd;
+use crate::place::{Came, Place, Turn};
 use crate::state::VState;
-use key_names::{Errno, flags};
+use key_names::{Errno, Point, flags};
 
-/// Leaves the whole buffer to the system call.
+/// Begins a call: it stands at its first point, or is over where no attempt is made.
 ///
-/// # Errors
-///
-/// The error of the system call. The buffer is then unspecified.
-pub fn ask_system<H: VHost>(
-    host: &mut H,
-    st: &VState,
-    buf: &mut [u8],
-    flags: u32,
-) -> Result<VEnd, Errno>
-    requires calls { 1 ≤ H.calls_left host.old }
+/// Needs 5 looks and 3 system calls of the host, and a buffer of at most 2^20 bytes.
+pub fn begin<H: VHost>(host: &mut H, st: &mut VState, buf: &mut [u8], flags: u32) -> Came
+    requires looks { 5 ≤ H.looks_left host.old }
+    requires calls { 3 ≤ H.calls_left host.old }
     requires short { length buf.old ≤ 2 ^ 20 }
-    ensures { Runs (doings H.publishes H.answers H.passes) (BySystem (length buf.old) flags st.now)
-        host.old host.new (record { state = st.now; result = result; buf = buf.new }) }
+    ensures came { CameTo (doings H.publishes H.answers H.passes) H.floor (IsCall (length buf.old) flags st.old)
+        (length buf.old) flags result host.old host.new st.new buf.new }
+    ensures may { MayFinish result 0 (H.looks_left host.new) (H.calls_left host.new) (H.floor host.new) }
 {
-    match host.getrandom(buf, flags) {
-        Ok(()) => Ok(VEnd::System),
-        Err(errno) => Err(errno),
+    if flags::are_bad(flags) {
+        return Came::Ended(ask_system(host, st, buf, flags));
     }
+    if host.published() == 0 {
+        return Came::Ended(ask_system(host, st, buf, flags));
+    }
+    if buf.is_empty() {
+        return Came::Ended(Ok(VEnd::Zero));
+    }
+    if st.is_in_use() {
+        return Came::Ended(ask_system(host, st, buf, flags));
+    }
+    st.enter();
+    Came::At(Place {
+        turn: Turn::First,
+        point: Point::Start,
+        published: host.published(),
+        next_block: 0,
+    })
 }
 
-/// The second attempt, whose first block is `next_block`, and the system call where it does not hold either.
+/// Ends a call from where it stands, behind the point there.
+///
+/// Needs a buffer of at most 2^20 bytes.
 ///
 /// # Errors
 ///
 /// The error of the last system call. The buffer is then unspecified.
-pub fn try_again<H: VHost>(
+pub fn finish<H: VHost>(
     host: &mut H,
     st: &mut VState,
-    next_block: u64,
+    place: Place,
     buf: &mut [u8],
     flags: u32,
 ) -> Result<VEnd, Errno>
-    requires looks { 2 ≤ H.looks_left host.old }
-    requires calls { 2 ≤ H.calls_left host.old }
-    requires near { next_block ≤ 2 ^ 20 }
+    requires may { MayGoOn place (H.looks_left host.old) (H.calls_left host.old) (H.floor host.old) }
     requires short { length buf.old ≤ 2 ^ 20 }
-    ensures { Runs (doings H.publishes H.answers H.passes) (SecondAttempt (length buf.old) flags next_block st.old)
+    ensures { Ends (doings H.publishes H.answers H.passes) H.floor
+        (BehindPlace (length buf.old) flags place buf.old st.old)
         host.old host.new (record { state = st.new; result = result; buf = buf.new }) }
 {
-    let mut next_block = next_block;
-    let ended = attempt(host, st, &mut next_block, buf);
-    st.leave();
-    match ended {
-        Ended::Holds => Ok(VEnd::Batch),
-        Ended::Outdated | Ended::NotKeyed => ask_system(host, st, buf, flags),
-    }
-}
-
-/// Both attempts, on a state that was marked as in use.
-fn try_twice<H: VHost>(
-    host: &mut H,
-    st: &mut VState,
-    buf: &mut [u8],
-    flags: u32,
-) -> Result<VEnd, Errno>
-    requires looks { 4 ≤ H.looks_left host.old }
-    requires calls { 3 ≤ H.calls_left host.old }
-    requires short { length buf.old ≤ 2 ^ 20 }
-    ensures { Runs (doings H.publishes H.answers H.passes) (FirstAttempt (length buf.old) flags st.old)
-        host.old host.new (record { state = st.new; result = result; buf = buf.new }) }
-{
-    let mut next_block = 0;
-    match attempt(host, st, &mut next_block, buf) {
-        Ended::Holds => {
-            st.leave();
-            Ok(VEnd::Batch)
-        }
-        Ended::Outdated => try_again(host, st, next_block, buf, flags),
-        Ended::NotKeyed => {
-            st.leave();
-            ask_system(host, st, buf, flags)
+    let mut at = place;
+    loop {
+        match behind(host, st, at, buf, flags) {
+            Came::Ended(result) => return result,
+            Came::At(next) => {
+                host.at(next.point, st);
+                at = next;
+            }
         }
     }
 }
@@ -106,21 +94,14 @@ pub fn vgetrandom<H: VHost>(
     requires looks { 5 ≤ H.looks_left host.old }
     requires calls { 3 ≤ H.calls_left host.old }
     requires short { length buf.old ≤ 2 ^ 20 }
-    ensures { Runs (doings H.publishes H.answers H.passes) (IsCall (length buf.old) flags st.old)
+    ensures { Ends (doings H.publishes H.answers H.passes) H.floor (IsCall (length buf.old) flags st.old)
         host.old host.new (record { state = st.new; result = result; buf = buf.new }) }
 {
-    if flags::are_bad(flags) {
-        return ask_system(host, st, buf, flags);
+    match begin(host, st, buf, flags) {
+        Came::Ended(result) => result,
+        Came::At(place) => {
+            host.at(place.point, st);
+            finish(host, st, place, buf, flags)
+        }
     }
-    if host.published() == 0 {
-        return ask_system(host, st, buf, flags);
-    }
-    if buf.is_empty() {
-        return Ok(VEnd::Zero);
-    }
-    if st.is_in_use() {
-        return ask_system(host, st, buf, flags);
-    }
-    st.enter();
-    try_twice(host, st, buf, flags)
 }

@@ -1,6 +1,6 @@
 //! The state that a thread's memory holds (`struct vgetrandom_state`), and the bytes that are copied out of it.
 
-ghost use Rattle.std.specs.Prelude.{◌≡◌, ◌+◌, ◌-◌, ◌*◌, ◌/◌, ◌%◌, ◌^◌, ◌≤◌, true, false, length, take, drop, replicate};
+ghost use Rattle.std.specs.Prelude.{◌≡◌, ◌+◌, ◌-◌, ◌*◌, ◌/◌, ◌%◌, ◌^◌, ◌≤◌, true, false, length, min, take, drop, replicate};
 ghost use Rattle.key_names.specs.Keystream.{keystream};
 ghost use Rattle.key_names.specs.VgetrandomState.{VgetrandomState, wiped_state};
 ghost use Rattle.key_names.specs.BatchCopy.{bytes_left, copy_bytes, state_after_copy, block_after_copy};
@@ -15,6 +15,16 @@ const BATCH_BYTES: usize = 96;
 const KEY_BYTES: usize = 32;
 
 const BLOCK_BYTES: usize = 64;
+
+/// What a pass went over: the first `taken` bytes of `front`, which lay in the batch, and then the stream of `key` from
+/// the block on that the pass began with. The next block of that key, behind those of the new batch, is `next_block`.
+#[derive(Drop)]
+pub struct Passed {
+    pub front: [u8; 96],
+    pub taken: u8,
+    pub key: [u8; 32],
+    pub next_block: u64,
+}
 
 /// A vgetrandom state. The bytes of the batch before `pos` were served and are 0.
 #[derive(Drop)]
@@ -116,6 +126,14 @@ impl VState {
         self.generation = generation;
     }
 
+    /// Takes a new key. The batch that is left was the old key's, so none of it is served any more.
+    pub fn take_key(&mut self, key: [u8; 32])
+        ensures { self.new ≡ record self.old { key = key; pos = 96 } }
+    {
+        self.key = key;
+        self.pos = 96;
+    }
+
     /// Copies the next bytes of the batch over all of `out`, and sets them to 0 where they lay.
     pub fn copy_from_batch(&mut self, out: &mut [u8])
         requires { length out.old ≤ bytes_left self.old }
@@ -127,6 +145,22 @@ impl VState {
         out.copy_from_slice(served);
         served.fill(0);
         self.pos += out.len() as u8;
+    }
+
+    /// Makes a new batch and the next key out of the two blocks of the key's stream from `block` on. The old key is gone.
+    fn refill(&mut self, block: u64)
+        requires { block ≤ 2 ^ 21 }
+        ensures { self.new ≡ record self.old {
+          batch = keystream self.old.key (64 * block) 96;
+          key = keystream self.old.key (64 * block + 96) 32;
+          pos = 0;
+        } }
+    {
+        let mut made = [0; BATCH_BYTES + KEY_BYTES];
+        fill(&self.key, BLOCK_BYTES as u64 * block, &mut made);
+        self.batch.copy_from_slice(&made[..BATCH_BYTES]);
+        self.key.copy_from_slice(&made[BATCH_BYTES..]);
+        self.pos = 0;
     }
 
     /// Copies bytes of the key's stream from the block `next_block` on over all of `out`: whole blocks as they are, and
@@ -144,12 +178,22 @@ impl VState {
         let (blocks, front) = out.split_at_mut(whole * BLOCK_BYTES);
         let behind = next_block + whole as u64;
         fill(&self.key, BLOCK_BYTES as u64 * next_block, blocks);
-        let mut made = [0; BATCH_BYTES + KEY_BYTES];
-        fill(&self.key, BLOCK_BYTES as u64 * behind, &mut made);
-        self.batch.copy_from_slice(&made[..BATCH_BYTES]);
-        self.key.copy_from_slice(&made[BATCH_BYTES..]);
-        self.pos = 0;
+        self.refill(behind);
         self.copy_from_batch(front);
+        behind + 2
+    }
+
+    /// Goes over bytes of the key's stream from the block `next_block` on, as `copy_from_key` does.
+    fn pass_key(&mut self, next_block: u64, len: usize) -> u64
+        requires near { next_block ≤ 2 ^ 20 }
+        requires short { len ≤ 2 ^ 20 }
+        ensures state { self.new ≡ state_of_new_batch self.old (next_block + len / 64) (len % 64) }
+        ensures next { result ≡ next_block + len / 64 + 2 }
+    {
+        let behind = next_block + (len / BLOCK_BYTES) as u64;
+        self.refill(behind);
+        let mut served = [0; BLOCK_BYTES];
+        self.copy_from_batch(&mut served[..len % BLOCK_BYTES]);
         behind + 2
     }
 
@@ -171,6 +215,42 @@ impl VState {
             let (front, rest) = out.split_at_mut(left);
             self.copy_from_batch(front);
             self.copy_from_key(next_block, rest)
+        }
+    }
+
+    /// Goes over the next `len` bytes as [`copy`](VState::copy) does, and makes none of them but those left in the batch.
+    pub fn pass(&mut self, next_block: u64, len: u32) -> Passed
+        requires near { next_block ≤ 2 ^ 20 }
+        requires short { len ≤ 2 ^ 20 }
+        ensures taken { result.taken ≡ min len (bytes_left self.old) }
+        ensures front { take result.taken result.front
+            ≡ take (min len (bytes_left self.old)) (drop self.old.pos self.old.batch) }
+        ensures key { result.key ≡ self.old.key }
+        ensures state { self.new ≡ state_after_copy self.old next_block len }
+        ensures next { result.next_block ≡ block_after_copy self.old next_block len }
+        ensures near { result.next_block ≤ next_block + 2 ^ 14 + 2 }
+    {
+        let len = len as usize;
+        let left = self.left();
+        let key = self.key;
+        let mut front = [0; BATCH_BYTES];
+        if len <= left {
+            self.copy_from_batch(&mut front[..len]);
+            Passed {
+                front,
+                taken: len as u8,
+                key,
+                next_block,
+            }
+        } else {
+            self.copy_from_batch(&mut front[..left]);
+            let next_block = self.pass_key(next_block, len - left);
+            Passed {
+                front,
+                taken: left as u8,
+                key,
+                next_block,
+            }
         }
     }
 }

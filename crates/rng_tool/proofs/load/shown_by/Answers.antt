@@ -12,5 +12,5 @@ returns-clause-sum c =
     c.loop-line.invariant.so_far
     ∙ ap (λ (ls : List Line). sum_by (λ line. data_len line.shown) ls)
     (take_all c.loop-line.line-index raw c.loop-line-test.false)
-    ∙ sum_of_data c.args.lines.now.kept raw c.args.lines.now.lines c.lines-line-items.ensures.seen
+    ∙ sum_of_data c.args.lines.now.bytes c.args.lines.now.steps raw c.args.lines.now.lines c.lines-line-items.ensures.seen
     c.lines-line-items.ensures.within

@@ -1,18 +1,27 @@
-use Rattle.std.proofs.Common.{ap, arith, length}
-use Rattle.rng_tool.proofs.Inputs.{was_cut_short, was_refused, was_run}
+use Rattle.std.proofs.Common.{◌≡◌, subst}
+use Rattle.rng_tool.specs.LoadOutcome.{LoadEnds, LoadOf}
+use Rattle.rng_tool.proofs.Endings.{ends_after, rose_at_end, run_ends_after}
 use Rattle.rng_tool.proofs.run.run.Goals as goal
 
-pub returns-clause-done : goal.returns-clause-done
-returns-clause-done g c words done = was_run _ _ _ _ c.in-Ok.input.items _ c.deref.ensures.value c.in-Ok.ensures.taken
-    (λ short. c.in-Ok.ensures.end (let len = ap length c.deref.ensures.value in omega (arith, c.deref.ensures.len)))
-    (c.answer.ensures.done done)
+pub returns-in-Some-Run-clause-write_fault : goal.returns-in-Some-Run-clause-write_fault
+returns-in-Some-Run-clause-write_fault g c cut =
+    rose_at_end _ _ _ _ c.run_input.ensures.cut c.run_input.ensures.never_falls (c.end_output.ensures.cut cut)
+    c.end_output.ensures.never_falls
 
-pub returns-clause-refused : goal.returns-clause-refused
-returns-clause-refused g c refused = was_refused _ _ _ _ c.in-Ok.input.items _ c.deref.ensures.value
-    c.in-Ok.ensures.taken
-    c.in-Ok.ensures.bytes (c.answer.ensures.refused refused)
+pub returns-in-Some-Run-clause-ran : goal.returns-in-Some-Run-clause-ran
+returns-in-Some-Run-clause-ran g c is =
+    run_ends_after _ _ _ _ _ c.end_output.ensures.kept _ _ c.end_output.ensures.ended c.run_input.ensures.ends
 
-pub returns-clause-cut_short : goal.returns-clause-cut_short
-returns-clause-cut_short g c words cut = was_cut_short _ _ _ _ c.in-Ok.input.items _ c.deref.ensures.value
-    c.in-Ok.ensures.taken
-    c.in-Ok.ensures.bytes (c.answer.ensures.prefix cut)
+pub returns-in-Some-Load-clause-write_fault : goal.returns-in-Some-Load-clause-write_fault
+returns-in-Some-Load-clause-write_fault g c cut =
+    rose_at_end _ _ _ _ c.run_load.ensures.cut c.run_load.ensures.never_falls
+    (c.end_output-in-Some-Load.ensures.cut cut) c.end_output-in-Some-Load.ensures.never_falls
+
+pub returns-in-Some-Load-clause-loaded : goal.returns-in-Some-Load-clause-loaded
+returns-in-Some-Load-clause-loaded g c start callers events is =
+    let same : c.in-Some-Load.load ≡ record { start = start; callers = callers; events = events } =
+    cc (c.of.ensures.load start callers events is, c.in-Some-Load.is) in
+    ends_after (LoadOf start callers events) _ _ _ c.end_output-in-Some-Load.ensures.kept _ _
+    c.end_output-in-Some-Load.ensures.ended
+    (subst (λ load. LoadEnds load.start load.callers load.events c.run_load.result (g.K.Sink.held c.args.sink.now)
+    (g.K.Sink.held c.run_load.new.sink)) same c.run_load.ensures.ends)

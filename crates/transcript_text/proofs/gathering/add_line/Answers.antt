@@ -8,7 +8,7 @@ use Rattle.transcript_text.proofs.gathering.add_line.Goals as goal
 
 pub returns-clause-groups : goal.returns-clause-groups
 returns-clause-groups c =
-    let own : (seen_read c.args.read).caller ≡ length (seen_callers c.go_on_to.new.done.items) =
+    let own : (seen_read c.args.read.now).caller ≡ length (seen_callers c.go_on_to.new.done.items) =
     omega (
       arith,
       length-map c.go_on_to.new.done.items (λ x. x.lines),
@@ -17,5 +17,5 @@ returns-clause-groups c =
     ) in
     on_ok c.push_read.result _ _ (λ e lines g.
     groups_push (seen_callers c.go_on_to.new.done.items) c.go_on_to.new.current.lines lines
-    c.push_read.new.lines.lines (seen_read c.args.read) e own (c.in_ok-go_on_to.ensures.groups lines g))
+    c.push_read.new.lines.lines (seen_read c.args.read.now) e own (c.in_ok-go_on_to.ensures.groups lines g))
     c.push_read.ensures

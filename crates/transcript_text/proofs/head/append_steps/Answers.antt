@@ -1,23 +1,25 @@
-use Rattle.std.proofs.Common.{length, ap, arith}
-use Rattle.std.proofs.lemmas.List.{length_push}
+use Rattle.std.proofs.Common.{◌≡◌, ◌∷◌, length, ap, arith}
+use Rattle.std.proofs.lemmas.List.{length_push, drop_more}
 use Rattle.transcript_text.proofs.StepLists.{no_steps, first_step, next_step}
 use Rattle.transcript_text.proofs.head.append_steps.Goals as goal
 
-pub returns-then-len-eq0-clause-text : goal.returns-then-len-eq0-clause-text
-returns-then-len-eq0-clause-text c = no_steps c.args.piece.now c.push.new.self c.args.trace.now (omega arith)
-    c.push.ensures
+pub returns-in_default-clause-text : goal.returns-in_default-clause-text
+returns-in_default-clause-text c = no_steps c.args.piece.now c.push.new.self c.args.steps.now
+    c.in_default.ensures.cases c.push.ensures
 
-pub loop-i-init : goal.loop-i-init
-loop-i-init c = record {
-  text = first_step c.args.piece.now c.append_step.new.piece c.args.trace.now c.get.result c.get.ensures
-      c.append_step.ensures.text;
-  short = omega arith;
-}
+pub loop-step-init : goal.loop-step-init
+loop-step-init c = let e : c.args.steps.now ≡ c.in-Some.first.now ∷ c.in-Some.rest.now = c.in-Some.ensures.cases.0 in
+    record {
+      text = rw e (first_step c.args.piece.now c.append_step.new.piece c.in-Some.first.now
+          c.in-Some.rest.now c.append_step.ensures.text);
+      short = omega (arith, c.append_step.ensures.short);
+    }
 
-pub loop-i-preserved : goal.loop-i-preserved
-loop-i-preserved c = record {
-  text = next_step c.loop-i.piece c.push-in-loop-i.new.self c.append_step-in-loop-i.new.piece c.args.trace.now
-      c.loop-i.i c.get-in-loop-i.result _
-      c.get-in-loop-i.ensures c.push-in-loop-i.ensures c.append_step-in-loop-i.ensures.text c.loop-i.invariant.text;
-  short = omega (arith, length_push c.loop-i.piece 44, ap length c.push-in-loop-i.ensures);
+pub loop-step-preserved : goal.loop-step-preserved
+loop-step-preserved c = record {
+  text = next_step c.loop-step.piece c.push-in-loop-step.new.self c.append_step-in-loop-step.new.piece
+      c.in-Some.rest.now c.loop-step.step-index _ _
+      (drop_more c.in-Some.rest.now c.loop-step.step-index _ c.loop-step-test.true)
+      c.push-in-loop-step.ensures c.append_step-in-loop-step.ensures.text c.loop-step.invariant.text;
+  short = omega (arith, length_push c.loop-step.piece 44, ap length c.push-in-loop-step.ensures);
 }

@@ -4,8 +4,8 @@ use Rattle.key_names.specs.TranscriptGrammar.{steps_text}
 use Rattle.transcript_text.proofs.StepLists.{next_text}
 use Rattle.transcript_text.proofs.head.append_steps.Given as goal
 
-abbrev pub invariant-loop-i : goal.invariant-loop-i
-invariant-loop-i l = record {
-  text : l.piece ++ flat_map next_text (drop l.i l.trace) ≡ l.fn.piece ++ steps_text l.trace;
-  short : length l.piece ≤ length l.fn.piece + 64 * l.i;
+abbrev pub invariant-loop-step : goal.invariant-loop-step
+invariant-loop-step l = record {
+  text : l.piece ++ flat_map next_text (drop l.step-index l.rest) ≡ l.fn.piece ++ steps_text l.steps;
+  short : length l.piece ≤ length l.fn.piece + 63 + 64 * l.step-index;
 }

@@ -1,6 +1,5 @@
 use Rattle.std.proofs.Common.{◌≡◌, sym, subst, ◌∙◌}
 use Rattle.key_names.specs.declared.events.Word.{Word}
-use Rattle.key_names.specs.declared.lines.Data.TheVariants.{None as NoData}
 use Rattle.key_names.specs.TranscriptGrammar.{ShownFits}
 use Rattle.transcript_text.proofs.NameTexts.{same_word}
 use Rattle.transcript_text.specs.ReadLines.{seen_read}
@@ -44,14 +43,11 @@ returns c =
     let shown = rw c.in-Some-2.is at c.in_ok-shows.ensures in
     made_line c.args.text.now _ _ _ _ _ c.in-Some.ensures
     (seen_read (record {
-      line = record {
-        caller = c.in-Some-numbers_of.numbers.caller;
-        event = c.in-Some-numbers_of.numbers.event;
-        word = c.in-Some-word_of.word;
-        answer = c.in-Some-answer_of.answer;
-        trace = c.in-Some-steps_of.trace;
-        shown = NoData;
-      };
+      caller = c.in-Some-numbers_of.numbers.caller;
+      event = c.in-Some-numbers_of.numbers.event;
+      word = c.in-Some-word_of.word;
+      answer = c.in-Some-answer_of.answer;
+      trace = c.in-Some-steps_of.trace;
       shows = c.in-Some-2.shows;
     }))
     c.in-Some-numbers_of.ensures.1 c.in-Some-numbers_of.ensures.0 c.in-Some-word_of.ensures.1

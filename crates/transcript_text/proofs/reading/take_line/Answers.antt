@@ -8,14 +8,14 @@ use Rattle.transcript_text.proofs.reading.take_line.Goals as goal
 pub returns-then-read-ge-MOST_CALLERS : goal.returns-then-read-ge-MOST_CALLERS
 returns-then-read-ge-MOST_CALLERS c = λ line fits low high e.
     let good = rw c.in-Some.is at c.in_ok-read.ensures in
-    let same : c.in-Some.read.line.caller ≡ line.caller =
+    let same : c.in-Some.read.caller ≡ line.caller =
     ap (λ (l : SeenLine). l.caller) (same_line (seen_read c.in-Some.read) line good.0 fits (sym good.1 ∙ e)) in
     omega (arith, same, high, c.if-read-ge-MOST_CALLERS.true)
 
 pub returns-then-read-len : goal.returns-then-read-len
 returns-then-read-len c = λ line fits low high e.
     let good = rw c.in-Some.is at c.in_ok-read.ensures in
-    let same : c.in-Some.read.line.caller ≡ line.caller =
+    let same : c.in-Some.read.caller ≡ line.caller =
     ap (λ (l : SeenLine). l.caller) (same_line (seen_read c.in-Some.read) line good.0 fits (sym good.1 ∙ e)) in
     omega (arith, same, low, c.if-read-len.true, c.len.ensures)
 

@@ -12,8 +12,8 @@ some_fit : (shown : List ℕ) → 0 < length shown → IsBytes shown → ShownFi
 some_fit [] some small = absurd (omega arith)
 some_fit (b ∷ shown) some small = (read_is_not_bits, some, small)
 
-pub push_showing-requires-clause-fits : goal.push_showing-requires-clause-fits
-push_showing-requires-clause-fits c = rw c.plain.ensures (record {
+pub push-requires-clause-fits : goal.push-requires-clause-fits
+push-requires-clause-fits c = rw c.plain.ensures.line (record {
   caller = omega arith;
   event = omega arith;
   few_steps = omega arith;

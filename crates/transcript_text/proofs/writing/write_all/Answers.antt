@@ -1,11 +1,13 @@
-use Rattle.std.proofs.Common.{◌+◌, [], get_or, subst, sym, ◌∙◌, arith}
+use Rattle.std.proofs.Common.{◌+◌, [], List, get_or, subst, sym, ◌∙◌, arith}
 use Rattle.std.specs.Prelude.{codes}
 use Rattle.std.specs.Io.KnownBytes.{Appends}
+use Rattle.key_names.specs.SeenLine.{SeenLine}
 use Rattle.key_names.specs.TranscriptGrammar.{transcript_text}
 use Rattle.io_edges.specs.Pieces.{AppendsPrefix}
+use Rattle.transcript_text.specs.Lines.{text_of}
 use Rattle.transcript_text.specs.Putting.{PutSoFar}
 use Rattle.transcript_text.proofs.PuttingOn.{longer, goes_on, puts_whole, breaks_off, breaks_within, finishes, on_ok}
-use Rattle.transcript_text.proofs.WholeTexts.{transcript_text-parts, caller_text, rest_from, next_caller, no_caller, puts_head, text_of-kept}
+use Rattle.transcript_text.proofs.WholeTexts.{transcript_text-parts, rest_from, next_caller, no_caller, puts_head}
 use Rattle.transcript_text.proofs.writing.write_all.Goals as goal
 
 pub returns-in_err-put_all-clause-prefix : goal.returns-in_err-put_all-clause-prefix
@@ -32,10 +34,9 @@ returns-in_err-put_lines-clause-prefix g c =
     let so_far = subst (PutSoFar (held c.args.sink.now) (held c.loop-number.sink) (transcript_text t))
     (next_caller t i (omega (arith, c.callers-number-end.ensures.number))) c.loop-number.invariant.so_far in
     breaks_off (held c.args.sink.now) (held c.loop-number.sink) (held c.put_lines.new.sink) (transcript_text t)
-    (caller_text (get_or t i [])) (rest_from (i + 1) t) so_far
-    (subst (AppendsPrefix (held c.loop-number.sink) (held c.put_lines.new.sink))
-    (text_of-kept c.bytes.result.now _ c.lines.result.now (get_or t i []) c.bytes.ensures
-    (c.lines.ensures.seen ∙ c.caller-caller.ensures)) c.put_lines.ensures.prefix)
+    (text_of (get_or t i [])) (rest_from (i + 1) t) so_far
+    (subst (λ (lines : List SeenLine). AppendsPrefix (held c.loop-number.sink) (held c.put_lines.new.sink)
+    (text_of lines)) c.caller.ensures c.put_lines.ensures.prefix)
 
 pub loop-number-preserved : goal.loop-number-preserved
 loop-number-preserved g c =
@@ -46,11 +47,10 @@ loop-number-preserved g c =
     (next_caller t i (omega (arith, c.callers-number-end.ensures.number))) c.loop-number.invariant.so_far in
     record {
       so_far = goes_on (held c.args.sink.now) (held c.loop-number.sink) (held c.put_lines.new.sink)
-          (transcript_text t) (caller_text (get_or t i [])) (rest_from (i + 1) t) [] so_far
-          (puts_whole (held c.loop-number.sink) (held c.put_lines.new.sink) (caller_text (get_or t i []))
-          (subst (Appends (held c.loop-number.sink) (held c.put_lines.new.sink))
-          (text_of-kept c.bytes.result.now _ c.lines.result.now (get_or t i []) c.bytes.ensures
-          (c.lines.ensures.seen ∙ c.caller-caller.ensures)) c.in_ok-put_lines.ensures.whole));
+          (transcript_text t) (text_of (get_or t i [])) (rest_from (i + 1) t) [] so_far
+          (puts_whole (held c.loop-number.sink) (held c.put_lines.new.sink) (text_of (get_or t i []))
+          (subst (λ (lines : List SeenLine). Appends (held c.loop-number.sink) (held c.put_lines.new.sink)
+          (text_of lines)) c.caller.ensures c.in_ok-put_lines.ensures.whole));
       empty = c.in_ok-put_lines.ensures.emptied;
       counted = omega (arith, c.loop-number.invariant.counted, c.put_lines.ensures.never_falls);
     }

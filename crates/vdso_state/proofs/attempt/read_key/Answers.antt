@@ -1,5 +1,5 @@
 use Rattle.std.proofs.Common.{◌≡◌, ℕ, length, subst, arith}
-use Rattle.vdso_state.proofs.Tries.{key_not_read}
+use Rattle.vdso_state.proofs.Stepping.{key_not_read}
 use Rattle.vdso_state.proofs.attempt.read_key.Goals as goal
 
 pub returns-in-Err-clause-reads : goal.returns-in-Err-clause-reads

@@ -1,40 +1,26 @@
-use Rattle.std.proofs.Common.{length, sym}
-use Rattle.std.proofs.lemmas.Bool.{eqb-true, eqb-false}
+use Rattle.std.proofs.Common.{◌≡◌, ℕ, length, subst, arith}
 use Rattle.vdso_state.specs.Host.{doings}
-use Rattle.vdso_state.proofs.Runs.{looked_then, not_ready, no_bytes_wanted, already_in_use, tries_both, nothing_done}
+use Rattle.vdso_state.specs.Places.{BehindPlace, Ends}
+use Rattle.vdso_state.proofs.Leading.{then_leads, then_ends, at_leads, still_may}
 use Rattle.vdso_state.proofs.call.vgetrandom.Goals as goal
 
-pub returns-then-published-eq0 : goal.returns-then-published-eq0
-returns-then-published-eq0 g c =
+pub returns-in-At : goal.returns-in-At
+returns-in-At g c =
     let host = doings g.H.VHost.publishes g.H.VHost.answers g.H.VHost.passes in
     let n = length c.args.buf.now in
-    looked_then host n c.args.flags c.published.result _ _ _ _ _
-    (sym c.if-are_bad.ensures) c.published.ensures.publishes
-    (not_ready host n c.args.flags _ _ _ _ _ c.if-published-eq0.true c.ask_system-then-published-eq0.ensures)
+    let place = c.in-At.place in
+    let buf = c.begin.new.buf in
+    let same : length buf ≡ n = omega (arith, c.begin.auto.buf) in
+    let passes = c.at.ensures.passes in
+    let passed = at_leads host g.H.VHost.floor n c.args.flags place buf c.begin.new.st c.at.new.st passes.0
+    c.begin.new.host c.at.new.self passes.1 passes.2 c.at.ensures.floor in
+    let ends = subst (λ (k : ℕ). Ends host g.H.VHost.floor (BehindPlace k c.args.flags place buf c.at.new.st)
+    c.at.new.self c.finish.new.host
+    (record { state = c.finish.new.st; result = c.finish.result; buf = c.finish.new.buf })) same
+    c.finish.ensures in
+    then_ends host g.H.VHost.floor _ _ _ _
+    (then_leads host g.H.VHost.floor _ _ _ _ c.in-At.ensures.came.0 _ _ passed) _ _ ends
 
-pub returns-then-is_empty : goal.returns-then-is_empty
-returns-then-is_empty g c =
-    let host = doings g.H.VHost.publishes g.H.VHost.answers g.H.VHost.passes in
-    let n = length c.args.buf.now in
-    looked_then host n c.args.flags c.published.result _ _ _ _ _
-    (sym c.if-are_bad.ensures) c.published.ensures.publishes
-    (no_bytes_wanted host n c.args.flags _ _ _ _ _ c.if-published-eq0.false (eqb-true n 0 (sym c.if-is_empty.ensures))
-    (nothing_done host _ _ _))
-
-pub returns-then-is_in_use : goal.returns-then-is_in_use
-returns-then-is_in_use g c =
-    let host = doings g.H.VHost.publishes g.H.VHost.answers g.H.VHost.passes in
-    let n = length c.args.buf.now in
-    looked_then host n c.args.flags c.published.result _ _ _ _ _
-    (sym c.if-are_bad.ensures) c.published.ensures.publishes
-    (already_in_use host n c.args.flags _ _ _ _ _ c.if-published-eq0.false (eqb-false n 0 (sym c.if-is_empty.ensures))
-    (sym c.if-is_in_use.ensures) c.ask_system-then-is_in_use.ensures)
-
-pub returns : goal.returns
-returns g c =
-    let host = doings g.H.VHost.publishes g.H.VHost.answers g.H.VHost.passes in
-    let n = length c.args.buf.now in
-    looked_then host n c.args.flags c.published.result _ _ _ _ _
-    (sym c.if-are_bad.ensures) c.published.ensures.publishes
-    (tries_both host n c.args.flags _ _ _ _ _ c.enter.new.self c.if-published-eq0.false
-    (eqb-false n 0 (sym c.if-is_empty.ensures)) (sym c.if-is_in_use.ensures) c.enter.ensures c.try_twice.ensures)
+pub finish-requires-clause-may : goal.finish-requires-clause-may
+finish-requires-clause-may g c = still_may c.in-At.place _ _ _ _ _ _ c.in-At.ensures.may.may c.at.ensures.looks
+    c.at.ensures.calls c.at.ensures.floor

@@ -14,6 +14,7 @@ returns-clause-can g c inside rest can =
     record {
       goes = can_next c.call-said.new.self k.set k.has (k.states can.goes.states) c.go_on.ensures
           (fills_call _ _ _ c.tell.ensures.lines c.tell.ensures.line_room c.requires.kind
+          (let b = c.tell.ensures.step_room in let few = c.tell.ensures.few_steps in omega arith)
           (let b = c.tell.ensures.byte_room in omega arith)
           can.goes.fresh can.goes.told) can.goes;
       act_room = can.act_room;

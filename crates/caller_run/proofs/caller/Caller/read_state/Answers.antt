@@ -1,8 +1,8 @@
 use Rattle.std.proofs.Common.{◌≤◌, ◌≡◌, ◌∷◌, ◌++◌, [], List, length, ℕ, take, drop, sym, subst, ap, ◌∙◌, arith, rules}
-use Rattle.std.proofs.lemmas.List.{length-take-le}
+use Rattle.std.proofs.lemmas.List.{length-map, length-take, length-take-le}
 use Rattle.std.proofs.Math.Seq.{take-append_seam}
 use Rattle.rng_core.specs.declared.acts.Bound.{Bound}
-use Rattle.rng_core.specs.Acts.{all_wanted, asks_of, outcomes_of}
+use Rattle.rng_core.specs.Acts.{all_wanted, ask_of, asks_of, outcomes_of}
 use Rattle.caller_run.specs.Calling.{StateRead}
 use Rattle.key_names.specs.declared.events.Word.TheVariants.{Vread as VreadWord}
 use Rattle.key_names.specs.SeenLine.{SeenLine}
@@ -28,6 +28,24 @@ tell_acts-requires-clause-short g c =
     let many = can.few.0 in
     let long : length c.vread-said.new.inside ≡ all_wanted (asks_of c.deref.result.now) = search rules in omega arith
 
+-- a list whose items were lent out is as long as it was
+back_long : (back items : List Bound) (n : ℕ) → length (take n (back ++ drop (length back) items)) ≤ n
+back_long back items n = omega (arith, length-take n (back ++ drop (length back) items))
+
+pub tell_acts-requires-clause-step_room : goal.tell_acts-requires-clause-step_room
+tell_acts-requires-clause-step_room g c =
+    let acts = c.args.log.now.acts in let room = c.requires.can.goes.step_room in
+    let long : length acts.items ≡ acts.len = search rules in
+    let few = ap length c.deref-2.ensures.value in
+    omega (arith, back_long c.vread-said.new.acts acts.items acts.len)
+
+pub tell-requires-clause-step_room : goal.tell-requires-clause-step_room
+tell-requires-clause-step_room g c =
+    let acts = c.args.log.now.acts in let room = c.requires.can.goes.step_room in
+    let long : length acts.items ≡ acts.len = search rules in
+    let few = ap length c.deref-2.ensures.value in let left = c.tell_acts.ensures.step_room in
+    omega (arith, back_long c.vread-said.new.acts acts.items acts.len)
+
 pub tell-requires-clause-steps : goal.tell-requires-clause-steps
 tell-requires-clause-steps g c = c.vread-said.ensures.read.steps_fit
 
@@ -45,17 +63,24 @@ has_read : (g : _) (c : After-go_on g) → HasRead c.args.lanes.now c.args.event
     c.vread-said.new.self c.go_on.new.self
     c.args.log.now.lines c.tell.new.lines c.args.log.now.acts.items c.clear.new.self.items
 has_read g c =
-    let acts = c.args.log.now.acts in let after = c.vread-said.new in let left = c.deref_mut-2.result.now in
+    let acts = c.args.log.now.acts in let after = c.vread-said.new in let left = c.deref-2.result.now in
     let len = c.requires.is.0 in
     let low : c.most_shown.result ≤ length c.args.served.now =
     (let e = c.most_shown.ensures in let l = c.requires.can.goes.longest.0 in omega arith) in
     let shown : c.most_shown.result ≡ len = c.most_shown.ensures ∙ ap most_shown c.requires.is.1 in
     let n_is : length (take c.most_shown.result c.args.served.now) ≡ len =
     length-take-le c.most_shown.result c.args.served.now low ∙ shown in
-    let left_is : left ≡ after.acts = c.deref_mut-2.ensures.value
+    let left_is : left ≡ after.acts = c.deref-2.ensures.value
     ∙ put_back after.acts acts.items acts.len (search rules) in
     let asks_are : asks_of left ≡ asks_of acts.items =
     ap asks_of left_is ∙ c.vread-said.ensures.asks ∙ ap asks_of c.deref_mut.ensures.value in
+    let long : length after.acts ≡ length acts.items = omega (
+      arith,
+      length-map after.acts ask_of,
+      length-map acts.items ask_of,
+      ap length c.vread-said.ensures.asks,
+      ap (λ (bs : List Bound). length (asks_of bs)) c.deref_mut.ensures.value,
+    ) in
     let zs = outcomes_of after.acts after.inside in
     let served : length after.served ≡ c.most_shown.result = search rules in
     let inside : length after.inside ≡ all_wanted (asks_of c.deref.result.now) = search rules in
@@ -83,6 +108,8 @@ has_read g c =
           ∙ (λ i. told_anew c.args.log.now.lines.lines (asks_are i)
           (act_lines after.self.set (asks_are i) (outcomes_of (left_is i) after.inside))));
       line_room = c.tell.ensures.line_room ∙ c.tell_acts.ensures.line_room;
+      step_room = (let a = c.tell.ensures.step_room in let few = c.tell.ensures.few_steps in
+          let b = c.tell_acts.ensures.step_room in let many = ap length left_is in omega arith);
       byte_room = (let a = c.tell.ensures.byte_room in let b = c.tell_acts.ensures.byte_room in omega arith);
       none = c.clear.ensures.items;
     }

@@ -1,4 +1,4 @@
-use Rattle.std.proofs.Common.{ℕ, ◌∷◌, ◌++◌, [], sym, ap, ◌∙◌, arith}
+use Rattle.std.proofs.Common.{ℕ, ◌∷◌, ◌++◌, [], length, sym, ap, ◌∙◌, arith}
 use Rattle.key_names.specs.declared.events.Event.TheVariants.{Inside}
 use Rattle.key_names.specs.declared.events.Word.TheVariants.{Inside as InsideWord}
 use Rattle.rng_core.specs.declared.acts.Bound.{Bound}
@@ -22,6 +22,7 @@ kept c =
       lines = c.tell.ensures.lines
           ∙ (λ i. lines ++ line_of set InsideWord [] (c.only-unused.ensures i) (c.empty.ensures i) ∷ []);
       line_room = c.tell.ensures.line_room;
+      step_room = (let b = c.tell.ensures.step_room in let e = ap length c.empty.ensures in omega arith);
       byte_room = (let b = c.tell.ensures.byte_room in omega arith);
       kept = c.push_reserved.ensures.items ∙ ap (λ (b : Bound). c.args.log.now.acts.items ++ b ∷ [])
           c.of-bound.ensures;

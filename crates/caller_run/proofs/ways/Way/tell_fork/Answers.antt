@@ -11,6 +11,7 @@ pub returns-clause-can : goal.returns-clause-can
 returns-clause-can c t rest can =
     let w = c.args.self.now in
     can_past w.sheet.log.lines c.tell.new.lines _ c.tell.ensures.lines c.tell.ensures.line_room
+    (let a = c.tell.ensures.step_room in let few = c.tell.ensures.few_steps in omega arith)
     (let a = c.tell.ensures.byte_room in omega arith) t c.args.child w.caller c.go_on.new.self w.sheet.log refl
     c.go_on.ensures can
 
@@ -20,5 +21,5 @@ returns-clause-gone c begun events rest kids m u from low gone =
     subst (λ l. HasGone begun events rest c.go_on.new.self l (waiting_in w.sheet.log)
     (kids ++ kid_of m c.args.child u ∷ []))
     (sym (c.tell.ensures.lines
-    ∙ (λ i. w.sheet.log.lines.lines ++ line_of (from.set i) ForkWord [] (c.only-done.ensures i) c.args.trace ∷ [])))
-    (gone_fork w.caller u c.args.trace gone from.set from.states c.go_on.ensures low from.took)
+    ∙ (λ i. w.sheet.log.lines.lines ++ line_of (from.set i) ForkWord [] (c.only-done.ensures i) c.args.trace.now ∷ [])))
+    (gone_fork w.caller u c.args.trace.now gone from.set from.states c.go_on.ensures low from.took)

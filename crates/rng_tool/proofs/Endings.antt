@@ -1,0 +1,137 @@
+-- What the flush at the end of the output makes of a command's end.
+use Rattle.std.proofs.Common.{ℕ, ◌≡◌, ◌≤◌, ◌⊎◌, List, Option, None, Some, ◌++◌, ap, sym, subst, ◌∙◌, inl, inr}
+use Rattle.std.specs.Prelude.{IfSome}
+use Rattle.std.specs.Io.KnownBytes.{Appends, Consumes, IsAtEnd, Keeps}
+use Rattle.std.proofs.KnownBytes.{Keeps-trans}
+use Rattle.std.proofs.lemmas.List.{append-nil}
+use Rattle.io_edges.specs.Faults.{Rose}
+use Rattle.io_edges.specs.Pieces.{AppendsPrefix}
+use Rattle.io_edges.proofs.Pieces.{AppendsPrefix-of_whole, rose_after, rose_before}
+use Rattle.rng_tool.specs.Ends.{AtOutputEnd, EndsWith, IsAnswered}
+use Rattle.rng_tool.specs.Outcome.{CallsFor, IsRefusal, RunEnds}
+use Rattle.rng_tool.specs.declared.status.Status.{Status}
+use Rattle.rng_tool.specs.declared.status.Status.TheVariants.{Done, No, Usage, ReadFault, WriteFault, Refused, NoMemory}
+
+appends_kept : (a b c : Option (List ℕ)) (xs : List ℕ) → Appends a b xs → Keeps b c → Appends a c xs
+appends_kept None b c xs h k = tt
+appends_kept (Some x) None c xs h k = absurd h
+appends_kept (Some x) (Some y) None xs h k = absurd k
+appends_kept (Some x) (Some y) (Some z) xs h k = k ∙ h
+
+prefix_kept : (a b c : Option (List ℕ)) (xs : List ℕ) → AppendsPrefix a b xs → Keeps b c → AppendsPrefix a c xs
+prefix_kept a b c xs p k = (p.0, p.1, appends_kept a b c _ p.2 k)
+
+-- an answer that was put whole, and not handed on
+whole_cut : (a b c : Option (List ℕ)) (xs : List ℕ) → Appends a b xs → Keeps b c → AppendsPrefix a c xs
+whole_cut a b c xs h k = prefix_kept a b c xs (AppendsPrefix-of_whole a b xs h) k
+
+-- the sink failed in the command, or at the end of its output
+pub rose_at_end : (status : Status) (a b c : ℕ) → (status ≡ WriteFault → Rose a b) → a ≤ b
+    → (status ≡ WriteFault) ⊎ Rose b c → b ≤ c → Rose a c
+rose_at_end status a b c in_command up fault end = elim fault [
+  | inl is ↦ rose_after a b c (in_command is) end
+  | inr rose ↦ rose_before a b c up rose
+]
+
+module _ (Of : List ℕ → Type 0) (a b c : Option (List ℕ)) (k : Keeps b c) where
+  stays : (status : Status) → EndsWith Of status a b → EndsWith Of status a c
+  stays Done e = (e.0, e.1, appends_kept a b c e.0 e.2 k)
+  stays WriteFault e = (e.0, e.1, prefix_kept a b c e.0 e.2 k)
+  stays NoMemory e = Keeps-trans a b c e k
+  stays No e = e
+  stays Usage e = e
+  stays ReadFault e = e
+  stays Refused e = e
+
+  cut : (status : Status) → IsAnswered status → EndsWith Of status a b → EndsWith Of WriteFault a c
+  cut Done is e = (e.0, e.1, whole_cut a b c e.0 e.2 k)
+  cut WriteFault is e = absurd is
+  cut NoMemory is e = absurd is
+  cut No is e = absurd e
+  cut Usage is e = absurd is
+  cut ReadFault is e = absurd is
+  cut Refused is e = absurd e
+
+  -- a command that reads nothing
+  pub ends_after : (status result : Status) → AtOutputEnd status result → EndsWith Of status a b → EndsWith Of result a c
+  ends_after status result ended e = elim ended [
+    | inl same ↦ subst (λ s. EndsWith Of s a c) (sym same) (stays status e)
+    | inr faulty ↦ subst (λ s. EndsWith Of s a c) (sym faulty.1) (cut status faulty.0 e)
+  ]
+
+-- an input that was read to its end is all that was left
+all_read : (left left_after : Option (List ℕ)) (input output : List ℕ) → Consumes left left_after input
+    → IsAtEnd left_after → CallsFor input output → IfSome left (λ all. CallsFor all output)
+all_read None after input output read end calls = tt
+all_read (Some all) None input output read end calls = absurd read
+all_read (Some all) (Some rest) input output read end calls =
+    let same : all ≡ input = read ∙ ap (λ l. input ++ l) end ∙ append-nil input in
+    subst (λ text. CallsFor text output) (sym same) calls
+
+also_refused : (left : Option (List ℕ)) (output : List ℕ) → IfSome left (λ all. IsRefusal all output)
+    → IfSome left (λ all. CallsFor all output)
+also_refused None output is = tt
+also_refused (Some all) output is = inr is
+
+module _ (left left_after a b c : Option (List ℕ)) (k : Keeps b c) where
+  run_stays : (status : Status) → RunEnds status left left_after a b → RunEnds status left left_after a c
+  run_stays Done e = record {
+    input = e.input;
+    output = e.output;
+    read = e.read;
+    whole = e.whole;
+    run = e.run;
+    written = appends_kept a b c e.output e.written k;
+  }
+  run_stays Refused e = record {
+    input = e.input;
+    output = e.output;
+    read = e.read;
+    refusal = e.refusal;
+    of_all = e.of_all;
+    written = appends_kept a b c e.output e.written k;
+  }
+  run_stays WriteFault e = record {
+    input = e.input;
+    output = e.output;
+    read = e.read;
+    output_is = e.output_is;
+    of_all = e.of_all;
+    written = prefix_kept a b c e.output e.written k;
+  }
+  run_stays ReadFault e = Keeps-trans a b c e k
+  run_stays NoMemory e = Keeps-trans a b c e k
+  run_stays No e = e
+  run_stays Usage e = e
+
+  run_cut : (status : Status) → IsAnswered status → RunEnds status left left_after a b
+      → RunEnds WriteFault left left_after a c
+  run_cut Done is e = record {
+    input = e.input;
+    output = e.output;
+    read = e.read;
+    output_is = inl e.run;
+    of_all = all_read left left_after e.input e.output e.read e.whole (inl e.run);
+    written = whole_cut a b c e.output e.written k;
+  }
+  run_cut Refused is e = record {
+    input = e.input;
+    output = e.output;
+    read = e.read;
+    output_is = inr e.refusal;
+    of_all = also_refused left e.output e.of_all;
+    written = whole_cut a b c e.output e.written k;
+  }
+  run_cut No is e = absurd e
+  run_cut Usage is e = absurd is
+  run_cut ReadFault is e = absurd is
+  run_cut WriteFault is e = absurd is
+  run_cut NoMemory is e = absurd is
+
+  -- the command `run`
+  pub run_ends_after : (status result : Status) → AtOutputEnd status result → RunEnds status left left_after a b
+      → RunEnds result left left_after a c
+  run_ends_after status result ended e = elim ended [
+    | inl same ↦ subst (λ s. RunEnds s left left_after a c) (sym same) (run_stays status e)
+    | inr faulty ↦ subst (λ s. RunEnds s left left_after a c) (sym faulty.1) (run_cut status faulty.0 e)
+  ]

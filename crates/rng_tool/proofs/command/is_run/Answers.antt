@@ -1,0 +1,29 @@
+use Rattle.std.proofs.Common.{ℕ, ◌≡◌, ◌≤◌, ◌<◌, List, [], ◌∷◌, length, ap, sym, ◌∙◌, arith}
+use Rattle.std.specs.Prelude.{String, string_bytes, map, codes, slice_index_or, Bool, IsTrue}
+use Rattle.std.specs.Str.{bytes_eq}
+use Rattle.std.proofs.lemmas.Slice.Eq.{bytes_eq-Decides}
+use Rattle.rng_tool.proofs.command.is_run.Goals as goal
+
+-- a list of one word has just that word
+one : {A : Type 0} (words : List (String A)) (word : String A) → 1 ≤ length words → length words < 2 →
+    word ≡ slice_index_or words 0 word →
+    map string_bytes words ≡ string_bytes word ∷ []
+one [] word some few is = absurd (omega arith)
+one (w ∷ []) word some few is = ap (λ v. string_bytes v ∷ []) (sym is)
+one (w ∷ v ∷ words) word some few is = absurd (omega arith)
+
+-- the words are the one form just where the test of the word says so
+both : (text bytes : List ℕ) (answer : Bool) (all : List (List ℕ)) → text ≡ bytes → all ≡ bytes ∷ [] →
+    answer ≡ bytes_eq text (codes "run") →
+    (IsTrue answer → all ≡ codes "run" ∷ []) × (all ≡ codes "run" ∷ [] → IsTrue answer)
+both text bytes answer all is words test =
+    let decides = bytes_eq-Decides text (codes "run") in (
+      λ yes. words ∙ ap (λ t. t ∷ []) (sym is ∙ decides.0 (sym test ∙ yes)),
+      λ run. (let same : bytes ≡ codes "run" = (let both : bytes ∷ [] ≡ codes "run" ∷ [] = sym words ∙ run in cc) in
+          test ∙ decides.1 (is ∙ same)),
+    )
+
+pub returns-in-len1 : goal.returns-in-len1
+returns-in-len1 c =
+    let words = one c.args.words.now c.word-item.result c.in-len1.len_at_least c.in-len1.len_below c.word-item.is in
+    both c.as_str.result.now (string_bytes c.word-item.result) c.eq.result _ c.as_str.ensures.value words c.eq.ensures

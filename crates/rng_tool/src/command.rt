@@ -1,0 +1,47 @@
+//! What the words of a command line ask for.
+ghost use Rattle.std.specs.Prelude.{◌≡◌, ◌↔◌, ℕ, Some, IsTrue, IfSome};
+ghost use Rattle.rng_tool.specs.Commands.{Asks};
+ghost use Rattle.rng_tool.specs.LoadOutcome.{IsLoad};
+ghost use Rattle.rng_tool.specs.Outcome.{IsRun};
+
+use crate::load::{Load, load_of};
+
+/// The forms of the command line, as the line that answers any other words has them.
+pub(crate) const USAGE: &str = "usage: rng run | rng load START CALLERS EVENTS";
+
+/// A command, with the numbers that its words give.
+#[derive(Clone, Copy, Debug, PartialEq, Eq)]
+pub(crate) enum Command {
+    /// `run`
+    Run,
+    /// `load START CALLERS EVENTS`
+    Load(Load),
+}
+
+/// Whether the words are those of a run.
+fn is_run(words: &[String]) -> bool
+    ensures { IsTrue result ↔ IsRun words.now }
+{
+    match words {
+        [word] => word.as_str() == "run",
+        _ => false,
+    }
+}
+
+impl Command {
+    /// The command that the words ask for, if they are of one of the forms.
+    pub(crate) fn of(words: &[String]) -> Option<Command>
+        ensures found { IfSome result (Asks words.now) }
+        ensures run { IsRun words.now → result ≡ Some Command.Run }
+        ensures load { (start callers events : ℕ) → IsLoad words.now start callers events
+            → result ≡ Some (Command.Load (record { start = start; callers = callers; events = events })) }
+    {
+        if is_run(words) {
+            return Some(Command::Run);
+        }
+        if let Some(load) = load_of(words) {
+            return Some(Command::Load(load));
+        }
+        None
+    }
+}

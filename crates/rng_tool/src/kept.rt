@@ -1,0 +1,59 @@
+//! A source that remembers what it gave.
+ghost use Rattle.std.specs.Prelude.{◌≡◌, ◌<◌, ◌≤◌, ◌++◌, [], take, length, None, Some, IfOk, IfSome, OnErr};
+ghost use Rattle.std.specs.Io.{ReadsAtMost};
+ghost use Rattle.std.specs.Io.KnownBytes.{Consumes, IsAtEnd, Keeps};
+ghost use Rattle.io_edges.specs.Faults.{Rose};
+ghost use Rattle.rng_tool.specs.Kept.{given_by};
+
+use io_edges::{Failed, Source};
+use std::alloc::Global;
+
+/// A source that remembers the bytes which it gave, while there is memory for them.
+#[derive(Drop)]
+pub(crate) struct KeptSource<S: Source + Drop> {
+    source: S,
+    given: Vec<u8>,
+    is_whole: bool,
+}
+
+impl<S: Source + Drop> KeptSource<S> {
+    /// A source that gives what `source` gives.
+    pub(crate) fn of(alloc: Global, source: S) -> KeptSource<S>
+        ensures { given_by result ≡ Some [] }
+    {
+        KeptSource {
+            source,
+            given: Vec::new(alloc),
+            is_whole: true,
+        }
+    }
+
+    /// All the bytes that it gave, or `None` where there was no memory for them.
+    pub(crate) fn given(&self) -> Option<&[u8]>
+        ensures none { result ≡ None → given_by self.now ≡ None }
+        ensures some { IfSome result (λ bytes. given_by self.now ≡ Some bytes.now) }
+    {
+        if self.is_whole {
+            return Some(self.given.as_slice());
+        }
+        None
+    }
+}
+
+impl<S: Source + Drop> Source for KeptSource<S> {
+    ghost left = { λ s. S.left s.source };
+
+    ghost faults = { λ s. S.faults s.source };
+
+    fn take(&mut self, buf: &mut [u8]) -> Result<usize, Failed>
+        ensures kept { IfOk result (λ n. IfSome (given_by self.new) (λ all.
+            IfSome (given_by self.old) (λ before. all ≡ before ++ take n buf.new))) }
+        ensures same { OnErr result (given_by self.new ≡ given_by self.old) }
+    {
+        let count = self.source.take(buf)?;
+        if self.given.extend_from_slice(&buf[..count]).is_err() {
+            self.is_whole = false;
+        }
+        Ok(count)
+    }
+}

@@ -1,0 +1,65 @@
+//! What standard error is told of a run that did not end well.
+
+use crate::command::USAGE;
+use crate::status::Status;
+use event_script::{ScriptError, read};
+use key_names::{FaultKind, ScriptFault};
+use std::alloc::Global;
+
+/// The longest line of a script that is shown.
+const MOST_SHOWN: usize = 80;
+
+// The kind in words.
+fn name_of(kind: FaultKind) -> &'static str {
+    match kind {
+        FaultKind::TooLong => "more than 16 MiB",
+        FaultKind::BadByte => "a byte that is not printable ASCII",
+        FaultKind::BadHead => "no head of a version",
+        FaultKind::BadCpus => "not cpus with a number that the version allows",
+        FaultKind::UnknownWord => "unknown word, or wrong number of fields",
+        FaultKind::BadNumber => "a number misspelt or out of range",
+        FaultKind::BadHex => "bytes misspelt, or not the 32 of hw",
+        FaultKind::BadCaller => "not the block of the next caller",
+        FaultKind::BadFork => "a fork of a number too low or taken",
+        FaultKind::Unforked => "a caller not forked, or without its block",
+        FaultKind::TooMany => "too many events, read bytes or waiting acts",
+        FaultKind::Unfinished => "no line end, or no line feed behind the last line",
+    }
+}
+
+// The line of this number, counted from 1, where it is short and printable.
+fn shown_line(input: &[u8], number: u32) -> Option<&str> {
+    let before = (number as usize).checked_sub(1)?;
+    let line = input.split(|byte| *byte == b'\n').nth(before)?;
+    let is_shown = (1..=MOST_SHOWN).contains(&line.len())
+        && line.iter().all(|byte| (b' '..=b'~').contains(byte));
+    if !is_shown {
+        return None;
+    }
+    str::from_utf8(line).ok()
+}
+
+fn tell_fault<R: Eprint>(rt: &R, fault: ScriptFault, input: &[u8]) {
+    let ScriptFault { line, kind } = fault;
+    let (number, name) = (kind.number(), name_of(kind));
+    let _told = match shown_line(input, line) {
+        Some(text) => eprintln!(rt; "rng: line {line}, kind {number}, {name}: {text}"),
+        None => eprintln!(rt; "rng: line {line}, kind {number}, {name}"),
+    };
+}
+
+/// Writes one line to standard error where a command ended otherwise than by its answer: the usage, or what could not be
+/// read, written or had, or a script's fault. `input` is what was read, if it is known.
+pub(crate) fn tell<R: Eprint>(rt: &R, alloc: Global, status: Status, input: Option<&[u8]>) {
+    let _told = match status {
+        Status::Done | Status::No => return,
+        Status::Usage => eprintln!(rt; "{USAGE}"),
+        Status::ReadFault => eprintln!(rt; "rng: standard input could not be read"),
+        Status::WriteFault => eprintln!(rt; "rng: standard output could not be written"),
+        Status::NoMemory => eprintln!(rt; "rng: there is not enough memory"),
+        Status::Refused => match input.map(|text| (text, read(alloc, text))) {
+            Some((text, Err(ScriptError::Fault(fault)))) => return tell_fault(rt, fault, text),
+            _ => eprintln!(rt; "rng: the script has a fault, which standard output names"),
+        },
+    };
+}

@@ -1,0 +1,28 @@
+-- A line by reference as contracts see it.
+use Rattle.std.specs.Prelude.{ℕ, List, []}
+use Rattle.key_names.specs.SeenLine.{Shown as SeenShown, no_data, count, bytes_or_none, SeenLine}
+use Rattle.transcript_text.specs.declared.view.Shown.{Shown}
+use Rattle.transcript_text.specs.declared.view.Shown.TheVariants.{None as NoData, Bytes, Count}
+use Rattle.transcript_text.specs.declared.view.LineView.{LineView}
+
+-- the bytes that it shows
+abbrev pub bytes_of : Shown → List ℕ
+bytes_of NoData = []
+bytes_of (Bytes shown) = shown.now
+bytes_of (Count n) = []
+
+-- as the data of a line
+abbrev pub seen_shown : Shown → SeenShown
+seen_shown NoData = no_data
+seen_shown (Bytes shown) = bytes_or_none shown.now
+seen_shown (Count n) = count n
+
+abbrev pub seen : LineView → SeenLine
+seen line = record {
+  caller = line.caller;
+  event = line.event;
+  word = line.word;
+  answer = line.answer;
+  steps = line.steps.now;
+  shown = seen_shown line.shown;
+}

@@ -1,0 +1,38 @@
+-- How far a call of vgetrandom is that can be stopped.
+use Rattle.std.specs.Prelude.{ℕ, ◌+◌, ◌*◌, ◌^◌, Bool, true, false}
+use Rattle.vdso_state.specs.Turns.{copies_by, turn_number}
+use Rattle.vcall_fork.specs.declared.stage.Stage.{Stage}
+use Rattle.vcall_fork.specs.declared.stage.Stage.TheVariants.{New, At, Over}
+
+abbrev pub is_open : Stage → Bool
+is_open New = true
+is_open (At place) = true
+is_open Over = false
+
+abbrev pub is_stopped : Stage → Bool
+is_stopped New = false
+is_stopped (At place) = true
+is_stopped Over = false
+
+-- the generation that was read last, or another number where none was
+abbrev pub published_or : ℕ → Stage → ℕ
+published_or other New = other
+published_or other (At place) = place.published
+published_or other Over = other
+
+-- the next block, and a bound on it
+abbrev pub block_of : Stage → ℕ
+block_of New = 0
+block_of (At place) = place.next_block
+block_of Over = 0
+
+abbrev pub block_limit : Stage → ℕ
+block_limit New = 0
+block_limit (At place) = copies_by place.turn place.point * (2 ^ 14 + 2)
+block_limit Over = 0
+
+-- how many attempts began
+abbrev pub turns_begun : Stage → ℕ
+turns_begun New = 0
+turns_begun (At place) = turn_number place.turn
+turns_begun Over = 0

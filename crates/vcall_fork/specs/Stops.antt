@@ -1,0 +1,91 @@
+-- A call that goes on from where it was stopped, to a point or to its end.
+use Rattle.std.specs.Prelude.{ℕ, suc, ◌+◌, ◌*◌, ◌^◌, ◌≤◌, ◌≡◌, ◌==◌, ◌&&◌, Bool, true, Option, Some, None, Result, List, [], ◌∷◌, if◌then◌else◌}
+use Rattle.key_names.specs.declared.errno.Errno.{Errno}
+use Rattle.key_names.specs.declared.point.Point.{Point}
+use Rattle.key_names.specs.Vgetrandom.{HostStep, Outcome, IsCall}
+use Rattle.key_names.specs.VgetrandomState.{VgetrandomState}
+use Rattle.key_names.specs.VreadSteps.{PointReached, points_of, number_of}
+use Rattle.vdso_state.specs.declared.outcome.VEnd.{VEnd}
+use Rattle.vdso_state.specs.declared.place.Turn.{Turn}
+use Rattle.vdso_state.specs.declared.place.Place.{Place}
+use Rattle.vdso_state.specs.declared.place.Came.{Came}
+use Rattle.vdso_state.specs.declared.place.Came.TheVariants.{At as CameAtPlace, Ended as CameEnded}
+use Rattle.vdso_state.specs.Host.{Doings}
+use Rattle.vdso_state.specs.Turns.{copies_by, turn_number}
+use Rattle.vdso_state.specs.Places.{BehindPlace, AtPlace, Leads, Ends}
+use Rattle.vcall_fork.specs.declared.stage.Progress.{Progress}
+use Rattle.vcall_fork.specs.declared.stage.Progress.TheVariants.{At, Ended}
+use Rattle.vcall_fork.specs.declared.stage.Stage.{Stage}
+use Rattle.vcall_fork.specs.declared.stage.Stage.TheVariants.{New, At as StandsAt, Over}
+
+-- what is left of a call for n bytes on a state, out being what its buffer holds: all of it, or what stands behind the
+-- point of the stop
+abbrev pub RestOfCall : Stage → ℕ → ℕ → List ℕ → VgetrandomState → List HostStep → Outcome → Type 0
+RestOfCall New n flags out s steps outcome = IsCall n flags s steps outcome
+RestOfCall (StandsAt place) n flags out s steps outcome = BehindPlace n flags place out s steps outcome
+RestOfCall Over n flags out s steps outcome = ⊥
+
+-- the attempt that a point is in, `begun` having begun before it: an attempt begins at the point Start
+abbrev pub turn_at : ℕ → Point → ℕ
+turn_at begun point = if number_of point == 1 then suc begun else begun
+
+abbrev pub is_wanted : Turn → Point → ℕ → Point → Bool
+is_wanted turn point now here = now == turn_number turn && number_of here == number_of point
+
+-- how many attempts have begun behind some points; nothing where they come to this point of this attempt
+abbrev pub passes_by : Turn → Point → ℕ → List PointReached → Option ℕ
+passes_by turn point begun [] = Some begun
+passes_by turn point begun (reached ∷ points) =
+    let now = turn_at begun reached.point in
+    if is_wanted turn point now reached.point then None else passes_by turn point now points
+
+-- the steps never come to this point of this attempt
+pub record Misses (turn : Turn) (point : Point) (begun : ℕ) (steps : List HostStep) : Type 0 where
+  pub behind : ℕ
+  pub passes : passes_by turn point begun (points_of steps) ≡ Some behind
+
+module _ {H : Type 0} (host : Doings H) (floor : H → ℕ) where
+  -- the call stands at this point of this attempt, and what happens there is still ahead
+  pub record Stopped (From : List HostStep → Outcome → Type 0) (n flags : ℕ) (turn : Turn) (point : Point)
+      (begun : ℕ) (stage : Stage) (h next : H) (s : VgetrandomState) (buf : List ℕ) : Type 0 where
+    pub place : Place
+    pub stage_is : stage ≡ StandsAt place
+    pub turn_is : place.turn ≡ turn
+    pub point_is : place.point ≡ point
+    pub leads : Leads host floor From (AtPlace n flags place buf s) h next
+    pub misses : Misses turn point begun leads.steps
+
+  -- it ended before
+  pub record EndedBefore (From : List HostStep → Outcome → Type 0) (turn : Turn) (point : Point) (begun : ℕ)
+      (stage : Stage) (result : Result VEnd Errno) (h last : H) (s : VgetrandomState) (buf : List ℕ) : Type 0 where
+    pub over : stage ≡ Over
+    pub ends : Ends host floor From h last (record { state = s; result = result; buf = buf })
+    pub misses : Misses turn point begun ends.runs.steps
+
+  abbrev pub RanTo : (List HostStep → Outcome → Type 0) → ℕ → ℕ → Turn → Point → ℕ → Stage → Progress → H → H →
+      VgetrandomState → List ℕ → Type 0
+  RanTo From n flags turn point begun stage At h next s buf = Stopped From n flags turn point begun stage h next s buf
+  RanTo From n flags turn point begun stage (Ended result) h last s buf =
+      EndedBefore From turn point begun stage result h last s buf
+
+  -- from a place on a call came to this point of this attempt
+  pub record CameAt (From : List HostStep → Outcome → Type 0) (n flags : ℕ) (turn : Turn) (point : Point)
+      (begun : ℕ) (place : Place) (h next : H) (s : VgetrandomState) (buf : List ℕ) : Type 0 where
+    pub leads : Leads host floor From (AtPlace n flags place buf s) h next
+    pub misses : Misses turn point begun leads.steps
+    pub wanted : is_wanted turn point (turn_number place.turn) place.point ≡ true
+    pub ready : 1 ≤ place.published
+    pub near : place.next_block ≤ copies_by place.turn place.point * (2 ^ 14 + 2)
+
+  -- it ended before
+  pub record CameToEnd (From : List HostStep → Outcome → Type 0) (turn : Turn) (point : Point) (begun : ℕ)
+      (result : Result VEnd Errno) (h last : H) (s : VgetrandomState) (buf : List ℕ) : Type 0 where
+    pub ends : Ends host floor From h last (record { state = s; result = result; buf = buf })
+    pub misses : Misses turn point begun ends.runs.steps
+
+  abbrev pub CameBy : (List HostStep → Outcome → Type 0) → ℕ → ℕ → Turn → Point → ℕ → Came → H → H →
+      VgetrandomState → List ℕ → Type 0
+  CameBy From n flags turn point begun (CameAtPlace place) h next s buf =
+      CameAt From n flags turn point begun place h next s buf
+  CameBy From n flags turn point begun (CameEnded result) h last s buf =
+      CameToEnd From turn point begun result h last s buf

@@ -1,0 +1,212 @@
+//! A call of vgetrandom that can be stopped.
+
+ghost use Rattle.std.specs.Prelude.{◌≡◌, ◌^◌, ◌<◌, ◌≤◌, true, length};
+ghost use Rattle.key_names.specs.VreadSteps.{number_of};
+ghost use Rattle.key_names.specs.VgetrandomState.{wiped_state};
+ghost use Rattle.vdso_state.specs.Host.{doings};
+ghost use Rattle.vdso_state.specs.Turns.{turn_number, turns_before};
+ghost use Rattle.vdso_state.specs.Places.{Ends, CameTo, MayGoOn, MayFinish, AtPlace};
+ghost use Rattle.vcall_fork.specs.Stages.{is_open, is_stopped, published_or, block_of, block_limit, turns_begun};
+ghost use Rattle.vcall_fork.specs.declared.stage.Stage.TheVariants.{New, Over};
+ghost use Rattle.vcall_fork.specs.declared.stage.Progress.TheVariants.{Ended};
+ghost use Rattle.vcall_fork.specs.Stops.{RestOfCall, is_wanted, CameBy, RanTo};
+
+use crate::stage::{Progress, Stage};
+use key_names::Errno;
+use vdso_state::{
+    Came, Place, Point, Turn, VEnd, VHost, VState, begin, behind, finish, vgetrandom,
+};
+
+/// A call of vgetrandom, without its state and its buffer: these are the caller's, and a fork has its own.
+#[derive(Clone, Copy, Debug)]
+pub struct VCall {
+    /// How many bytes it reads, at most 2^20.
+    pub len: u32,
+    pub flags: u32,
+    pub stage: Stage,
+    ghost short: { len ≤ 2 ^ 20 },
+    ghost near: { block_of stage ≤ block_limit stage },
+    ghost ready: { 1 ≤ published_or 1 stage },
+}
+
+fn number(point: Point) -> u8
+    ensures { result ≡ number_of point }
+{
+    match point {
+        Point::Start => 1,
+        Point::Written => 2,
+        Point::Serve => 3,
+        Point::End => 4,
+    }
+}
+
+fn turn(turn: Turn) -> u8
+    ensures { result ≡ turn_number turn }
+{
+    match turn {
+        Turn::First => 1,
+        Turn::Second => 2,
+    }
+}
+
+// Whether a call that stands at a place is where it was asked to stop.
+fn is_at(place: Place, attempt: Turn, point: Point) -> bool
+    ensures { result ≡ is_wanted attempt point (turn_number place.turn) place.point }
+{
+    turn(place.turn) == turn(attempt) && number(place.point) == number(point)
+}
+
+// From a place on, to a point of an attempt or to the end of the call.
+fn until<H: VHost>(
+    host: &mut H,
+    st: &mut VState,
+    place: Place,
+    buf: &mut [u8],
+    flags: u32,
+    attempt: Turn,
+    point: Point,
+) -> Came
+    requires may { MayGoOn place (H.looks_left host.old) (H.calls_left host.old) (H.floor host.old) }
+    requires short { length buf.old ≤ 2 ^ 20 }
+    ensures { CameBy (doings H.publishes H.answers H.passes) H.floor (AtPlace (length buf.old) flags place buf.old st.old)
+        (length buf.old) flags attempt point (turns_before place.turn place.point)
+        result host.old host.new st.new buf.new }
+{
+    let mut at = place;
+    'points: while !is_at(at, attempt, point) {
+        host.at(at.point, st);
+        match behind(host, st, at, buf, flags) {
+            Came::Ended(result) => return Came::Ended(result),
+            Came::At(next) => at = next,
+        }
+    }
+    Came::At(at)
+}
+
+impl VCall {
+    /// A call that did nothing yet.
+    pub fn begin(len: u32, flags: u32) -> VCall
+        requires { len ≤ 2 ^ 20 }
+        ensures len { result.len ≡ len }
+        ensures flags { result.flags ≡ flags }
+        ensures stage { result.stage ≡ New }
+    {
+        VCall {
+            len,
+            flags,
+            stage: Stage::New,
+        }
+    }
+
+    // To the next point, or to the end where none comes.
+    fn go_on<H: VHost>(&self, host: &mut H, st: &mut VState, buf: &mut [u8]) -> Came
+        requires open { is_open self.now.stage ≡ true }
+        requires length { length buf.old ≡ self.now.len }
+        requires looks { 5 ≤ H.looks_left host.old }
+        requires calls { 3 ≤ H.calls_left host.old }
+        requires known { published_or 0 self.now.stage ≤ H.floor host.old }
+        ensures came { CameTo (doings H.publishes H.answers H.passes) H.floor
+            (RestOfCall self.now.stage self.now.len self.now.flags buf.old st.old)
+            self.now.len self.now.flags result host.old host.new st.new buf.new }
+        ensures may { MayFinish result (turns_begun self.now.stage)
+            (H.looks_left host.new) (H.calls_left host.new) (H.floor host.new) }
+    {
+        match self.stage {
+            Stage::New => begin(host, st, buf, self.flags),
+            Stage::At(place) => behind(host, st, place, buf, self.flags),
+            Stage::Over => unreachable!(),
+        }
+    }
+
+    fn end(&mut self, ended: Result<VEnd, Errno>) -> Progress
+        ensures len { self.new.len ≡ self.old.len }
+        ensures flags { self.new.flags ≡ self.old.flags }
+        ensures stage { self.new.stage ≡ Over }
+        ensures progress { result ≡ Ended ended }
+    {
+        self.stage = Stage::Over;
+        Progress::Ended(ended)
+    }
+
+    /// Runs the call until it stands at a point of an attempt: what happens there is still ahead. A point that the call
+    /// does not come to is run past, and the call is then over. Where the call stood at a point before, what happens
+    /// there is left to the caller: the host's `at` is not called for it.
+    ///
+    /// Needs a buffer of the call's length, 5 looks and 3 system calls of the host, and that the host publishes no
+    /// generation below the one that the call read last.
+    pub fn run_to<H: VHost>(
+        &mut self,
+        host: &mut H,
+        st: &mut VState,
+        buf: &mut [u8],
+        attempt: Turn,
+        point: Point,
+    ) -> Progress
+        requires open { is_open self.old.stage ≡ true }
+        requires length { length buf.old ≡ self.old.len }
+        requires looks { 5 ≤ H.looks_left host.old }
+        requires calls { 3 ≤ H.calls_left host.old }
+        requires known { published_or 0 self.old.stage ≤ H.floor host.old }
+        ensures len { self.new.len ≡ self.old.len }
+        ensures flags { self.new.flags ≡ self.old.flags }
+        ensures ran { RanTo (doings H.publishes H.answers H.passes) H.floor
+            (RestOfCall self.old.stage self.old.len self.old.flags buf.old st.old)
+            self.old.len self.old.flags attempt point (turns_begun self.old.stage) self.new.stage result
+            host.old host.new st.new buf.new }
+    {
+        match self.go_on(host, st, buf) {
+            Came::Ended(result) => self.end(result),
+            Came::At(place) => match until(host, st, place, buf, self.flags, attempt, point) {
+                Came::Ended(result) => self.end(result),
+                Came::At(stop) => {
+                    self.stage = Stage::At(stop);
+                    Progress::At
+                }
+            },
+        }
+    }
+
+    /// A fork at the point where the call stands: the child's call, its state, which the fork wiped, and its copy of the
+    /// buffer. The parent's are as they were.
+    pub fn fork_call(&self, buf: &[u8], child_buf: &mut [u8]) -> (VCall, VState)
+        requires stopped { is_stopped self.now.stage ≡ true }
+        requires length { length buf.now ≡ self.now.len }
+        requires child_length { length child_buf.old ≡ self.now.len }
+        ensures call { result.0 ≡ self.now }
+        ensures state { result.1 ≡ wiped_state }
+        ensures buf { child_buf.new ≡ buf.now }
+    {
+        child_buf.copy_from_slice(buf);
+        (*self, VState::wiped())
+    }
+
+    /// Ends the call. Where it stands at a point, what happens there is left to the caller: the host's `at` is not
+    /// called for it.
+    ///
+    /// Needs what [`run_to`](VCall::run_to) needs.
+    ///
+    /// # Errors
+    ///
+    /// The error of the last system call. The buffer is then unspecified.
+    pub fn finish<H: VHost>(
+        self,
+        host: &mut H,
+        st: &mut VState,
+        buf: &mut [u8],
+    ) -> Result<VEnd, Errno>
+        requires open { is_open self.stage ≡ true }
+        requires length { length buf.old ≡ self.len }
+        requires looks { 5 ≤ H.looks_left host.old }
+        requires calls { 3 ≤ H.calls_left host.old }
+        requires known { published_or 0 self.stage ≤ H.floor host.old }
+        ensures { Ends (doings H.publishes H.answers H.passes) H.floor
+            (RestOfCall self.stage self.len self.flags buf.old st.old)
+            host.old host.new (record { state = st.new; result = result; buf = buf.new }) }
+    {
+        match self.stage {
+            Stage::New => vgetrandom(host, st, buf, self.flags),
+            Stage::At(place) => finish(host, st, place, buf, self.flags),
+            Stage::Over => unreachable!(),
+        }
+    }
+}

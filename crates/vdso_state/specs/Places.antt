@@ -1,0 +1,98 @@
+-- Where a call of vgetrandom stands, and what is left of it from there.
+use Rattle.std.specs.Prelude.{ℕ, ◌+◌, ◌*◌, ◌^◌, ◌≤◌, ◌≡◌, Result, List, [], ◌∷◌, ◌++◌}
+use Rattle.key_names.specs.declared.entries.VEntry.{VEntry}
+use Rattle.key_names.specs.declared.errno.Errno.{Errno}
+use Rattle.key_names.specs.declared.point.Point.{Point}
+use Rattle.key_names.specs.declared.point.Point.TheVariants.{Start, Written, Serve, End}
+use Rattle.key_names.specs.Vgetrandom.{HostStep, publishes, system_call, at_point, Attempt, Outcome, outcome_behind, AtPoint, FromEnd, FromServe, FromWritten, FromStart, AttemptAndRest, SecondAttempt, AfterBoth}
+use Rattle.key_names.specs.VgetrandomState.{VgetrandomState}
+use Rattle.key_names.specs.VreadSteps.{points_of}
+use Rattle.vdso_state.specs.declared.outcome.VEnd.{VEnd}
+use Rattle.vdso_state.specs.declared.place.Turn.{Turn}
+use Rattle.vdso_state.specs.declared.place.Turn.TheVariants.{First, Second}
+use Rattle.vdso_state.specs.declared.place.Place.{Place}
+use Rattle.vdso_state.specs.declared.place.Came.{Came}
+use Rattle.vdso_state.specs.declared.place.Came.TheVariants.{At, Ended}
+use Rattle.vdso_state.specs.Host.{Doings, DoesAll}
+use Rattle.vdso_state.specs.Call.{Runs, Finish}
+use Rattle.vdso_state.specs.Turns.{looks_for, calls_for, points_for, copies_by, turns_before}
+
+-- the rest of an attempt behind a point, c being the next block, published the generation that the attempt began with,
+-- and out what was copied
+abbrev pub FromPoint : Point → ℕ → ℕ → ℕ → List ℕ → VgetrandomState → List HostStep → Attempt → Type 0
+FromPoint Start n c published out s steps attempt = FromStart n c published s steps attempt
+FromPoint Written n c published out s steps attempt = FromWritten n c s steps attempt
+FromPoint Serve n c published out s steps attempt = FromServe n c s steps attempt
+FromPoint End n c published out s steps attempt = FromEnd out c s steps attempt
+
+-- what follows an attempt whose generation was outdated in the end
+abbrev pub IfOutdated : Turn → ℕ → ℕ → ℕ → VgetrandomState → List HostStep → Outcome → Type 0
+IfOutdated First n flags c s steps outcome = SecondAttempt n flags c s steps outcome
+IfOutdated Second n flags c s steps outcome = AfterBoth n flags c s steps outcome
+
+-- the rest of a call, Tail being the rest of the attempt that it is in
+abbrev pub RestOf : Turn → ℕ → ℕ → (List HostStep → Attempt → Type 0) → List HostStep → Outcome → Type 0
+RestOf turn n flags Tail steps outcome = AttemptAndRest n flags (IfOutdated turn n flags) Tail steps outcome
+
+-- the rest of a call behind the point where it stands, out being what its buffer holds
+abbrev pub BehindPlace : ℕ → ℕ → Place → List ℕ → VgetrandomState → List HostStep → Outcome → Type 0
+BehindPlace n flags at out s steps outcome =
+    RestOf at.turn n flags (FromPoint at.point n at.next_block at.published out s) steps outcome
+
+-- the same with what happens at the point
+abbrev pub AtPlace : ℕ → ℕ → Place → List ℕ → VgetrandomState → List HostStep → Outcome → Type 0
+AtPlace n flags at out s steps outcome =
+    RestOf at.turn n flags (AtPoint at.point (FromPoint at.point n at.next_block at.published out) s) steps outcome
+
+-- the generations that steps publish begin at or above low, never fall, and end at or below high
+abbrev pub Climbs : ℕ → ℕ → List HostStep → Type 0
+Climbs low high [] = low ≤ high
+Climbs low high (publishes g ∷ steps) = (low ≤ g) × Climbs g high steps
+Climbs low high (system_call n flags answer ∷ steps) = Climbs low high steps
+Climbs low high (at_point point wiped ∷ steps) = Climbs low high steps
+
+module _ {H : Type 0} (host : Doings H) (floor : H → ℕ) where
+  -- the host's steps from h to next lead from what From relates to what To relates: before steps of the second they are
+  -- steps of the first
+  pub record Leads (From To : List HostStep → Outcome → Type 0) (h next : H) : Type 0 where
+    pub steps : List HostStep
+    pub entries : List VEntry
+    pub does : DoesAll host h steps next
+    pub climbs : Climbs (floor h) (floor next) steps
+    pub leads : (rest : List HostStep) (outcome : Outcome) → To rest outcome →
+        From (steps ++ rest) (outcome_behind entries outcome)
+
+  -- they end it
+  pub record Ends (From : List HostStep → Outcome → Type 0) (h last : H) (finish : Finish) : Type 0 where
+    pub runs : Runs host From h last finish
+    pub climbs : Climbs (floor h) (floor last) runs.steps
+
+  -- from what From relates a call of n bytes came, past no point, to where it stands or to its end, with this state and
+  -- this buffer
+  abbrev pub CameTo : (List HostStep → Outcome → Type 0) → ℕ → ℕ → Came → H → H → VgetrandomState → List ℕ → Type 0
+  CameTo From n flags (At place) h next s buf =
+      (leads : Leads From (AtPlace n flags place buf s) h next) × (points_of leads.steps ≡ [])
+  CameTo From n flags (Ended result) h last s buf =
+      (ends : Ends From h last (record { state = s; result = result; buf = buf })) × (points_of ends.runs.steps ≡ [])
+
+-- a host with these looks and system calls left and this floor serves what is ahead, and the key has blocks enough
+pub record MayGoOn (at : Place) (looks calls floor : ℕ) : Type 0 where
+  pub looks_are : looks_for at.turn ≤ looks
+  pub calls_are : calls_for at.turn at.point ≤ calls
+  pub ready : 1 ≤ at.published
+  pub known : at.published ≤ floor
+  pub near : at.next_block ≤ copies_by at.turn at.point * (2 ^ 14 + 2)
+
+-- so it does where a call came, and these attempts began before
+pub record GoesOn (at : Place) (turns looks calls floor : ℕ) : Type 0 where
+  pub may : MayGoOn at looks calls floor
+  pub turns_are : turns_before at.turn at.point ≡ turns
+
+abbrev pub MayFinish : Came → ℕ → ℕ → ℕ → ℕ → Type 0
+MayFinish (At place) turns looks calls floor = GoesOn place turns looks calls floor
+MayFinish (Ended result) turns looks calls floor = Unit {0}
+
+-- how many points may still come
+abbrev pub points_ahead : Came → ℕ
+points_ahead (At place) = points_for place.turn place.point
+points_ahead (Ended result) = 0
