@@ -12,3 +12,4 @@ pub mod MarksMoved
 pub mod Carried
 pub mod OwnSteps
 pub mod AllCalls
+pub mod OneTranscript

@@ -6,3 +6,4 @@ pub mod Stamps
 pub mod Marks
 pub mod Settings
 pub mod Begun
+pub mod OneTranscript
