@@ -361,15 +361,16 @@ class Caller:
 
     def take(self, state, length):
         answer = self.copy(state, min(length, BATCH - state.at))
+        if len(answer) == length:
+            return answer
         while length - len(answer) >= 64:
             answer += block(state.key, self.number)
             self.number += 1
-        if len(answer) < length:
-            fresh = keystream(state.key, 64 * self.number, 128)
-            self.number += 2
-            state.batch, state.key, state.at = fresh[:BATCH], fresh[BATCH:], 0
-            answer += self.copy(state, length - len(answer))
-        return answer
+        # Also where whole blocks were all that was wanted: the key that made them is replaced.
+        fresh = keystream(state.key, 64 * self.number, 128)
+        self.number += 2
+        state.batch, state.key, state.at = fresh[:BATCH], fresh[BATCH:], 0
+        return answer + self.copy(state, length - len(answer))
 
     def meet(self, point, attempt, acts):
         """Does the acts of a point. Their steps are those of their own lines."""

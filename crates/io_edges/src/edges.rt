@@ -17,7 +17,7 @@ pub trait Source {
     ghost faults: { Self → ℕ };
 
     /// Takes bytes from the front of what is left into the front of `buf`, and answers how many.
-    /// No byte for a buffer that is not empty is the end of the input. What stands in `buf` behind the bytes
+    /// Where it answers 0 for a buffer with room, the input is at its end. What stands in `buf` behind the bytes
     /// taken, and all of it after a failure, is unspecified.
     ///
     /// # Errors

@@ -36,8 +36,8 @@ impl From<NoMemory> for ReadError {
     }
 }
 
-/// Reads until the end of the input, or until one byte more than the limit was taken: an answer longer than
-/// `limit` says that the input is too long, and it was left where it is.
+/// Reads an input to its end, but never more than `limit + 1` bytes of it. An answer of `limit + 1` bytes tells that the
+/// input is too long; its rest stays in the source.
 ///
 /// # Errors
 ///

@@ -5,7 +5,6 @@ use std::marker::Model;
 /// A caller's CPU, its moment in milliseconds and its hardware words.
 ///
 /// Contracts see it as the `Setting` of the calls.
-#[derive(Drop)]
 pub struct Setting {
     cpu: u32,
     moment: u64,
@@ -59,23 +58,5 @@ impl Setting {
         ensures { result ≡ self.now.now }
     {
         self.moment
-    }
-
-    /// The hardware words, as bytes.
-    pub fn hw(&self) -> [u8; 32]
-        ensures { result ≡ self.now.hw }
-    {
-        self.hw
-    }
-
-    /// The same once more.
-    pub fn again(&self) -> Setting
-        ensures { result ≡ self.now }
-    {
-        Setting {
-            cpu: self.cpu,
-            moment: self.moment,
-            hw: self.hw,
-        }
     }
 }

@@ -3,3 +3,4 @@ pub mod Runs
 pub mod ShownBytes
 pub mod NumberWords
 pub mod Endings
+pub mod Completes

@@ -5,3 +5,6 @@ use Rattle.rng_tool.specs.declared.kept.KeptSource.{KeptSource}
 -- the bytes that it gave, where it has them all
 abbrev pub given_by : {S : Type 0} → KeptSource S → Option (List ℕ)
 given_by s = if s.is_whole then Some s.given.items else None
+
+abbrev pub source_of : {S : Type 0} → KeptSource S → S
+source_of s = s.source

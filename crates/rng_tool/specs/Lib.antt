@@ -2,5 +2,6 @@ pub mod Refusal
 pub mod Outcome
 pub mod Ends
 pub mod LoadOutcome
+pub mod DrawOutcome
 pub mod Commands
 pub mod Kept

@@ -1,13 +1,15 @@
 //! What the words of a command line ask for.
 ghost use Rattle.std.specs.Prelude.{◌≡◌, ◌↔◌, ℕ, Some, IsTrue, IfSome};
 ghost use Rattle.rng_tool.specs.Commands.{Asks};
+ghost use Rattle.rng_tool.specs.DrawOutcome.{IsDraw};
 ghost use Rattle.rng_tool.specs.LoadOutcome.{IsLoad};
 ghost use Rattle.rng_tool.specs.Outcome.{IsRun};
 
+use crate::draw::{Draw, draw_of};
 use crate::load::{Load, load_of};
 
 /// The forms of the command line, as the line that answers any other words has them.
-pub(crate) const USAGE: &str = "usage: rng run | rng load START CALLERS EVENTS";
+pub(crate) const USAGE: &str = "usage: rng run | rng load START CALLERS EVENTS | rng draw C K";
 
 /// A command, with the numbers that its words give.
 #[derive(Clone, Copy, Debug, PartialEq, Eq)]
@@ -16,6 +18,8 @@ pub(crate) enum Command {
     Run,
     /// `load START CALLERS EVENTS`
     Load(Load),
+    /// `draw C K`
+    Draw(Draw),
 }
 
 /// Whether the words are those of a run.
@@ -35,12 +39,17 @@ impl Command {
         ensures run { IsRun words.now → result ≡ Some Command.Run }
         ensures load { (start callers events : ℕ) → IsLoad words.now start callers events
             → result ≡ Some (Command.Load (record { start = start; callers = callers; events = events })) }
+        ensures draw { (bound count : ℕ) → IsDraw words.now bound count
+            → result ≡ Some (Command.Draw (record { bound = bound; count = count })) }
     {
         if is_run(words) {
             return Some(Command::Run);
         }
         if let Some(load) = load_of(words) {
             return Some(Command::Load(load));
+        }
+        if let Some(draw) = draw_of(words) {
+            return Some(Command::Draw(draw));
         }
         None
     }

@@ -3,7 +3,7 @@ ghost use Rattle.std.specs.Prelude.{◌≡◌, ◌<◌, ◌≤◌, ◌++◌, [],
 ghost use Rattle.std.specs.Io.{ReadsAtMost};
 ghost use Rattle.std.specs.Io.KnownBytes.{Consumes, IsAtEnd, Keeps};
 ghost use Rattle.io_edges.specs.Faults.{Rose};
-ghost use Rattle.rng_tool.specs.Kept.{given_by};
+ghost use Rattle.rng_tool.specs.Kept.{given_by, source_of};
 
 use io_edges::{Failed, Source};
 use std::alloc::Global;
@@ -49,6 +49,15 @@ impl<S: Source + Drop> Source for KeptSource<S> {
         ensures kept { IfOk result (λ n. IfSome (given_by self.new) (λ all.
             IfSome (given_by self.old) (λ before. all ≡ before ++ take n buf.new))) }
         ensures same { OnErr result (given_by self.new ≡ given_by self.old) }
+
+        // What each source promises.
+        ensures bound { ReadsAtMost result buf.new }
+        ensures taken { IfOk result (λ n.
+            Consumes (S.left (source_of self.old)) (S.left (source_of self.new)) (take n buf.new)) }
+        ensures end { IfOk result (λ n. n ≡ 0 → 0 < length buf.old → IsAtEnd (S.left (source_of self.new))) }
+        ensures not_taken { OnErr result (Keeps (S.left (source_of self.old)) (S.left (source_of self.new))) }
+        ensures cause { OnErr result (Rose (S.faults (source_of self.old)) (S.faults (source_of self.new))) }
+        ensures never_falls { S.faults (source_of self.old) ≤ S.faults (source_of self.new) }
     {
         let count = self.source.take(buf)?;
         if self.given.extend_from_slice(&buf[..count]).is_err() {

@@ -5,6 +5,7 @@
 mod caller_tests;
 mod callers;
 mod command;
+mod draw;
 mod ending;
 mod kept;
 mod load;

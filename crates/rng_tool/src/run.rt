@@ -1,11 +1,14 @@
 //! The top call: the words of a command line in, its answer out.
-ghost use Rattle.std.specs.Prelude.{◌≡◌, ◌≢◌, ◌↔◌, ◌⊎◌, [], ℕ};
+ghost use Rattle.std.specs.Prelude.{◌≡◌, ◌≢◌, ◌↔◌, ◌⊎◌, [], ℕ, IfSome};
 ghost use Rattle.io_edges.specs.Faults.{Rose};
+ghost use Rattle.key_names.specs.ScriptGrammar.{IsScript, Script};
 ghost use Rattle.rng_tool.specs.Commands.{IsNoForm, TakesInput};
+ghost use Rattle.rng_tool.specs.DrawOutcome.{DrawEnds, IsDraw};
 ghost use Rattle.rng_tool.specs.LoadOutcome.{IsLoad, LoadEnds};
 ghost use Rattle.rng_tool.specs.Outcome.{IsRun, RunEnds};
 
 use crate::command::Command;
+use crate::draw::run_draw;
 use crate::ending::end_output;
 use crate::load::run_load;
 use crate::run_script::run_input;
@@ -26,9 +29,13 @@ use std::thread::Threads;
 /// The output is the line `callers CALLERS events V bytes B`, with the number of the script's events and that of the bytes
 /// which its lines show.
 ///
+/// The words `draw C K` make K draws below C on a new table with one CPU, behind a sample of the bytes 0 to 31 with 256
+/// bits: C below 2^32, where 0 stands for 2^32, and K from 1 to 1,000. They read nothing. The output has the answer of each
+/// draw in decimal on a line of its own, or the line `spent` where 128 words were all rejected, which is then the last.
+///
 /// The gate is called before each event of each caller, and not before a script is accepted.
 ///
-/// - `Usage`: exactly where the words are neither. Nothing is read or written.
+/// - `Usage`: exactly where the words are none of these. Nothing is read or written.
 /// - `ReadFault`: the source failed. Nothing is written.
 /// - `Refused`: the input has a fault, and the line that tells the first was written.
 /// - `WriteFault`: the sink failed at a put, or at the flush behind the last. What it got in this call is a prefix of the
@@ -56,11 +63,22 @@ pub fn run<R: Threads + Wait + Sync, S: Source, K: Sink, G: Gate>(
         → RunEnds result (S.left source.old) (S.left source.new) (K.held sink.old) (K.held sink.new) }
     ensures loaded { (start callers events : ℕ) → IsLoad words.now start callers events
         → LoadEnds start callers events result (K.held sink.old) (K.held sink.new) }
+    ensures run_completes { IsRun words.now
+        → (Rose (S.faults source.old) (S.faults source.new) → ⊥) → (Rose (K.faults sink.old) (K.faults sink.new) → ⊥)
+        → IfSome (S.left source.old) (λ all. (script : Script) → IsScript script all
+        → (result ≡ Status.Done) ⊎ (result ≡ Status.NoMemory)) }
+    ensures load_completes { (start callers events : ℕ) → IsLoad words.now start callers events
+        → (Rose (K.faults sink.old) (K.faults sink.new) → ⊥) → (result ≡ Status.Done) ⊎ (result ≡ Status.NoMemory) }
+    ensures drawn { (bound count : ℕ) → IsDraw words.now bound count
+        → DrawEnds bound count result (K.held sink.old) (K.held sink.new) }
+    ensures draw_completes { (bound count : ℕ) → IsDraw words.now bound count
+        → (Rose (K.faults sink.old) (K.faults sink.new) → ⊥) → (result ≡ Status.Done) ⊎ (result ≡ Status.NoMemory) }
     ensures no_check { result ≢ Status.No }
 {
     match Command::of(words) {
         None => Status::Usage,
         Some(Command::Run) => end_output(run_input(rt, alloc, source, sink, gate), sink),
         Some(Command::Load(load)) => end_output(run_load(rt, alloc, load, sink, gate), sink),
+        Some(Command::Draw(draw)) => end_output(run_draw(rt, alloc, draw, sink), sink),
     }
 }

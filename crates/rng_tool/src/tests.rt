@@ -114,18 +114,21 @@ fn words_of(alloc: Global, texts: &[&str]) -> Result<Vec<String>, AllocError> {
     Ok(words)
 }
 
-// How many bytes the source gives and the sink takes a call at most, and the number of the call of each that fails.
+// How many bytes the source gives and the sink takes a call at most, the number of the call of each that fails, and
+// whether the sink can be flushed.
 #[derive(Clone, Copy)]
 struct Edges {
     step: usize,
     failing_take: u64,
     failing_put: u64,
+    flush_fails: bool,
 }
 
 const WHOLE: Edges = Edges {
     step: 4096,
     failing_take: NEVER,
     failing_put: NEVER,
+    flush_fails: false,
 };
 
 // What a run with these words answers, and what its source has left and its sink holds.
@@ -144,6 +147,9 @@ fn run_over<R: Abort + Threads + Wait + Sync>(
         [edges.failing_take].to_vec(alloc)?,
     );
     let mut sink = MemSink::of(alloc, edges.step, [edges.failing_put].to_vec(alloc)?, ROOM)?;
+    if edges.flush_fails {
+        sink = sink.failing_at_flush();
+    }
     let status = run(rt, alloc, &words, &mut source, &mut sink, &OpenGate);
     Ok((status, source, sink))
 }
@@ -211,7 +217,7 @@ fn faults_are_told(rt: HostRuntime) -> Result<(), Fail> {
 #[test]
 fn other_words_read_and_write_nothing(rt: HostRuntime) -> Result<(), Fail> {
     let alloc = rt.alloc();
-    let rows: [&[&str]; 17] = [
+    let rows: [&[&str]; 22] = [
         &[],
         &["check"],
         &["run", "run"],
@@ -229,6 +235,11 @@ fn other_words_read_and_write_nothing(rt: HostRuntime) -> Result<(), Fail> {
         &["load", "1", "1", "1001"],
         &["load", "4294967296", "1", "8"],
         &["load", "1", "1", ""],
+        &["draw", "6"],
+        &["draw", "4294967296", "1"],
+        &["draw", "06", "1"],
+        &["draw", "6", "0"],
+        &["draw", "6", "1001"],
     ];
     for (row, texts) in rows.iter().enumerate() {
         let (status, mut source, sink) = run_over(&rt, alloc, texts, FIRST_SCRIPT, WHOLE)?;
@@ -305,18 +316,18 @@ fn a_load_whose_line_cannot_be_written(rt: HostRuntime) -> Result<(), Fail> {
 fn a_source_that_fails_at_each_call(rt: HostRuntime) -> Result<(), Fail> {
     let alloc = rt.alloc();
     // A byte a call, and one more call that finds the end.
-    let calls = FIRST_SCRIPT.len() as u64 + 1;
+    let calls = EARLY_SCRIPT.len() as u64 + 1;
     for failing_take in 1..=calls + 1 {
         let edges = Edges {
             step: 1,
             failing_take,
             ..WHOLE
         };
-        let (status, _, sink) = run_over(&rt, alloc, &["run"], FIRST_SCRIPT, edges)?;
+        let (status, _, sink) = run_over(&rt, alloc, &["run"], EARLY_SCRIPT, edges)?;
         let (want, held) = if failing_take <= calls {
             (Status::ReadFault, b"".as_slice())
         } else {
-            (Status::Done, FIRST_TRANSCRIPT)
+            (Status::Done, EARLY_TRANSCRIPT)
         };
         assert_eq!(rt; status, want, "call {failing_take}");
         assert_eq!(rt; sink.held(), held, "call {failing_take}");
@@ -351,6 +362,72 @@ fn a_sink_that_fails_at_each_line(rt: HostRuntime) -> Result<(), Fail> {
         ..WHOLE
     };
     let (status, _, sink) = run_over(&rt, alloc, &["run"], b"nonsense\n", edges)?;
+    assert_eq!(rt; status, Status::WriteFault);
+    assert_eq!(rt; sink.held(), b"".as_slice());
+    Ok(())
+}
+
+#[test]
+fn a_sink_that_cannot_be_flushed_holds_all(rt: HostRuntime) -> Result<(), Fail> {
+    let alloc = rt.alloc();
+    let rows: [(&[&str], &[u8], &[u8]); 4] = [
+        (&["run"], EARLY_SCRIPT, EARLY_TRANSCRIPT),
+        (&["run"], TWO_CPUS_SCRIPT, TWO_CPUS_TRANSCRIPT),
+        (&["run"], b"nonsense\n", b"refused 1 3\n"),
+        (&["load", "1", "1", "8"], b"", LOAD_LINE),
+    ];
+    for (row, (texts, script, output)) in rows.iter().enumerate() {
+        let edges = Edges {
+            flush_fails: true,
+            ..WHOLE
+        };
+        let (status, _, sink) = run_over(&rt, alloc, texts, script, edges)?;
+        assert_eq!(rt; status, Status::WriteFault, "row {row}");
+        assert_eq!(rt; sink.held(), *output, "row {row}");
+    }
+    Ok(())
+}
+
+#[test]
+fn a_script_that_is_cut_is_refused(rt: HostRuntime) -> Result<(), Fail> {
+    let alloc = rt.alloc();
+    let mut line = 1u32;
+    for (len, byte) in EARLY_SCRIPT.iter().enumerate() {
+        let front = EARLY_SCRIPT.get(..len).ok_or("a front")?;
+        let (status, _, sink) = run_over(&rt, alloc, &["run"], front, WHOLE)?;
+        let refusal = format!(in alloc; "refused {line} 12\n")?;
+        assert_eq!(rt; status, Status::Refused, "{len} bytes");
+        assert_eq!(rt; sink.held(), refusal.as_bytes(), "{len} bytes");
+        if *byte == b'\n' {
+            line = line.saturating_add(1);
+        }
+    }
+    Ok(())
+}
+
+// The words are those that another implementation of the core gives for a script of `add` and `int32`.
+#[test]
+fn draws_are_told(rt: HostRuntime) -> Result<(), Fail> {
+    let alloc = rt.alloc();
+    let rows: [(&[&str], &[u8]); 4] = [
+        (&["draw", "6", "10"], b"1\n1\n5\n1\n0\n0\n0\n4\n2\n0\n"),
+        (&["draw", "1", "3"], b"0\n0\n0\n"),
+        (&["draw", "0", "2"], b"903136048\n950660814\n"),
+        (
+            &["draw", "2147483649", "3"],
+            b"2033629397\n456454579\n91363622\n",
+        ),
+    ];
+    for (words, text) in rows {
+        let (status, _, sink) = run_over(&rt, alloc, words, b"", WHOLE)?;
+        assert_eq!(rt; status, Status::Done);
+        assert_eq!(rt; sink.held(), text);
+    }
+    let edges = Edges {
+        failing_put: 1,
+        ..WHOLE
+    };
+    let (status, _, sink) = run_over(&rt, alloc, &["draw", "6", "10"], b"", edges)?;
     assert_eq!(rt; status, Status::WriteFault);
     assert_eq!(rt; sink.held(), b"".as_slice());
     Ok(())

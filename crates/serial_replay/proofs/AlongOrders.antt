@@ -47,7 +47,7 @@ module _ (after : Option ℕ → Step → Option ℕ) (May : Option ℕ → Step
   along_parts v [] ys h = (tt, h)
   along_parts v (x ∷ xs) ys h =
       let rest : Along after May (after v x) xs × Along after May (fold after (after v x) xs) ys =
-          along_parts (after v x) xs ys h.1 in ((h.0, rest.0), rest.1)
+      along_parts (after v x) xs ys h.1 in ((h.0, rest.0), rest.1)
 
   pub along_both : (v : Option ℕ) (xs ys : List Step) → Along after May v xs → Along after May (fold after v xs) ys →
       Along after May v (xs ++ ys)
@@ -84,12 +84,12 @@ module _ (after : Option ℕ → Step → Option ℕ) (May : Option ℕ → Step
       behind p n low shape short =
           let k : KeptOf p kept = each p low in
           let parts : Along after May None (start_of callers p) × Along after May (begun p) (own p) =
-              along_parts None (start_of callers p) (own p) k.stands in
+          along_parts None (start_of callers p) (own p) k.stands in
           let front : Along after May (begun p) (take n (own p)) =
-              (along_parts (begun p) (take n (own p)) (drop n (own p))
-              (subst (Along after May (begun p)) (sym (take_drop n (own p))) parts.1)).0 in
+          (along_parts (begun p) (take n (own p)) (drop n (own p))
+          (subst (Along after May (begun p)) (sym (take_drop n (own p))) parts.1)).0 in
           let value : kept_at (slice_get kept p) n ≡ fold after (begun p) (take n (own p)) =
-              rw (k.here, k.along n short) refl in (
+          rw (k.here, k.along n short) refl in (
             value ∙ sym (fold-append after None (start_of callers p) (take n (own p)))
                 ∙ sym (ap (λ (s : List Step). fold after None s) shape),
             subst (λ (s : List Step). Along after May None s) (sym shape)
@@ -110,17 +110,17 @@ module _ (after : Option ℕ → Step → Option ℕ) (May : Option ℕ → Step
           let low : p < c = subst (λ n. n < c) fork_is (rises c (all_forks 0 callers) f.fork rise f.here) in
           let n : ℕ = f.fork.steps in
           let front : take n (own p) ≡ steps_before parent.fork =
-              ap (λ m. take m (own p)) f.steps
-              ∙ ap (λ m. take (length (steps_before parent.fork)) (own m)) (sym same) ∙ f.front in
+          ap (λ m. take m (own p)) f.steps
+          ∙ ap (λ m. take (length (steps_before parent.fork)) (own m)) (sym same) ∙ f.front in
           let shape : start_of callers c ≡ start_of callers p ++ take n (own p) =
-              start_is_a_front callers c parent is low
-              ∙ append_assoc (start_of callers p) (calls_steps parent.fork.before) (through_visit parent.fork.line.steps)
-              ∙ ap (λ s. start_of callers p ++ s) (sym front) in
+          start_is_a_front callers c parent is low
+          ∙ append_assoc (start_of callers p) (calls_steps parent.fork.before) (through_visit parent.fork.line.steps)
+          ∙ ap (λ s. start_of callers p ++ s) (sym front) in
           let short : n ≤ length (own p) =
-              (let e : min n (length (own p)) ≡ n =
-                  sym (length-take n (own p)) ∙ ap (λ (s : List Step). length s) front ∙ sym f.steps in omega arith) in
+          (let e : min n (length (own p)) ≡ n =
+          sym (length-take n (own p)) ∙ ap (λ (s : List Step). length s) front ∙ sym f.steps in omega arith) in
           let found : (kept_at (slice_get kept p) n ≡ begun c) × Along after May None (start_of callers c) =
-              behind p n low shape short in record {
+          behind p n low shape short in record {
             value = ap (begin_in kept) f.here ∙ ap (λ m. kept_at (slice_get kept m) n) fork_is ∙ found.0;
             stands = found.1;
           }
@@ -133,8 +133,8 @@ module _ (after : Option ℕ → Step → Option ℕ) (May : Option ℕ → Step
         AllByRecursion (Along after May None) (caller_orders callers)
     all_follow kept each = each_list (Along after May None) (caller_orders callers) (λ c low.
         let low' : c < length callers =
-            (let e : length (caller_orders callers) ≡ length callers =
-                orders_long (ancestors_steps callers (length callers)) callers in omega arith) in
+        (let e : length (caller_orders callers) ≡ length callers =
+        orders_long (ancestors_steps callers (length callers)) callers in omega arith) in
         subst (λ (s : List Step). Along after May None s) (sym (order_is_start_and_own callers c low')) (each c low').stands)
 
     -- the own steps of a caller may follow what it begins with
@@ -142,8 +142,8 @@ module _ (after : Option ℕ → Step → Option ℕ) (May : Option ℕ → Step
         Along after May (fold after None (start_of callers c)) (calls_steps (list_at callers c))
     own_follow c low all =
         let low' : c < length (caller_orders callers) =
-            (let e : length (caller_orders callers) ≡ length callers =
-                orders_long (ancestors_steps callers (length callers)) callers in omega arith) in
+        (let e : length (caller_orders callers) ≡ length callers =
+        orders_long (ancestors_steps callers (length callers)) callers in omega arith) in
         (along_parts None (start_of callers c) (own c)
         (subst (λ (s : List Step). Along after May None s) (order_is_start_and_own callers c low)
         (at_list (Along after May None) (caller_orders callers) c low' all))).1

@@ -54,5 +54,5 @@ module _ (after : Option ℕ → Step → Option ℕ) (May : Option ℕ → Step
       (n : ℕ) → n < i + 1 → slice_get (kept ++ carried ∷ []) n ≡ Some (fold after start (take n steps))
   kept_more start carried steps i kept long here before n low = dite (ℕ_discrete n i)
       (λ e. ap (slice_get (kept ++ carried ∷ [])) (e ∙ sym long) ∙ get_last kept carried ∙ ap Some here
-          ∙ ap (λ k. Some (fold after start (take k steps))) (sym e))
+      ∙ ap (λ k. Some (fold after start (take k steps))) (sym e))
       (λ ne. get_front kept carried n (omega arith) ∙ before n (omega arith))

@@ -51,9 +51,9 @@ one_more c p k n call calls more None same at = same ∙ at
 one_more c p k n call calls more (Some f) same at =
     let own : List Step = call_steps call in
     let joined : (own ++ calls_steps f.before) ++ through_visit f.line.steps ≡ own ++ steps_before f =
-        append_assoc own (calls_steps f.before) (through_visit f.line.steps) in
+    append_assoc own (calls_steps f.before) (through_visit f.line.steps) in
     let long : length (own ++ steps_before f) ≡ length own + length (steps_before f) =
-        length-append own (steps_before f) in
+    length-append own (steps_before f) in
     let more_steps : n + length (own ++ steps_before f) ≡ n + length own + length (steps_before f) = omega arith in
     let more_calls : suc k + length f.before ≡ k + suc (length f.before) = omega arith in record {
       fork = at.fork;

@@ -7,9 +7,7 @@ pub mod AlongOrders
 pub mod Runs
 pub mod StampsRise
 pub mod BareStands
-pub mod SettingsFound
 pub mod MarksMoved
 pub mod Carried
 pub mod OwnSteps
 pub mod AllCalls
-pub mod OneTranscript

@@ -36,7 +36,7 @@ module _ (c n : ℕ) (es : List Event) (ls : List BareLine) where
       let one : drop n ls ≡ l ∷ drop (n + 1) ls = dropped ls n l (omega arith) at in
       let no_more : drop (n + 1) ls ≡ [] = at_drop_all (λ x. x) ls (n + 1) (omega arith) in
       let both : LinesFit c n (drop n es) (map seen_bare (drop n ls)) ↔ LineIs c n EndWord (seen_bare l) =
-          rw (none, one, no_more) ((λ h. h), (λ h. h)) in
+      rw (none, one, no_more) ((λ h. h), (λ h. h)) in
       subst (λ k. LinesFit c n (drop n es) (map seen_bare (drop n ls)) ↔ LineIs c k EndWord (seen_bare l)) same both
 
 abbrev CallerFits : ℕ → List Event → List SeenLine → Type 0

@@ -112,7 +112,7 @@ lane_sorted lane (m ∷ marks) sorted =
         is_same_lane n.mark.lane lane ≡ true → m.mark.stamp ≤ n.mark.stamp
     not_above e n (inl less) e' =
         let r : lane_rank m.mark.lane ≡ lane_rank n.mark.lane =
-            ap lane_rank (same_lane m.mark.lane lane e ∙ sym (same_lane n.mark.lane lane e')) in absurd (omega arith)
+        ap lane_rank (same_lane m.mark.lane lane e ∙ sym (same_lane n.mark.lane lane e')) in absurd (omega arith)
     not_above e n (inr h) e' = h.1
 
     go : (t : Bool) → is_same_lane m.mark.lane lane ≡ t → ByStamp (of_lane lane marks) →
@@ -143,8 +143,8 @@ of_first : (m : MarkOf) (marks : List MarkOf) (i : ℕ) → InOrder i (of_lane m
     × InOrder (suc m.mark.place) (of_lane m.mark.lane marks)
 of_first m marks i order =
     let h : (m.mark.place ≡ i) × AllByRecursion (λ n. m.mark.stamp < n.stamp) (of_lane m.mark.lane marks)
-        × InOrder (suc i) (of_lane m.mark.lane marks) =
-        subst (InOrder i) (taken m.mark.lane m marks (itself m.mark.lane)) order in
+    × InOrder (suc i) (of_lane m.mark.lane marks) =
+    subst (InOrder i) (taken m.mark.lane m marks (itself m.mark.lane)) order in
     (h.0, h.1, subst (λ j. InOrder (suc j) (of_lane m.mark.lane marks)) (sym h.0) h.2)
 
 -- the marks of other lanes behind a first mark
@@ -172,9 +172,11 @@ module _ (a m : MarkOf) (marks : List MarkOf) (sorted : IsSortedByLane (a ∷ m 
           (first_of m marks (suc a.mark.place) next on);
       above = subst (λ l. AllByRecursion (λ n. a.mark.stamp < n.stamp) (of_lane l (m ∷ marks))) (sym one)
           (subst (λ (ms : List Mark). AllByRecursion (λ n. a.mark.stamp < n.stamp) ms)
-          (sym (taken m.mark.lane m marks (itself m.mark.lane)))
-          (up, each_weaker (λ (n : Mark). m.mark.stamp < n.stamp) (λ (n : Mark). a.mark.stamp < n.stamp)
-          (of_lane m.mark.lane marks) (λ n h. omega arith) on.above));
+          (sym (taken m.mark.lane m marks (itself m.mark.lane))) (
+            up,
+            each_weaker (λ (n : Mark). m.mark.stamp < n.stamp) (λ (n : Mark). a.mark.stamp < n.stamp)
+                (of_lane m.mark.lane marks) (λ n h. omega arith) on.above,
+          ));
       others = λ lane other.
           let other' : is_same_lane m.mark.lane lane ≡ false = subst (λ l. is_same_lane l lane ≡ false) one other in
           subst (InOrder 0) (sym (left lane m marks other')) (on.others lane other');
@@ -183,14 +185,14 @@ module _ (a m : MarkOf) (marks : List MarkOf) (sorted : IsSortedByLane (a ∷ m 
     on_same : GoesOn a.mark (m ∷ marks) → (a.mark.stamp < m.mark.stamp) × (m.mark.place ≡ suc a.mark.place) × GoesOn m.mark marks
     on_same on =
         let run : (m.mark.place ≡ suc a.mark.place)
-            × AllByRecursion (λ n. m.mark.stamp < n.stamp) (of_lane m.mark.lane marks)
-            × InOrder (suc m.mark.place) (of_lane m.mark.lane marks) =
-            of_first m marks (suc a.mark.place)
-            (subst (λ l. InOrder (suc a.mark.place) (of_lane l (m ∷ marks))) one on.run) in
+        × AllByRecursion (λ n. m.mark.stamp < n.stamp) (of_lane m.mark.lane marks)
+        × InOrder (suc m.mark.place) (of_lane m.mark.lane marks) =
+        of_first m marks (suc a.mark.place)
+        (subst (λ l. InOrder (suc a.mark.place) (of_lane l (m ∷ marks))) one on.run) in
         let up : AllByRecursion (λ n. a.mark.stamp < n.stamp) (m.mark ∷ of_lane m.mark.lane marks) =
-            subst (λ (ms : List Mark). AllByRecursion (λ n. a.mark.stamp < n.stamp) ms)
-            (taken m.mark.lane m marks (itself m.mark.lane))
-            (subst (λ l. AllByRecursion (λ n. a.mark.stamp < n.stamp) (of_lane l (m ∷ marks))) one on.above) in (
+        subst (λ (ms : List Mark). AllByRecursion (λ n. a.mark.stamp < n.stamp) ms)
+        (taken m.mark.lane m marks (itself m.mark.lane))
+        (subst (λ l. AllByRecursion (λ n. a.mark.stamp < n.stamp) (of_lane l (m ∷ marks))) one on.above) in (
           up.0,
           run.0,
           record {
@@ -232,7 +234,7 @@ module _ (a m : MarkOf) (marks : List MarkOf) (sorted : IsSortedByLane (a ∷ m 
     on_other : GoesOn a.mark (m ∷ marks) → (m.mark.place ≡ 0) × GoesOn m.mark marks
     on_other on =
         let run : (m.mark.place ≡ 0) × AllByRecursion (λ n. m.mark.stamp < n.stamp) (of_lane m.mark.lane marks)
-            × InOrder (suc m.mark.place) (of_lane m.mark.lane marks) = of_first m marks 0 (on.others m.mark.lane e) in (
+        × InOrder (suc m.mark.place) (of_lane m.mark.lane marks) = of_first m marks 0 (on.others m.mark.lane e) in (
           run.0,
           record {
             run = run.2;
@@ -290,11 +292,11 @@ counted : (marks : List MarkOf) → IsSortedByLane marks →
 counted [] sorted = ((λ h lane. tt), (λ h. tt))
 counted (m ∷ marks) sorted =
     let both : (RunsCount (Some m.mark) marks → GoesOn m.mark marks) × (GoesOn m.mark marks → RunsCount (Some m.mark) marks) =
-        behind_mark m marks sorted in (
+    behind_mark m marks sorted in (
       (λ h lane. begins m marks h.0 (both.0 h.1) lane),
       (λ order.
           let run : (m.mark.place ≡ 0) × AllByRecursion (λ n. m.mark.stamp < n.stamp) (of_lane m.mark.lane marks)
-              × InOrder (suc m.mark.place) (of_lane m.mark.lane marks) = of_first m marks 0 (order m.mark.lane) in
+          × InOrder (suc m.mark.place) (of_lane m.mark.lane marks) = of_first m marks 0 (order m.mark.lane) in
           (run.0, both.1 (record { run = run.2; above = run.1; others = others_of m marks order }))),
     )
 

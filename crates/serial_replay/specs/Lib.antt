@@ -4,6 +4,4 @@ pub mod Orders
 pub mod Along
 pub mod Stamps
 pub mod Marks
-pub mod Settings
 pub mod Begun
-pub mod OneTranscript

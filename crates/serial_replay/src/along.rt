@@ -77,7 +77,7 @@ pub(crate) fn all_may_follow<C: Carry>(
         → orders.now.forks.items ≡ all_forks 0 callers
         → AllByRecursion (λ fork. fork.parent < fork.child) (all_forks 0 callers)
         → IsTrue holds ↔ AllByRecursion (Along (C.after carry.now) (C.MayFollow carry.now) None)
-            (caller_orders callers)) }
+        (caller_orders callers)) }
 {
     let mut kept = Vec::with_capacity(alloc, orders.own.len())?;
     for (caller, own) in orders.own.iter().enumerate() {

@@ -88,11 +88,7 @@ pub(crate) fn begin<'a>(
 /// # Errors
 ///
 /// `AllocError` where there is no memory to judge them.
-pub fn early_fault(
-    alloc: Global,
-    script: &Script,
-    t: &Transcript,
-) -> Result<Option<u8>, AllocError>
+pub fn early_fault(alloc: Global, script: &Script, t: &Transcript) -> Result<Option<u8>, AllocError>
     requires { WellFormed script.now }
     ensures { IfOk result (λ fault. MatchOption fault (LinesAndMarksStand script.now t.now)
         (IsEarlyFault script.now t.now)) }

@@ -5,8 +5,6 @@
 //! what each caller does, behind what its ancestors did before the fork. It promises both ways: a fault is told exactly
 //! where there is one.
 //!
-//! [`laws`] says why a record without answers and data is enough: the steps decide them.
-//!
 //! It stands on the definitions of `key_names`, and on scripts and transcripts as they are read. Answers and data are not
 //! looked at, nor what the lists of the lanes demand.
 #![tactic(auto)]
@@ -15,12 +13,10 @@ mod along;
 mod bare;
 pub mod begin;
 mod called;
-pub mod laws;
 mod lines;
 mod marks;
 mod order;
 mod seen;
-mod settings;
 mod stamps;
 #[cfg(test)]
 mod tests;

@@ -69,11 +69,7 @@ fn first_visit_end(steps: &[Step]) -> usize
     }
 }
 
-fn push_at_point(
-    own: &mut Vec<Step>,
-    acts: &[ActLine<'_>],
-    point: u8,
-) -> Result<(), AllocError>
+fn push_at_point(own: &mut Vec<Step>, acts: &[ActLine<'_>], point: u8) -> Result<(), AllocError>
     ensures { OnOk result (own.new.items ≡ own.old.items ++ steps_at_point (map seen_act acts.now) point) }
 {
     let Some((act, rest)) = acts.split_first() else {
@@ -99,11 +95,7 @@ fn cut(steps: &[Step]) -> (&[Step], &[Step], &[Step])
     (looks, rekey, rest)
 }
 
-fn push_vread(
-    own: &mut Vec<Step>,
-    steps: &[Step],
-    acts: &[ActLine<'_>],
-) -> Result<(), AllocError>
+fn push_vread(own: &mut Vec<Step>, steps: &[Step], acts: &[ActLine<'_>]) -> Result<(), AllocError>
     ensures { OnOk result (own.new.items ≡ own.old.items ++ vread_steps steps.now (map seen_act acts.now)) }
 {
     let (looks, rekey, rest) = cut(steps);
@@ -178,10 +170,7 @@ fn own_steps(
 /// # Errors
 ///
 /// `AllocError` where there is no memory for them.
-pub(crate) fn make_orders(
-    alloc: Global,
-    callers: &[Vec<Called<'_>>],
-) -> Result<Orders, AllocError>
+pub(crate) fn make_orders(alloc: Global, callers: &[Vec<Called<'_>>]) -> Result<Orders, AllocError>
     requires { length callers.now ≤ 64 }
     ensures own { IfOk result (λ orders. map (λ own. own.items) orders.own.items ≡ map calls_steps (seen_calls callers.now)) }
     ensures forks { IfOk result (λ orders. orders.forks.items ≡ all_forks 0 (seen_calls callers.now)) }

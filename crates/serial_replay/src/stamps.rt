@@ -13,16 +13,14 @@ impl Carry for Stamps {
 
     ghost MayFollow = { λ _ carried step. IsAbove carried step };
 
-    fn may_follow(&self, carried: Option<u64>, step: Step) -> bool
-    {
+    fn may_follow(&self, carried: Option<u64>, step: Step) -> bool {
         match (carried, step) {
             (Some(last), Step::Visit(mark)) => last < mark.stamp,
             _ => true,
         }
     }
 
-    fn after(&self, carried: Option<u64>, step: Step) -> Option<u64>
-    {
+    fn after(&self, carried: Option<u64>, step: Step) -> Option<u64> {
         match step {
             Step::Look(_) => carried,
             Step::Visit(mark) => Some(mark.stamp),

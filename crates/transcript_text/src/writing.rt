@@ -132,8 +132,7 @@ fn put_lines<K: Sink>(sink: &mut K, piece: &mut Piece, lines: &CallerLines) -> R
     Ok(())
 }
 
-/// Writes the text of a transcript. It takes no memory, and puts each line in pieces of at most 4,096 bytes, a new line
-/// in a new piece.
+/// Writes the text of a transcript, and takes no memory for it. No put has bytes of two lines, or more than 4,096 bytes.
 ///
 /// # Errors
 ///

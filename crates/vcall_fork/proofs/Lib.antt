@@ -1,2 +1,3 @@
 mod Stopping
 mod Forking
+mod Sharing

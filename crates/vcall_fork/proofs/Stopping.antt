@@ -1,5 +1,5 @@
 -- Calls that go on to a point.
-use Rattle.std.proofs.Common.{◌≡◌, ℕ, suc, ◌≤◌, Bool, true, false, Option, Some, None, List, [], ◌∷◌, ◌++◌, refl, sym, ap, ◌∙◌, append_assoc}
+use Rattle.std.proofs.Common.{◌≡◌, ℕ, ◌≤◌, Bool, true, false, Option, Some, None, List, [], ◌∷◌, ◌++◌, refl, sym, ap, ◌∙◌, append_assoc}
 use Rattle.std.specs.Prelude.{Result, ◌==◌, ◌&&◌, if◌then◌else◌}
 use Rattle.key_names.specs.declared.errno.Errno.{Errno}
 use Rattle.key_names.specs.declared.point.Point.{Point}
@@ -177,6 +177,7 @@ module _ (turn : Turn) (point : Point) where
         stage_is = is;
         turn_is = (wanted_is turn place.turn point place.point k.wanted).0;
         point_is = (wanted_is turn place.turn point place.point k.wanted).1;
+        known = k.known;
         leads = then_leads host floor From (AtPlace n flags at buf s) h mid came.0 (AtPlace n flags place buf_then u)
             last k.leads;
         misses = record {

@@ -1,8 +1,12 @@
 -- A call that was forked at a point: what its parent's rest and its child's rest are.
-use Rattle.std.specs.Prelude.{ℕ, ◌≡◌, ◌≤◌, ◌==◌, ◌&&◌, ◌||◌, Bool, true, false, List, [], ◌∷◌, ◌++◌, if◌then◌else◌}
+use Rattle.std.specs.Prelude.{ℕ, ◌≡◌, ◌≢◌, ◌≤◌, ◌==◌, ◌&&◌, ◌||◌, Bool, true, false, List, [], ◌∷◌, ◌++◌, if◌then◌else◌}
 use Rattle.key_names.specs.declared.entries.VEntry.{VEntry}
 use Rattle.key_names.specs.declared.entries.VEntry.TheVariants.{Wipe}
-use Rattle.key_names.specs.Vgetrandom.{SystemAnswer, read, failed, HostStep, publishes, system_call, at_point, Outcome, outcome_behind, by_batch}
+use Rattle.key_names.specs.declared.names.KeyName.{KeyName}
+use Rattle.key_names.specs.Book.{Lists, LawfulBook}
+use Rattle.key_names.specs.PrintedBytes.{at_state, origin_uses}
+use Rattle.key_names.specs.Uses.{IsUsed}
+use Rattle.key_names.specs.Vgetrandom.{read, failed, HostStep, publishes, system_call, at_point, Outcome, outcome_behind, by_batch}
 use Rattle.key_names.specs.VgetrandomState.{VgetrandomState, wiped_state}
 use Rattle.key_names.specs.VreadSteps.{number_of}
 use Rattle.vdso_state.specs.declared.place.Place.{Place}
@@ -48,3 +52,11 @@ abbrev pub ChildTakesKey : Type 0
 ChildTakesKey = (n flags : ℕ) (place : Place) (out : List ℕ) (steps : List HostStep) (outcome : Outcome)
     (high : ℕ) (bytes : List ℕ) → BehindPlace n flags place out wiped_state steps outcome → 1 ≤ place.published →
     Climbs place.published high steps → outcome.ending ≡ by_batch bytes → takes_key false steps ≡ true
+
+-- in a lawful book the states of two callers never put the same byte of a key to use: so no byte is given out of the
+-- parent's state and of the child's
+abbrev pub ForksShareNothing : Type 0
+ForksShareNothing = (lists : Lists) → LawfulBook lists →
+    (parent child : ℕ) (parents_state childs_state parents_place childs_place : ℕ) → parent ≢ child →
+    (key : KeyName) (q : ℕ) → IsUsed (origin_uses lists (at_state parent parents_state parents_place)) key q →
+    IsUsed (origin_uses lists (at_state child childs_state childs_place)) key q → ⊥

@@ -52,6 +52,7 @@ module _ {H : Type 0} (host : Doings H) (floor : H → ℕ) where
     pub stage_is : stage ≡ StandsAt place
     pub turn_is : place.turn ≡ turn
     pub point_is : place.point ≡ point
+    pub known : place.published ≤ floor next
     pub leads : Leads host floor From (AtPlace n flags place buf s) h next
     pub misses : Misses turn point begun leads.steps
 
@@ -75,6 +76,7 @@ module _ {H : Type 0} (host : Doings H) (floor : H → ℕ) where
     pub misses : Misses turn point begun leads.steps
     pub wanted : is_wanted turn point (turn_number place.turn) place.point ≡ true
     pub ready : 1 ≤ place.published
+    pub known : place.published ≤ floor next
     pub near : place.next_block ≤ copies_by place.turn place.point * (2 ^ 14 + 2)
 
   -- it ended before

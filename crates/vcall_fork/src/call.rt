@@ -1,6 +1,6 @@
 //! A call of vgetrandom that can be stopped.
 
-ghost use Rattle.std.specs.Prelude.{◌≡◌, ◌^◌, ◌<◌, ◌≤◌, true, length};
+ghost use Rattle.std.specs.Prelude.{◌≡◌, ◌^◌, ◌≤◌, true, length};
 ghost use Rattle.key_names.specs.VreadSteps.{number_of};
 ghost use Rattle.key_names.specs.VgetrandomState.{wiped_state};
 ghost use Rattle.vdso_state.specs.Host.{doings};

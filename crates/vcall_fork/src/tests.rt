@@ -1,7 +1,7 @@
 //! Forks at all eight points and attempts, on a host that publishes a list of generations and answers each system call
 //! with bytes of its own. What is expected is worked out by the keystream of the keys that the host gave.
 
-ghost use Rattle.std.specs.Prelude.{◌≡◌, ◌-◌, ◌≤◌, ◌^◌, IfOk, vec_len};
+ghost use Rattle.std.specs.Prelude.{◌≡◌, ◌-◌, ◌≤◌, ◌^◌};
 
 use crate::{Point, Progress, Stage, Turn, VCall, VEnd};
 use chacha_blocks::fill;

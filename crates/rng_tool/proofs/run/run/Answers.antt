@@ -1,5 +1,7 @@
 use Rattle.std.proofs.Common.{◌≡◌, subst}
+use Rattle.rng_tool.specs.DrawOutcome.{DrawEnds, DrawOf}
 use Rattle.rng_tool.specs.LoadOutcome.{LoadEnds, LoadOf}
+use Rattle.rng_tool.proofs.Completes.{ends_completes, read_before, run_completes}
 use Rattle.rng_tool.proofs.Endings.{ends_after, rose_at_end, run_ends_after}
 use Rattle.rng_tool.proofs.run.run.Goals as goal
 
@@ -11,6 +13,15 @@ returns-in-Some-Run-clause-write_fault g c cut =
 pub returns-in-Some-Run-clause-ran : goal.returns-in-Some-Run-clause-ran
 returns-in-Some-Run-clause-ran g c is =
     run_ends_after _ _ _ _ _ c.end_output.ensures.kept _ _ c.end_output.ensures.ended c.run_input.ensures.ends
+
+pub returns-in-Some-Run-clause-run_completes : goal.returns-in-Some-Run-clause-run_completes
+returns-in-Some-Run-clause-run_completes g c is unread unwritten =
+    let ended = c.end_output.ensures.ended in
+    run_completes _ _ _ c.end_output.result _
+    (run_ends_after _ _ _ _ _ c.end_output.ensures.kept _ _ ended c.run_input.ensures.ends)
+    (λ fault. unread (c.run_input.ensures.read_fault (read_before _ _ ended fault)))
+    (λ fault. unwritten (rose_at_end _ _ _ _ c.run_input.ensures.cut c.run_input.ensures.never_falls
+    (c.end_output.ensures.cut fault) c.end_output.ensures.never_falls))
 
 pub returns-in-Some-Load-clause-write_fault : goal.returns-in-Some-Load-clause-write_fault
 returns-in-Some-Load-clause-write_fault g c cut =
@@ -25,3 +36,35 @@ returns-in-Some-Load-clause-loaded g c start callers events is =
     c.end_output-in-Some-Load.ensures.ended
     (subst (λ load. LoadEnds load.start load.callers load.events c.run_load.result (g.K.Sink.held c.args.sink.now)
     (g.K.Sink.held c.run_load.new.sink)) same c.run_load.ensures.ends)
+
+pub returns-in-Some-Load-clause-load_completes : goal.returns-in-Some-Load-clause-load_completes
+returns-in-Some-Load-clause-load_completes g c start callers events is unwritten =
+    let load = c.in-Some-Load.load in
+    ends_completes (LoadOf load.start load.callers load.events) _ _ _
+    (ends_after (LoadOf load.start load.callers load.events) _ _ _ c.end_output-in-Some-Load.ensures.kept _ _
+    c.end_output-in-Some-Load.ensures.ended c.run_load.ensures.ends)
+    (λ fault. unwritten (rose_at_end _ _ _ _ c.run_load.ensures.cut c.run_load.ensures.never_falls
+    (c.end_output-in-Some-Load.ensures.cut fault) c.end_output-in-Some-Load.ensures.never_falls))
+
+pub returns-in-Some-Draw-clause-write_fault : goal.returns-in-Some-Draw-clause-write_fault
+returns-in-Some-Draw-clause-write_fault g c cut =
+    rose_at_end _ _ _ _ c.run_draw.ensures.cut c.run_draw.ensures.never_falls
+    (c.end_output-in-Some-Draw.ensures.cut cut) c.end_output-in-Some-Draw.ensures.never_falls
+
+pub returns-in-Some-Draw-clause-drawn : goal.returns-in-Some-Draw-clause-drawn
+returns-in-Some-Draw-clause-drawn g c bound count is =
+    let same : c.in-Some-Draw.draw ≡ record { bound = bound; count = count } =
+    cc (c.of.ensures.draw bound count is, c.in-Some-Draw.is) in
+    ends_after (DrawOf bound count) _ _ _ c.end_output-in-Some-Draw.ensures.kept _ _
+    c.end_output-in-Some-Draw.ensures.ended
+    (subst (λ draw. DrawEnds draw.bound draw.count c.run_draw.result (g.K.Sink.held c.args.sink.now)
+    (g.K.Sink.held c.run_draw.new.sink)) same c.run_draw.ensures.ends)
+
+pub returns-in-Some-Draw-clause-draw_completes : goal.returns-in-Some-Draw-clause-draw_completes
+returns-in-Some-Draw-clause-draw_completes g c bound count is unwritten =
+    let draw = c.in-Some-Draw.draw in
+    ends_completes (DrawOf draw.bound draw.count) _ _ _
+    (ends_after (DrawOf draw.bound draw.count) _ _ _ c.end_output-in-Some-Draw.ensures.kept _ _
+    c.end_output-in-Some-Draw.ensures.ended c.run_draw.ensures.ends)
+    (λ fault. unwritten (rose_at_end _ _ _ _ c.run_draw.ensures.cut c.run_draw.ensures.never_falls
+    (c.end_output-in-Some-Draw.ensures.cut fault) c.end_output-in-Some-Draw.ensures.never_falls))

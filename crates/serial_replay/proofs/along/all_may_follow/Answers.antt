@@ -46,6 +46,6 @@ returns g c = λ callers owns forks rise. (
       c.loop-caller.kept.items (λ p low. c.loop-caller.invariant.each callers owns forks rise p
       (let e : length callers ≡ length c.args.orders.now.own.items = owns_long c.args.orders.now.own.items callers owns in
       let d : length c.deref-own-items.result.now ≡ length c.args.orders.now.own.items =
-          ap length c.deref-own-items.ensures.value in omega arith))),
+      ap length c.deref-own-items.ensures.value in omega arith))),
   (λ all. refl),
 )

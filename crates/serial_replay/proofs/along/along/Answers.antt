@@ -14,13 +14,13 @@ loop-step-init g c = record {
 pub returns-then-not-may_follow : goal.returns-then-not-may_follow
 returns-then-not-may_follow g c = λ h.
     let false_is = c.if-not-may_follow.ensures.1
-        ((along_more (g.C.Carry.after c.args.carry.now) (g.C.Carry.MayFollow c.args.carry.now) c.loop-step.carried
-        c.args.steps.now c.loop-step.step-index _ c.loop-step-test.true).0 (c.loop-step.invariant.rest.0 h)).0 in cc
+    ((along_more (g.C.Carry.after c.args.carry.now) (g.C.Carry.MayFollow c.args.carry.now) c.loop-step.carried
+    c.args.steps.now c.loop-step.step-index _ c.loop-step-test.true).0 (c.loop-step.invariant.rest.0 h)).0 in cc
 
 pub loop-step-preserved : goal.loop-step-preserved
 loop-step-preserved g c =
     let more = along_more (g.C.Carry.after c.args.carry.now) (g.C.Carry.MayFollow c.args.carry.now) c.loop-step.carried
-        c.args.steps.now c.loop-step.step-index _ c.loop-step-test.true in record {
+    c.args.steps.now c.loop-step.step-index _ c.loop-step-test.true in record {
       rest = (
         (λ h. rw c.after-carried.ensures (more.0 (c.loop-step.invariant.rest.0 h)).1),
         (λ h. c.loop-step.invariant.rest.1

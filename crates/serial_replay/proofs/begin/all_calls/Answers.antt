@@ -12,7 +12,7 @@ use Rattle.serial_replay.proofs.begin.all_calls.Goals as goal
 pub caller_calls-requires : goal.caller_calls-requires
 caller_calls-requires c =
     let more = callers_more c.loop-caller.caller c.args.script.now.callers c.args.lines.now c.events.result.now
-        c.index-lines-caller.result c.events.ensures c.loop-caller-test.true c.index-lines-caller.is in
+    c.index-lines-caller.result c.events.ensures c.loop-caller-test.true c.index-lines-caller.is in
     ap length c.deref.ensures.value ∙ sym (length-map c.index-lines-caller.result.items seen_bare)
     ∙ fits_long c.loop-caller.caller 0 c.events.result.now (map seen_bare c.index-lines-caller.result.items)
     (more.0 c.loop-caller.invariant.fits).0
@@ -20,7 +20,7 @@ caller_calls-requires c =
 pub loop-caller-preserved : goal.loop-caller-preserved
 loop-caller-preserved c =
     let more = callers_more c.loop-caller.caller c.args.script.now.callers c.args.lines.now c.events.result.now
-        c.index-lines-caller.result c.events.ensures c.loop-caller-test.true c.index-lines-caller.is in record {
+    c.index-lines-caller.result c.events.ensures c.loop-caller-test.true c.index-lines-caller.is in record {
       calls = rw c.in_ok-push.ensures.items
           (calls_next c.loop-caller.caller c.args.script.now.callers c.args.lines.now c.loop-caller.calls.items
           c.events.result.now c.index-lines-caller.result c.in_ok-caller_calls.field-0 _ c.events.ensures
@@ -32,7 +32,7 @@ loop-caller-preserved c =
 pub returns : goal.returns
 returns c =
     let many : length c.args.lines.now ≡ length c.args.script.now.callers =
-        sym (length-map c.args.lines.now (λ (lines : Vec BareLine). map seen_bare lines.items))
-        ∙ callers_long 0 c.args.script.now.callers (seen_callers c.args.lines.now) c.requires.lines in
+    sym (length-map c.args.lines.now (λ (lines : Vec BareLine). map seen_bare lines.items))
+    ∙ callers_long 0 c.args.script.now.callers (seen_callers c.args.lines.now) c.requires.lines in
     calls_end c.loop-caller.caller c.args.script.now.callers _ (seen_calls c.loop-caller.calls.items) _
     (omega (arith, c.loop-caller-test.false)) c.loop-caller.invariant.calls

@@ -32,36 +32,36 @@ returns-then-not-places_count c = inr (
 pub all_calls-requires-clause-few : goal.all_calls-requires-clause-few
 all_calls-requires-clause-few c =
     let many : length c.args.lines.now ≡ length c.args.script.now.callers =
-        sym (length-map c.args.lines.now (λ (lines : Vec BareLine). map seen_bare lines.items))
-        ∙ callers_long 0 c.args.script.now.callers (seen_callers c.args.lines.now) (c.if-not-lines_fit.ensures.0 refl) in
+    sym (length-map c.args.lines.now (λ (lines : Vec BareLine). map seen_bare lines.items))
+    ∙ callers_long 0 c.args.script.now.callers (seen_callers c.args.lines.now) (c.if-not-lines_fit.ensures.0 refl) in
     omega (arith, c.requires.well.callers.1)
 
 pub make_orders-requires : goal.make_orders-requires
 make_orders-requires c =
     let many : length c.deref-2.result.now ≡ length c.args.script.now.callers =
-        ap length c.deref-2.ensures.value
-        ∙ sym (length-map c.in_ok-calls.calls.items (λ (calls : Vec Called). map seen_call calls.items))
-        ∙ ap length c.in_ok-calls.ensures
-        ∙ calls_long c.args.script.now.callers (seen_callers c.args.lines.now) in
+    ap length c.deref-2.ensures.value
+    ∙ sym (length-map c.in_ok-calls.calls.items (λ (calls : Vec Called). map seen_call calls.items))
+    ∙ ap length c.in_ok-calls.ensures
+    ∙ calls_long c.args.script.now.callers (seen_callers c.args.lines.now) in
     omega (arith, c.requires.well.callers.1)
 
 pub all_may_follow-requires : goal.all_may_follow-requires
 all_may_follow-requires c = record {
   few =
       (let many : length c.in_ok-orders.orders.own.items ≡ length c.args.script.now.callers =
-          sym (length-map c.in_ok-orders.orders.own.items (λ (own : Vec Step). own.items))
-          ∙ ap length c.in_ok-orders.ensures.own
-          ∙ length-map (seen_calls c.deref-2.result.now) calls_steps
-          ∙ ap (λ (calls : List (Vec Called)). length (seen_calls calls)) c.deref-2.ensures.value
-          ∙ ap length c.in_ok-calls.ensures
-          ∙ calls_long c.args.script.now.callers (seen_callers c.args.lines.now) in
+      sym (length-map c.in_ok-orders.orders.own.items (λ (own : Vec Step). own.items))
+      ∙ ap length c.in_ok-orders.ensures.own
+      ∙ length-map (seen_calls c.deref-2.result.now) calls_steps
+      ∙ ap (λ (calls : List (Vec Called)). length (seen_calls calls)) c.deref-2.ensures.value
+      ∙ ap length c.in_ok-calls.ensures
+      ∙ calls_long c.args.script.now.callers (seen_callers c.args.lines.now) in
       omega (arith, c.requires.well.callers.1));
 }
 
 pub returns-then-not-branch : goal.returns-then-not-branch
 returns-then-not-branch c =
     let calls : seen_calls c.deref-2.result.now ≡ script_calls c.args.script.now (seen_callers c.args.lines.now) =
-        ap seen_calls c.deref-2.ensures.value ∙ c.in_ok-calls.ensures in inr (
+    ap seen_calls c.deref-2.ensures.value ∙ c.in_ok-calls.ensures in inr (
       refl,
       (
         c.if-not-lines_fit.ensures.0 refl,
@@ -77,7 +77,7 @@ returns-then-not-branch c =
 pub returns : goal.returns
 returns c =
     let calls : seen_calls c.deref-2.result.now ≡ script_calls c.args.script.now (seen_callers c.args.lines.now) =
-        ap seen_calls c.deref-2.ensures.value ∙ c.in_ok-calls.ensures in record {
+    ap seen_calls c.deref-2.ensures.value ∙ c.in_ok-calls.ensures in record {
       lines = c.if-not-lines_fit.ensures.0 refl;
       marks_stand = record {
         lanes = λ lane.

@@ -17,7 +17,7 @@ loop-number-preserved c = elim c.match-event.branch [
       w.in-Vread.is _ (rw w.replace-acts.ensures.value refl))
   | in-Inside+then-number-end+in_ok-push-in-Inside w ↦
       let t : nat_lt (c.loop-number.number + 1) c.vreads_end-end.result ≡ true =
-          (let low : c.loop-number.number + 1 < c.vreads_end-end.result = w.if-number-end.true in grind (arith, nat_tests)) in
+      (let low : c.loop-number.number + 1 < c.vreads_end-end.result = w.if-number-end.true in grind (arith, nat_tests)) in
       rw (w.calls-is, w.waiting-is, w.in_ok-push-in-Inside.ensures.items)
       (waits_next c.args.events.now c.args.lines.now c.loop-number.number c.index-events-number.result
       c.index-lines-number.result c.loop-number-test.true (omega arith) c.index-events-number.is c.index-lines-number.is
@@ -25,8 +25,8 @@ loop-number-preserved c = elim c.match-event.branch [
       w.in-Inside.is (c.vreads_end-end.ensures (c.loop-number.number + 1) ∙ t) _ refl)
   | in-Inside+else-number-end+in_ok-push-in-Inside-2 w ↦
       let t : nat_lt (c.loop-number.number + 1) c.vreads_end-end.result ≡ false =
-          (let high : c.vreads_end-end.result ≤ c.loop-number.number + 1 = w.if-number-end.false in
-          grind (arith, nat_tests)) in
+      (let high : c.vreads_end-end.result ≤ c.loop-number.number + 1 = w.if-number-end.false in
+      grind (arith, nat_tests)) in
       rw (w.calls-is, w.waiting-is, w.in_ok-push-in-Inside-2.ensures.items)
       (unbound_next c.args.events.now c.args.lines.now c.loop-number.number c.index-events-number.result
       c.index-lines-number.result c.loop-number-test.true (omega arith) c.index-events-number.is c.index-lines-number.is

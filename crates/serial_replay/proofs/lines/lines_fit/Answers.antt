@@ -9,14 +9,14 @@ returns-then-callers c = (
   (λ h. cc),
   (λ fit.
       let e : length c.args.callers.now ≡ length c.args.script.now.callers =
-          sym (length-map c.args.callers.now (λ lines. map seen_bare lines.items))
-          ∙ callers_long 0 c.args.script.now.callers (seen_callers c.args.callers.now) fit in absurd (omega arith)),
+      sym (length-map c.args.callers.now (λ lines. map seen_bare lines.items))
+      ∙ callers_long 0 c.args.script.now.callers (seen_callers c.args.callers.now) fit in absurd (omega arith)),
 )
 
 pub returns-then-not-caller_fits : goal.returns-then-not-caller_fits
 returns-then-not-caller_fits c =
     let more = callers_more c.loop-caller.caller c.args.script.now.callers c.args.callers.now c.events.result.now
-        c.index-callers-caller.result c.events.ensures c.loop-caller-test.true c.index-callers-caller.is in (
+    c.index-callers-caller.result c.events.ensures c.loop-caller-test.true c.index-callers-caller.is in (
       (λ h. cc),
       (λ fit. c.if-not-caller_fits.ensures.1 (rw c.deref.ensures.value (more.0 (c.loop-caller.invariant.0 fit)).0)),
     )
@@ -24,7 +24,7 @@ returns-then-not-caller_fits c =
 pub loop-caller-preserved : goal.loop-caller-preserved
 loop-caller-preserved c =
     let more = callers_more c.loop-caller.caller c.args.script.now.callers c.args.callers.now c.events.result.now
-        c.index-callers-caller.result c.events.ensures c.loop-caller-test.true c.index-callers-caller.is in (
+    c.index-callers-caller.result c.events.ensures c.loop-caller-test.true c.index-callers-caller.is in (
       (λ fit. (more.0 (c.loop-caller.invariant.0 fit)).1),
       (λ rest. c.loop-caller.invariant.1
           (more.1 (rw (← c.deref.ensures.value) (c.if-not-caller_fits.ensures.0 refl), rest))),

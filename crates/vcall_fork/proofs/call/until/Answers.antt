@@ -66,5 +66,6 @@ returns g c =
       misses = record { behind = turns_before l.at.turn l.at.point; passes = l.invariant.walked.passes };
       wanted = sym c.points-test.ensures;
       ready = l.invariant.may.ready;
+      known = l.invariant.may.known;
       near = l.invariant.may.near;
     }

@@ -1,4 +1,4 @@
-use Rattle.std.proofs.Common.{ℕ, subst, sym}
+use Rattle.std.proofs.Common.{subst, sym}
 use Rattle.vdso_state.specs.Host.{doings}
 use Rattle.vdso_state.specs.Places.{CameTo}
 use Rattle.vcall_fork.specs.declared.stage.Stage.{Stage}

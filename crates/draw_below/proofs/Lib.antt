@@ -1,0 +1,9 @@
+pub mod Bound
+pub mod Chains
+pub mod Counts
+pub mod Courses
+pub mod Folds
+pub mod LaneChains
+pub mod Moved
+pub mod Orders
+pub mod Steps

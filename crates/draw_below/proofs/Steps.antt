@@ -1,0 +1,71 @@
+-- What a shuffle keeps from one draw to the next.
+use Rattle.std.proofs.Common.{◌≡◌, ◌<◌, ◌≤◌, ◌+◌, ◌-◌, ℕ, List, [], ◌∷◌, ◌++◌, length, refl, ap, sym, ◌∙◌, subst, arith, length-append}
+use Rattle.std.specs.List.{swap}
+use Rattle.std.specs.List.Sorted.{IsPermutation}
+use Rattle.std.proofs.lemmas.List.Sorted.{IsPermutation-refl, IsPermutation-trans}
+use Rattle.draw_below.specs.Draws.{Draws}
+use Rattle.draw_below.specs.Orders.{AreDraws, DrawsEach, Shuffles, exchanged}
+
+drawn_more : {W : Type 0} (gives : W → ℕ → W → Type 0) (last : ℕ) (w : W) (ds : List ℕ) (u : W) (c d : ℕ)
+    (rejected : List ℕ) (v : W) → last - length ds + 1 ≡ c → DrawsEach gives last w ds u →
+    Draws gives c u rejected d v → DrawsEach gives last w (ds ++ d ∷ []) v
+drawn_more gives last w [] u c d rejected v is drawn next = (
+  v,
+  rejected,
+  subst (λ x. Draws gives (last + 1) x rejected d v) (sym drawn)
+      (subst (λ n. Draws gives n u rejected d v) (sym is ∙ omega arith) next),
+  refl,
+)
+drawn_more gives last w (e ∷ ds) u c d rejected v is drawn next =
+    (drawn.0, drawn.1, drawn.2, drawn_more gives (last - 1) drawn.0 ds u c d rejected v (omega arith) drawn.3 next)
+
+draws_more : (last : ℕ) (ds : List ℕ) (d : ℕ) → d + length ds ≤ last → AreDraws last ds → AreDraws last (ds ++ d ∷ [])
+draws_more last [] d low drawn = (omega arith, tt)
+draws_more last (e ∷ ds) d low drawn = (drawn.0, draws_more (last - 1) ds d (omega arith) drawn.1)
+
+exchanged_more : (last : ℕ) (ds : List ℕ) (d : ℕ) (xs : List ℕ) →
+    exchanged last (ds ++ d ∷ []) xs ≡ swap (exchanged last ds xs) (last - length ds) d
+exchanged_more last [] d xs = ap (λ n. swap xs n d) (omega arith)
+exchanged_more last (e ∷ ds) d xs =
+    exchanged_more (last - 1) ds d (swap xs last e)
+    ∙ ap (λ n. swap (exchanged (last - 1) ds (swap xs last e)) n d) (omega arith)
+
+-- what a shuffle keeps: the draws so far, one fewer than the number of the next
+abbrev pub IsSoFar : {W : Type 0} → (W → ℕ → W → Type 0) → List ℕ → W → List ℕ → W → ℕ → Type 0
+IsSoFar gives before w now u done =
+    (ds : List ℕ) × (length ds + 1 ≡ done) × (length ds ≤ length before - 1) × Shuffles gives before w ds now u
+    × IsPermutation before now
+
+pub start : {W : Type 0} (gives : W → ℕ → W → Type 0) (before : List ℕ) (w : W) → IsSoFar gives before w before w 1
+start gives before w =
+    ([], refl, omega arith, record { drawn = refl; none_above = tt; exchanges = refl }, IsPermutation-refl before)
+
+pub one_more_exchange : {W : Type 0} (gives : W → ℕ → W → Type 0) (before : List ℕ) (w : W) (now : List ℕ) (u : W)
+    (done d : ℕ) (rejected : List ℕ) (v : W) (next : List ℕ) → done < length before →
+    IsSoFar gives before w now u done → Draws gives (length before - done + 1) u rejected d v →
+    d < length before - done + 1 → next ≡ swap now (length before - done) d → IsPermutation now next →
+    IsSoFar gives before w next v (done + 1)
+one_more_exchange gives before w now u done d rejected v next more had draw low is moved =
+    let ds = had.0 in
+    let n : length ds + 1 ≡ done = had.1 in
+    let place : length before - 1 - length ds ≡ length before - done = omega arith in
+    let longer = length-append ds (d ∷ []) in (
+      ds ++ d ∷ [],
+      ap (λ m. m + 1) (longer ∙ n),
+      omega arith,
+      record {
+        drawn = drawn_more gives (length before - 1) w ds u (length before - done + 1) d rejected v
+            (ap (λ m. m + 1) place) had.3.drawn draw;
+        none_above = draws_more (length before - 1) ds d (omega arith) had.3.none_above;
+        exchanges = is ∙ ap (λ l. swap l (length before - done) d) had.3.exchanges
+            ∙ ap (λ m. swap (exchanged (length before - 1) ds before) m d) (sym place)
+            ∙ sym (exchanged_more (length before - 1) ds d before);
+      },
+      IsPermutation-trans before now next had.4 moved,
+    )
+
+pub whole : {W : Type 0} (gives : W → ℕ → W → Type 0) (before : List ℕ) (w : W) (now : List ℕ) (u : W) (done : ℕ) →
+    IsSoFar gives before w now u done → length before ≤ done →
+    (ds : List ℕ) × (length ds ≡ length before - 1) × Shuffles gives before w ds now u
+whole gives before w now u done had end =
+    let n : length had.0 + 1 ≡ done = had.1 in (had.0, omega (arith, had.2), had.3)

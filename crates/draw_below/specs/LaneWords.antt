@@ -1,0 +1,31 @@
+-- Words that are integers of the core.
+use Rattle.std.specs.Prelude.{◌≡◌, ℕ, List, []}
+use Rattle.std.specs.Int.{from_le_bytes, w32}
+use Rattle.key_names.specs.declared.names.Step.{Step}
+use Rattle.key_names.specs.declared.events.Event.TheVariants.{Int32}
+use Rattle.key_names.specs.declared.events.Answer.TheVariants.{Ok as Done}
+use Rattle.key_names.specs.SeenLine.{bytes_or_none}
+use Rattle.lane_table.specs.declared.view.View.{View}
+use Rattle.lane_table.specs.Calls.{view}
+use Rattle.rng_core.specs.declared.setting.Setting.{Setting}
+use Rattle.rng_core.specs.Did.{Did, Fulfils, setting_of}
+use Rattle.draw_below.specs.declared.lane_words.LaneWords.{LaneWords}
+
+-- an integer of 4 bytes was read in a call with a trace of its own, and the word is its bytes, the lowest first
+pub record ReadsWord (set : Setting) (before : View) (word : ℕ) (after : View) : Type 0 where
+  pub bytes : List ℕ
+  pub steps : List Step
+  pub did : Did (Fulfils (setting_of set) Int32 Done (bytes_or_none bytes)) set
+      (record { view = before; steps = [] }) (record { view = after; steps = steps })
+  pub word_is : word ≡ from_le_bytes w32 bytes
+
+-- it is over the same lanes, with the same pass and setting
+pub record SameSource (before after : LaneWords) : Type 0 where
+  pub lanes : after.lanes.now ≡ before.lanes.now
+  pub pass : after.pass.ghost_name ≡ before.pass.ghost_name
+  pub set : after.set ≡ before.set
+
+-- the source over the lanes gives a word
+abbrev pub GivesInt : LaneWords → ℕ → LaneWords → Type 0
+GivesInt before word after =
+    ReadsWord before.set (view before.pass.now) word (view after.pass.now) × SameSource before after

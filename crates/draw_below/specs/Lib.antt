@@ -1,0 +1,4 @@
+pub mod Draws
+pub mod LaneWords
+pub mod Orders
+pub mod TableDraws

@@ -1,0 +1,71 @@
+-- Draws of one caller on a new table, behind its first sample.
+use Rattle.std.specs.Prelude.{◌≡◌, ◌==◌, ◌++◌, ℕ, zero, suc, List, [], ◌∷◌, Option, Some, None, if◌then◌else◌, map, replicate}
+use Rattle.std.specs.List.{flat_map, range_with_len}
+use Rattle.std.specs.Int.{from_le_bytes, w32}
+use Rattle.key_names.specs.declared.names.Step.{Step}
+use Rattle.key_names.specs.declared.events.Event.TheVariants.{Add, Int32}
+use Rattle.key_names.specs.declared.events.Answer.TheVariants.{Ok as Done}
+use Rattle.key_names.specs.Book.{Book, Lists, LawfulLanes, lists_of}
+use Rattle.key_names.specs.Deeds.{deeds_of}
+use Rattle.key_names.specs.IsTranscript.{MarkBy, VisitsAre, marks_from}
+use Rattle.key_names.specs.SeenLine.{bytes_or_none, no_data}
+use Rattle.lane_table.specs.Went.{Climbs}
+use Rattle.rng_core.specs.declared.setting.Setting.{Setting}
+use Rattle.rng_core.specs.Did.{Fulfils, setting_of}
+use Rattle.draw_below.specs.Draws.{accepts, value_of}
+use Rattle.draw_below.specs.declared.table_draws.Drawn.{Drawn}
+
+-- what n draws below c make of these words, of which the first `tried` words of the first draw were rejected already:
+-- each draw its answer, or none where it was spent, which is then the last
+unfoldable pub draws_in : ℕ → ℕ → ℕ → List ℕ → List (Option ℕ)
+draws_in c n tried [] = []
+draws_in c zero tried (r ∷ rs) = []
+draws_in c (suc n) tried (r ∷ rs) =
+    if accepts c r then Some (value_of c r) ∷ draws_in c n 0 rs
+    else (if tried == 127 then None ∷ [] else draws_in c (suc n) (suc tried) rs)
+
+-- how the draws ended
+abbrev pub ends_of : Drawn → List (Option ℕ)
+ends_of drawn = map Some drawn.answers.items ++ (if drawn.spent then None ∷ [] else [])
+
+-- caller 0 in its first event, on CPU 0, at moment 0, with hardware words 0
+abbrev pub first_setting : Setting
+first_setting = record { caller = 0; event = 0; cpu = 0; now = 0; hw = replicate 32 0 }
+
+-- in these lists the steps are those of a call that read an integer of 4 bytes, and the word is its bytes, the lowest
+-- first
+pub record IsWordCall (lists : Lists) (word : ℕ) (steps : List Step) : Type 0 where
+  pub bytes : List ℕ
+  pub fulfils : Fulfils (setting_of first_setting) Int32 Done (bytes_or_none bytes) (deeds_of lists steps)
+  pub word_is : word ≡ from_le_bytes w32 bytes
+
+-- each word is that of its call
+abbrev pub AreWordCalls : Lists → List ℕ → List (List Step) → Type 0
+AreWordCalls lists [] [] = Unit {0}
+AreWordCalls lists [] (steps ∷ calls) = ⊥
+AreWordCalls lists (word ∷ words) [] = ⊥
+AreWordCalls lists (word ∷ words) (steps ∷ calls) = IsWordCall lists word steps × AreWordCalls lists words calls
+
+-- the visits that these calls made, each call with steps of its own
+abbrev pub marks_of : List (List Step) → List MarkBy
+marks_of calls = flat_map (marks_from 0 0 0) calls
+
+-- a lawful book has the visits of a call that adds the bytes 0 to 31 with 256 bits, then those of a call for each word,
+-- one call behind the other, and no others
+pub record AreTableWords (words : List ℕ) : Type 0 where
+  pub book : Book
+  pub lawful : LawfulLanes (lists_of book)
+  pub added : List Step
+  pub adds : Fulfils (setting_of first_setting) (Add (range_with_len 0 32) 256) Done no_data
+      (deeds_of (lists_of book) added)
+  pub reads : List (List Step)
+  pub read : AreWordCalls (lists_of book) words reads
+  pub visits : VisitsAre book (marks_of (added ∷ reads))
+  pub last : ℕ
+  pub in_order : Climbs 0 (map (λ by. by.mark.stamp) (marks_of (added ∷ reads))) last
+
+-- the draws are what n draws below c make of such words
+pub record AreTableDraws (c n : ℕ) (draws : List (Option ℕ)) : Type 0 where
+  pub words : List ℕ
+  pub table : AreTableWords words
+  pub drawn : draws ≡ draws_in c n 0 words

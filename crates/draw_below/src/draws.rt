@@ -1,0 +1,74 @@
+//! A number below a bound, each as likely as every other.
+ghost use Rattle.std.specs.Prelude.{◌≡◌, ◌<◌, ◌≤◌, ◌+◌, ◌-◌, ◌%◌, ◌^◌, nat_le, IfOk};
+ghost use Rattle.draw_below.specs.Draws.{IsDraw, IsDrawFrom};
+
+use crate::rejected::{MOST_REJECTED, Rejected};
+use crate::words::Words;
+use std::sync::Wait;
+
+/// How many words of 32 bits there are.
+const WORDS: u64 = 1 << 32;
+
+/// The first 128 words of a draw were all rejected.
+#[derive(Clone, Copy, Debug, PartialEq, Eq)]
+pub struct DrawSpent;
+
+// Whether the word with this product is accepted. The division is made only where the low bits are below the bound.
+fn is_accepted(c: u32, low: u32) -> bool
+    requires { 0 < c }
+    ensures { result ≡ nat_le (2 ^ 32 % c) low }
+{
+    low >= c || low >= c.wrapping_neg() % c
+}
+
+/// A number below `c`, and each as likely as every other where every word is, as `__get_random_u32_below` of the kernel's
+/// drivers/char/random.c makes it; for `c` 0 the next word itself.
+///
+/// A word is accepted where the low 32 bits of `c` times the word are at least 2^32 mod `c`, and the answer is the
+/// product divided by 2^32, rounded down. `rejected` then holds the words that were taken before the accepted one.
+///
+/// # Errors
+///
+/// The first 128 words were all rejected. `rejected` then holds them. The kernel draws on.
+pub fn below<W: Words, R: Wait>(
+    rt: &R,
+    words: &mut W,
+    c: u32,
+    rejected: &mut Rejected,
+) -> Result<u32, DrawSpent>
+    ensures draw { IsDraw W.gives c words.old rejected.new result words.new }
+    ensures below { IfOk result (λ answer. 0 < c → answer < c) }
+{
+    rejected.clear();
+    if c == 0 {
+        return Ok(words.next(rt));
+    }
+    for _ in 0..MOST_REJECTED {
+        let word = words.next(rt);
+        let product = c as u64 * word as u64;
+        if is_accepted(c, (product % WORDS) as u32) {
+            return Ok((product / WORDS) as u32);
+        }
+        rejected.push(word);
+    }
+    Err(DrawSpent)
+}
+
+/// A number from `lo` to `hi`, both included (`get_random_u32_inclusive`).
+///
+/// # Errors
+///
+/// As [`below`].
+pub fn between<W: Words, R: Wait>(
+    rt: &R,
+    words: &mut W,
+    lo: u32,
+    hi: u32,
+    rejected: &mut Rejected,
+) -> Result<u32, DrawSpent>
+    requires { lo ≤ hi }
+    ensures { IsDrawFrom W.gives lo (hi - lo + 1) words.old rejected.new result words.new }
+{
+    let above = below(rt, words, (hi - lo).wrapping_add(1), rejected)?;
+    Ok(lo + above)
+}

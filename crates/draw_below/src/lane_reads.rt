@@ -1,0 +1,19 @@
+//! How a word is read of the core.
+ghost use Rattle.draw_below.specs.LaneWords.{GivesInt};
+
+use crate::lane_words::LaneWords;
+use crate::words::Words;
+use key_names::Trace;
+use rng_core::int;
+use std::sync::Wait;
+
+impl<'a> Words for LaneWords<'a> {
+    ghost gives = { GivesInt };
+
+    fn next<R: Wait>(&mut self, rt: &R) -> u32 {
+        let mut bytes = [0; 4];
+        let mut trace = Trace::empty();
+        int(rt, self.lanes, self.pass, &mut trace, &self.set, &mut bytes);
+        u32::from_le_bytes(bytes)
+    }
+}

@@ -1,0 +1,32 @@
+//! The integers of the core as words.
+ghost use Rattle.std.specs.Prelude.{◌≡◌, ◌<◌, []};
+ghost use Rattle.lane_table.specs.Hands.{Has};
+ghost use Rattle.rng_core.specs.Hosted.{IsFree, free_props};
+
+use lane_table::{Lanes, Pass};
+use rng_core::Setting;
+
+/// The integers of 4 bytes that a caller reads of the core, each in a call with a trace of its own and read with the
+/// lowest byte first.
+#[derive(Drop)]
+pub struct LaneWords<'a> {
+    pub(crate) lanes: &'a Lanes,
+    pub(crate) pass: &'a mut Pass,
+    pub(crate) set: Setting,
+    ghost free: { IsFree lanes.now set.caller pass.now } by { Prim.hlevel free_props },
+    ghost cpu: { set.cpu < lanes.now.cpus },
+}
+
+impl<'a> LaneWords<'a> {
+    /// The words that this pass reads with this setting.
+    pub fn over(lanes: &'a Lanes, pass: &'a mut Pass, set: Setting) -> LaneWords<'a>
+        requires has { Has lanes.now set.caller [] pass.old }
+        requires cpu { set.cpu < lanes.now.cpus }
+        ensures lanes { result.lanes.now ≡ lanes.now }
+        ensures same_reference { result.pass.ghost_name ≡ pass.entry.ghost_name }
+        ensures pass { result.pass.now ≡ pass.old }
+        ensures set { result.set ≡ set }
+    {
+        LaneWords { lanes, pass, set }
+    }
+}

@@ -1,0 +1,147 @@
+//! Draws below one bound, one after another, and those of a caller on a new table.
+ghost use Rattle.std.specs.Prelude.{◌≡◌, ◌^◌, ◌<◌, ◌≤◌, ℕ, [], List, IfOk};
+ghost use Rattle.std.specs.List.{range_with_len};
+ghost use Rattle.key_names.specs.declared.events.Event.TheVariants.{Add};
+ghost use Rattle.key_names.specs.declared.events.Answer.TheVariants.{Ok as Done};
+ghost use Rattle.key_names.specs.declared.names.Step.{Step};
+ghost use Rattle.key_names.specs.SeenLine.{no_data};
+ghost use Rattle.lane_table.specs.Calls.{view};
+ghost use Rattle.lane_table.specs.Hands.{Has};
+ghost use Rattle.rng_core.specs.Told.{moment};
+ghost use Rattle.rng_core.specs.Did.{Did, Fulfils, setting_of};
+ghost use Rattle.draw_below.specs.Draws.{Takes};
+ghost use Rattle.draw_below.specs.LaneWords.{ReadsWord, SameSource};
+ghost use Rattle.draw_below.specs.TableDraws.{AreTableDraws, draws_in, ends_of, first_setting};
+
+use crate::draws::{DrawSpent, below};
+use crate::lane_words::LaneWords;
+use crate::rejected::Rejected;
+use crate::words::Words;
+use arrayvec::ArrayVec;
+use key_names::Trace;
+use lane_table::{Lanes, Pass};
+use rng_core::{Setting, add};
+use std::alloc::{AllocError, Global};
+use std::sync::Wait;
+
+/// The most draws of one [`draw_each`].
+pub const MOST_DRAWS: usize = 1000;
+
+// The first sample: the bytes 0 to 31, with this many bits.
+const SAMPLE: [u8; 32] = [
+    0, 1, 2, 3, 4, 5, 6, 7, 8, 9, 10, 11, 12, 13, 14, 15, 16, 17, 18, 19, 20, 21, 22, 23, 24, 25,
+    26, 27, 28, 29, 30, 31,
+];
+
+const SAMPLE_BITS: u32 = 256;
+
+/// The answers of some draws in order, and whether the draw behind the last of them was spent.
+#[derive(Drop)]
+pub struct Drawn {
+    pub answers: ArrayVec<u32, MOST_DRAWS>,
+    pub spent: bool,
+}
+
+/// Draws so many numbers below `c`, at most 1,000. It stops at a draw that is spent.
+pub fn draw_each<W: Words, R: Wait>(rt: &R, words: &mut W, c: u32, count: u32) -> Drawn
+    requires { count ≤ 1000 }
+    ensures { (taken : List ℕ) × Takes W.gives words.old taken words.new
+        × (ends_of result ≡ draws_in c count 0 taken) }
+{
+    let mut answers = ArrayVec::new();
+    let mut rejected = Rejected::empty();
+    for _ in 0..count {
+        match below(rt, words, c, &mut rejected) {
+            Ok(answer) => answers.push(answer),
+            Err(DrawSpent) => {
+                return Drawn {
+                    answers,
+                    spent: true,
+                };
+            }
+        }
+    }
+    Drawn {
+        answers,
+        spent: false,
+    }
+}
+
+// The same out of the words that a pass reads.
+fn draw_from<R: Wait>(rt: &R, words: &mut LaneWords<'_>, c: u32, count: u32) -> Drawn
+    requires { count ≤ 1000 }
+    ensures source { SameSource words.old words.new }
+    ensures drawn { (taken : List ℕ)
+        × Takes (ReadsWord words.old.set) (view words.old.pass.now) taken (view words.new.pass.now)
+        × (ends_of result ≡ draws_in c count 0 taken) }
+{
+    draw_each(rt, words, c, count)
+}
+
+fn draw_by_pass<R: Wait>(
+    rt: &R,
+    lanes: &Lanes,
+    pass: &mut Pass,
+    set: Setting,
+    c: u32,
+    count: u32,
+) -> Drawn
+    requires has { Has lanes.now set.caller [] pass.old }
+    requires cpu { set.cpu < lanes.now.cpus }
+    requires count { count ≤ 1000 }
+    ensures has { Has lanes.now set.caller [] pass.new }
+    ensures drawn { (taken : List ℕ) × Takes (ReadsWord set) (view pass.old) taken (view pass.new)
+        × (ends_of result ≡ draws_in c count 0 taken) }
+{
+    let mut words = LaneWords::over(lanes, pass, set);
+    draw_from(rt, &mut words, c, count)
+}
+
+// What caller 0 has set in its first event.
+fn first_setting() -> Setting
+    ensures { result ≡ first_setting }
+{
+    Setting {
+        caller: 0,
+        event: 0,
+        cpu: 0,
+        now: 0,
+        hw: [0; 32],
+    }
+}
+
+// Adds the first sample, which makes the core ready.
+fn add_sample<R: Wait>(rt: &R, lanes: &Lanes, pass: &mut Pass, set: &Setting)
+    requires has { Has lanes.now set.now.caller [] pass.old }
+    requires moment { set.now.now < 2 ^ 40 }
+    ensures has { Has lanes.now set.entry.now.caller [] pass.new }
+    ensures did { (steps : List Step) × Did (Fulfils (setting_of set.entry.now) (Add (range_with_len 0 32) 256) Done no_data)
+        set.entry.now (moment pass.old []) (moment pass.new steps) }
+{
+    let mut trace = Trace::empty();
+    add(rt, lanes, pass, &mut trace, set, &SAMPLE, SAMPLE_BITS);
+}
+
+/// Makes a table with one CPU and adds the bytes 0 to 31 with 256 bits, which make the core ready. Then it draws so
+/// many numbers below `c`, at most 1,000, out of the integers of 4 bytes that caller 0 reads. All calls have CPU 0, the
+/// moment 0 and hardware words 0.
+///
+/// # Errors
+///
+/// There is no memory for the table. Nothing else takes any.
+pub fn draw_on_new_table<R: Wait>(
+    rt: &R,
+    alloc: Global,
+    c: u32,
+    count: u32,
+) -> Result<Drawn, AllocError>
+    requires { count ≤ 1000 }
+    ensures { IfOk result (λ drawn. AreTableDraws c count (ends_of drawn)) }
+{
+    let (lanes, mut pass) = Lanes::start(alloc, 1, 0)?;
+    let set = first_setting();
+    add_sample(rt, &lanes, &mut pass, &set);
+    let drawn = draw_by_pass(rt, &lanes, &mut pass, set, c, count);
+    let _visits = lanes.close(pass);
+    Ok(drawn)
+}

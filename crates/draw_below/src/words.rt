@@ -1,0 +1,53 @@
+//! Where the words of draws come from.
+ghost use Rattle.std.specs.Prelude.{◌≡◌, ℕ, slice_index, drop};
+
+use std::marker::Model;
+use std::sync::Wait;
+
+/// A source of 32-bit words.
+pub trait Words {
+    /// The source gives a word: the source before the call, the word, and the source after it.
+    ghost gives: { Self → ℕ → Self → Type 0 };
+
+    /// The next word.
+    fn next<R: Wait>(&mut self, rt: &R) -> u32
+        ensures { gives self.old result self.new };
+}
+
+/// The words of a list in order, and then 0 for ever.
+#[derive(Drop)]
+pub struct ListWords {
+    words: Vec<u32>,
+    taken: usize,
+}
+
+impl Model for ListWords {
+    ghost use Rattle.std.specs.Prelude.{List, ℕ, drop};
+
+    ghost Value = { List ℕ };
+
+    ghost view = { λ w. drop w.taken w.words.items };
+}
+
+impl ListWords {
+    /// The words of this list.
+    pub fn of(words: Vec<u32>) -> ListWords
+        ensures { result ≡ words.items }
+    {
+        ListWords { words, taken: 0 }
+    }
+}
+
+impl Words for ListWords {
+    ghost gives = { λ before word after. (word ≡ slice_index before 0) × (after ≡ drop 1 before) };
+
+    fn next<R: Wait>(&mut self, _rt: &R) -> u32 {
+        match self.words.get(self.taken) {
+            Some(word) => {
+                self.taken += 1;
+                *word
+            }
+            None => 0,
+        }
+    }
+}

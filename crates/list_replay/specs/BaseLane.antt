@@ -1,0 +1,62 @@
+-- The base as it goes along its list.
+use Rattle.std.specs.Prelude.{ℕ, ◌≡◌, ◌≤◌, ⊤, Option, Some, None, List, take, slice_get, option_and_then, nat_le, if◌then◌else◌}
+use Rattle.key_names.specs.declared.entries.BaseEntry.{BaseEntry}
+use Rattle.key_names.specs.declared.entries.BaseEntry.TheVariants.{Resume, Interrupt}
+use Rattle.key_names.specs.PoolList.{Crossing, none}
+use Rattle.key_names.specs.BaseList.{BaseState, BaseFits, BaseMayCome, base_after}
+use Rattle.key_names.specs.Book.{Lists}
+use Rattle.base_gen.specs.BaseValue.{BaseValue}
+use Rattle.input_pool.specs.PoolStands.{crossing_of}
+use Rattle.line_forms.specs.declared.told.BaseTold.{BaseTold}
+use Rattle.line_forms.specs.declared.told.BaseTold.TheVariants.{Is as base_is, Crossed as crossed, Woken as woken}
+use Rattle.line_forms.specs.Told.{crossed_entry}
+use Rattle.list_replay.specs.declared.kept.Root.{Root}
+use Rattle.list_replay.specs.declared.kept.KeptPool.{KeptPool}
+use Rattle.list_replay.specs.Places.{AllPlaces}
+
+-- the state that a base is in, but for what it does not keep: its place, its roots and its key's name
+abbrev pub state_of : BaseValue → BaseState
+state_of b = record {
+  place = 0;
+  phase = b.phase;
+  generation = b.generation;
+  timer = b.timer;
+  early_boot = b.early_boot;
+  running = b.running;
+  roots = 0;
+  key = None;
+}
+
+abbrev pub Fits : BaseValue → BaseEntry → Type 0
+Fits b e = BaseFits (state_of b) e
+
+-- what the entry at a place of the pool crossed
+abbrev pub crossing_kept : Option KeptPool → Crossing
+crossing_kept None = none
+crossing_kept (Some kept) = crossing_of kept.crossing
+
+abbrev pub crossed_of : List KeptPool → ℕ → Crossing
+crossed_of pool place = crossing_kept (slice_get pool place)
+
+-- the entry that is told at this generation
+abbrev pub base_closed : List KeptPool → ℕ → BaseTold → BaseEntry
+base_closed pool generation (base_is e) = e
+base_closed pool generation (crossed root now credit) = crossed_entry (crossed_of pool credit) root now
+base_closed pool generation woken = if nat_le 1 generation then Resume else Interrupt
+
+-- the root that the pool gave at a place
+abbrev pub root_in : List KeptPool → ℕ → Option Root
+root_in pool r = option_and_then (λ (kept : KeptPool). kept.root) (slice_get pool r)
+
+abbrev pub root_value_in : List KeptPool → ℕ → Option (List ℕ)
+root_value_in pool r = option_and_then (λ (root : Root). Some root.value) (root_in pool r)
+
+-- a root that is named is at least so much, and its extraction names this place
+abbrev pub RootStandsIn : List KeptPool → ℕ → ℕ → Option ℕ → Type 0
+RootStandsIn pool least place None = ⊤
+RootStandsIn pool least place (Some r) =
+    (least ≤ r) × (option_and_then (λ (root : Root). Some root.base_place) (root_in pool r) ≡ Some place)
+
+-- each entry of the base may come
+abbrev pub AllBaseMay : Lists → Type 0
+AllBaseMay lists = AllPlaces (λ i e. BaseMayCome lists.pool (base_after (take i lists.base)) e) lists.base

@@ -1,0 +1,50 @@
+-- What CPUs dump.
+use Rattle.std.specs.Prelude.{ℕ, ◌≡◌, ⊤, Bool, Option, Some, None, List, take, slice_get}
+use Rattle.key_names.specs.declared.entries.CpuEntry.{CpuEntry}
+use Rattle.key_names.specs.declared.entries.CpuEntry.TheVariants.{Read, Int, Irq, Dump, Prepare, Online}
+use Rattle.key_names.specs.FastPool.{FastPool, fast_after, dump_bytes, dump_bits}
+use Rattle.key_names.specs.Book.{Lists, list_at, cpu_list}
+use Rattle.line_forms.specs.declared.told.CpuTold.{CpuTold}
+use Rattle.line_forms.specs.declared.told.CpuTold.TheVariants.{Is as cpu_is, Batch as batch}
+use Rattle.sample_credit.specs.declared.fast_pool.Dump.{Dump as Dumped}
+use Rattle.list_replay.specs.declared.told.ToldCpu.{ToldCpu}
+use Rattle.list_replay.specs.Closed.{closed}
+use Rattle.list_replay.specs.Lawful.{DueStands}
+use Rattle.list_replay.specs.Places.{AllPlaces, AllKept}
+use Rattle.list_replay.specs.Tables.{Tables}
+
+abbrev pub DueTold : FastPool → Bool → CpuTold → Type 0
+DueTold f dumps (cpu_is e) = DueStands f dumps e
+DueTold f dumps (batch look width) = ⊤
+
+-- what an entry dumps, if it is a dump
+abbrev pub dump_by : FastPool → CpuEntry → Option Dumped
+dump_by f (Dump now) = Some (record { bytes = dump_bytes f; bits = dump_bits f })
+dump_by f (Read look refill taken) = None
+dump_by f (Int look refill width filled) = None
+dump_by f (Irq v1 v2 now) = None
+dump_by f Prepare = None
+dump_by f Online = None
+
+abbrev pub dump_told : FastPool → CpuTold → Option Dumped
+dump_told f (cpu_is e) = dump_by f e
+dump_told f (batch look width) = None
+
+-- a CPU's fast pool before a place of its list
+abbrev pub fast_at : Lists → ℕ → ℕ → FastPool
+fast_at lists c k = fast_after (take k (cpu_list lists c))
+
+-- dumps are due at a place where they are told
+abbrev pub DueAt : Tables → ℕ → ℕ → CpuEntry → Type 0
+DueAt told c k e = (t : ToldCpu) → slice_get (list_at told.cpus c) k ≡ Some t →
+    DueStands (fast_at (closed told) c k) t.dumps e
+
+abbrev pub AllDue : Tables → Type 0
+AllDue told = AllPlaces (λ c lane. AllPlaces (DueAt told c) lane) (closed told).cpus
+
+-- what the visit at a place dumps
+abbrev pub DumpIs : Lists → ℕ → ℕ → Option Dumped → CpuEntry → Type 0
+DumpIs lists c k dump e = dump ≡ dump_by (fast_at lists c k) e
+
+abbrev pub AllDumps : Lists → List (List (Option Dumped)) → Type 0
+AllDumps lists dumps = AllKept (λ c kept lane. AllKept (DumpIs lists c) kept lane) dumps lists.cpus

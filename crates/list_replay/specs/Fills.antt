@@ -1,0 +1,35 @@
+-- Lists that are as told.
+use Rattle.std.specs.Prelude.{ℕ, ◌≡◌, Some, length, slice_get}
+use Rattle.key_names.specs.declared.entries.PoolEntry.{PoolEntry}
+use Rattle.key_names.specs.declared.entries.PoolEntry.TheVariants.{Mix}
+use Rattle.key_names.specs.declared.entries.BaseEntry.{BaseEntry}
+use Rattle.key_names.specs.declared.entries.CpuEntry.{CpuEntry}
+use Rattle.key_names.specs.FastPool.{dump_bytes, dump_bits}
+use Rattle.key_names.specs.PoolNotes.{entry_of}
+use Rattle.key_names.specs.Book.{Lists, list_at, cpu_list}
+use Rattle.key_names.specs.Deeds.{base_visit, cpu_visit}
+use Rattle.line_forms.specs.declared.told.BaseTold.{BaseTold}
+use Rattle.line_forms.specs.LaneFacts.{LaneFacts, facts_of}
+use Rattle.line_forms.specs.Told.{FillsBase, FillsCpu}
+use Rattle.list_replay.specs.declared.told.ToldPool.{ToldPool}
+use Rattle.list_replay.specs.declared.told.ToldPool.TheVariants.{Is as pool_is, Dumped as dumped}
+use Rattle.list_replay.specs.declared.told.ToldCpu.{ToldCpu}
+use Rattle.list_replay.specs.Tables.{Tables}
+
+-- the entry of the pool that is told, given the fast pools
+abbrev pub pool_entry : LaneFacts → ToldPool → PoolEntry
+pool_entry c (pool_is note) = entry_of note
+pool_entry c (dumped cpu place) = Mix (dump_bytes (c.fast cpu place)) (dump_bits (c.fast cpu place))
+
+-- each lane has a visit for each that is told, with the entry that is told
+pub record Fills (told : Tables) (lists : Lists) : Type 0 where
+  pub pool_count : length lists.pool ≡ length told.pool
+  pub base_count : length lists.base ≡ length told.base
+  pub cpus_count : length lists.cpus ≡ length told.cpus
+  pub cpu_count : (c : ℕ) → length (cpu_list lists c) ≡ length (list_at told.cpus c)
+  pub pool : (p : ℕ) (t : ToldPool) (e : PoolEntry) → slice_get told.pool p ≡ Some t →
+      slice_get lists.pool p ≡ Some e → e ≡ pool_entry (facts_of lists) t
+  pub base : (i : ℕ) (t : BaseTold) (e : BaseEntry) → slice_get told.base i ≡ Some t →
+      slice_get lists.base i ≡ Some e → FillsBase (facts_of lists) t (base_visit lists i e)
+  pub cpu : (c k : ℕ) (t : ToldCpu) (e : CpuEntry) → slice_get (list_at told.cpus c) k ≡ Some t →
+      slice_get (cpu_list lists c) k ≡ Some e → FillsCpu t.entry (cpu_visit lists c k e)

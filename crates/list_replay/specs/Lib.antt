@@ -1,0 +1,11 @@
+pub mod BaseLane
+pub mod Closed
+pub mod CpuLane
+pub mod Dumps
+pub mod Fills
+pub mod Kept
+pub mod Lawful
+pub mod Names
+pub mod Places
+pub mod PoolLane
+pub mod Tables

@@ -1,0 +1,163 @@
+//! The base's list.
+ghost use Rattle.std.specs.Prelude.{◌≡◌, ◌↔◌, ◌<◌, ◌^◌, ℕ, All, IsTrue, IfOk, IfSome, IsSome, MatchOption, length};
+ghost use Rattle.std.specs.Prelude.{true};
+ghost use Rattle.base_gen.specs.BaseValue.{after_entry, key_in_use};
+ghost use Rattle.key_names.specs.BaseList.{base_erases, root_of};
+ghost use Rattle.list_replay.specs.BaseLane.{Fits, RootStandsIn, root_value_in, base_closed, crossed_of, AllBaseMay};
+ghost use Rattle.list_replay.specs.Closed.{closed};
+ghost use Rattle.list_replay.specs.Kept.{KeepsPoolLane, KeepsBaseLane};
+ghost use Rattle.list_replay.specs.Tables.{tables_of, EntryIsNear, BaseIsNear};
+ghost use Rattle.input_pool.specs.PoolStands.{crossing_of};
+
+use crate::kept::{KeptBase, KeptPool};
+use crate::told::Told;
+use base_gen::{Base, Phase};
+use input_pool::Crossing;
+use key_names::BaseEntry;
+use line_forms::told::BaseTold;
+use std::alloc::{AllocError, Global};
+
+/// Whether phase, generation, timer and running count let an entry come.
+fn fits(base: &Base, entry: BaseEntry) -> bool
+    ensures { IsTrue result ↔ Fits base.now entry }
+{
+    match entry {
+        BaseEntry::Early { root: Some(_) } | BaseEntry::Draw { root: Some(_), .. } => {
+            base.phase() == Phase::Empty
+        }
+        BaseEntry::Early { root: None } => base.phase() != Phase::Empty,
+        BaseEntry::Draw { root: None, .. } => base.phase() == Phase::Early,
+        BaseEntry::Refill { .. } => base.phase() == Phase::Ready,
+        BaseEntry::Tick { now, root } => base.due(now) == root.is_some(),
+        BaseEntry::Resume => base.generation() >= 1,
+        BaseEntry::Interrupt => base.generation() == 0 && base.idle(),
+        _ => true,
+    }
+}
+
+/// The base after an entry that fits it, given the root that the entry names; and the key in use, if the entry erases
+/// it.
+fn enter(base: &mut Base, entry: BaseEntry, root: [u8; 32]) -> Option<[u8; 32]>
+    requires fits { Fits base.old entry }
+    requires generation { base.old.generation < 2 ^ 63 }
+    requires moment { EntryIsNear entry }
+    ensures state { base.new ≡ after_entry entry root base.old }
+    ensures key { base_erases entry ≡ true → result ≡ Some (key_in_use (root_of entry) root base.old.key) }
+{
+    match entry {
+        BaseEntry::Early { root: Some(_) } => base.install_early(root),
+        BaseEntry::Draw { root: Some(_), .. } => {
+            base.fill_empty(root);
+            return Some(base.draw(&mut []).key);
+        }
+        BaseEntry::Draw { root: None, .. } | BaseEntry::Refill { .. } => {
+            return Some(base.draw(&mut []).key);
+        }
+        BaseEntry::Resume | BaseEntry::Interrupt | BaseEntry::Fork { .. } | BaseEntry::Unstall => {
+            base.up();
+        }
+        BaseEntry::End | BaseEntry::Wait | BaseEntry::Stall => base.down(),
+        BaseEntry::Reseed { now, .. } => base.install(root, now),
+        BaseEntry::Tick { now, root: Some(_) } => base.fire(root, now),
+        BaseEntry::Early { root: None } | BaseEntry::Tick { root: None, .. } => {}
+    }
+    None
+}
+
+/// What the entry at a place of the pool crossed.
+fn crossed_at(pool: &[KeptPool], place: u64) -> Crossing
+    ensures { crossing_of result ≡ crossed_of pool.now place }
+{
+    match pool.get(place as usize) {
+        Some(kept) => kept.crossing,
+        None => Crossing::None,
+    }
+}
+
+/// The entry that is told.
+fn close(base: &Base, told: BaseTold, pool: &[KeptPool]) -> BaseEntry
+    ensures { result ≡ base_closed pool.now base.now.generation told }
+{
+    match told {
+        BaseTold::Is(entry) => entry,
+        BaseTold::Crossed { root, now, credit } => match crossed_at(pool, credit) {
+            Crossing::Ready => BaseEntry::Reseed { root, now },
+            Crossing::Early | Crossing::None => BaseEntry::Early { root: Some(root) },
+        },
+        BaseTold::Woken => {
+            if base.generation() >= 1 {
+                BaseEntry::Resume
+            } else {
+                BaseEntry::Interrupt
+            }
+        }
+    }
+}
+
+/// The root that an entry names.
+fn root_of(entry: BaseEntry) -> Option<u64>
+    ensures { result ≡ root_of entry }
+{
+    match entry {
+        BaseEntry::Early { root } | BaseEntry::Tick { root, .. } | BaseEntry::Draw { root, .. } =>
+            root,
+        BaseEntry::Reseed { root, .. } => Some(root),
+        _ => None,
+    }
+}
+
+/// The value of the root that is named, zeros where none is; `None` where it is below `least`, or its extraction does
+/// not name this place.
+fn root_value(pool: &[KeptPool], least: u64, place: u64, named: Option<u64>) -> Option<[u8; 32]>
+    ensures { MatchOption result (RootStandsIn pool.now least place named → ⊥) (λ value.
+        RootStandsIn pool.now least place named × ((r : ℕ) → named ≡ Some r → root_value_in pool.now r ≡ Some value)) }
+{
+    let Some(r) = named else {
+        return Some([0; 32]);
+    };
+    let root = pool.get(r as usize)?.root?;
+    if least <= r && root.base_place == place {
+        Some(root.value)
+    } else {
+        None
+    }
+}
+
+/// What the base's list keeps, if it is lawful.
+pub(crate) fn replay_base(
+    alloc: Global,
+    told: &Told,
+    pool: &[KeptPool],
+) -> Result<Option<Vec<KeptBase>>, AllocError>
+    requires few { length told.now.base.items < 2 ^ 32 }
+    requires moments { All BaseIsNear told.now.base.items }
+    requires roots { length pool.now < 2 ^ 32 }
+    requires pool { KeepsPoolLane pool.now (closed (tables_of told.now)) }
+    ensures some { IfOk result (λ o. IfSome o (λ kept. AllBaseMay (closed (tables_of told.now))
+        × KeepsBaseLane kept.items (closed (tables_of told.now)))) }
+    ensures none { IfOk result (λ o. AllBaseMay (closed (tables_of told.now)) → IsSome o) }
+{
+    let mut base = Base::start();
+    let mut least = 0;
+    let mut kept = Vec::new(alloc);
+    for (place, one) in told.base.iter().enumerate() {
+        let entry = close(&base, *one, pool);
+        let named = root_of(entry);
+        let Some(root) = root_value(pool, least, place as u64, named) else {
+            return Ok(None);
+        };
+        if !fits(&base, entry) {
+            return Ok(None);
+        }
+        let key = enter(&mut base, entry, root);
+        if let Some(named) = named {
+            least = named + 1;
+        }
+        kept.push(KeptBase {
+            entry,
+            generation: base.generation(),
+            key,
+        })?;
+    }
+    Ok(Some(kept))
+}

@@ -1,0 +1,67 @@
+//! Names that are answered: an extraction names the base's entry that takes its root, and a refill the CPU's entry that
+//! takes its key.
+ghost use Rattle.std.specs.Prelude.{◌≡◌, ◌↔◌, ◌<◌, ◌^◌, IsTrue, map, option_and_then};
+ghost use Rattle.key_names.specs.BaseList.{refill_of};
+ghost use Rattle.list_replay.specs.Names.{AnsweredBy, root_named_in, refill_named_in, AllExtractionsAnswered};
+ghost use Rattle.list_replay.specs.Names.{AllRefillsAnswered};
+
+use crate::kept::{KeptBase, KeptCpu, KeptPool};
+use key_names::{BaseEntry, CpuEntry};
+
+/// The root that the base's entry at a place names.
+fn root_at(base: &[KeptBase], place: u64) -> Option<u64>
+    ensures { result ≡ root_named_in base.now place }
+{
+    match base.get(place as usize)?.entry {
+        BaseEntry::Early { root } | BaseEntry::Tick { root, .. } | BaseEntry::Draw { root, .. } =>
+            root,
+        BaseEntry::Reseed { root, .. } => Some(root),
+        _ => None,
+    }
+}
+
+/// Whether each extraction is answered by the base's entry that it names.
+pub(crate) fn extractions_answered(pool: &[KeptPool], base: &[KeptBase]) -> bool
+    ensures { IsTrue result ↔ AllExtractionsAnswered pool.now base.now }
+{
+    for (place, kept) in pool.iter().enumerate() {
+        if let Some(root) = kept.root {
+            if root_at(base, root.base_place) != Some(place as u64) {
+                return false;
+            }
+        }
+    }
+    true
+}
+
+/// The refill that the entry at a place of a CPU names.
+fn refill_at(cpus: &[Vec<KeptCpu>], cpu: u32, place: u64) -> Option<u64>
+    ensures { result ≡ refill_named_in (map (λ lane. lane.items) cpus.now) cpu place }
+{
+    match cpus.get(cpu as usize)?.get(place as usize)?.entry {
+        CpuEntry::Read { refill, .. } | CpuEntry::Int { refill, .. } => refill,
+        _ => None,
+    }
+}
+
+/// Whether the visit of the base at a place, where it is a refill, is answered by the CPU's entry that it names.
+fn refill_answered(kept: &KeptBase, place: u64, cpus: &[Vec<KeptCpu>]) -> bool
+    ensures { IsTrue result ↔ AnsweredBy (map (λ lane. lane.items) cpus.now) place (refill_of kept.now.entry) }
+{
+    match kept.entry {
+        BaseEntry::Refill { cpu, cpu_place } => refill_at(cpus, cpu, cpu_place) == Some(place),
+        _ => true,
+    }
+}
+
+/// Whether each refill is answered by the CPU's entry that it names.
+pub(crate) fn refills_answered(base: &[KeptBase], cpus: &[Vec<KeptCpu>]) -> bool
+    ensures { IsTrue result ↔ AllRefillsAnswered base.now (map (λ lane. lane.items) cpus.now) }
+{
+    for (place, kept) in base.iter().enumerate() {
+        if !refill_answered(kept, place as u64, cpus) {
+            return false;
+        }
+    }
+    true
+}

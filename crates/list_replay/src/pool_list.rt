@@ -1,0 +1,166 @@
+//! The pool's list.
+ghost use Rattle.std.specs.Prelude.{◌≡◌, ◌↔◌, ◌<◌, ◌^◌, All, IfOk, IfSome, IsSome, map};
+ghost use Rattle.key_names.specs.declared.entries.PoolEntry.{PoolEntry};
+ghost use Rattle.key_names.specs.declared.entries.PoolEntry.TheVariants.{Input as InputEntry};
+ghost use Rattle.key_names.specs.PoolList.{PoolState, crossing, pool_start, pool_step};
+ghost use Rattle.key_names.specs.PoolNotes.{entry_of};
+ghost use Rattle.input_pool.specs.PoolStands.{crossing_of};
+ghost use Rattle.list_replay.specs.Closed.{closed};
+ghost use Rattle.list_replay.specs.Dumps.{AllDumps};
+ghost use Rattle.list_replay.specs.Kept.{root_kept, KeepsPoolLane};
+ghost use Rattle.list_replay.specs.PoolLane.{LaneStands, dump_in, entry_found, AllMixed};
+ghost use Rattle.list_replay.specs.Tables.{tables_of, NoteIsNear, PoolIsNear};
+
+use crate::kept::{KeptPool, Root};
+use crate::told::{Told, ToldPool};
+use input_pool::{Crossing, Pool};
+use key_names::PoolNote;
+use sample_credit::{Dump, InputTimer, input_sample};
+use std::alloc::{AllocError, Global};
+
+/// The bits at which the core becomes ready, and nothing more is credited (`POOL_READY_BITS`).
+const READY_BITS: u32 = 256;
+
+/// The bits at which the core is seeded early (`POOL_EARLY_BITS`).
+const EARLY_BITS: u32 = 128;
+
+/// What a change of the bits crosses.
+fn crossed(before: u32, after: u32) -> Crossing
+    ensures { crossing_of result ≡ crossing before after }
+{
+    if before < READY_BITS && after == READY_BITS {
+        Crossing::Ready
+    } else if before < EARLY_BITS && EARLY_BITS <= after {
+        Crossing::Early
+    } else {
+        Crossing::None
+    }
+}
+
+/// The input pool, and the timer of input events.
+#[derive(Drop)]
+pub(crate) struct Lane {
+    pub(crate) pool: Pool,
+    pub(crate) timer: InputTimer,
+}
+
+impl Lane {
+    fn start() -> Lane
+        ensures { LaneStands result pool_start }
+    {
+        Lane {
+            pool: Pool::start(),
+            timer: InputTimer::start(),
+        }
+    }
+
+    /// An input event's entry: nothing where it repeats the last value; else its sample, with a credit by its moment
+    /// while the pool is not full.
+    fn input(&mut self, word: u64, kind: u16, code: u16, value: u8, now: u64)
+        requires { now < 2 ^ 40 }
+        ensures { (s : PoolState) → LaneStands self.old s
+            → LaneStands self.new (pool_step s (InputEntry word kind code value now)) }
+    {
+        if !self.timer.fresh(value) {
+            return;
+        }
+        self.pool.mix(&input_sample(word, kind, code, value));
+        if self.pool.bits() >= READY_BITS {
+            return;
+        }
+        let bits = self.timer.bits(now);
+        self.pool.credit(bits);
+    }
+
+    /// The pool after an entry, and the root that it gives.
+    fn enter(&mut self, note: PoolNote) -> Option<Root>
+        requires { NoteIsNear note }
+        ensures state { (s : PoolState) → LaneStands self.old s → LaneStands self.new (pool_step s (entry_of note.entry)) }
+        ensures root { (s : PoolState) → LaneStands self.old s → result ≡ root_kept s (entry_of note.entry) }
+    {
+        match note {
+            PoolNote::Mix { text, bits } => {
+                self.pool.mix(text);
+                self.pool.credit(bits);
+                None
+            }
+            PoolNote::Device { word, text } => {
+                self.pool.mix(&word.to_le_bytes());
+                self.pool.mix(text);
+                None
+            }
+            PoolNote::Input {
+                word,
+                kind,
+                code,
+                value,
+                now,
+            } => {
+                self.input(word, kind, code, value, now);
+                None
+            }
+            PoolNote::Bits => None,
+            PoolNote::Extract { hw, base_place } => Some(Root {
+                value: self.pool.extract(&hw),
+                base_place,
+            }),
+        }
+    }
+}
+
+/// The dump at a place of a CPU.
+fn dump_at(dumps: &[Vec<Option<Dump>>], cpu: u32, place: u64) -> Option<Dump>
+    ensures { result ≡ dump_in (map (λ lane. lane.items) dumps.now) cpu place }
+{
+    *dumps.get(cpu as usize)?.get(place as usize)?
+}
+
+/// The pool goes past a visit; the root that it gives, and `None` where a dump is told and its CPU does not dump there.
+fn visit(lane: &mut Lane, told: &ToldPool, dumps: &[Vec<Option<Dump>>]) -> Option<Option<Root>>
+    requires { PoolIsNear told.now }
+    ensures none { (result ≡ None) ↔ (entry_found (map (λ lane. lane.items) dumps.now) told.now ≡ None) }
+    ensures some { (s : PoolState) (e : PoolEntry) → LaneStands lane.old s
+        → entry_found (map (λ lane. lane.items) dumps.now) told.now ≡ Some e
+        → LaneStands lane.new (pool_step s e) × (result ≡ Some (root_kept s e)) }
+{
+    match *told {
+        ToldPool::Is(note) => Some(lane.enter(note)),
+        ToldPool::Dumped { cpu, place } => {
+            let dump = dump_at(dumps, cpu, place)?;
+            Some(lane.enter(PoolNote::Mix {
+                text: &dump.bytes,
+                bits: dump.bits,
+            }))
+        }
+    }
+}
+
+/// What the pool's list keeps; `None` where what is told to mix a dump's bytes names no dump.
+pub(crate) fn replay_pool(
+    alloc: Global,
+    told: &Told,
+    dumps: &[Vec<Option<Dump>>],
+) -> Result<Option<Vec<KeptPool>>, AllocError>
+    requires notes { All PoolIsNear told.now.pool.items }
+    requires dumps { AllDumps (closed (tables_of told.now)) (map (λ lane. lane.items) dumps.now) }
+    ensures some { IfOk result (λ o. IfSome o (λ kept. AllMixed (tables_of told.now)
+        × KeepsPoolLane kept.items (closed (tables_of told.now)))) }
+    ensures none { IfOk result (λ o. AllMixed (tables_of told.now) → IsSome o) }
+{
+    let mut lane = Lane::start();
+    let mut kept = Vec::new(alloc);
+    for one in &told.pool {
+        let before = lane.pool.bits();
+        let Some(root) = visit(&mut lane, one, dumps) else {
+            return Ok(None);
+        };
+        let bits = lane.pool.bits();
+        kept.push(KeptPool {
+            before,
+            bits,
+            crossing: crossed(before, bits),
+            root,
+        })?;
+    }
+    Ok(Some(kept))
+}

@@ -1,0 +1,92 @@
+//! The fast pools of the CPUs: whether dumps are due where they are told, and what each dump gives.
+ghost use Rattle.std.specs.Prelude.{◌≡◌, ◌↔◌, ◌<◌, IsTrue, IfOk, IfSome, IsSome, map, length};
+ghost use Rattle.key_names.specs.Book.{list_at, cpu_list};
+ghost use Rattle.list_replay.specs.Closed.{closed, fast_told};
+ghost use Rattle.list_replay.specs.Places.{AllPlaces, AllKept};
+ghost use Rattle.list_replay.specs.Tables.{tables_of};
+ghost use Rattle.list_replay.specs.Dumps.{DueTold, DueAt, DumpIs, dump_told, AllDue, AllDumps};
+
+use crate::told::{Told, ToldCpu};
+use key_names::CpuEntry;
+use line_forms::told::CpuTold;
+use sample_credit::{Dump, FastPool};
+use std::alloc::{AllocError, Global};
+
+/// What a visit of a CPU does with its fast pool.
+#[derive(Drop)]
+pub(crate) struct Sample {
+    /// An interrupt makes a dump due exactly where its line dumps.
+    pub(crate) fits: bool,
+    /// What the visit dumps.
+    pub(crate) dump: Option<Dump>,
+}
+
+/// The fast pool goes past a visit.
+fn take_sample(fast: &mut FastPool, told: &ToldCpu) -> Sample
+    ensures state { fast.new ≡ fast_told fast.old told.now.entry }
+    ensures fits { IsTrue result.fits ↔ DueTold fast.old told.now.dumps told.now.entry }
+    ensures dump { result.dump ≡ dump_told fast.old told.now.entry }
+{
+    match told.entry {
+        CpuTold::Is(CpuEntry::Irq { v1, v2, now }) => Sample {
+            fits: fast.mix(v1, v2, now) == told.dumps,
+            dump: None,
+        },
+        CpuTold::Is(CpuEntry::Dump { now }) => Sample {
+            fits: true,
+            dump: Some(fast.dump(now)),
+        },
+        CpuTold::Is(CpuEntry::Online) => {
+            fast.online();
+            Sample {
+                fits: true,
+                dump: None,
+            }
+        }
+        CpuTold::Is(CpuEntry::Read { .. } | CpuEntry::Int { .. } | CpuEntry::Prepare)
+        | CpuTold::Batch { .. } => Sample {
+            fits: true,
+            dump: None,
+        },
+    }
+}
+
+/// What each visit of a CPU dumps, if dumps are due where they are told.
+fn dumps_of(alloc: Global, told: &Told, cpu: usize) -> Result<Option<Vec<Option<Dump>>>, AllocError>
+    requires { cpu < length told.now.cpus.items }
+    ensures some { IfOk result (λ o. IfSome o (λ dumps. AllPlaces (DueAt (tables_of told.now) cpu)
+        (cpu_list (closed (tables_of told.now)) cpu)
+        × AllKept (DumpIs (closed (tables_of told.now)) cpu) dumps.items (cpu_list (closed (tables_of told.now)) cpu))) }
+    ensures none { IfOk result (λ o. AllPlaces (DueAt (tables_of told.now) cpu)
+        (cpu_list (closed (tables_of told.now)) cpu) → IsSome o) }
+{
+    let mut fast = FastPool::start();
+    let mut dumps = Vec::new(alloc);
+    for one in &told.cpus[cpu] {
+        let sample = take_sample(&mut fast, one);
+        if !sample.fits {
+            return Ok(None);
+        }
+        dumps.push(sample.dump)?;
+    }
+    Ok(Some(dumps))
+}
+
+/// What each visit of each CPU dumps, if dumps are due where they are told.
+pub(crate) fn all_dumps(
+    alloc: Global,
+    told: &Told,
+) -> Result<Option<Vec<Vec<Option<Dump>>>>, AllocError>
+    ensures some { IfOk result (λ o. IfSome o (λ dumps. AllDue (tables_of told.now)
+        × AllDumps (closed (tables_of told.now)) (map (λ lane. lane.items) dumps.items))) }
+    ensures none { IfOk result (λ o. AllDue (tables_of told.now) → IsSome o) }
+{
+    let mut all = Vec::new(alloc);
+    for cpu in 0..told.cpus.len() {
+        match dumps_of(alloc, told, cpu)? {
+            Some(dumps) => all.push(dumps)?,
+            None => return Ok(None),
+        }
+    }
+    Ok(Some(all))
+}

@@ -1,0 +1,39 @@
+-- What draws promise.
+use Rattle.std.specs.Prelude.{ℕ, ◌≡◌, ◌<◌, ◌≤◌, ◌^◌, ◌++◌, List, [], ◌∷◌, Option, Some, None, String, string_bytes, codes, decimal, map}
+use Rattle.std.specs.List.{flat_map}
+use Rattle.draw_below.specs.TableDraws.{AreTableDraws}
+use Rattle.rng_tool.specs.Ends.{EndsWith}
+use Rattle.rng_tool.specs.declared.draw.Draw.{Draw}
+use Rattle.rng_tool.specs.declared.status.Status.{Status}
+
+-- the texts are `draw C K`, with numbers in their ranges
+pub record AskDraw (texts : List (List ℕ)) (bound count : ℕ) : Type 0 where
+  pub spelt : texts ≡ codes "draw" ∷ decimal bound ∷ decimal count ∷ []
+  pub bound_fits : bound < 2 ^ 32
+  pub count_fits : (1 ≤ count) × (count ≤ 1000)
+
+-- draws that may be made
+pub record IsSmallDraw (draw : Draw) : Type 0 where
+  pub count : (1 ≤ draw.count) × (draw.count ≤ 1000)
+
+-- the words of draws
+abbrev pub IsDraw : {A : Type 0} → List (String A) → ℕ → ℕ → Type 0
+IsDraw words bound count = AskDraw (map string_bytes words) bound count
+
+-- the line of a draw: its answer, or that it was spent
+abbrev pub draw_line : Option ℕ → List ℕ
+draw_line (Some answer) = decimal answer ++ 10 ∷ []
+draw_line None = codes "spent" ++ 10 ∷ []
+
+abbrev pub draw_text : List (Option ℕ) → List ℕ
+draw_text draws = flat_map draw_line draws
+
+-- the output has a line for each of so many draws below the bound, out of the words of the one book of a new table
+pub record DrawOf (bound count : ℕ) (output : List ℕ) : Type 0 where
+  pub draws : List (Option ℕ)
+  pub drawn : AreTableDraws bound count draws
+  pub told : output ≡ draw_text draws
+
+-- how draws end, and what the sink then holds
+abbrev pub DrawEnds : ℕ → ℕ → Status → Option (List ℕ) → Option (List ℕ) → Type 0
+DrawEnds bound count = EndsWith (DrawOf bound count)

@@ -1,0 +1,115 @@
+//! Draws: their words, their run, and a line for each.
+ghost use Rattle.std.specs.Prelude.{◌≡◌, ◌≤◌, ◌+◌, ◌++◌, ◌∷◌, [], ℕ, Some, IfOk, IfSome, length};
+ghost use Rattle.io_edges.specs.Faults.{Rose};
+ghost use Rattle.draw_below.specs.TableDraws.{ends_of};
+ghost use Rattle.rng_tool.specs.DrawOutcome.{AskDraw, DrawEnds, DrawOf, IsDraw, IsSmallDraw, draw_line, draw_text};
+
+use crate::numbers::number_in;
+use crate::status::Status;
+use arrayvec::ArrayString;
+use draw_below::{Drawn, draw_on_new_table};
+use io_edges::{Failed, NoMemory, Sink, put_all};
+use itoa::Buffer;
+use std::alloc::Global;
+use std::sync::Wait;
+
+/// The most draws of one run.
+const MOST_DRAWS: u32 = 1000;
+
+/// The most bytes of the lines of a run: 11 for each answer, and 6 for the line `spent`.
+const MOST_BYTES: usize = 11_006;
+
+/// The lines of draws.
+type DrawText = ArrayString<MOST_BYTES>;
+
+/// What is drawn: so many numbers below a bound, or words where the bound is 0.
+#[derive(Clone, Copy, Debug, PartialEq, Eq)]
+pub(crate) struct Draw {
+    pub(crate) bound: u32,
+    pub(crate) count: u32,
+}
+
+/// The draws that three words ask for.
+fn draw_by(command: &str, bound: &str, count: &str) -> Option<Draw>
+    ensures found { IfSome result (λ draw.
+        AskDraw (command.now ∷ bound.now ∷ count.now ∷ []) draw.bound draw.count) }
+    ensures only { (below many : ℕ) → AskDraw (command.now ∷ bound.now ∷ count.now ∷ []) below many
+        → result ≡ Some (record { bound = below; count = many }) }
+{
+    if command != "draw" {
+        return None;
+    }
+    let Some(bound) = number_in(0, u32::MAX, bound) else {
+        return None;
+    };
+    let Some(count) = number_in(1, MOST_DRAWS, count) else {
+        return None;
+    };
+    Some(Draw { bound, count })
+}
+
+/// The draws that the words ask for, if they ask for some.
+pub(crate) fn draw_of(words: &[String]) -> Option<Draw>
+    ensures found { IfSome result (λ draw. IsDraw words.now draw.bound draw.count) }
+    ensures only { (bound count : ℕ) → IsDraw words.now bound count
+        → result ≡ Some (record { bound = bound; count = count }) }
+{
+    match words {
+        [command, bound, count] => draw_by(command.as_str(), bound.as_str(), count.as_str()),
+        _ => None,
+    }
+}
+
+// Adds the line of an answer.
+fn add_answer(text: &mut DrawText, answer: u32)
+    requires { length text.old.bytes + 11 ≤ 11006 }
+    ensures text { text.new.bytes ≡ text.old.bytes ++ draw_line (Some answer) }
+    ensures short { length text.new.bytes ≤ length text.old.bytes + 11 }
+{
+    let mut digits = Buffer::new();
+    text.push_str(digits.format(answer));
+    text.push_str("\n");
+}
+
+// The lines of some draws.
+fn draw_text(drawn: &Drawn) -> DrawText
+    ensures { result.bytes ≡ draw_text (ends_of drawn.now) }
+{
+    let mut text = ArrayString::new();
+    for answer in drawn.answers.as_slice() {
+        add_answer(&mut text, *answer);
+    }
+    if drawn.spent {
+        text.push_str("spent\n");
+        return text;
+    }
+    text
+}
+
+// The lines of draws that were made.
+fn lines_of<R: Wait>(rt: &R, alloc: Global, draw: Draw) -> Result<DrawText, NoMemory>
+    requires { IsSmallDraw draw }
+    ensures { IfOk result (λ text. DrawOf draw.bound draw.count text.bytes) }
+{
+    let Ok(drawn) = draw_on_new_table(rt, alloc, draw.bound, draw.count) else {
+        return Err(NoMemory);
+    };
+    Ok(draw_text(&drawn))
+}
+
+/// Makes draws on a new table, and writes a line for each.
+pub(crate) fn run_draw<R: Wait, K: Sink>(rt: &R, alloc: Global, draw: Draw, sink: &mut K) -> Status
+    requires { IsSmallDraw draw }
+    ensures ends { DrawEnds draw.bound draw.count result (K.held sink.old) (K.held sink.new) }
+    ensures cut { result ≡ Status.WriteFault → Rose (K.faults sink.old) (K.faults sink.new) }
+    ensures silent { result ≡ Status.NoMemory → sink.new ≡ sink.old }
+    ensures never_falls { K.faults sink.old ≤ K.faults sink.new }
+{
+    let Ok(text) = lines_of(rt, alloc, draw) else {
+        return Status::NoMemory;
+    };
+    match put_all(sink, text.as_str().as_bytes()) {
+        Ok(()) => Status::Done,
+        Err(Failed) => Status::WriteFault,
+    }
+}

@@ -1,0 +1,11 @@
+pub mod ServedBytes
+pub mod SeenShapes
+pub mod CalledRows
+pub mod CalledSays
+pub mod AttemptShapes
+pub mod AttemptsTold
+pub mod CallPoints
+pub mod CallsTold
+pub mod CallsFollowed
+pub mod Vreads
+pub mod VreadTold

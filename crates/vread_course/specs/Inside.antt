@@ -1,0 +1,33 @@
+-- What the acts inside a call do to its state, and which of their points the call came to.
+use Rattle.std.specs.Prelude.{ℕ, ◌==◌, not, Bool, true, false, List, [], ◌∷◌, length}
+use Rattle.std.specs.List.{list_any}
+use Rattle.key_names.specs.declared.point.Point.TheVariants.{Start, Written, Serve, End}
+use Rattle.key_names.specs.Calls.{BoundAct}
+use Rattle.key_names.specs.VreadSteps.{is_wiped}
+use Rattle.vread_course.specs.declared.inside.Inside.{Inside}
+use Rattle.vread_course.specs.declared.inside.Reached.{Reached}
+use Rattle.vread_course.specs.declared.inside.Reached.TheVariants.{Nothing, AllButWritten, All}
+
+-- what these acts do
+abbrev pub inside_of : List BoundAct → Inside
+inside_of acts = record {
+  any = not (length acts == 0);
+  start = is_wiped acts Start;
+  written = is_wiped acts Written;
+  serve = is_wiped acts Serve;
+  end = is_wiped acts End;
+}
+
+abbrev pub points_in : Reached → List ℕ
+points_in Nothing = []
+points_in AllButWritten = 1 ∷ 3 ∷ 4 ∷ []
+points_in All = 1 ∷ 2 ∷ 3 ∷ 4 ∷ []
+
+-- whether the first attempt came to the point of this number
+abbrev pub includes : Reached → ℕ → Bool
+includes reached point = list_any (λ p. p == point) (points_in reached)
+
+-- the points of an attempt, which came to Written where it read a key
+abbrev pub reached_by : Bool → Reached
+reached_by true = All
+reached_by false = AllButWritten

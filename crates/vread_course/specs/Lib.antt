@@ -1,0 +1,7 @@
+pub mod Recipe
+pub mod Seen
+pub mod Inside
+pub mod InsideSteps
+pub mod Called
+pub mod Course
+pub mod Laws

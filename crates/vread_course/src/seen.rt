@@ -1,0 +1,66 @@
+//! What is kept of a step of a line for those that make its bytes.
+ghost use Rattle.std.specs.Prelude.{◌≡◌};
+ghost use Rattle.vread_course.specs.Seen.{seen_kind, rises};
+
+use line_forms::kind::Kind;
+
+/// What is seen of a step: its kind, the generation that a look found, and of a visit that may serve bytes the key in
+/// use, before the visit erases it.
+#[derive(Clone, Copy, Debug, PartialEq, Eq)]
+pub enum Seen {
+    /// A look that found generation 0: the core was not ready.
+    Unready,
+    /// A look that found this generation, 1 or more.
+    Ready(u64),
+    /// A visit of the pool.
+    Pool,
+    /// A visit of the base with this key in use.
+    Base([u8; 32]),
+    /// A visit of the base by which a waiting caller went on.
+    Resumed,
+    /// A visit of the CPU that the line is on, with this key in use.
+    Cpu([u8; 32]),
+    /// A visit of another CPU, or nothing.
+    Elsewhere,
+}
+
+impl Seen {
+    /// The step's kind, of which rows of forms are made.
+    pub fn kind(&self) -> Kind
+        ensures { result ≡ seen_kind self.now }
+    {
+        match self {
+            Seen::Unready => Kind::Unready,
+            Seen::Ready(_) => Kind::Ready,
+            Seen::Pool => Kind::Pool,
+            Seen::Base(_) => Kind::Base,
+            Seen::Resumed => Kind::Resumed,
+            Seen::Cpu(_) => Kind::Cpu,
+            Seen::Elsewhere => Kind::OtherCpu,
+        }
+    }
+}
+
+/// Whether no look found less than the one before it.
+pub(crate) fn rises(seen: &[Seen]) -> bool
+    ensures { result ≡ rises 0 seen.now }
+{
+    let mut last = 0;
+    for step in seen {
+        match step {
+            Seen::Unready => {
+                if last != 0 {
+                    return false;
+                }
+            }
+            Seen::Ready(found) => {
+                if *found < last {
+                    return false;
+                }
+                last = *found;
+            }
+            _ => {}
+        }
+    }
+    true
+}

@@ -1,0 +1,75 @@
+#!/usr/bin/env python3
+"""Compares random vreads, with wipes, nested reads and reseeds inside, with what tools/replay.py works out.
+
+    random_vreads.py [SEED [VREADS]]
+
+SEED is 1 and VREADS is 10000 where they are left out: a seed always makes the same scripts. The program is `rng` at the
+top of the repository, or the one that RNG names. Every line is compared, steps and all. A script with a difference is
+printed up to there, and the status is 1.
+"""
+import os
+import random
+import subprocess
+import sys
+
+import replay
+
+TOP = os.path.dirname(os.path.dirname(os.path.abspath(__file__)))
+PROGRAM = os.environ.get('RNG', os.path.join(TOP, 'rng'))
+IN_A_SCRIPT = 100
+LENGTHS = (1, 8, 31, 32, 33, 63, 64, 65, 95, 96, 97, 127, 128, 160, 161, 300)
+
+
+def acts(draw):
+    """What happens inside one vread: up to three acts, at any of the points, in any order."""
+    for _ in range(draw.choice((0, 1, 1, 2, 3))):
+        act = draw.choice(('wipe', 'wipe', 'reseed', 'vread %d' % draw.choice(LENGTHS)))
+        yield 'inside %d %s' % (draw.randint(1, 4), act)
+
+
+def between(draw):
+    """What happens between two vreads, so that states lose their keys and bytes now and then."""
+    return draw.choice(([], [], [], ['reseed'], ['drop'], ['state %d' % draw.randint(0, 1)], ['on %d' % draw.randint(0, 1)],
+                        ['read 40 0'], ['vmfork 1 aa'], ['at %d' % draw.randint(0, 10 ** 6)]))
+
+
+def script(draw, vreads):
+    lines = ['rngscript 3', 'cpus 2', 'caller 0']
+    opened = draw.randint(0, 3)
+    for number in range(vreads):
+        if number == opened:
+            lines.append('credit 256')
+        lines += between(draw)
+        lines += acts(draw)
+        flags = draw.choice((0, 0, 0, 1, 4)) if number >= opened else 1
+        lines.append('vread %d %d' % (draw.choice(LENGTHS + (0,)), flags))
+    return '\n'.join(lines + ['end', ''])
+
+
+def ran(text):
+    done = subprocess.run([PROGRAM, 'run'], input=text.encode(), stdout=subprocess.PIPE, check=True)
+    return done.stdout.decode().splitlines()
+
+
+def main():
+    seed = int(sys.argv[1]) if len(sys.argv) > 1 else 1
+    left = int(sys.argv[2]) if len(sys.argv) > 2 else 10000
+    draw, compared, inside = random.Random(seed), 0, 0
+    while left > 0:
+        text = script(draw, min(left, IN_A_SCRIPT))
+        wanted, got = list(replay.transcript(text)), ran(text)
+        for number, (line, other) in enumerate(zip(wanted, got)):
+            if line != other:
+                print('\n'.join(text.splitlines()[:number + 3]))
+                print('wanted %s\ngot    %s' % (line, other))
+                sys.exit(1)
+        if len(wanted) != len(got):
+            sys.exit('%d lines in place of %d' % (len(got), len(wanted)))
+        left -= IN_A_SCRIPT
+        compared += sum(' vread ' in line for line in wanted)
+        inside += sum(' inside ' in line and ' unused ' not in line for line in wanted)
+    print('%d vreads with %d acts inside, as worked out' % (compared, inside))
+
+
+if __name__ == '__main__':
+    main()
