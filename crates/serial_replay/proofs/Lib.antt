@@ -1,0 +1,13 @@
+pub mod Fronts
+pub mod LineFits
+pub mod CallsFrom
+pub mod Forks
+pub mod ForksRise
+pub mod AlongOrders
+pub mod Runs
+pub mod StampsRise
+pub mod BareStands
+pub mod MarksMoved
+pub mod Carried
+pub mod OwnSteps
+pub mod AllCalls
