@@ -1,0 +1,5 @@
+pub mod Changes
+pub mod Moves
+pub mod Mixings
+pub mod Counting
+pub mod Feeding

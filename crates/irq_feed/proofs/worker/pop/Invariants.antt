@@ -1,0 +1,6 @@
+use Rattle.std.proofs.Common.{◌≡◌}
+use Rattle.irq_feed.specs.Passes.{known, IsPassOf}
+use Rattle.irq_feed.proofs.worker.pop.Given as goal
+
+abbrev pub invariant-loop : goal.invariant-loop
+invariant-loop g l = IsPassOf l.queue l.worker × (known l.worker ≡ known l.initial.worker)

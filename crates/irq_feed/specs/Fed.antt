@@ -1,0 +1,119 @@
+-- What a call of `feed` comes to.
+use Rattle.std.specs.Prelude.{◌≡◌, ℕ, zero, suc, ◌+◌, ◌*◌, ◌<◌, ◌≤◌, ◌^◌, ◌⊎◌, Bool, true, false, List, [], ◌∷◌, ◌++◌, length, slice_index_or, nat_lt, ◌&&◌, not, if◌then◌else◌, vec_len, vec_capacity}
+use Rattle.std.specs.List.{AllByRecursion}
+use Rattle.lane_table.specs.declared.lanes.Lanes.{Lanes}
+use Rattle.lane_table.specs.declared.lanes.Pass.{Pass}
+use Rattle.lane_table.specs.Calls.{view}
+use Rattle.lane_table.specs.Hands.{Has}
+use Rattle.rng_core.specs.declared.setting.Setting.{Setting}
+use Rattle.irq_feed.specs.declared.samples.Sample.{Sample}
+use Rattle.irq_feed.specs.declared.known.Ended.{Ended}
+use Rattle.irq_feed.specs.declared.known.Known.{Known}
+use Rattle.irq_feed.specs.declared.known.Known.TheVariants.{Worker}
+use Rattle.irq_feed.specs.declared.mixed.Mixed.{Mixed}
+use Rattle.irq_feed.specs.declared.queue.FeedQueue.{FeedQueue}
+use Rattle.irq_feed.specs.declared.queue.FeedPass.{FeedPass}
+use Rattle.irq_feed.specs.Feeds.{Numbers}
+use Rattle.irq_feed.specs.Samples.{first_samples, of_feeder}
+use Rattle.irq_feed.specs.Rule.{desk, ended}
+use Rattle.irq_feed.specs.Passes.{known, took, next_number, IsPassOf}
+use Rattle.irq_feed.specs.Mixing.{Mixes, Put}
+
+-- the samples that were mixed, in order
+abbrev pub mixed_in : Mixed → List Sample
+mixed_in m = m.samples.items
+
+-- the feeder's closure was handed back, and the worker mixed its samples itself
+abbrev pub is_direct : Mixed → ℕ → Bool
+is_direct m feeder = slice_index_or m.direct feeder false
+
+-- all samples of each feeder were mixed, in order and each once. Those that came through the queue stand in front, in the
+-- order in which the worker took them, and behind them those of the feeders that are direct
+pub record AllMixed (feeds : Numbers) (worker : FeedPass) (m : Mixed) : Type 0 where
+  pub each : (feeder : ℕ) → feeder < feeds.feeders
+      → of_feeder feeder (mixed_in m) ≡ first_samples feeds feeder feeds.each
+  pub count : length (mixed_in m) ≡ feeds.feeders * feeds.each
+  pub directly : List Sample
+  pub parts : mixed_in m ≡ took worker ++ directly
+  pub through : AllByRecursion (λ (x : Sample). is_direct m x.feeder ≡ false) (took worker)
+  pub behind : AllByRecursion (λ (x : Sample). is_direct m x.feeder ≡ true) directly
+
+-- Before the call, and on the way
+
+-- the sum of g over all numbers below n
+abbrev pub sum_below : ℕ → (ℕ → ℕ) → ℕ
+sum_below zero g = 0
+sum_below (suc n) g = sum_below n g + g n
+
+-- how many samples come through the queue of a feeder, and how many the worker mixes itself
+abbrev pub through_queue : ℕ → (ℕ → Bool) → ℕ → ℕ
+through_queue each direct feeder = if direct feeder then 0 else each
+
+abbrev pub by_worker : ℕ → (ℕ → Bool) → ℕ → ℕ
+by_worker each direct feeder = if direct feeder then each else 0
+
+-- what is mixed of a feeder where the direct feeders below this number are already done
+abbrev pub done_so_far : Numbers → (ℕ → Bool) → ℕ → ℕ → List Sample
+done_so_far feeds direct number feeder =
+    if nat_lt feeder feeds.feeders
+    then (if direct feeder && not (nat_lt feeder number) then [] else first_samples feeds feeder feeds.each)
+    else []
+
+-- there is room for one more feeder's samples
+abbrev pub HasRoom : Numbers → Mixed → Type 0
+HasRoom feeds m = (length (mixed_in m) + feeds.each ≤ 160000) × (length (mixed_in m) + feeds.each ≤ vec_capacity m.samples)
+
+-- the worker's calls can be made
+pub record CanMix (lanes : Lanes) (set : Setting) (p : Pass) : Type 0 where
+  pub has : Has lanes set.caller [] p
+  pub cpu : set.cpu < lanes.cpus
+  pub moment : set.now < 2 ^ 40
+
+abbrev pub IsAmong : Ended → List Ended → Type 0
+IsAmong e [] = ⊥
+IsAmong e (x ∷ xs) = (x ≡ e) ⊎ IsAmong e xs
+
+-- the feeders that are direct pushed nothing, and their passes were taken in
+abbrev pub DirectEnded : (ℕ → Bool) → ℕ → List Ended → Type 0
+DirectEnded direct number es = (feeder : ℕ) → feeder < number → direct feeder ≡ true → IsAmong (ended feeder 0) es
+
+-- feeders below this number were started, and so many samples will come through the queue; nothing was taken yet, and the
+-- next feeder gets this number
+pub record HasBegun (queue : FeedQueue) (feeds : Numbers) (number next owed : ℕ) (worker : FeedPass) (m : Mixed)
+    : Type 0 where
+  pub of_queue : IsPassOf queue worker
+  pub low : number ≤ feeds.feeders
+  pub few : (feeds.feeders ≤ 16) × (1 ≤ feeds.each) × (feeds.each ≤ 10000)
+  pub ends : List Ended
+  pub knows : known worker ≡ Worker (desk feeds [] next ends)
+  pub direct : DirectEnded (is_direct m) number ends
+  pub owes : owed ≡ sum_below number (through_queue feeds.each (is_direct m))
+  pub none : mixed_in m ≡ []
+  pub room : feeds.feeders * feeds.each ≤ vec_capacity m.samples
+
+abbrev pub CanStart : FeedQueue → Numbers → ℕ → ℕ → FeedPass → Mixed → Type 0
+CanStart queue feeds number owed worker m = HasBegun queue feeds number number owed worker m
+
+-- the same, where the feeder of this number has its pass
+abbrev pub CanTakeBack : FeedQueue → Numbers → ℕ → ℕ → FeedPass → Mixed → Type 0
+CanTakeBack queue feeds number owed worker m =
+    (number < feeds.feeders) × HasBegun queue feeds number (number + 1) owed worker m
+
+-- these samples came through the queue, and the worker mixed those of the direct feeders below this number behind them
+pub record Front (feeds : Numbers) (number : ℕ) (through : List Sample) (m : Mixed) : Type 0 where
+  pub few : (feeds.feeders ≤ 16) × (feeds.each ≤ 10000)
+  pub directly : List Sample
+  pub parts : mixed_in m ≡ through ++ directly
+  pub came : AllByRecursion (λ (x : Sample). is_direct m x.feeder ≡ false) through
+  pub behind : AllByRecursion (λ (x : Sample). is_direct m x.feeder ≡ true) directly
+  pub each : (feeder : ℕ) → of_feeder feeder (mixed_in m) ≡ done_so_far feeds (is_direct m) number feeder
+  pub count : length (mixed_in m) ≡ sum_below feeds.feeders (through_queue feeds.each (is_direct m))
+      + sum_below number (by_worker feeds.each (is_direct m))
+  pub room : feeds.feeders * feeds.each ≤ vec_capacity m.samples
+
+-- all that comes through the queue was mixed, and all feeders that had threads have ended
+pub record HasDrained (queue : FeedQueue) (feeds : Numbers) (worker : FeedPass) (m : Mixed) : Type 0 where
+  pub of_queue : IsPassOf queue worker
+  pub ends : List Ended
+  pub knows : known worker ≡ Worker (desk feeds (mixed_in m) feeds.feeders ends)
+  pub front : Front feeds 0 (mixed_in m) m

@@ -1,0 +1,81 @@
+-- What the worker does with samples: one interrupt of each, one after another.
+use Rattle.std.specs.Prelude.{◌≡◌, ℕ, suc, ◌<◌, ◌==◌, List, [], ◌∷◌, ◌++◌, map, length, if◌then◌else◌}
+use Rattle.key_names.specs.declared.names.Mark.{Mark}
+use Rattle.key_names.specs.declared.names.Step.{Step}
+use Rattle.key_names.specs.declared.names.Step.TheVariants.{Look, Visit as Marked}
+use Rattle.key_names.specs.declared.entries.CpuEntry.{CpuEntry}
+use Rattle.key_names.specs.declared.entries.CpuEntry.TheVariants.{Read, Int, Irq, Dump, Prepare, Online}
+use Rattle.key_names.specs.declared.entries.VEntry.{VEntry}
+use Rattle.key_names.specs.declared.events.Event.TheVariants.{Irq as IrqEvent}
+use Rattle.key_names.specs.declared.events.Answer.TheVariants.{Ok as Done}
+use Rattle.key_names.specs.SeenLine.{no_data}
+use Rattle.key_names.specs.Deeds.{Deed, looked, at_pool, at_base, at_cpu, nothing_there, deeds_of}
+use Rattle.lane_table.specs.declared.view.Visit.{Visit}
+use Rattle.lane_table.specs.declared.view.View.{View}
+use Rattle.lane_table.specs.LaneNumbers.{index_of}
+use Rattle.lane_table.specs.WorldRule.{at}
+use Rattle.lane_table.specs.Steps.{Grows}
+use Rattle.lane_table.specs.BookLists.{StateLists, book_lists}
+use Rattle.lane_table.specs.BookLaws.{Continues}
+use Rattle.rng_core.specs.declared.setting.Setting.{Setting}
+use Rattle.rng_core.specs.Told.{Moment}
+use Rattle.rng_core.specs.Did.{DidIn, Fulfils, setting_of}
+use Rattle.rng_core.specs.SampleDeeds.{Sampled}
+use Rattle.irq_feed.specs.declared.samples.Sample.{Sample}
+
+abbrev pub in_event : Setting → ℕ → Setting
+in_event set event = record set { event = event }
+
+abbrev pub moment : View → List Step → Moment
+moment v steps = record { view = v; steps = steps }
+
+-- from v to w the pass made one interrupt of this sample, and the steps tell it
+pub record Interrupted (set : Setting) (event : ℕ) (x : Sample) (v w : View) : Type 0 where
+  pub steps : List Step
+  pub did : DidIn (Sampled (Fulfils (setting_of set) (IrqEvent x.v1 x.v2) Done no_data)) (in_event set event)
+      (moment v []) (moment w steps)
+
+-- from v to w it made one of each sample, in order, in events that are numbered from this one on
+abbrev pub Mixes : Setting → ℕ → List Sample → View → View → Type 0
+Mixes set event [] v w = w ≡ v
+Mixes set event (x ∷ xs) v w = (u : View) × Interrupted set event x v u × Mixes set (suc event) xs u w
+
+-- What stands on the lanes then
+
+-- the interrupts among what stands behind steps: their CPUs and entries
+abbrev pub irq_at : ℕ → CpuEntry → List (ℕ × CpuEntry)
+irq_at cpu (Read look refill taken) = []
+irq_at cpu (Int look refill width filled) = []
+irq_at cpu (Irq v1 v2 now) = (cpu, Irq v1 v2 now) ∷ []
+irq_at cpu (Dump now) = []
+irq_at cpu Prepare = []
+irq_at cpu Online = []
+
+abbrev pub irqs_of : List Deed → List (ℕ × CpuEntry)
+irqs_of [] = []
+irqs_of (looked g ∷ deeds) = irqs_of deeds
+irqs_of (at_pool visit ∷ deeds) = irqs_of deeds
+irqs_of (at_base visit ∷ deeds) = irqs_of deeds
+irqs_of (at_cpu visit ∷ deeds) = irq_at visit.cpu visit.entry ++ irqs_of deeds
+irqs_of (nothing_there ∷ deeds) = irqs_of deeds
+
+-- the places of a lane at which steps made a visit
+abbrev pub places_of : ℕ → List Step → List ℕ
+places_of lane [] = []
+places_of lane (Look g ∷ steps) = places_of lane steps
+places_of lane (Marked mark ∷ steps) =
+    if index_of mark.lane == lane then mark.place ∷ places_of lane steps else places_of lane steps
+
+-- a sample's interrupt, on the setting's CPU and at its moment
+abbrev pub irq_of : Setting → Sample → ℕ × CpuEntry
+irq_of set x = (set.cpu, Irq x.v1 x.v2 set.now)
+
+-- from v to w the pass made these steps and no others; in all lists of visits that go on from what it knows then, the
+-- interrupts behind these steps are those of the samples, in order
+pub record Put (set : Setting) (xs : List Sample) (v w : View) : Type 0 where
+  pub steps : List Step
+  pub all : (lane : ℕ) → lane < length v.lanes → (at lane w).places ≡ (at lane v).places ++ places_of lane steps
+  pub irqs : (lanes : ℕ) (visits : ℕ → List Visit) (callers : StateLists) → Continues lanes w visits →
+      irqs_of (deeds_of (book_lists lanes visits callers) steps) ≡ map (irq_of set) xs
+  pub sized : length w.lanes ≡ length v.lanes
+  pub grows : Grows v w

@@ -1,0 +1,139 @@
+-- The rule of the queue: of each feeder, what the worker took and then what the queue holds are its first samples.
+use Rattle.std.specs.Prelude.{◌≡◌, ℕ, ◌+◌, ◌<◌, ◌≤◌, ◌==◌, ⊤, List, [], ◌∷◌, ◌++◌, Option, Some, None, if◌then◌else◌}
+use Rattle.std.specs.List.{AllByRecursion}
+use mathlib.Core.Option.{some}
+use lib.ListN.{get_elem?}
+use Rattle.irq_feed.specs.declared.samples.Sample.{Sample}
+use Rattle.irq_feed.specs.declared.known.Ended.{Ended}
+use Rattle.irq_feed.specs.declared.known.Desk.{Desk}
+use Rattle.irq_feed.specs.declared.known.Post.{Post}
+use Rattle.irq_feed.specs.declared.known.Known.{Known}
+use Rattle.irq_feed.specs.declared.known.Known.TheVariants.{Worker, Feeder, Nobody}
+use Rattle.irq_feed.specs.Feeds.{Numbers, numbers}
+use Rattle.irq_feed.specs.Samples.{sample, first_samples, of_feeder}
+
+-- Views
+
+abbrev pub desk : Numbers → List Sample → ℕ → List Ended → Desk
+desk feeds taken next ended = record { feeds = feeds; taken = taken; next = next; ended = ended }
+
+abbrev pub post : Numbers → ℕ → ℕ → Post
+post feeds number pushed = record { feeds = feeds; number = number; pushed = pushed }
+
+abbrev pub ended : ℕ → ℕ → Ended
+ended feeder pushed = record { feeder = feeder; pushed = pushed }
+
+-- The rule
+
+-- the feeder has a number that was given, has no pass any more, and pushed so many samples
+abbrev pub HasEnded : ℕ → (ℕ → Option ℕ) → (ℕ → ℕ) → Ended → Type 0
+HasEnded next seat pushed e = (e.feeder < next) × (seat e.feeder ≡ None) × (pushed e.feeder ≡ e.pushed)
+
+-- what the worker knows is so: it has the one pass that may take, and no feeder has the next number or a higher one
+pub record IsDesk (feeds : Numbers) (seat : ℕ → Option ℕ) (pushed : ℕ → ℕ) (taken : List Sample) (d : Desk)
+    : Type 0 where
+  pub feeds_are : d.feeds ≡ feeds
+  pub took : d.taken ≡ taken
+  pub free : (feeder : ℕ) → d.next ≤ feeder → (seat feeder ≡ None) × (pushed feeder ≡ 0)
+  pub ends : AllByRecursion (HasEnded d.next seat pushed) d.ended
+
+-- what a feeder knows is so: no other pass has its number
+pub record IsPost (feeds : Numbers) (seat : ℕ → Option ℕ) (pushed : ℕ → ℕ) (pass : ℕ) (p : Post) : Type 0 where
+  pub feeds_are : p.feeds ≡ feeds
+  pub mine : seat p.number ≡ Some pass
+  pub count : pushed p.number ≡ p.pushed
+
+abbrev pub Fits : Numbers → ℕ → (ℕ → Option ℕ) → (ℕ → ℕ) → List Sample → ℕ → Known → Type 0
+Fits feeds worker seat pushed taken pass (Worker d) = (pass ≡ worker) × IsDesk feeds seat pushed taken d
+Fits feeds worker seat pushed taken pass (Feeder p) = IsPost feeds seat pushed pass p
+Fits feeds worker seat pushed taken pass Nobody = ⊤
+
+-- `seat` is the pass that each feeder has, if any, `pushed` how many samples it pushed, `taken` what the worker took, and
+-- `worker` is the worker's pass
+pub record InOrder (items : List Sample) (views : List Known) : Type 0 where
+  pub feeds : Numbers
+  pub worker : ℕ
+  pub seat : ℕ → Option ℕ
+  pub pushed : ℕ → ℕ
+  pub taken : List Sample
+  pub ordered : (feeder : ℕ) → of_feeder feeder (taken ++ items) ≡ first_samples feeds feeder (pushed feeder)
+  pub bounded : (feeder : ℕ) → pushed feeder ≤ feeds.each
+  pub fits : (pass : ℕ) (v : Known) → get_elem? views pass ≡ some v → Fits feeds worker seat pushed taken pass v
+
+-- The kinds of step
+
+-- a push: the next sample of the feeder
+abbrev pub Pushed : Known → Sample → Known → Type 0
+Pushed (Worker d) x w = ⊤
+Pushed (Feeder p) x w = w ≡ Feeder (post p.feeds p.number (p.pushed + 1))
+Pushed Nobody x w = ⊤
+
+-- a pop: one more sample that the worker took
+abbrev pub Popped : Known → Sample → Known → Type 0
+Popped (Worker d) x w = w ≡ Worker (desk d.feeds (d.taken ++ x ∷ []) d.next d.ended)
+Popped (Feeder p) x w = ⊤
+Popped Nobody x w = ⊤
+
+-- a split: the next number is given to a new feeder
+abbrev pub behind_split : Known → Known
+behind_split (Worker d) = Worker (desk d.feeds d.taken (d.next + 1) d.ended)
+behind_split (Feeder p) = Feeder p
+behind_split Nobody = Nobody
+
+abbrev pub new_feeder : Known → Known
+new_feeder (Worker d) = Feeder (post d.feeds d.next 0)
+new_feeder (Feeder p) = Nobody
+new_feeder Nobody = Nobody
+
+-- a join: the worker takes a feeder's pass in
+abbrev pub taken_in : Known → Known → Known
+taken_in (Worker d) (Worker e) = Worker d
+taken_in (Worker d) (Feeder p) = Worker (desk d.feeds d.taken d.next (d.ended ++ ended p.number p.pushed ∷ []))
+taken_in (Worker d) Nobody = Worker d
+taken_in (Feeder p) w = Feeder p
+taken_in Nobody w = Nobody
+
+-- the worker with these samples taken
+abbrev pub with_taken : Known → List Sample → Known
+with_taken (Worker d) xs = Worker (desk d.feeds xs d.next d.ended)
+with_taken (Feeder p) xs = Feeder p
+with_taken Nobody xs = Nobody
+
+-- whose pass it is
+abbrev pub IsWorker : Known → Type 0
+IsWorker (Worker d) = ⊤
+IsWorker (Feeder p) = ⊥
+IsWorker Nobody = ⊥
+
+abbrev pub IsFeeding : Known → Type 0
+IsFeeding (Worker d) = ⊥
+IsFeeding (Feeder p) = ⊤
+IsFeeding Nobody = ⊥
+
+-- a feeder that has samples left may push its next one
+abbrev pub MayPush : Known → Sample → Type 0
+MayPush (Worker d) x = ⊥
+MayPush (Feeder p) x = (p.pushed < p.feeds.each) × (x ≡ sample p.feeds p.number p.pushed)
+MayPush Nobody x = ⊥
+
+-- the worker's first view: of no feeds yet
+abbrev pub no_feeds : Known
+no_feeds = Worker (desk (numbers 0 0 0) [] 0 [])
+
+-- the start: the worker knows these feeds
+abbrev pub begun : Numbers → Known
+begun feeds = Worker (desk feeds [] 0 [])
+
+-- What the worker learns of the queue at any moment
+
+pub record Learned (d : Desk) (items : List Sample) : Type 0 where
+  pub pushed : ℕ → ℕ
+  pub ordered : (feeder : ℕ) → of_feeder feeder (d.taken ++ items) ≡ first_samples d.feeds feeder (pushed feeder)
+  pub bounded : (feeder : ℕ) → pushed feeder ≤ d.feeds.each
+  pub free : (feeder : ℕ) → d.next ≤ feeder → pushed feeder ≡ 0
+  pub ends : AllByRecursion (λ (e : Ended). pushed e.feeder ≡ e.pushed) d.ended
+
+abbrev pub Learns : Known → List Sample → Type 0
+Learns (Worker d) items = Learned d items
+Learns (Feeder p) items = ⊤
+Learns Nobody items = ⊤

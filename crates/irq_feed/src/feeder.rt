@@ -1,0 +1,123 @@
+//! A feeder: it pushes its samples into the queue, in order.
+ghost use Rattle.std.specs.Prelude.{◌≡◌, IfErr, IfOk};
+ghost use Rattle.irq_feed.specs.Rule.{MayPush, Pushed};
+ghost use Rattle.irq_feed.specs.Passes.{known, IsFeeder, IsPassOf};
+
+use crate::queue::{FeedPass, FeedQueue};
+use crate::samples::{Feeds, Sample};
+use crossbeam_utils::Backoff;
+use io_edges::Gate;
+use lane_table::Lanes;
+use rng_core::Setting;
+use std::sync::Wait;
+use std::sync::atomic::{AtomicU32, Ordering};
+use std::thread::{Promise, PromisedHandle, Scope, SpawnError};
+
+/// What a feeder gives back: its pass, and how many samples it pushed.
+#[derive(Drop)]
+pub(crate) struct Fed {
+    pub(crate) pass: FeedPass,
+    pub(crate) pushed: u32,
+}
+
+/// What the worker and all feeders of a call share.
+#[derive(Drop)]
+pub(crate) struct Call<'a, G: Gate> {
+    pub(crate) lanes: &'a Lanes,
+    pub(crate) set: Setting,
+    pub(crate) feeds: &'a Feeds,
+    pub(crate) queue: &'a FeedQueue,
+    pub(crate) gate: &'a G,
+    pub(crate) feeders: Feeders,
+    /// The feeder whose closure the worker calls itself, if any.
+    pub(crate) handed_back: AtomicU32,
+}
+
+/// The number of no feeder.
+pub(crate) const NOBODY: u32 = u32::MAX;
+
+fn push<R: Wait>(rt: &R, queue: &FeedQueue, feeder: &mut FeedPass, sample: Sample)
+    requires feeder { IsPassOf queue.now feeder.old }
+    requires next { MayPush (known feeder.old) sample }
+    ensures feeder { IsPassOf queue.now feeder.new }
+    ensures pushed { Pushed (known feeder.old) sample (known feeder.new) }
+{
+    let backoff = Backoff::new();
+    for _ in rt.forever() {
+        if queue.try_push(feeder, sample) {
+            return;
+        }
+        backoff.snooze();
+    }
+    unreachable!()
+}
+
+/// Pushes all samples of a feeder, and waits where the queue is full. Where the worker calls it, it pushes none: nobody
+/// would take them out.
+pub(crate) fn push_all<R: Wait, G: Gate>(
+    rt: &R,
+    queue: &FeedQueue,
+    feeds: &Feeds,
+    gate: &G,
+    handed_back: &AtomicU32,
+    number: u32,
+    mut pass: FeedPass,
+) -> Fed
+    requires { IsFeeder queue.now feeds.now number 0 pass }
+    ensures { IsFeeder queue.now feeds.now number result.pushed result.pass }
+{
+    if handed_back.load(Ordering::SeqCst) == number {
+        return Fed { pass, pushed: 0 };
+    }
+    let each = feeds.each();
+    for index in 0..each {
+        gate.before(rt, number, index);
+        let sample = feeds.sample(number, index);
+        push(rt, queue, &mut pass, sample);
+    }
+    Fed { pass, pushed: each }
+}
+
+/// Where feeders run.
+#[derive(Clone, Copy, Drop)]
+pub(crate) enum Feeders {
+    /// Each in a thread of its own, where one can be made.
+    InThreads,
+    /// None in a thread, as where no thread can be made.
+    Nowhere,
+}
+
+impl Feeders {
+    /// Starts a feeder's thread. The closure comes back where none can be made.
+    pub(crate) fn start<
+        's,
+        E,
+        P: Promise<T> + Drop,
+        F: FnOnce() -> T + Send + 's,
+        T: Send + Drop + 's,
+    >(self, scope: &Scope<'s, E>, promise: P, run: F) -> Result<PromisedHandle<T, P>, SpawnError<F>>
+        requires runs { F.pre run }
+        requires keeps { (r : T) → F.post run r → P.kept_by promise r }
+        ensures ok { IfOk result (λ h. h.promise ≡ promise) }
+        ensures err { IfErr result (λ e. e.value ≡ run) }
+    {
+        match self {
+            Feeders::InThreads => scope.spawn_with(promise, run),
+            Feeders::Nowhere => Err(SpawnError { value: run }),
+        }
+    }
+}
+
+/// What a feeder's thread promises: the pass that it gives back is the feeder's, with as many samples pushed as it says.
+#[derive(Drop)]
+pub(crate) struct Feeder<'a> {
+    pub(crate) queue: &'a FeedQueue,
+    pub(crate) feeds: &'a Feeds,
+    pub(crate) number: u32,
+}
+
+impl<'a> Promise<Fed> for Feeder<'a> {
+    ghost use Rattle.irq_feed.specs.Passes.{IsFeeder};
+
+    ghost kept_by = { λ p r. IsFeeder p.queue.now p.feeds.now p.number r.pushed r.pass };
+}

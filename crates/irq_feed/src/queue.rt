@@ -1,0 +1,196 @@
+//! The queue between feeders and worker, and its rule.
+ghost use Rattle.std.specs.Prelude.{◌≡◌, IfOk, List, MatchBool, MatchOption};
+ghost use Rattle.irq_feed.specs.declared.samples.Sample.{Sample};
+ghost use Rattle.irq_feed.specs.Feeds.{numbers};
+ghost use Rattle.irq_feed.specs.Rule.{IsFeeding, IsWorker, Learns, MayPush, Popped, Pushed, behind_split, new_feeder, taken_in};
+ghost use Rattle.irq_feed.specs.Passes.{known, IsPassOf, AreNew};
+
+use crate::known::Known;
+use crate::samples::{Feeds, Sample};
+use crossbeam_queue::protocol::{Join, Lesson, Outcome, Protocol, Split};
+use crossbeam_queue::{Pass, RuledArrayQueue};
+use io_edges::NoMemory;
+use std::alloc::Global;
+use std::marker::{Brand, PhantomData};
+
+/// How many samples the queue holds at most.
+pub const ROOM: usize = 64;
+
+/// The rule: of each feeder, what the worker took and what the queue holds are its first samples, in order.
+pub struct Ordered;
+
+impl Protocol<Sample, Known> for Ordered {
+    ghost use Rattle.irq_feed.specs.Rule.{InOrder, no_feeds};
+
+    ghost holds = { InOrder };
+
+    ghost first = { no_feeds };
+}
+
+/// A feeder pushes its next sample.
+struct Push;
+
+impl Outcome<Sample, Known> for Push {
+    ghost use Rattle.irq_feed.specs.Rule.{Pushed};
+
+    ghost then = { Pushed };
+}
+
+/// The worker takes the sample at the front.
+struct Pop;
+
+impl Outcome<Sample, Known> for Pop {
+    ghost use Rattle.irq_feed.specs.Rule.{Popped};
+
+    ghost then = { Popped };
+}
+
+/// The worker learns what was pushed.
+struct Told;
+
+impl Lesson<Sample, Known> for Told {
+    ghost use Rattle.irq_feed.specs.Rule.{Learns};
+
+    ghost fact = { Learns };
+}
+
+/// A pass for the next feeder is split off the worker's, and taken in again.
+struct Next;
+
+impl Split<Known> for Next {
+    ghost use Rattle.irq_feed.specs.Rule.{behind_split, new_feeder};
+
+    ghost left = { behind_split };
+
+    ghost right = { new_feeder };
+}
+
+impl Join<Known> for Next {
+    ghost use Rattle.irq_feed.specs.declared.known.Known.TheVariants.{Nobody};
+    ghost use Rattle.irq_feed.specs.Rule.{taken_in};
+
+    ghost both = { taken_in };
+
+    ghost spent = { Nobody };
+}
+
+/// Which feeds a queue is for. The one call that has to know picks it.
+pub trait Naming {
+    ghost use Rattle.irq_feed.specs.Feeds.{Numbers};
+
+    ghost feeds: { Numbers };
+}
+
+impl Naming for Brand {
+    ghost use Rattle.irq_feed.specs.Feeds.{numbers};
+
+    ghost feeds = { numbers 0 0 0 };
+}
+
+/// The worker is told the feeds.
+struct Begin<F: Naming> {
+    of: PhantomData<F>,
+}
+
+impl<F: Naming> Split<Known> for Begin<F> {
+    ghost use Rattle.irq_feed.specs.declared.known.Known.TheVariants.{Nobody};
+    ghost use Rattle.irq_feed.specs.Rule.{begun};
+
+    ghost left = { λ v. begun F.feeds };
+
+    ghost right = { λ v. Nobody };
+}
+
+type Line = RuledArrayQueue<Sample, Known, Ordered>;
+
+/// The queue, of 64 samples, which all threads share.
+#[derive(Drop)]
+pub struct FeedQueue {
+    line: Line,
+}
+
+/// The token of the worker or of a feeder. Of the worker's it is known which samples it took from the queue, and which
+/// number the next feeder gets.
+#[derive(Drop)]
+pub struct FeedPass {
+    pass: Pass<Sample, Known>,
+}
+
+fn tell_feeds<F: Naming>(queue: &FeedQueue, worker: &mut FeedPass, feeds: &Feeds)
+    requires feeds { F.feeds ≡ feeds.now }
+    requires worker { AreNew queue.now (numbers 0 0 0) worker.old }
+    ensures { AreNew queue.now feeds.now worker.new }
+{
+    let _feeds = feeds.each();
+    let _nobody = queue.line.another::<Begin<F>>(&mut worker.pass);
+}
+
+impl FeedQueue {
+    /// An empty queue for these feeds, and the worker's pass, which has taken nothing and gives number 0 next.
+    ///
+    /// # Errors
+    ///
+    /// `NoMemory` where there is no memory for 64 samples.
+    pub fn of(alloc: Global, feeds: &Feeds) -> Result<(FeedQueue, FeedPass), NoMemory>
+        ensures { IfOk result (λ r. AreNew r.0 feeds.now r.1) }
+    {
+        let (line, pass) = Line::ruled(alloc, ROOM)?;
+        let queue = FeedQueue { line };
+        let mut worker = FeedPass { pass };
+        tell_feeds::<Brand>(&queue, &mut worker, feeds);
+        Ok((queue, worker))
+    }
+
+    /// A pass for the next feeder.
+    pub(crate) fn next(&self, worker: &mut FeedPass) -> FeedPass
+        requires worker { IsPassOf self.now worker.old × IsWorker (known worker.old) }
+        ensures worker { IsPassOf self.now worker.new × (known worker.new ≡ behind_split (known worker.old)) }
+        ensures feeder { IsPassOf self.now result × (known result ≡ new_feeder (known worker.old)) }
+    {
+        FeedPass {
+            pass: self.line.another::<Next>(&mut worker.pass),
+        }
+    }
+
+    /// The worker takes in the pass of a feeder that is done.
+    pub(crate) fn take_in(&self, worker: &mut FeedPass, feeder: FeedPass)
+        requires worker { IsPassOf self.now worker.old × IsWorker (known worker.old) }
+        requires feeder { IsPassOf self.now feeder × IsFeeding (known feeder) }
+        ensures { IsPassOf self.now worker.new × (known worker.new ≡ taken_in (known worker.old) (known feeder)) }
+    {
+        let FeedPass { pass } = feeder;
+        self.line.absorb::<Next>(&mut worker.pass, pass);
+    }
+
+    /// A feeder pushes its next sample. One attempt: it fails where the queue is full, or another thread is in the way.
+    pub(crate) fn try_push(&self, feeder: &mut FeedPass, sample: Sample) -> bool
+        requires feeder { IsPassOf self.now feeder.old }
+        requires next { MayPush (known feeder.old) sample }
+        ensures feeder { IsPassOf self.now feeder.new }
+        ensures pushed { MatchBool result (Pushed (known feeder.old) sample (known feeder.new)) (known feeder.new ≡ known feeder.old) }
+    {
+        self.line
+            .try_push_as::<Push>(&mut feeder.pass, sample)
+            .is_ok()
+    }
+
+    /// The worker takes the sample at the front. One attempt: it fails where the queue is empty, or another thread is in
+    /// the way.
+    pub(crate) fn try_pop(&self, worker: &mut FeedPass) -> Option<Sample>
+        requires worker { IsPassOf self.now worker.old × IsWorker (known worker.old) }
+        ensures worker { IsPassOf self.now worker.new }
+        ensures popped { MatchOption result (known worker.new ≡ known worker.old)
+            (λ x. Popped (known worker.old) x (known worker.new)) }
+    {
+        self.line.try_pop_as::<Pop>(&mut worker.pass)
+    }
+
+    /// What the rule says of the queue at one moment.
+    pub(crate) fn learn(&self, worker: &mut FeedPass)
+        requires worker { IsPassOf self.now worker.old × IsWorker (known worker.old) }
+        ensures worker { IsPassOf self.now worker.new × (known worker.new ≡ known worker.old) }
+        ensures learned { (items : List Sample) × Learns (known worker.old) items }
+    {
+        self.line.learn_as::<Told>(&mut worker.pass);
+    }
+}

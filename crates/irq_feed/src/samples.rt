@@ -1,0 +1,88 @@
+//! What the feeders hand in.
+ghost use Rattle.std.specs.Prelude.{◌≡◌, ◌<◌, ◌≤◌, ◌^◌, IfOk};
+ghost use Rattle.irq_feed.specs.Samples.{numbers, sample};
+
+use io_edges::NoMemory;
+use std::alloc::Global;
+use std::marker::Model;
+
+/// How many feeders there are at most.
+pub const MOST_FEEDERS: u32 = 16;
+
+/// How many samples a feeder has at most.
+pub const MOST_EACH: u32 = 10_000;
+
+/// A sample of an interrupt: two words of the machine's state, the feeder that took them, and how many it took before.
+#[derive(Clone, Copy, Debug, PartialEq, Eq)]
+pub struct Sample {
+    pub feeder: u32,
+    pub index: u32,
+    pub v1: u64,
+    pub v2: u64,
+}
+
+/// The samples of 1 to 16 feeders, 1 to 10,000 of each. They are worked out where they are wanted.
+#[derive(Drop)]
+pub struct Feeds {
+    start: u32,
+    feeders: u32,
+    each: u32,
+}
+
+impl Model for Feeds {
+    ghost use Rattle.std.specs.Prelude.{◌≤◌};
+    ghost use Rattle.irq_feed.specs.Feeds.{Numbers, numbers};
+
+    ghost Value = { Numbers };
+
+    ghost view = { λ f. numbers f.start f.feeders f.each };
+
+    ghost invariant = { λ f. (1 ≤ f.feeders) × (f.feeders ≤ 16) × (1 ≤ f.each) × (f.each ≤ 10000) };
+}
+
+impl Feeds {
+    /// Of each feeder f the samples i = 0 to `each` - 1, whose words are `start` + i and f.
+    ///
+    /// # Errors
+    ///
+    /// None today, since the samples are worked out. The answer leaves room for feeds that are kept in memory.
+    pub fn of(_alloc: Global, start: u32, feeders: u32, each: u32) -> Result<Feeds, NoMemory>
+        requires feeders { (1 ≤ feeders) × (feeders ≤ 16) }
+        requires each { (1 ≤ each) × (each ≤ 10000) }
+        ensures { IfOk result (λ f. f ≡ numbers start feeders each) }
+    {
+        Ok(Feeds {
+            start,
+            feeders,
+            each,
+        })
+    }
+
+    /// How many feeders there are.
+    pub fn feeders(&self) -> u32
+        ensures feeders { result ≡ self.now.feeders }
+        ensures few { (1 ≤ result) × (result ≤ 16) }
+    {
+        self.feeders
+    }
+
+    /// How many samples each feeder has.
+    pub fn each(&self) -> u32
+        ensures each { result ≡ self.now.each }
+        ensures few { (1 ≤ result) × (result ≤ 10000) }
+    {
+        self.each
+    }
+
+    /// A sample of a feeder.
+    pub fn sample(&self, feeder: u32, index: u32) -> Sample
+        ensures { result ≡ sample self.now feeder index }
+    {
+        Sample {
+            feeder,
+            index,
+            v1: self.start as u64 + index as u64,
+            v2: feeder as u64,
+        }
+    }
+}
