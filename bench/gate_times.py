@@ -9,7 +9,6 @@ half second is lost. Behind the command it prints a table in processor minutes, 
 the command's status. What `rt ci` kept of earlier runs is not made anew: for a whole table the machine has to be new.
 """
 import os
-import re
 import subprocess
 import sys
 import time
@@ -46,7 +45,7 @@ def work_of(pid):
         folder = os.readlink('/proc/%d/cwd' % pid)
     except OSError:
         folder = ''
-    if re.match('/tmp/rt-edits?-', folder):
+    if '/rt-edit' in folder:
         return name, 'edits'
     return name, 'tests' if '--test' in line else 'proof'
 
