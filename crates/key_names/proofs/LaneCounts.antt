@@ -149,7 +149,7 @@ counts_once c (suc d) e (xs ∷ xss) by marks at lane there =
 
 module _ (book : Book) where
   -- all marks are counted
-  counted : (marks : List MarkBy) → AllByRecursion (λ by. by.mark.place < lane_length book by.mark.lane) marks →
+  pub counted : (marks : List MarkBy) → AllByRecursion (λ by. by.mark.place < lane_length book by.mark.lane) marks →
       length marks ≡ mark_count PoolLane marks + mark_count BaseLane marks + cpu_counts 0 book.cpus marks
   counted [] all = none_counted book.cpus 0
     where

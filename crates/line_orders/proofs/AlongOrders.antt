@@ -1,0 +1,216 @@
+-- What goes along the orders of callers, from each parent to its children.
+use Rattle.std.proofs.Common.{◌≡◌, ℕ, zero, suc, ◌+◌, ◌<◌, ◌≤◌, Bool, true, false, Option, Some, None, List, [], ◌∷◌, ◌++◌, length, take, drop, min, get_or, map, refl, sym, subst, ap, ◌∙◌, arith, append_assoc}
+use Rattle.std.specs.Prelude.{◌↔◌, ⊤, slice_get}
+use Rattle.std.specs.List.{fold, AllByRecursion}
+use Rattle.std.specs.Global.{Vec}
+use mathlib.Core.Logic.{dite}
+use native.Mathlib.Decide.{ℕ_discrete}
+use Rattle.std.proofs.lemmas.List.{length-take, length-map}
+use Rattle.std.proofs.lemmas.List.Sums.{fold-append}
+use Rattle.key_names.specs.declared.names.Step.{Step}
+use Rattle.key_names.specs.Book.{list_at}
+use Rattle.key_names.specs.Calls.{Call, Parent, parent_from}
+use Rattle.key_names.specs.History.{ancestors_steps, inherited_steps, orders_from, caller_orders, calls_steps, through_visit}
+use Rattle.key_names.specs.CallerOrders.{start_of}
+use Rattle.key_names.proofs.CallerOrders.{order_is_start_and_own, start_is_a_front}
+use Rattle.line_orders.specs.declared.order.Fork.{Fork}
+use Rattle.line_orders.specs.Orders.{all_forks, front_in}
+use Rattle.line_orders.specs.Along.{Along, AreAlong, begin_in, kept_at}
+use Rattle.line_orders.proofs.Carried.{get_front}
+use Rattle.line_orders.proofs.Forks.{FoundIn, AtParent, at_parent, rises, steps_before}
+
+take_drop : {X : Type 0} (n : ℕ) (xs : List X) → take n xs ++ drop n xs ≡ xs
+take_drop zero xs = refl
+take_drop (suc n) [] = refl
+take_drop (suc n) (x ∷ xs) = ap (λ ys. x ∷ ys) (take_drop n xs)
+
+each_list : {X : Type 0} (P : List X → Type 0) (xss : List (List X)) → ((c : ℕ) → c < length xss → P (list_at xss c)) →
+    AllByRecursion P xss
+each_list P [] all = tt
+each_list P (xs ∷ xss) all = (all 0 (omega arith), each_list P xss (λ c low. all (suc c) (omega arith)))
+
+at_list : {X : Type 0} (P : List X → Type 0) (xss : List (List X)) (c : ℕ) → c < length xss → AllByRecursion P xss →
+    P (list_at xss c)
+at_list P [] c low all = absurd (omega arith)
+at_list P (xs ∷ xss) zero low all = all.0
+at_list P (xs ∷ xss) (suc c) low all = at_list P xss c (omega arith) all.1
+
+orders_long : (ancestors : List (List Step)) (callers : List (List Call)) →
+    length (orders_from ancestors callers) ≡ length callers
+orders_long ancestors [] = refl
+orders_long [] (calls ∷ rest) = ap suc (orders_long [] rest)
+orders_long (before ∷ ancestors) (calls ∷ rest) = ap suc (orders_long ancestors rest)
+
+module _ (after : Option ℕ → Step → Option ℕ) (May : Option ℕ → Step → Type 0) where
+  pub along_parts : (v : Option ℕ) (xs ys : List Step) → Along after May v (xs ++ ys) →
+      Along after May v xs × Along after May (fold after v xs) ys
+  along_parts v [] ys h = (tt, h)
+  along_parts v (x ∷ xs) ys h =
+      let rest : Along after May (after v x) xs × Along after May (fold after (after v x) xs) ys =
+      along_parts (after v x) xs ys h.1 in ((h.0, rest.0), rest.1)
+
+  pub along_both : (v : Option ℕ) (xs ys : List Step) → Along after May v xs → Along after May (fold after v xs) ys →
+      Along after May v (xs ++ ys)
+  along_both v [] ys h k = k
+  along_both v (x ∷ xs) ys h k = (h.0, along_both (after v x) xs ys h.1 k)
+
+  module _ (callers : List (List Call)) where
+    abbrev own : ℕ → List Step
+    own c = calls_steps (list_at callers c)
+
+    abbrev begun : ℕ → Option ℕ
+    begun c = fold after None (start_of callers c)
+
+    -- what is kept of a caller whose steps may all follow
+    pub record KeptOf (c : ℕ) (kept : List (Vec (Option ℕ))) : Type 0 where
+      pub stands : Along after May None (start_of callers c ++ calls_steps (list_at callers c))
+      pub values : Vec (Option ℕ)
+      pub here : slice_get kept c ≡ Some values
+      pub along : AreAlong after (fold after None (start_of callers c)) (calls_steps (list_at callers c)) values.items
+
+    -- what a caller begins with, and that all steps before it may follow
+    pub record Begins (c : ℕ) (kept : List (Vec (Option ℕ))) (forks : List Fork) : Type 0 where
+      pub value : begin_in kept (front_in c forks) ≡ fold after None (start_of callers c)
+      pub stands : Along after May None (start_of callers c)
+
+    module _ (c : ℕ) (kept : List (Vec (Option ℕ))) (rise : AllByRecursion (λ f. f.parent < f.child) (all_forks 0 callers))
+        (each : (p : ℕ) → p < c → KeptOf p kept) where
+      abbrev started : Option Parent → List Step
+      started o = inherited_steps (ancestors_steps callers c) o
+
+      -- behind the parent's front of n steps
+      behind : (p n : ℕ) → p < c → start_of callers c ≡ start_of callers p ++ take n (own p) → n ≤ length (own p) →
+          (kept_at (slice_get kept p) n ≡ begun c) × Along after May None (start_of callers c)
+      behind p n low shape short =
+          let k : KeptOf p kept = each p low in
+          let parts : Along after May None (start_of callers p) × Along after May (begun p) (own p) =
+          along_parts None (start_of callers p) (own p) k.stands in
+          let front : Along after May (begun p) (take n (own p)) =
+          (along_parts (begun p) (take n (own p)) (drop n (own p))
+          (subst (Along after May (begun p)) (sym (take_drop n (own p))) parts.1)).0 in
+          let value : kept_at (slice_get kept p) n ≡ fold after (begun p) (take n (own p)) =
+          rw (k.here, k.along n short) refl in (
+            value ∙ sym (fold-append after None (start_of callers p) (take n (own p)))
+                ∙ sym (ap (λ (s : List Step). fold after None s) shape),
+            subst (λ (s : List Step). Along after May None s) (sym shape)
+                (along_both None (start_of callers p) (take n (own p)) parts.0 front),
+          )
+
+      begins_at : (o : Option Parent) → parent_from c 0 callers ≡ o → AtParent c 0 callers o →
+          Begins c kept (all_forks 0 callers)
+      begins_at None is at =
+          let none : start_of callers c ≡ [] = ap started is in record {
+            value = ap (begin_in kept) at ∙ sym (ap (λ (s : List Step). fold after None s) none);
+            stands = subst (λ (s : List Step). Along after May None s) (sym none) tt;
+          }
+      begins_at (Some parent) is f =
+          let p : ℕ = parent.caller in
+          let same : f.k ≡ p = (let e = f.caller in omega arith) in
+          let fork_is : f.fork.parent ≡ p = (let e = f.parent_is in omega arith) in
+          let low : p < c = subst (λ n. n < c) fork_is (rises c (all_forks 0 callers) f.fork rise f.here) in
+          let n : ℕ = f.fork.steps in
+          let front : take n (own p) ≡ steps_before parent.fork =
+          ap (λ m. take m (own p)) f.steps
+          ∙ ap (λ m. take (length (steps_before parent.fork)) (own m)) (sym same) ∙ f.front in
+          let shape : start_of callers c ≡ start_of callers p ++ take n (own p) =
+          start_is_a_front callers c parent is low
+          ∙ append_assoc (start_of callers p) (calls_steps parent.fork.before) (through_visit parent.fork.line.steps)
+          ∙ ap (λ s. start_of callers p ++ s) (sym front) in
+          let short : n ≤ length (own p) =
+          (let e : min n (length (own p)) ≡ n =
+          sym (length-take n (own p)) ∙ ap (λ (s : List Step). length s) front ∙ sym f.steps in omega arith) in
+          let found : (kept_at (slice_get kept p) n ≡ begun c) × Along after May None (start_of callers c) =
+          behind p n low shape short in record {
+            value = ap (begin_in kept) f.here ∙ ap (λ m. kept_at (slice_get kept m) n) fork_is ∙ found.0;
+            stands = found.1;
+          }
+
+      pub begins : Begins c kept (all_forks 0 callers)
+      begins = begins_at (parent_from c 0 callers) refl (at_parent c 0 callers)
+
+    -- all steps of all orders may follow
+    pub all_follow : (kept : List (Vec (Option ℕ))) → ((p : ℕ) → p < length callers → KeptOf p kept) →
+        AllByRecursion (Along after May None) (caller_orders callers)
+    all_follow kept each = each_list (Along after May None) (caller_orders callers) (λ c low.
+        let low' : c < length callers =
+        (let e : length (caller_orders callers) ≡ length callers =
+        orders_long (ancestors_steps callers (length callers)) callers in omega arith) in
+        subst (λ (s : List Step). Along after May None s) (sym (order_is_start_and_own callers c low')) (each c low').stands)
+
+    -- the own steps of a caller may follow what it begins with
+    pub own_follow : (c : ℕ) → c < length callers → AllByRecursion (Along after May None) (caller_orders callers) →
+        Along after May (fold after None (start_of callers c)) (calls_steps (list_at callers c))
+    own_follow c low all =
+        let low' : c < length (caller_orders callers) =
+        (let e : length (caller_orders callers) ≡ length callers =
+        orders_long (ancestors_steps callers (length callers)) callers in omega arith) in
+        (along_parts None (start_of callers c) (own c)
+        (subst (λ (s : List Step). Along after May None s) (order_is_start_and_own callers c low)
+        (at_list (Along after May None) (caller_orders callers) c low' all))).1
+
+-- the own steps that are kept
+pub own_kept : (owns : List (Vec Step)) (callers : List (List Call)) (c : ℕ) (steps : Vec Step) →
+    map (λ own. own.items) owns ≡ map calls_steps callers → c < length owns → steps ≡ get_or owns c steps →
+    steps.items ≡ calls_steps (list_at callers c)
+own_kept owns [] c steps e low is = absurd (let n : length (map (λ (own : Vec Step). own.items) owns) ≡ 0 = ap length e in omega (arith, length-map owns (λ (own : Vec Step). own.items)))
+own_kept [] (calls ∷ callers) c steps e low is = absurd (omega arith)
+own_kept (o ∷ owns) (calls ∷ callers) zero steps e low is = let h : o.items ≡ calls_steps calls = cc in ap (λ (x : Vec Step). x.items) is ∙ h
+own_kept (o ∷ owns) (calls ∷ callers) (suc c) steps e low is =
+    let t : map (λ (own : Vec Step). own.items) owns ≡ map calls_steps callers = cc in
+    own_kept owns callers c steps t (omega arith) is
+
+pub owns_long : (owns : List (Vec Step)) (callers : List (List Call)) →
+    map (λ own. own.items) owns ≡ map calls_steps callers → length callers ≡ length owns
+owns_long owns callers e =
+    sym (length-map callers calls_steps) ∙ sym (ap length e) ∙ length-map owns (λ (own : Vec Step). own.items)
+
+-- one caller more is gone along
+module _ (after : Option ℕ → Step → Option ℕ) (May : Option ℕ → Step → Type 0) (callers : List (List Call)) where
+  module _ (owns : List (Vec Step)) (forks : List Fork) (kept : List (Vec (Option ℕ))) (c : ℕ) (own : Vec Step)
+      (start : Option ℕ) (owns_are : map (λ own. own.items) owns ≡ map calls_steps callers)
+      (forks_are : forks ≡ all_forks 0 callers) (rise : AllByRecursion (λ f. f.parent < f.child) (all_forks 0 callers))
+      (low : c < length owns) (own_is : own ≡ get_or owns c own) (each : (p : ℕ) → p < c → KeptOf after May callers p kept)
+      (start_is : start ≡ begin_in kept (front_in c forks)) where
+    steps_are : own.items ≡ calls_steps (list_at callers c)
+    steps_are = own_kept owns callers c own owns_are low own_is
+
+    among : c < length callers
+    among = let e : length callers ≡ length owns = owns_long owns callers owns_are in omega arith
+
+    all_begins : Begins after May callers c kept (all_forks 0 callers)
+    all_begins = begins after May callers c kept rise each
+
+    begun_at : start ≡ fold after None (start_of callers c)
+    begun_at = start_is ∙ ap (λ (fs : List Fork). begin_in kept (front_in c fs)) forks_are ∙ all_begins.value
+
+    pub must_follow : AllByRecursion (Along after May None) (caller_orders callers) → Along after May start own.items
+    must_follow all = subst (λ v. Along after May v own.items) (sym begun_at)
+        (subst (Along after May (fold after None (start_of callers c))) (sym steps_are) (own_follow after May callers c among all))
+
+    pub now_kept : (values : Vec (Option ℕ)) (more : List (Vec (Option ℕ))) → slice_get more c ≡ Some values →
+        Along after May start own.items → AreAlong after start own.items values.items → KeptOf after May callers c more
+    now_kept values more here follow along = record {
+      stands = along_both after May None (start_of callers c) (calls_steps (list_at callers c)) all_begins.stands
+          (subst (Along after May (fold after None (start_of callers c))) steps_are
+          (subst (λ v. Along after May v own.items) begun_at follow));
+      values = values;
+      here = here;
+      along = subst (λ (steps : List Step). AreAlong after (fold after None (start_of callers c)) steps values.items) steps_are
+          (subst (λ v. AreAlong after v own.items values.items) begun_at along);
+    }
+
+  pub still_kept : (p : ℕ) (kept : List (Vec (Option ℕ))) (one : Vec (Option ℕ)) → p < length kept →
+      KeptOf after May callers p kept → KeptOf after May callers p (kept ++ one ∷ [])
+  still_kept p kept one low k = record {
+    stands = k.stands;
+    values = k.values;
+    here = get_front kept one p low ∙ k.here;
+    along = k.along;
+  }
+
+  pub kept_more_callers : (c : ℕ) (kept : List (Vec (Option ℕ))) (one : Vec (Option ℕ)) → length kept ≡ c →
+      ((p : ℕ) → p < c → KeptOf after May callers p kept) → KeptOf after May callers c (kept ++ one ∷ []) →
+      (p : ℕ) → p < c + 1 → KeptOf after May callers p (kept ++ one ∷ [])
+  kept_more_callers c kept one long each here p low = dite (ℕ_discrete p c)
+      (λ e. subst (λ k. KeptOf after May callers k (kept ++ one ∷ [])) (sym e) here)
+      (λ ne. still_kept p kept one (omega arith) (each p (omega arith)))

@@ -1,0 +1,51 @@
+use Rattle.std.specs.Prelude.{slice_get}
+use Rattle.std.proofs.Common.{◌≡◌, ◌+◌, ◌<◌, [], ◌∷◌, ◌++◌, length, map, refl, sym, subst, ap, ◌∙◌, arith}
+use Rattle.std.proofs.lemmas.List.{length_push}
+use Rattle.line_orders.proofs.Carried.{get_last}
+use Rattle.line_orders.proofs.AlongOrders.{all_follow, owns_long, must_follow, now_kept, kept_more_callers}
+use Rattle.line_orders.proofs.along.all_may_follow.Goals as goal
+
+pub returns-in-None : goal.returns-in-None
+returns-in-None g c = λ callers owns forks rise.
+    let stops = rw (c.in-None.is, c.deref-in-loop-caller.ensures.value) at c.in_ok-carried.ensures in (
+      (λ h. cc),
+      (λ all. absurd (stops
+          (must_follow (g.C.Carry.after c.args.carry.now) (g.C.Carry.MayFollow c.args.carry.now) callers
+          c.args.orders.now.own.items c.args.orders.now.forks.items c.loop-caller.kept.items c.loop-caller.caller
+          c.own-item.result c.start_of-start.result owns forks rise
+          (rw (← c.deref-own-items.ensures.value) c.loop-caller-test.true)
+          (rw (← c.deref-own-items.ensures.value) c.own-item.is)
+          (c.loop-caller.invariant.each callers owns forks rise)
+          (rw (← c.deref.ensures.value) c.start_of-start.ensures) all))),
+    )
+
+pub loop-caller-preserved : goal.loop-caller-preserved
+loop-caller-preserved g c =
+    let goes = rw (c.in-Some.is, c.deref-in-loop-caller.ensures.value) at c.in_ok-carried.ensures in record {
+      long = ap length c.in_ok-push-in-Some.ensures.items ∙ length_push c.loop-caller.kept.items c.in-Some.carried
+          ∙ ap (λ n. n + 1) c.loop-caller.invariant.long;
+      each = λ callers owns forks rise. rw c.in_ok-push-in-Some.ensures.items
+          (kept_more_callers (g.C.Carry.after c.args.carry.now) (g.C.Carry.MayFollow c.args.carry.now) callers
+          c.loop-caller.caller c.loop-caller.kept.items c.in-Some.carried c.loop-caller.invariant.long
+          (c.loop-caller.invariant.each callers owns forks rise)
+          (now_kept (g.C.Carry.after c.args.carry.now) (g.C.Carry.MayFollow c.args.carry.now) callers
+          c.args.orders.now.own.items c.args.orders.now.forks.items c.loop-caller.kept.items c.loop-caller.caller
+          c.own-item.result c.start_of-start.result owns forks rise
+          (rw (← c.deref-own-items.ensures.value) c.loop-caller-test.true)
+          (rw (← c.deref-own-items.ensures.value) c.own-item.is)
+          (c.loop-caller.invariant.each callers owns forks rise)
+          (rw (← c.deref.ensures.value) c.start_of-start.ensures)
+          c.in-Some.carried (c.loop-caller.kept.items ++ c.in-Some.carried ∷ [])
+          (ap (slice_get (c.loop-caller.kept.items ++ c.in-Some.carried ∷ [])) (sym c.loop-caller.invariant.long)
+          ∙ get_last c.loop-caller.kept.items c.in-Some.carried) goes.0 goes.1));
+    }
+
+pub returns : goal.returns
+returns g c = λ callers owns forks rise. (
+  (λ h. all_follow (g.C.Carry.after c.args.carry.now) (g.C.Carry.MayFollow c.args.carry.now) callers
+      c.loop-caller.kept.items (λ p low. c.loop-caller.invariant.each callers owns forks rise p
+      (let e : length callers ≡ length c.args.orders.now.own.items = owns_long c.args.orders.now.own.items callers owns in
+      let d : length c.deref-own-items.result.now ≡ length c.args.orders.now.own.items =
+      ap length c.deref-own-items.ensures.value in omega arith))),
+  (λ all. refl),
+)

@@ -1,0 +1,38 @@
+-- What is judged of lines and marks.
+use Rattle.std.specs.Prelude.{ℕ, ◌≡◌, ◌⊎◌, List, map, IsPermutation}
+use Rattle.key_names.specs.ScriptGrammar.{Script}
+use Rattle.key_names.specs.SeenLine.{SeenLine}
+use Rattle.key_names.specs.History.{calls_steps}
+use Rattle.key_names.specs.IsTranscript.{HasLines, MarksStand, script_calls, all_marks, clause_number, FirstFails}
+use Rattle.key_names.specs.IsTranscript.{lines_clause, marks_clause}
+use Rattle.line_orders.specs.declared.begin.Parts.{Parts}
+use Rattle.line_orders.specs.declared.begin.Begun.{Begun}
+use Rattle.line_orders.specs.declared.begin.Begun.TheVariants.{Stands, No}
+use Rattle.line_orders.specs.Called.{seen_calls}
+use Rattle.line_orders.specs.Marks.{seen_mark, IsSortedByLane}
+use Rattle.line_orders.specs.Orders.{all_forks}
+
+-- lines and marks stand, and these are their parts
+pub record PartsStand (script : Script) (t : List (List SeenLine)) (parts : Parts) : Type 0 where
+  pub lines : HasLines script t
+  pub marks_stand : MarksStand script t
+  pub calls : seen_calls parts.calls.items ≡ script_calls script t
+  pub all_marks : IsPermutation (all_marks t) (map seen_mark parts.marks.items)
+  pub sorted : IsSortedByLane parts.marks.items
+  pub own : map (λ own. own.items) parts.orders.own.items ≡ map calls_steps (script_calls script t)
+  pub forks : parts.orders.forks.items ≡ all_forks 0 (script_calls script t)
+
+-- the first clause that fails is that on lines, or that on marks
+abbrev pub IsEarlyFault : Script → List (List SeenLine) → ℕ → Type 0
+IsEarlyFault script t number =
+    (number ≡ clause_number lines_clause) × FirstFails script t lines_clause
+    ⊎ (number ≡ clause_number marks_clause) × FirstFails script t marks_clause
+
+abbrev pub IsBegun : Script → List (List SeenLine) → Begun → Type 0
+IsBegun script t (Stands parts) = PartsStand script t parts
+IsBegun script t (No number) = IsEarlyFault script t number
+
+-- neither of the two fails
+pub record LinesAndMarksStand (script : Script) (t : List (List SeenLine)) : Type 0 where
+  pub lines : HasLines script t
+  pub marks : MarksStand script t

@@ -1,0 +1,37 @@
+-- Marks sorted by lane and stamp, and runs of them.
+use Rattle.std.specs.Prelude.{ℕ, suc, ◌+◌, ◌≡◌, ◌<◌, ◌≤◌, ◌⊎◌, ⊤, Bool, MatchBool, Option, Some, None, List, [], ◌∷◌}
+use Rattle.key_names.specs.declared.names.LaneId.{LaneId}
+use Rattle.key_names.specs.declared.names.LaneId.TheVariants.{Pool as PoolLane, Base as BaseLane, Cpu as CpuLane}
+use Rattle.key_names.specs.declared.names.Mark.{Mark}
+use Rattle.key_names.specs.IsTranscript.{MarkBy, is_same_lane}
+use Rattle.line_orders.specs.declared.marks.MarkOf.{MarkOf}
+
+abbrev pub seen_mark : MarkOf → MarkBy
+seen_mark of = record { mark = of.mark; who = of.who }
+
+-- the pool, the base, and then the CPUs by their numbers
+abbrev pub lane_rank : LaneId → ℕ
+lane_rank PoolLane = 0
+lane_rank BaseLane = 1
+lane_rank (CpuLane c) = 2 + c
+
+-- the one is of an earlier lane, or of the same and has no higher stamp
+abbrev pub NotBehind : Mark → Mark → Type 0
+NotBehind a b = (lane_rank a.lane < lane_rank b.lane) ⊎ ((lane_rank a.lane ≡ lane_rank b.lane) × (a.stamp ≤ b.stamp))
+
+-- no mark is behind the next
+abbrev pub IsSortedByLane : List MarkOf → Type 0
+IsSortedByLane [] = ⊤
+IsSortedByLane (a ∷ []) = ⊤
+IsSortedByLane (a ∷ b ∷ marks) = NotBehind a.mark b.mark × IsSortedByLane (b ∷ marks)
+
+-- the mark is the next of the last one's lane, or the first of its own
+abbrev pub Follows : Option Mark → Mark → Type 0
+Follows None mark = mark.place ≡ 0
+Follows (Some last) mark =
+    MatchBool (is_same_lane last.lane mark.lane) ((last.stamp < mark.stamp) × (mark.place ≡ suc last.place))
+    (mark.place ≡ 0)
+
+abbrev pub RunsCount : Option Mark → List MarkOf → Type 0
+RunsCount last [] = ⊤
+RunsCount last (of ∷ marks) = Follows last of.mark × RunsCount (Some of.mark) marks

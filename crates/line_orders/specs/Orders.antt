@@ -1,0 +1,27 @@
+-- The forks among callers' calls, and how many steps of a parent come before its child's.
+use Rattle.std.specs.Prelude.{ℕ, suc, ◌+◌, ◌==◌, Option, Some, None, List, [], ◌∷◌, ◌++◌, length, if◌then◌else◌}
+use Rattle.key_names.specs.declared.events.Event.TheVariants.{Fork as ForkEvent}
+use Rattle.key_names.specs.Calls.{Call, alone}
+use Rattle.key_names.specs.History.{call_steps, through_visit}
+use Rattle.line_orders.specs.declared.order.Fork.{Fork}
+
+-- the fork that a call of caller p makes behind k of its calls and n of its steps
+abbrev pub fork_here : ℕ → ℕ → ℕ → Call → List Fork
+fork_here p k n (alone (ForkEvent child) line) =
+    record { parent = p; child = child; calls = k; steps = n + length (through_visit line.steps) } ∷ []
+fork_here p k n _ = []
+
+-- those of some calls behind k calls and n steps
+abbrev pub forks_in : ℕ → ℕ → ℕ → List Call → List Fork
+forks_in p k n [] = []
+forks_in p k n (call ∷ calls) = fork_here p k n call ++ forks_in p (suc k) (n + length (call_steps call)) calls
+
+-- those of some callers, p being the number of the first
+abbrev pub all_forks : ℕ → List (List Call) → List Fork
+all_forks p [] = []
+all_forks p (calls ∷ callers) = forks_in p 0 0 calls ++ all_forks (suc p) callers
+
+-- the first fork of a caller
+abbrev pub front_in : ℕ → List Fork → Option Fork
+front_in c [] = None
+front_in c (fork ∷ forks) = if fork.child == c then Some fork else front_in c forks

@@ -1,0 +1,101 @@
+//! The clauses on lines and marks: what the steps of a transcript are judged by before any list is made.
+ghost use Rattle.std.specs.Prelude.{◌≡◌, ◌≤◌, length, IfOk, MatchOption};
+ghost use Rattle.key_names.specs.ScriptGrammar.{WellFormed};
+ghost use Rattle.key_names.specs.IsTranscript.{HasLines, script_calls};
+ghost use Rattle.line_orders.specs.Seen.{seen_callers};
+ghost use Rattle.line_orders.specs.Called.{seen_calls};
+ghost use Rattle.line_orders.specs.Begun.{IsBegun, IsEarlyFault, LinesAndMarksStand};
+
+use crate::along::all_may_follow;
+use crate::bare::BareLine;
+use crate::called::{Called, caller_calls};
+use crate::lines::lines_fit;
+use crate::marks::{MarkOf, places_count, sorted_marks};
+use crate::order::{Orders, make_orders};
+use crate::seen::bare_callers;
+use crate::stamps::Stamps;
+use event_script::Script;
+use std::alloc::{AllocError, Global};
+use transcript_text::Transcript;
+
+/// The calls, marks and orders of a transcript whose lines and marks stand.
+#[derive(Drop)]
+pub struct Parts<'a> {
+    pub calls: Vec<Vec<Called<'a>>>,
+    pub marks: Vec<MarkOf>,
+    pub orders: Orders,
+}
+
+#[derive(Drop)]
+pub enum Begun<'a> {
+    Stands(Parts<'a>),
+    /// This clause is the first that fails.
+    No(u8),
+}
+
+// The calls of each caller.
+fn all_calls<'a>(
+    alloc: Global,
+    script: &'a Script,
+    lines: &[Vec<BareLine<'a>>],
+) -> Result<Vec<Vec<Called<'a>>>, AllocError>
+    requires few { length lines.now ≤ 64 }
+    requires lines { HasLines script.now (seen_callers lines.now) }
+    ensures { IfOk result (λ calls. seen_calls calls.items ≡ script_calls script.now (seen_callers lines.now)) }
+{
+    let mut calls = Vec::new(alloc);
+    for (caller, caller_lines) in lines.iter().enumerate() {
+        calls.push(caller_calls(alloc, script.events(caller as u32), caller_lines)?)?;
+    }
+    Ok(calls)
+}
+
+/// Judges lines and marks: each caller has its lines, in each lane the places count up from 0, and stamps rise along each
+/// lane and along each caller's order.
+///
+/// # Errors
+///
+/// `AllocError` where there is no memory for the parts.
+pub fn begin<'a>(
+    alloc: Global,
+    script: &'a Script,
+    lines: &[Vec<BareLine<'a>>],
+) -> Result<Begun<'a>, AllocError>
+    requires well { WellFormed script.now }
+    ensures { IfOk result (λ begun. IsBegun script.now (seen_callers lines.now) begun) }
+{
+    if !lines_fit(script, lines) {
+        return Ok(Begun::No(2));
+    }
+    let marks = sorted_marks(alloc, lines)?;
+    if !places_count(&marks) {
+        return Ok(Begun::No(3));
+    }
+    let calls = all_calls(alloc, script, lines)?;
+    let orders = make_orders(alloc, &calls)?;
+    if !all_may_follow(alloc, &orders, &Stamps)? {
+        return Ok(Begun::No(3));
+    }
+    Ok(Begun::Stands(Parts {
+        calls,
+        marks,
+        orders,
+    }))
+}
+
+/// The number of the first of the clauses on lines and on marks that fails, 2 or 3, if one does.
+///
+/// # Errors
+///
+/// `AllocError` where there is no memory to judge them.
+pub fn early_fault(alloc: Global, script: &Script, t: &Transcript) -> Result<Option<u8>, AllocError>
+    requires { WellFormed script.now }
+    ensures { IfOk result (λ fault. MatchOption fault (LinesAndMarksStand script.now t.now)
+        (IsEarlyFault script.now t.now)) }
+{
+    let lines = bare_callers(alloc, t)?;
+    match begin(alloc, script, &lines)? {
+        Begun::No(clause) => Ok(Some(clause)),
+        Begun::Stands(_) => Ok(None),
+    }
+}

@@ -1,0 +1,196 @@
+//! In what order a caller's steps happen, and where its order begins in that of its parent.
+ghost use Rattle.std.specs.Prelude.{◌≡◌, ◌<◌, ◌≤◌, ◌^◌, ◌++◌, IfOk, OnOk, map, length, take, drop};
+ghost use Rattle.key_names.specs.History.{is_mark, through_visit, steps_at_point, cut_behind_visits, cut_behind_rekey};
+ghost use Rattle.key_names.specs.History.{call_steps, calls_steps, vread_steps};
+ghost use Rattle.line_orders.specs.Called.{seen_act, seen_call, seen_calls};
+ghost use Rattle.line_orders.specs.Orders.{fork_here, forks_in, all_forks, front_in};
+
+use crate::called::{ActLine, Called};
+use key_names::{Event, Step};
+use std::alloc::{AllocError, Global};
+
+/// Where a caller is forked: by whom, behind how many of the parent's calls, and how many of the parent's own steps come
+/// before the child's.
+#[derive(Clone, Copy, Debug, PartialEq, Eq)]
+pub struct Fork {
+    pub parent: u32,
+    pub child: u32,
+    pub calls: usize,
+    pub steps: usize,
+}
+
+/// The own steps of each caller in their order, and the forks of them all.
+#[derive(Drop)]
+pub struct Orders {
+    pub own: Vec<Vec<Step>>,
+    pub forks: Vec<Fork>,
+}
+
+fn is_visit(step: Step) -> bool
+    ensures { result ≡ is_mark step }
+{
+    matches!(step, Step::Visit(_))
+}
+
+// How many visits stand together at the front.
+fn visits_in_front(steps: &[Step]) -> usize
+    ensures within { result ≤ length steps.now }
+    ensures front { take result steps.now ≡ (cut_behind_visits steps.now).0 }
+    ensures rest { drop result steps.now ≡ (cut_behind_visits steps.now).1 }
+{
+    match steps {
+        [Step::Visit(_), rest @ ..] => 1 + visits_in_front(rest),
+        _ => 0,
+    }
+}
+
+// How many of a `vread`'s steps from the third on come before its points 3 and 4.
+fn rekey_end(steps: &[Step]) -> usize
+    ensures within { result ≤ length steps.now }
+    ensures front { take result steps.now ≡ (cut_behind_rekey steps.now).0 }
+    ensures rest { drop result steps.now ≡ (cut_behind_rekey steps.now).1 }
+{
+    if steps.len() > 2 && is_visit(steps[2]) {
+        2 + visits_in_front(&steps[2..])
+    } else {
+        0
+    }
+}
+
+// How many steps there are up to and with the first visit.
+fn first_visit_end(steps: &[Step]) -> usize
+    ensures within { result ≤ length steps.now }
+    ensures front { take result steps.now ≡ through_visit steps.now }
+{
+    match steps {
+        [] => 0,
+        [Step::Visit(_), ..] => 1,
+        [_, rest @ ..] => 1 + first_visit_end(rest),
+    }
+}
+
+fn push_at_point(own: &mut Vec<Step>, acts: &[ActLine<'_>], point: u8) -> Result<(), AllocError>
+    ensures { OnOk result (own.new.items ≡ own.old.items ++ steps_at_point (map seen_act acts.now) point) }
+{
+    let Some((act, rest)) = acts.split_first() else {
+        return Ok(());
+    };
+    if act.point == point {
+        own.extend_from_slice(act.line.steps)?;
+    }
+    push_at_point(own, rest, point)
+}
+
+// The steps of a `vread` before its points 1 and 2, between them and its points 3 and 4, and behind these.
+fn cut(steps: &[Step]) -> (&[Step], &[Step], &[Step])
+    ensures looks { result.0.now ≡ take 2 steps.now }
+    ensures rekey { result.1.now ≡ (cut_behind_rekey (drop 2 steps.now)).0 }
+    ensures rest { result.2.now ≡ (cut_behind_rekey (drop 2 steps.now)).1 }
+{
+    if steps.len() < 2 {
+        return (steps, &[], &[]);
+    }
+    let (looks, behind) = steps.split_at(2);
+    let (rekey, rest) = behind.split_at(rekey_end(behind));
+    (looks, rekey, rest)
+}
+
+fn push_vread(own: &mut Vec<Step>, steps: &[Step], acts: &[ActLine<'_>]) -> Result<(), AllocError>
+    ensures { OnOk result (own.new.items ≡ own.old.items ++ vread_steps steps.now (map seen_act acts.now)) }
+{
+    let (looks, rekey, rest) = cut(steps);
+    own.extend_from_slice(looks)?;
+    push_at_point(own, acts, 1)?;
+    push_at_point(own, acts, 2)?;
+    own.extend_from_slice(rekey)?;
+    push_at_point(own, acts, 3)?;
+    push_at_point(own, acts, 4)?;
+    own.extend_from_slice(rest)?;
+    Ok(())
+}
+
+fn push_call(own: &mut Vec<Step>, call: &Called<'_>) -> Result<(), AllocError>
+    ensures { OnOk result (own.new.items ≡ own.old.items ++ call_steps (seen_call call.now)) }
+{
+    match call {
+        Called::Alone { line, .. } | Called::Ending(line) => own.extend_from_slice(line.steps),
+        Called::Unbound(act) => own.extend_from_slice(act.line.steps),
+        Called::Vread { line, acts, .. } => push_vread(own, line.steps, acts),
+    }
+}
+
+// One more fork, if the call is one: behind so many of the parent's calls and steps.
+fn push_fork(
+    forks: &mut Vec<Fork>,
+    parent: u32,
+    calls: usize,
+    steps: usize,
+    call: &Called<'_>,
+) -> Result<(), AllocError>
+    requires { steps < 2 ^ 63 }
+    ensures { OnOk result (forks.new.items ≡ forks.old.items ++ fork_here parent calls steps (seen_call call.now)) }
+{
+    match call {
+        Called::Alone { event, line } => match event {
+            Event::Fork { child } => {
+                forks.push(Fork {
+                    parent,
+                    child: *child,
+                    calls,
+                    steps: steps + first_visit_end(line.steps),
+                })?;
+                Ok(())
+            }
+            _ => Ok(()),
+        },
+        _ => Ok(()),
+    }
+}
+
+// The own steps of a caller, and its forks behind those of others.
+fn own_steps(
+    alloc: Global,
+    caller: u32,
+    calls: &[Called<'_>],
+    forks: &mut Vec<Fork>,
+) -> Result<Vec<Step>, AllocError>
+    ensures own { IfOk result (λ own. own.items ≡ calls_steps (map seen_call calls.now)) }
+    ensures forks { OnOk result (forks.new.items ≡ forks.old.items ++ forks_in caller 0 0 (map seen_call calls.now)) }
+{
+    let mut own = Vec::new(alloc);
+    for (number, call) in calls.iter().enumerate() {
+        push_fork(forks, caller, number, own.len(), call)?;
+        push_call(&mut own, call)?;
+    }
+    Ok(own)
+}
+
+/// The orders of callers with these calls.
+///
+/// # Errors
+///
+/// `AllocError` where there is no memory for them.
+pub fn make_orders(alloc: Global, callers: &[Vec<Called<'_>>]) -> Result<Orders, AllocError>
+    requires { length callers.now ≤ 64 }
+    ensures own { IfOk result (λ orders. map (λ own. own.items) orders.own.items ≡ map calls_steps (seen_calls callers.now)) }
+    ensures forks { IfOk result (λ orders. orders.forks.items ≡ all_forks 0 (seen_calls callers.now)) }
+{
+    let mut own = Vec::new(alloc);
+    let mut forks = Vec::new(alloc);
+    for (caller, calls) in callers.iter().enumerate() {
+        own.push(own_steps(alloc, caller as u32, calls, &mut forks)?)?;
+    }
+    Ok(Orders { own, forks })
+}
+
+/// Where a caller is forked, if it is.
+pub fn front_of(forks: &[Fork], child: u32) -> Option<Fork>
+    ensures { result ≡ front_in child forks.now }
+{
+    for fork in forks {
+        if fork.child == child {
+            return Some(*fork);
+        }
+    }
+    None
+}
