@@ -1,5 +1,5 @@
 //! Passes that meet at lanes.
-ghost use Rattle.std.specs.Prelude.{◌≡◌, ℕ, ◌+◌, ◌^◌, ◌<◌, ◌≤◌, [], IfOk};
+ghost use Rattle.std.specs.Prelude.{◌≡◌, ℕ, ◌<◌, ◌≤◌, []};
 ghost use Rattle.key_names.specs.declared.entries.CpuEntry.TheVariants.{Irq};
 ghost use Rattle.lane_table.specs.declared.view.Handed.{Handed};
 ghost use Rattle.lane_table.specs.declared.view.LaneEntry.TheVariants.{Cpu};

@@ -51,12 +51,7 @@ pub(crate) fn is_set_in_time(flag: &AtomicBool) -> bool {
 }
 
 /// Whether another is seen in the queue of a lane that is held under the first ticket.
-pub(crate) fn sees_another_queued(
-    lanes: &Lanes,
-    pass: &mut Pass,
-    caller: u32,
-    lane: LaneId,
-) -> bool
+pub(crate) fn sees_another_queued(lanes: &Lanes, pass: &mut Pass, caller: u32, lane: LaneId) -> bool
     requires has { Has lanes.now caller [] pass.old }
     requires lane { index_of lane < count_of lanes.now }
     ensures has { Has lanes.now caller [] pass.new }

@@ -75,7 +75,12 @@ fn put_pool(lanes: &Lanes, pass: &mut Pass, base: &Held, pool: Held) -> Mark
 }
 
 /// A root for the base that is held, and the mark of its extraction.
-pub(crate) fn rooted<R: Wait>(rt: &R, lanes: &Lanes, pass: &mut Pass, base: &Held) -> ([u8; 32], Mark)
+pub(crate) fn rooted<R: Wait>(
+    rt: &R,
+    lanes: &Lanes,
+    pass: &mut Pass,
+    base: &Held,
+) -> ([u8; 32], Mark)
     requires has { Has lanes.now 0 (hand base.now.turn None 0 ∷ []) pass.old }
     requires at { base.now.turn.lane ≡ 1 }
     ensures has { Has lanes.now 0 (hand base.now.turn (Some result.1.place) 0 ∷ []) pass.new }

@@ -1,5 +1,5 @@
 //! Little runs of one caller over a fresh table, with steps and bytes that another implementation gave.
-ghost use Rattle.std.specs.Prelude.{◌≡◌, ◌≤◌, ◌<◌, ◌^◌, [], IfOk, length};
+ghost use Rattle.std.specs.Prelude.{◌≡◌, ◌≤◌, ◌<◌, ◌^◌, [], length};
 ghost use Rattle.std.specs.List.{AllByRecursion};
 ghost use Rattle.lane_table.specs.Hands.{Has};
 ghost use Rattle.rng_core.specs.Integers.{IsWidth};
