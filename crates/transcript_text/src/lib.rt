@@ -9,15 +9,11 @@ mod gathering;
 mod head;
 pub mod laws;
 mod line;
-#[cfg(test)]
-mod long_texts;
 mod names;
 mod piece;
 mod reading;
 mod shown;
 mod steps;
-#[cfg(test)]
-mod tests;
 mod transcript;
 mod view;
 mod writing;
