@@ -1,6 +1,7 @@
 //! The text of a transcript, written and read.
 #![tactic(auto)]
 
+mod counting;
 mod cuts;
 mod error;
 mod fields;
@@ -18,6 +19,7 @@ mod transcript;
 mod view;
 mod writing;
 
+pub use counting::count_lines;
 pub use error::TextError;
 pub use gathered::CallerLines;
 pub use reading::read;
