@@ -1,6 +1,5 @@
 -- What feeders promise.
-use Rattle.std.specs.Prelude.{ℕ, ◌≡◌, ◌<◌, ◌≤◌, ◌^◌, List, [], ◌∷◌, Option, String, string_bytes, codes, decimal, map}
-use Rattle.key_names.specs.Spelling.{lined, spaced}
+use Rattle.std.specs.Prelude.{ℕ, ◌≡◌, ◌<◌, ◌≤◌, ◌^◌, ◌++◌, List, [], ◌∷◌, Option, String, string_bytes, codes, decimal, map}
 use Rattle.irq_feed.specs.declared.table_feed.FeedSums.{FeedSums}
 use Rattle.irq_feed.specs.TableFeed.{IsFed}
 use Rattle.rng_tool.specs.Ends.{EndsWith}
@@ -25,8 +24,8 @@ IsFeed words start feeders samples = AskFeed (map string_bytes words) start feed
 
 abbrev pub feed_line : ℕ → FeedSums → List ℕ
 feed_line feeders sums =
-    lined (spaced (codes "feeders" ∷ decimal feeders ∷ codes "samples" ∷ decimal sums.samples ∷ codes "dumps"
-    ∷ decimal sums.dumps ∷ codes "bits" ∷ decimal sums.bits ∷ []) ∷ [])
+    codes "feeders " ++ decimal feeders ++ codes " samples " ++ decimal sums.samples ++ codes " dumps "
+    ++ decimal sums.dumps ++ codes " bits " ++ decimal sums.bits ++ codes "\n"
 
 -- the output is the line of what came of so many feeders' samples, so many of each, on a new table
 pub record FeedOf (start feeders samples : ℕ) (output : List ℕ) : Type 0 where
