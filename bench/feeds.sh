@@ -1,14 +1,15 @@
 #!/bin/sh
 # Interrupt samples of feeders in threads: run by hand. The words say what is done, both without words:
-#   same    `rng feed 0 16 10000` 200 times, beside twice as many busy loops as there are processors: it ends non-zero where
-#           a run writes another line, fails, or has 20 MB resident
+#   same    `rng feed 0 16 10000` 200 times, beside BENCH_LOOPS busy loops, or twice as many as there are processors: it ends
+#           non-zero where a run writes another line, fails, or has 20 MB resident
 #   speed   160,000 samples of 16 feeders through the queue, and the same by one caller without it, in turn
 # Other builds of the programs are run where BENCH_RNG and BENCH_FEEDS name them, and BENCH_TIMES says how often.
 set -eu
 cd "$(dirname "$0")/.."
 room=$(mktemp -d)
 loops=
-trap 'for loop in $loops; do kill "$loop"; done; rm -rf "$room"' EXIT
+one=
+trap 'for one in $loops; do kill "$one"; done; rm -rf "$room"' EXIT
 
 # built CRATE: the program of a crate, proved and built where that has to be done.
 built() {
@@ -19,25 +20,25 @@ built() {
 same() {
     program=${BENCH_RNG:-$(built rng_tool)}
     times=${BENCH_TIMES:-200}
-    for _ in $(seq $((2 * $(nproc)))); do
+    for _ in $(seq "${BENCH_LOOPS:-$((2 * $(nproc)))}"); do
         while :; do :; done &
         loops="$loops $!"
     done
     echo 'feeders 16 samples 160000 dumps 156 bits 256' >"$room/want"
     : >"$room/all"
     for number in $(seq "$times"); do
-        { time -f '%M %e %U %S' -o "$room/said" timeout 300 "$program" feed 0 16 10000; } >"$room/out"
+        { command time -f '%M %e %U %S' -o "$room/said" timeout 300 "$program" feed 0 16 10000; } >"$room/out"
         cmp -s "$room/want" "$room/out" || {
             echo "run $number: $(cat "$room/out")" >&2
             exit 1
         }
         cat "$room/said" >>"$room/all"
     done
-    awk -v line="$(cat "$room/want")" -v loops="$(echo "$loops" | wc -w)" '
+    awk -v line="$(cat "$room/want")" -v loops="$(echo "$loops" | wc -w)" -v load="$(cut -d' ' -f1 /proc/loadavg)" '
         $1 > most { most = $1 }
         { seconds += $2; worked += $3 + $4; if (NR == 1 || $2 < least) least = $2; if ($2 > longest) longest = $2 }
         END {
-            printf "%d runs beside %d busy loops, each: %s\n", NR, loops, line
+            printf "%d runs beside %d busy loops, load %s, each: %s\n", NR, loops, load, line
             printf "resident at most %d KiB, %.2f to %.2f s a run, %.2f in the middle, %.2f s of processors\n",
                 most, least, longest, seconds / NR, worked / NR
             exit most * 1024 >= 20000000
@@ -49,7 +50,7 @@ speed() {
     times=${BENCH_TIMES:-15}
     for _ in $(seq "$times"); do
         for word in feeds irqs; do
-            time -f "$word %e %U %S" -o "$room/said" "$program" "$word" 10000 >"$room/out"
+            command time -f "$word %e %U %S" -o "$room/said" "$program" "$word" 10000 >"$room/out"
             cat "$room/said" >>"$room/times"
         done
     done
