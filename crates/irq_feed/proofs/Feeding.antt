@@ -9,8 +9,6 @@ use Rattle.std.proofs.lemmas.List.Elements.{filter-append}
 use Rattle.std.proofs.lemmas.Bool.{ltb-true, ltb-false}
 use Rattle.irq_feed.specs.declared.samples.Sample.{Sample}
 use Rattle.irq_feed.specs.declared.known.Ended.{Ended}
-use Rattle.irq_feed.specs.declared.known.Desk.{Desk}
-use Rattle.irq_feed.specs.declared.known.Known.{Known}
 use Rattle.irq_feed.specs.declared.known.Known.TheVariants.{Worker, Feeder}
 use Rattle.irq_feed.specs.declared.mixed.Mixed.{Mixed}
 use Rattle.irq_feed.specs.declared.queue.FeedQueue.{FeedQueue}
@@ -19,7 +17,7 @@ use Rattle.irq_feed.specs.Feeds.{Numbers}
 use Rattle.irq_feed.specs.Samples.{sample, first_samples, of_feeder}
 use Rattle.irq_feed.specs.Rule.{desk, post, ended, behind_split, new_feeder, taken_in, with_taken, Learned, Learns}
 use Rattle.irq_feed.specs.Passes.{known, took, taken_of, AreNew, IsPassOf}
-use Rattle.irq_feed.specs.Fed.{mixed_in, is_direct, sum_below, through_queue, by_worker, done_so_far, IsAmong, DirectEnded, HasBegun, CanStart, CanTakeBack, Front, HasDrained, HasRoom, AllMixed}
+use Rattle.irq_feed.specs.Fed.{mixed_in, is_direct, sum_below, through_queue, by_worker, done_so_far, IsAmong, HasBegun, CanStart, CanTakeBack, Front, HasDrained, HasRoom, AllMixed}
 use Rattle.irq_feed.proofs.Counting.{sum_small, products_small, sum_same, sum_tight, sum_plus, counted, none_behind, cons_not_nil, of_here, first_length, first_own, first_else, front_whole, front_none, front_short}
 
 -- ---- what is done of a feeder

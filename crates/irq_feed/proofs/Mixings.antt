@@ -4,22 +4,20 @@ use Rattle.std.proofs.lemmas.List.{append-nil, map-append}
 use Rattle.key_names.specs.declared.names.Step.{Step}
 use Rattle.key_names.specs.declared.names.Step.TheVariants.{Look, Visit as Marked}
 use Rattle.key_names.specs.declared.entries.CpuEntry.{CpuEntry}
-use Rattle.key_names.specs.declared.entries.CpuEntry.TheVariants.{Irq, Dump}
+use Rattle.key_names.specs.declared.entries.CpuEntry.TheVariants.{Irq}
 use Rattle.key_names.specs.Calls.{Setting}
 use Rattle.key_names.specs.PoolList.{Crossing, ready, early, none}
 use Rattle.key_names.specs.Deeds.{Deed, looked, at_pool, at_base, at_cpu, nothing_there, deed_of, deeds_of}
-use Rattle.key_names.specs.Forms.{Rooted, BaseOnly, Cross, CreditForm, DumpForm, IrqForm}
+use Rattle.key_names.specs.Forms.{Rooted, BaseOnly, Cross, DumpForm, IrqForm}
 use Rattle.key_names.specs.declared.entries.BaseEntry.{BaseEntry}
 use Rattle.key_names.specs.declared.entries.BaseEntry.TheVariants.{Early, Reseed as Reseeded}
 use Rattle.std.specs.Prelude.{Some, None}
 use Rattle.lane_table.specs.declared.view.View.{View}
-use Rattle.lane_table.specs.declared.view.Visit.{Visit}
 use Rattle.lane_table.specs.LaneNumbers.{index_of}
 use Rattle.lane_table.specs.WorldRule.{at, known_of}
 use Rattle.lane_table.specs.Went.{Deal, looked as did_look, visited, step_of, places_in}
 use Rattle.lane_table.specs.Steps.{Grows}
-use Rattle.lane_table.specs.BookLists.{StateLists, book_lists}
-use Rattle.lane_table.specs.BookLaws.{Continues}
+use Rattle.lane_table.specs.BookLists.{book_lists}
 use Rattle.lane_table.proofs.VisitLists.{begins_trans, begins_refl}
 use Rattle.lane_table.proofs.BookEnds.{continues_before}
 use Rattle.rng_core.specs.declared.setting.Setting.{Setting as Called}

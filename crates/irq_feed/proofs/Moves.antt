@@ -8,16 +8,14 @@ use Rattle.std.proofs.lemmas.Option.{none-some}
 use mathlib.Core.Option.{some, some-injective, some-ne-none}
 use lib.ListN.{get_elem?}
 use Rattle.crossbeam_queue.specs.Fifo as fifo
-use Rattle.crossbeam_queue.proofs.Lists.{at_set, at_longer}
+use Rattle.crossbeam_queue.proofs.Lists.{at_set}
 use Rattle.irq_feed.specs.declared.samples.Sample.{Sample}
 use Rattle.irq_feed.specs.declared.known.Ended.{Ended}
-use Rattle.irq_feed.specs.declared.known.Desk.{Desk}
-use Rattle.irq_feed.specs.declared.known.Post.{Post}
 use Rattle.irq_feed.specs.declared.known.Known.{Known}
 use Rattle.irq_feed.specs.declared.known.Known.TheVariants.{Worker, Feeder, Nobody}
 use Rattle.irq_feed.specs.Feeds.{Numbers, numbers}
 use Rattle.irq_feed.specs.Samples.{sample, first_samples, of_feeder}
-use Rattle.irq_feed.specs.Rule.{HasEnded, IsDesk, IsPost, Fits, InOrder, Pushed, Popped, behind_split, new_feeder, taken_in, IsWorker, IsFeeding, MayPush, no_feeds, begun, desk, post, ended, Learned, Learns}
+use Rattle.irq_feed.specs.Rule.{HasEnded, Fits, InOrder, Pushed, Popped, behind_split, new_feeder, taken_in, IsWorker, IsFeeding, MayPush, no_feeds, begun, desk, post, ended, Learns}
 use Rattle.irq_feed.proofs.Changes.{same_or_not, changed, changed_here, changed_else}
 
 -- ---- lists of views

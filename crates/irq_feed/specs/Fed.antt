@@ -1,14 +1,12 @@
 -- What a call of `feed` comes to.
-use Rattle.std.specs.Prelude.{◌≡◌, ℕ, zero, suc, ◌+◌, ◌*◌, ◌<◌, ◌≤◌, ◌^◌, ◌⊎◌, Bool, true, false, List, [], ◌∷◌, ◌++◌, length, slice_index_or, nat_lt, ◌&&◌, not, if◌then◌else◌, vec_len, vec_capacity}
+use Rattle.std.specs.Prelude.{◌≡◌, ℕ, zero, suc, ◌+◌, ◌*◌, ◌<◌, ◌≤◌, ◌^◌, ◌⊎◌, Bool, true, false, List, [], ◌∷◌, ◌++◌, length, slice_index_or, nat_lt, ◌&&◌, not, if◌then◌else◌, vec_capacity}
 use Rattle.std.specs.List.{AllByRecursion}
 use Rattle.lane_table.specs.declared.lanes.Lanes.{Lanes}
 use Rattle.lane_table.specs.declared.lanes.Pass.{Pass}
-use Rattle.lane_table.specs.Calls.{view}
 use Rattle.lane_table.specs.Hands.{Has}
 use Rattle.rng_core.specs.declared.setting.Setting.{Setting}
 use Rattle.irq_feed.specs.declared.samples.Sample.{Sample}
 use Rattle.irq_feed.specs.declared.known.Ended.{Ended}
-use Rattle.irq_feed.specs.declared.known.Known.{Known}
 use Rattle.irq_feed.specs.declared.known.Known.TheVariants.{Worker}
 use Rattle.irq_feed.specs.declared.mixed.Mixed.{Mixed}
 use Rattle.irq_feed.specs.declared.queue.FeedQueue.{FeedQueue}
@@ -16,8 +14,7 @@ use Rattle.irq_feed.specs.declared.queue.FeedPass.{FeedPass}
 use Rattle.irq_feed.specs.Feeds.{Numbers}
 use Rattle.irq_feed.specs.Samples.{first_samples, of_feeder}
 use Rattle.irq_feed.specs.Rule.{desk, ended}
-use Rattle.irq_feed.specs.Passes.{known, took, next_number, IsPassOf}
-use Rattle.irq_feed.specs.Mixing.{Mixes, Put}
+use Rattle.irq_feed.specs.Passes.{known, took, IsPassOf}
 
 -- the samples that were mixed, in order
 abbrev pub mixed_in : Mixed → List Sample

@@ -4,3 +4,4 @@ pub mod Rule
 pub mod Passes
 pub mod Mixing
 pub mod Fed
+pub mod TableFeed

@@ -7,7 +7,7 @@ use Rattle.irq_feed.specs.declared.known.Known.TheVariants.{Worker, Feeder, Nobo
 use Rattle.irq_feed.specs.declared.queue.FeedQueue.{FeedQueue}
 use Rattle.irq_feed.specs.declared.queue.FeedPass.{FeedPass}
 use Rattle.irq_feed.specs.Feeds.{Numbers}
-use Rattle.irq_feed.specs.Rule.{begun, desk, post}
+use Rattle.irq_feed.specs.Rule.{begun, post}
 
 -- what a pass knows
 abbrev pub known : FeedPass → Known

@@ -18,9 +18,14 @@ mod mixed;
 mod queue;
 mod run;
 mod samples;
+mod table_feed;
 mod worker;
 
 pub use mixed::Mixed;
 pub use queue::{FeedPass, FeedQueue};
 pub use run::feed;
 pub use samples::{Feeds, Sample};
+pub use table_feed::{FeedSums, feed_on_new_table};
+
+#[cfg(test)]
+mod tests;

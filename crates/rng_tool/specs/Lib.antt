@@ -3,5 +3,6 @@ pub mod Outcome
 pub mod Ends
 pub mod LoadOutcome
 pub mod DrawOutcome
+pub mod FeedOutcome
 pub mod Commands
 pub mod Kept

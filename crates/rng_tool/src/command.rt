@@ -2,14 +2,17 @@
 ghost use Rattle.std.specs.Prelude.{◌≡◌, ◌↔◌, ℕ, Some, IsTrue, IfSome};
 ghost use Rattle.rng_tool.specs.Commands.{Asks};
 ghost use Rattle.rng_tool.specs.DrawOutcome.{IsDraw};
+ghost use Rattle.rng_tool.specs.FeedOutcome.{IsFeed};
 ghost use Rattle.rng_tool.specs.LoadOutcome.{IsLoad};
 ghost use Rattle.rng_tool.specs.Outcome.{IsRun};
 
 use crate::draw::{Draw, draw_of};
+use crate::feed::{Feed, feed_of};
 use crate::load::{Load, load_of};
 
 /// The forms of the command line, as the line that answers any other words has them.
-pub(crate) const USAGE: &str = "usage: rng run | rng load START CALLERS EVENTS | rng draw C K";
+pub(crate) const USAGE: &str =
+    "usage: rng run | rng load START CALLERS EVENTS | rng draw C K | rng feed START FEEDERS SAMPLES";
 
 /// A command, with the numbers that its words give.
 #[derive(Clone, Copy, Debug, PartialEq, Eq)]
@@ -20,6 +23,8 @@ pub(crate) enum Command {
     Load(Load),
     /// `draw C K`
     Draw(Draw),
+    /// `feed START FEEDERS SAMPLES`
+    Feed(Feed),
 }
 
 /// Whether the words are those of a run.
@@ -41,6 +46,8 @@ impl Command {
             → result ≡ Some (Command.Load (record { start = start; callers = callers; events = events })) }
         ensures draw { (bound count : ℕ) → IsDraw words.now bound count
             → result ≡ Some (Command.Draw (record { bound = bound; count = count })) }
+        ensures feed { (start feeders samples : ℕ) → IsFeed words.now start feeders samples
+            → result ≡ Some (Command.Feed (record { start = start; feeders = feeders; samples = samples })) }
     {
         if is_run(words) {
             return Some(Command::Run);
@@ -50,6 +57,9 @@ impl Command {
         }
         if let Some(draw) = draw_of(words) {
             return Some(Command::Draw(draw));
+        }
+        if let Some(feed) = feed_of(words) {
+            return Some(Command::Feed(feed));
         }
         None
     }

@@ -7,6 +7,7 @@ mod callers;
 mod command;
 mod draw;
 mod ending;
+mod feed;
 mod kept;
 mod load;
 mod numbers;

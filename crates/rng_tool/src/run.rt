@@ -4,12 +4,14 @@ ghost use Rattle.io_edges.specs.Faults.{Rose};
 ghost use Rattle.key_names.specs.ScriptGrammar.{IsScript, Script};
 ghost use Rattle.rng_tool.specs.Commands.{IsNoForm, TakesInput};
 ghost use Rattle.rng_tool.specs.DrawOutcome.{DrawEnds, IsDraw};
+ghost use Rattle.rng_tool.specs.FeedOutcome.{FeedEnds, IsFeed};
 ghost use Rattle.rng_tool.specs.LoadOutcome.{IsLoad, LoadEnds};
 ghost use Rattle.rng_tool.specs.Outcome.{IsRun, RunEnds};
 
 use crate::command::Command;
 use crate::draw::run_draw;
 use crate::ending::end_output;
+use crate::feed::run_feed;
 use crate::load::run_load;
 use crate::run_script::run_input;
 use crate::status::Status;
@@ -33,7 +35,13 @@ use std::thread::Threads;
 /// bits: C below 2^32, where 0 stands for 2^32, and K from 1 to 1,000. They read nothing. The output has the answer of each
 /// draw in decimal on a line of its own, or the line `spent` where 128 words were all rejected, which is then the last.
 ///
-/// The gate is called before each event of each caller, and not before a script is accepted.
+/// The words `feed START FEEDERS SAMPLES` hand so many interrupt samples of each of so many feeders to a CPU of a new table
+/// at moment 0, each feeder in a thread: START below 2^32, FEEDERS from 1 to 16 and SAMPLES from 1 to 10,000. They read
+/// nothing. The output is the line `feeders FEEDERS samples N dumps D bits B`, the same however the feeders' samples fell
+/// together: how many samples were mixed, how many dumps they made, and the pool's bits behind them.
+///
+/// The gate is called before each event of each caller, and not before a script is accepted; of `feed`, before each sample
+/// of each feeder.
 ///
 /// - `Usage`: exactly where the words are none of these. Nothing is read or written.
 /// - `ReadFault`: the source failed. Nothing is written.
@@ -73,6 +81,10 @@ pub fn run<R: Threads + Wait + Sync, S: Source, K: Sink, G: Gate>(
         → DrawEnds bound count result (K.held sink.old) (K.held sink.new) }
     ensures draw_completes { (bound count : ℕ) → IsDraw words.now bound count
         → (Rose (K.faults sink.old) (K.faults sink.new) → ⊥) → (result ≡ Status.Done) ⊎ (result ≡ Status.NoMemory) }
+    ensures fed { (start feeders samples : ℕ) → IsFeed words.now start feeders samples
+        → FeedEnds start feeders samples result (K.held sink.old) (K.held sink.new) }
+    ensures feed_completes { (start feeders samples : ℕ) → IsFeed words.now start feeders samples
+        → (Rose (K.faults sink.old) (K.faults sink.new) → ⊥) → (result ≡ Status.Done) ⊎ (result ≡ Status.NoMemory) }
     ensures no_check { result ≢ Status.No }
 {
     match Command::of(words) {
@@ -80,5 +92,6 @@ pub fn run<R: Threads + Wait + Sync, S: Source, K: Sink, G: Gate>(
         Some(Command::Run) => end_output(run_input(rt, alloc, source, sink, gate), sink),
         Some(Command::Load(load)) => end_output(run_load(rt, alloc, load, sink, gate), sink),
         Some(Command::Draw(draw)) => end_output(run_draw(rt, alloc, draw, sink), sink),
+        Some(Command::Feed(feed)) => end_output(run_feed(rt, alloc, feed, sink, gate), sink),
     }
 }

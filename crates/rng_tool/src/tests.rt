@@ -3,10 +3,11 @@ ghost use Rattle.std.specs.Prelude.{◌≤◌, length};
 
 use crate::run::run;
 use crate::status::Status;
-use io_edges::{MemSink, MemSource, OpenGate};
+use io_edges::{Gate, MemSink, MemSource, OpenGate};
 use std::alloc::{AllocError, Global};
 use std::process::Abort;
 use std::sync::Wait;
+use std::sync::atomic::{AtomicU64, Ordering};
 use std::test::Fail;
 use std::thread::Threads;
 
@@ -217,7 +218,7 @@ fn faults_are_told(rt: HostRuntime) -> Result<(), Fail> {
 #[test]
 fn other_words_read_and_write_nothing(rt: HostRuntime) -> Result<(), Fail> {
     let alloc = rt.alloc();
-    let rows: [&[&str]; 22] = [
+    let rows: [&[&str]; 29] = [
         &[],
         &["check"],
         &["run", "run"],
@@ -240,6 +241,13 @@ fn other_words_read_and_write_nothing(rt: HostRuntime) -> Result<(), Fail> {
         &["draw", "06", "1"],
         &["draw", "6", "0"],
         &["draw", "6", "1001"],
+        &["feed", "1", "4"],
+        &["feed", "1", "0", "1"],
+        &["feed", "1", "17", "1"],
+        &["feed", "1", "1", "0"],
+        &["feed", "1", "1", "10001"],
+        &["feed", "4294967296", "1", "1"],
+        &["feed", "1", "04", "1"],
     ];
     for (row, texts) in rows.iter().enumerate() {
         let (status, mut source, sink) = run_over(&rt, alloc, texts, FIRST_SCRIPT, WHOLE)?;
@@ -430,5 +438,44 @@ fn draws_are_told(rt: HostRuntime) -> Result<(), Fail> {
     let (status, _, sink) = run_over(&rt, alloc, &["draw", "6", "10"], b"", edges)?;
     assert_eq!(rt; status, Status::WriteFault);
     assert_eq!(rt; sink.held(), b"".as_slice());
+    Ok(())
+}
+
+// Counts the events that it is called before.
+#[derive(Drop)]
+struct CountingGate {
+    calls: AtomicU64,
+}
+
+impl Gate for CountingGate {
+    fn before<R: Wait>(&self, _rt: &R, _caller: u32, _event: u32) {
+        self.calls.fetch_add(1, Ordering::SeqCst);
+    }
+}
+
+// A command that wrote its line without feeding would come to the gate less often.
+#[test]
+fn feeders_are_summed_up(rt: HostRuntime) -> Result<(), Fail> {
+    let alloc = rt.alloc();
+    let words = words_of(alloc, &["feed", "1", "4", "1000"])?;
+    let gate = CountingGate {
+        calls: AtomicU64::new(0),
+    };
+    let mut source = MemSource::of(Vec::new(alloc), 1, Vec::new(alloc));
+    let mut sink = MemSink::of(alloc, 1, Vec::new(alloc), ROOM)?;
+    let status = run(&rt, alloc, &words, &mut source, &mut sink, &gate);
+    assert_eq!(rt; status, Status::Done);
+    assert_eq!(rt;
+        sink.held(),
+        b"feeders 4 samples 4000 dumps 3 bits 48\n".as_slice()
+    );
+    assert_eq!(rt; gate.calls.load(Ordering::SeqCst), 4000);
+    let many = ["feed", "4294967295", "16", "2000"];
+    let (status, _, sink) = run_over(&rt, alloc, &many, b"", WHOLE)?;
+    assert_eq!(rt; status, Status::Done);
+    assert_eq!(rt;
+        sink.held(),
+        b"feeders 16 samples 32000 dumps 31 bits 256\n".as_slice()
+    );
     Ok(())
 }

@@ -1,5 +1,5 @@
 use Rattle.std.proofs.Common.{◌≡◌, ◌+◌, ◌<◌, refl, ap, arith}
-use Rattle.irq_feed.proofs.Feeding.{has_pass, in_thread, drained, still_drained, owed_small, owed_room, now_is, still_is}
+use Rattle.irq_feed.proofs.Feeding.{has_pass, in_thread, drained, owed_small, owed_room, now_is, still_is}
 use Rattle.irq_feed.proofs.run.+start_rest.Goals as goal
 
 pub drain-requires-clause-room : goal.drain-requires-clause-room

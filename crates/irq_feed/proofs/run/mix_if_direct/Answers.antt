@@ -1,5 +1,5 @@
 use Rattle.std.proofs.Common.{sym, ◌∙◌}
-use Rattle.irq_feed.proofs.Feeding.{mixes_one, passed_over}
+use Rattle.irq_feed.proofs.Feeding.{mixes_one}
 use Rattle.irq_feed.proofs.Mixings.{mixes_on}
 use Rattle.irq_feed.proofs.run.mix_if_direct.Goals as goal
 

@@ -1,5 +1,6 @@
 use Rattle.std.proofs.Common.{◌≡◌, subst}
 use Rattle.rng_tool.specs.DrawOutcome.{DrawEnds, DrawOf}
+use Rattle.rng_tool.specs.FeedOutcome.{FeedEnds, FeedOf}
 use Rattle.rng_tool.specs.LoadOutcome.{LoadEnds, LoadOf}
 use Rattle.rng_tool.proofs.Completes.{ends_completes, read_before, run_completes}
 use Rattle.rng_tool.proofs.Endings.{ends_after, rose_at_end, run_ends_after}
@@ -68,3 +69,26 @@ returns-in-Some-Draw-clause-draw_completes g c bound count is unwritten =
     c.end_output-in-Some-Draw.ensures.ended c.run_draw.ensures.ends)
     (λ fault. unwritten (rose_at_end _ _ _ _ c.run_draw.ensures.cut c.run_draw.ensures.never_falls
     (c.end_output-in-Some-Draw.ensures.cut fault) c.end_output-in-Some-Draw.ensures.never_falls))
+
+pub returns-in-Some-Feed-clause-write_fault : goal.returns-in-Some-Feed-clause-write_fault
+returns-in-Some-Feed-clause-write_fault g c cut =
+    rose_at_end _ _ _ _ c.run_feed.ensures.cut c.run_feed.ensures.never_falls
+    (c.end_output-in-Some-Feed.ensures.cut cut) c.end_output-in-Some-Feed.ensures.never_falls
+
+pub returns-in-Some-Feed-clause-fed : goal.returns-in-Some-Feed-clause-fed
+returns-in-Some-Feed-clause-fed g c start feeders samples is =
+    let same : c.in-Some-Feed.feed ≡ record { start = start; feeders = feeders; samples = samples } =
+    cc (c.of.ensures.feed start feeders samples is, c.in-Some-Feed.is) in
+    ends_after (FeedOf start feeders samples) _ _ _ c.end_output-in-Some-Feed.ensures.kept _ _
+    c.end_output-in-Some-Feed.ensures.ended
+    (subst (λ feed. FeedEnds feed.start feed.feeders feed.samples c.run_feed.result (g.K.Sink.held c.args.sink.now)
+    (g.K.Sink.held c.run_feed.new.sink)) same c.run_feed.ensures.ends)
+
+pub returns-in-Some-Feed-clause-feed_completes : goal.returns-in-Some-Feed-clause-feed_completes
+returns-in-Some-Feed-clause-feed_completes g c start feeders samples is unwritten =
+    let feed = c.in-Some-Feed.feed in
+    ends_completes (FeedOf feed.start feed.feeders feed.samples) _ _ _
+    (ends_after (FeedOf feed.start feed.feeders feed.samples) _ _ _ c.end_output-in-Some-Feed.ensures.kept _ _
+    c.end_output-in-Some-Feed.ensures.ended c.run_feed.ensures.ends)
+    (λ fault. unwritten (rose_at_end _ _ _ _ c.run_feed.ensures.cut c.run_feed.ensures.never_falls
+    (c.end_output-in-Some-Feed.ensures.cut fault) c.end_output-in-Some-Feed.ensures.never_falls))

@@ -1,0 +1,56 @@
+//! The same samples by feeders in threads, and by one caller.
+ghost use Rattle.std.specs.Prelude.{◌≤◌, ◌<◌, ◌^◌, [], ◌≡◌};
+ghost use Rattle.lane_table.specs.Hands.{Has};
+
+use io_edges::{NoMemory, OpenGate};
+use irq_feed::{Feeds, feed_on_new_table};
+use key_names::Trace;
+use lane_table::{Lanes, Pass};
+use rng_core::{Setting, bits, irq};
+use std::alloc::Global;
+use std::sync::Wait;
+use std::thread::Threads;
+
+/// How many feeders there are.
+const FEEDERS: u32 = 16;
+
+const SET: Setting = Setting {
+    caller: 0,
+    event: 0,
+    cpu: 0,
+    now: 0,
+    hw: [0; 32],
+};
+
+/// The pool's bits behind so many samples of each feeder.
+pub fn feeds<R: Threads + Wait + Sync>(rt: &R, alloc: Global, each: u32) -> Result<u32, NoMemory>
+    requires { (1 ≤ each) × (each ≤ 10000) }
+{
+    Ok(feed_on_new_table(rt, alloc, 0, FEEDERS, each, &OpenGate)?.bits)
+}
+
+// The interrupts of one feeder's samples.
+fn irqs_of<R: Wait>(rt: &R, lanes: &Lanes, pass: &mut Pass, feeds: &Feeds, feeder: u32)
+    requires has { Has lanes.now 0 [] pass.old }
+    requires cpu { 0 < lanes.now.cpus }
+    ensures { Has lanes.now 0 [] pass.new }
+{
+    for index in 0..feeds.each() {
+        let sample = feeds.sample(feeder, index);
+        let mut trace = Trace::empty();
+        irq(rt, lanes, pass, &mut trace, &SET, sample.v1, sample.v2);
+    }
+}
+
+/// The same by the interrupts of one caller, feeder by feeder.
+pub fn irqs<R: Wait>(rt: &R, alloc: Global, each: u32) -> Result<u32, NoMemory>
+    requires { (1 ≤ each) × (each ≤ 10000) }
+{
+    let feeds = Feeds::of(alloc, 0, FEEDERS, each)?;
+    let (lanes, mut pass) = Lanes::start(alloc, 1, 0)?;
+    for feeder in 0..FEEDERS {
+        irqs_of(rt, &lanes, &mut pass, &feeds, feeder);
+    }
+    let mut trace = Trace::empty();
+    Ok(bits(rt, &lanes, &mut pass, &mut trace, &SET))
+}

@@ -1,0 +1,87 @@
+-- Feeders on a new table: what then stands on its lanes, in numbers too.
+use Rattle.std.specs.Prelude.{◌≡◌, ◌<◌, ◌*◌, ◌/◌, ◌+◌, ◌++◌, ℕ, suc, min, List, [], ◌∷◌, length, map, replicate}
+use Rattle.key_names.specs.declared.names.Step.{Step}
+use Rattle.key_names.specs.declared.entries.CpuEntry.{CpuEntry}
+use Rattle.key_names.specs.declared.entries.CpuEntry.TheVariants.{Read, Int, Irq, Dump, Prepare, Online}
+use Rattle.key_names.specs.declared.events.Event.TheVariants.{Irq as IrqEvent}
+use Rattle.key_names.specs.declared.events.Answer.TheVariants.{Ok as Done}
+use Rattle.key_names.specs.SeenLine.{no_data}
+use Rattle.key_names.specs.PoolList.{pool_after}
+use Rattle.key_names.specs.Deeds.{deeds_of}
+use Rattle.key_names.specs.Book.{Book, Lists, LawfulLanes, lists_of, cpu_list}
+use Rattle.key_names.specs.IsTranscript.{MarkBy, VisitsAre, marks_from}
+use Rattle.lane_table.specs.Went.{Climbs}
+use Rattle.rng_core.specs.declared.setting.Setting.{Setting}
+use Rattle.rng_core.specs.Did.{Fulfils, setting_of}
+use Rattle.irq_feed.specs.declared.samples.Sample.{Sample}
+use Rattle.irq_feed.specs.declared.table_feed.FeedSums.{FeedSums}
+use Rattle.irq_feed.specs.Samples.{numbers, first_samples, of_feeder}
+
+-- caller 0 in its first event, on CPU 0, at moment 0, with hardware words 0
+abbrev pub first_setting : Setting
+first_setting = record { caller = 0; event = 0; cpu = 0; now = 0; hw = replicate 32 0 }
+
+-- each call is the interrupt of its sample: behind its steps stands what such a call may do
+abbrev pub AreCalls : Lists → List Sample → List (List Step) → Type 0
+AreCalls lists [] [] = Unit {0}
+AreCalls lists [] (steps ∷ calls) = ⊥
+AreCalls lists (x ∷ xs) [] = ⊥
+AreCalls lists (x ∷ xs) (steps ∷ calls) =
+    Fulfils (setting_of first_setting) (IrqEvent x.v1 x.v2) Done no_data (deeds_of lists steps)
+    × AreCalls lists xs calls
+
+-- the visits that these calls made, in events that are numbered from this one on
+abbrev pub marks_of : ℕ → List (List Step) → List MarkBy
+marks_of event [] = []
+marks_of event (steps ∷ calls) = marks_from 0 event 0 steps ++ marks_of (suc event) calls
+
+-- the interrupts of a CPU's list, and how many dumps it has
+abbrev pub irq_here : CpuEntry → List CpuEntry
+irq_here (Irq v1 v2 now) = Irq v1 v2 now ∷ []
+irq_here (Read look refill taken) = []
+irq_here (Int look refill width filled) = []
+irq_here (Dump now) = []
+irq_here Prepare = []
+irq_here Online = []
+
+abbrev pub irqs_in : List CpuEntry → List CpuEntry
+irqs_in [] = []
+irqs_in (e ∷ es) = irq_here e ++ irqs_in es
+
+abbrev pub dump_here : CpuEntry → ℕ
+dump_here (Dump now) = 1
+dump_here (Irq v1 v2 now) = 0
+dump_here (Read look refill taken) = 0
+dump_here (Int look refill width filled) = 0
+dump_here Prepare = 0
+dump_here Online = 0
+
+abbrev pub dumps_in : List CpuEntry → ℕ
+dumps_in [] = 0
+dumps_in (e ∷ es) = dump_here e + dumps_in es
+
+abbrev pub irq_entry : Sample → CpuEntry
+irq_entry x = Irq x.v1 x.v2 0
+
+-- the one book of a table with one CPU: it is lawful, and has the visits of one call for each sample, one call behind the
+-- other, and no others
+pub record IsFedBook (samples : List Sample) (book : Book) : Type 0 where
+  pub lawful : LawfulLanes (lists_of book)
+  pub calls : List (List Step)
+  pub are : AreCalls (lists_of book) samples calls
+  pub visits : VisitsAre book (marks_of 0 calls)
+  pub last : ℕ
+  pub in_order : Climbs 0 (map (λ by. by.mark.stamp) (marks_of 0 calls)) last
+
+-- all samples of so many feeders were mixed on a new table, those of each feeder in order and each once; the sums are those
+-- of the table's book, and are the same for every order of the samples
+pub record IsFed (start feeders each : ℕ) (sums : FeedSums) : Type 0 where
+  pub samples : List Sample
+  pub each_of : (feeder : ℕ) → feeder < feeders
+      → of_feeder feeder samples ≡ first_samples (numbers start feeders each) feeder each
+  pub book : Book
+  pub fed : IsFedBook samples book
+  pub irqs : irqs_in (cpu_list (lists_of book) 0) ≡ map irq_entry samples
+  pub all : (sums.samples ≡ length samples) × (sums.samples ≡ feeders * each)
+  pub dumps : (sums.dumps ≡ dumps_in (cpu_list (lists_of book) 0)) × (sums.dumps ≡ feeders * each / 1024)
+  pub bits : (sums.bits ≡ (pool_after (lists_of book).pool).bits) × (sums.bits ≡ min 256 (16 * sums.dumps))

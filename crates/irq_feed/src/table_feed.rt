@@ -1,0 +1,90 @@
+//! Feeders on a new table.
+ghost use Rattle.std.specs.Prelude.{◌≡◌, ◌≤◌, ◌*◌, ◌/◌, min, IfOk};
+ghost use Rattle.irq_feed.specs.TableFeed.{IsFed, first_setting};
+
+use crate::queue::FeedQueue;
+use crate::run::feed;
+use crate::samples::Feeds;
+use io_edges::{Gate, NoMemory};
+use lane_table::Lanes;
+use rng_core::Setting;
+use std::alloc::Global;
+use std::sync::Wait;
+use std::thread::Threads;
+
+/// How many samples a CPU takes before it dumps them into the pool.
+const DUMP_AT: u32 = 1024;
+
+/// How many bits such a dump is credited with.
+const DUMP_BITS: u32 = 16;
+
+/// The most bits of the pool.
+const MOST_BITS: u32 = 256;
+
+/// What came of the samples of some feeders.
+#[derive(Clone, Copy, Debug, PartialEq, Eq)]
+pub struct FeedSums {
+    /// How many were mixed.
+    pub samples: u32,
+    /// How many dumps of the CPU they made.
+    pub dumps: u32,
+    /// The bits of the pool behind them.
+    pub bits: u32,
+}
+
+// What caller 0 has set in its first event.
+fn first_setting() -> Setting
+    ensures { result ≡ first_setting }
+{
+    Setting {
+        caller: 0,
+        event: 0,
+        cpu: 0,
+        now: 0,
+        hw: [0; 32],
+    }
+}
+
+// What so many samples come to.
+fn sums(samples: u32) -> FeedSums
+    ensures samples { result.samples ≡ samples }
+    ensures dumps { result.dumps ≡ samples / 1024 }
+    ensures bits { result.bits ≡ min 256 (16 * result.dumps) }
+{
+    let dumps = samples / DUMP_AT;
+    FeedSums {
+        samples,
+        dumps,
+        bits: MOST_BITS.min(DUMP_BITS * dumps),
+    }
+}
+
+/// Makes a table with one CPU, and feeds it the samples of so many feeders, so many of each, as [`feed`] does: at moment
+/// 0, by caller 0. Sample i of feeder f has the words `start` + i and f. The sums are worked out, and are proved to be
+/// those of the table's visits.
+///
+/// # Errors
+///
+/// There is no memory for the table, for the queue, or for the list of what was mixed. No feeder has started then.
+pub fn feed_on_new_table<R: Threads + Wait + Sync, G: Gate>(
+    rt: &R,
+    alloc: Global,
+    start: u32,
+    feeders: u32,
+    each: u32,
+    gate: &G,
+) -> Result<FeedSums, NoMemory>
+    requires feeders { (1 ≤ feeders) × (feeders ≤ 16) }
+    requires each { (1 ≤ each) × (each ≤ 10000) }
+    ensures { IfOk result (λ sums. IsFed start feeders each sums) }
+{
+    let feeds = Feeds::of(alloc, start, feeders, each)?;
+    let (queue, worker) = FeedQueue::of(alloc, &feeds)?;
+    let (lanes, mut pass) = Lanes::start(alloc, 1, 0)?;
+    let set = first_setting();
+    let (mixed, _worker) = feed(
+        rt, alloc, &lanes, &mut pass, set, &feeds, &queue, worker, gate,
+    )?;
+    let _visits = lanes.close(pass);
+    Ok(sums(mixed.len()))
+}

@@ -1,0 +1,38 @@
+-- What feeders promise.
+use Rattle.std.specs.Prelude.{ℕ, ◌≡◌, ◌<◌, ◌≤◌, ◌^◌, ◌++◌, List, [], ◌∷◌, Option, String, string_bytes, codes, decimal, map}
+use Rattle.irq_feed.specs.declared.table_feed.FeedSums.{FeedSums}
+use Rattle.irq_feed.specs.TableFeed.{IsFed}
+use Rattle.rng_tool.specs.Ends.{EndsWith}
+use Rattle.rng_tool.specs.declared.feed.Feed.{Feed}
+use Rattle.rng_tool.specs.declared.status.Status.{Status}
+
+-- the texts are `feed START FEEDERS SAMPLES`, with numbers in their ranges
+pub record AskFeed (texts : List (List ℕ)) (start feeders samples : ℕ) : Type 0 where
+  pub spelt : texts ≡ codes "feed" ∷ decimal start ∷ decimal feeders ∷ decimal samples ∷ []
+  pub start_fits : start < 2 ^ 32
+  pub feeders_fit : (1 ≤ feeders) × (feeders ≤ 16)
+  pub samples_fit : (1 ≤ samples) × (samples ≤ 10000)
+
+-- feeders that may be run
+pub record IsSmallFeed (feed : Feed) : Type 0 where
+  pub feeders : (1 ≤ feed.feeders) × (feed.feeders ≤ 16)
+  pub samples : (1 ≤ feed.samples) × (feed.samples ≤ 10000)
+
+-- the words of feeders
+abbrev pub IsFeed : {A : Type 0} → List (String A) → ℕ → ℕ → ℕ → Type 0
+IsFeed words start feeders samples = AskFeed (map string_bytes words) start feeders samples
+
+abbrev pub feed_line : ℕ → FeedSums → List ℕ
+feed_line feeders sums =
+    codes "feeders " ++ decimal feeders ++ codes " samples " ++ decimal sums.samples ++ codes " dumps "
+    ++ decimal sums.dumps ++ codes " bits " ++ decimal sums.bits ++ codes "\n"
+
+-- the output is the line of what came of so many feeders' samples, so many of each, on a new table
+pub record FeedOf (start feeders samples : ℕ) (output : List ℕ) : Type 0 where
+  pub sums : FeedSums
+  pub fed : IsFed start feeders samples sums
+  pub told : output ≡ feed_line feeders sums
+
+-- how feeders end, and what the sink then holds
+abbrev pub FeedEnds : ℕ → ℕ → ℕ → Status → Option (List ℕ) → Option (List ℕ) → Type 0
+FeedEnds start feeders samples = EndsWith (FeedOf start feeders samples)

@@ -1,0 +1,123 @@
+//! Feeders: their words, their run, and the line that sums it up.
+ghost use Rattle.std.specs.Prelude.{◌≡◌, ◌≤◌, ◌∷◌, [], ℕ, Some, IfOk, IfSome};
+ghost use Rattle.io_edges.specs.Faults.{Rose};
+ghost use Rattle.irq_feed.specs.declared.table_feed.FeedSums.{FeedSums};
+ghost use Rattle.rng_tool.specs.FeedOutcome.{AskFeed, FeedEnds, FeedOf, IsFeed, IsSmallFeed, feed_line};
+
+use crate::numbers::number_in;
+use crate::short_line::{ShortLine, add_number};
+use crate::status::Status;
+use arrayvec::ArrayString;
+use io_edges::{Failed, Gate, NoMemory, Sink, put_all};
+use irq_feed::{FeedSums, feed_on_new_table};
+use std::alloc::Global;
+use std::sync::Wait;
+use std::thread::Threads;
+
+/// The most feeders of one run.
+const MOST_FEEDERS: u32 = 16;
+
+/// The most samples of each of them.
+const MOST_SAMPLES: u32 = 10_000;
+
+/// What is fed: samples from a start on, so many of each of so many feeders.
+#[derive(Clone, Copy, Debug, PartialEq, Eq)]
+pub(crate) struct Feed {
+    pub(crate) start: u32,
+    pub(crate) feeders: u32,
+    pub(crate) samples: u32,
+}
+
+/// The feeders that four words ask for.
+fn feed_by(command: &str, start: &str, feeders: &str, samples: &str) -> Option<Feed>
+    ensures found { IfSome result (λ feed.
+        AskFeed (command.now ∷ start.now ∷ feeders.now ∷ samples.now ∷ []) feed.start feed.feeders feed.samples) }
+    ensures only { (from many each : ℕ)
+        → AskFeed (command.now ∷ start.now ∷ feeders.now ∷ samples.now ∷ []) from many each
+        → result ≡ Some (record { start = from; feeders = many; samples = each }) }
+{
+    if command != "feed" {
+        return None;
+    }
+    let Some(start) = number_in(0, u32::MAX, start) else {
+        return None;
+    };
+    let Some(feeders) = number_in(1, MOST_FEEDERS, feeders) else {
+        return None;
+    };
+    let Some(samples) = number_in(1, MOST_SAMPLES, samples) else {
+        return None;
+    };
+    Some(Feed {
+        start,
+        feeders,
+        samples,
+    })
+}
+
+/// The feeders that the words ask for, if they ask for some.
+pub(crate) fn feed_of(words: &[String]) -> Option<Feed>
+    ensures found { IfSome result (λ feed. IsFeed words.now feed.start feed.feeders feed.samples) }
+    ensures only { (start feeders samples : ℕ) → IsFeed words.now start feeders samples
+        → result ≡ Some (record { start = start; feeders = feeders; samples = samples }) }
+{
+    match words {
+        [command, start, feeders, samples] => feed_by(
+            command.as_str(),
+            start.as_str(),
+            feeders.as_str(),
+            samples.as_str(),
+        ),
+        _ => None,
+    }
+}
+
+// The line of these sums.
+fn feed_line(feeders: u32, sums: &FeedSums) -> ShortLine
+    ensures { result.bytes ≡ feed_line feeders sums.now }
+{
+    let mut line = ArrayString::new();
+    add_number(&mut line, "feeders ", u64::from(feeders));
+    add_number(&mut line, " samples ", u64::from(sums.samples));
+    add_number(&mut line, " dumps ", u64::from(sums.dumps));
+    add_number(&mut line, " bits ", u64::from(sums.bits));
+    line.push_str("\n");
+    line
+}
+
+// The line of feeders that ran. No memory is taken behind their run.
+fn summary<R: Threads + Wait + Sync, G: Gate>(
+    rt: &R,
+    alloc: Global,
+    feed: Feed,
+    gate: &G,
+) -> Result<ShortLine, NoMemory>
+    requires { IsSmallFeed feed }
+    ensures { IfOk result (λ line. FeedOf feed.start feed.feeders feed.samples line.bytes) }
+{
+    let sums = feed_on_new_table(rt, alloc, feed.start, feed.feeders, feed.samples, gate)?;
+    Ok(feed_line(feed.feeders, &sums))
+}
+
+/// Runs feeders on a new table, and writes the line that sums it up.
+pub(crate) fn run_feed<R: Threads + Wait + Sync, K: Sink, G: Gate>(
+    rt: &R,
+    alloc: Global,
+    feed: Feed,
+    sink: &mut K,
+    gate: &G,
+) -> Status
+    requires { IsSmallFeed feed }
+    ensures ends { FeedEnds feed.start feed.feeders feed.samples result (K.held sink.old) (K.held sink.new) }
+    ensures cut { result ≡ Status.WriteFault → Rose (K.faults sink.old) (K.faults sink.new) }
+    ensures silent { result ≡ Status.NoMemory → sink.new ≡ sink.old }
+    ensures never_falls { K.faults sink.old ≤ K.faults sink.new }
+{
+    let Ok(line) = summary(rt, alloc, feed, gate) else {
+        return Status::NoMemory;
+    };
+    match put_all(sink, line.as_str().as_bytes()) {
+        Ok(()) => Status::Done,
+        Err(Failed) => Status::WriteFault,
+    }
+}
