@@ -1,0 +1,2 @@
+//! Whether a transcript is lawful for a script.
+#![tactic(auto)]
