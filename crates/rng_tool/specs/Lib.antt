@@ -1,7 +1,9 @@
 pub mod Refusal
-pub mod Outcome
 pub mod Ends
+pub mod Reads
+pub mod Outcome
 pub mod LoadOutcome
 pub mod DrawOutcome
+pub mod JudgeOutcome
 pub mod Commands
 pub mod Kept
