@@ -1,5 +1,5 @@
 -- What `check` and `replay` promise: a script, and a transcript behind it.
-use Rattle.std.specs.Prelude.{ℕ, ◌≡◌, ◌⊎◌, ◌≤◌, ⊥, List, [], ◌∷◌, ◌++◌, Option, Some, String, string_bytes, codes, map}
+use Rattle.std.specs.Prelude.{ℕ, ◌≡◌, ◌⊎◌, ◌<◌, ◌≤◌, ⊥, List, [], ◌∷◌, ◌++◌, Option, Some, String, string_bytes, codes, map}
 use Rattle.std.specs.Prelude.{drop, length, nat_lt, if◌then◌else◌}
 use Rattle.std.specs.Fmt.{decimal}
 use Rattle.key_names.specs.declared.faults.FaultKind.TheVariants.{TooLong}
@@ -8,7 +8,7 @@ use Rattle.key_names.specs.ScriptFaults.{first_fault, front}
 use Rattle.key_names.specs.ScriptGrammar.{Script, IsScript}
 use Rattle.key_names.specs.SeenLine.{SeenLine}
 use Rattle.key_names.specs.Spelling.{lined, spaced}
-use Rattle.key_names.specs.TranscriptGrammar.{IsTranscriptText}
+use Rattle.key_names.specs.TranscriptGrammar.{IsTranscriptText, all_lines}
 use Rattle.transcript_check.specs.Judged.{IsSound, FailsFirst}
 use Rattle.serial_replay.specs.Replayed.{IsTheTranscript, StopsAt}
 use Rattle.rng_tool.specs.Reads.{ReadsEnds}
@@ -124,6 +124,12 @@ JudgeCalls judge input NoMemory output = ⊥
 -- how the command ends, what the source then has left and what the sink holds
 abbrev pub JudgeEnds : Judge → Status → Option (List ℕ) → Option (List ℕ) → Option (List ℕ) → Option (List ℕ) → Type 0
 JudgeEnds judge = ReadsEnds (JudgeCalls judge)
+
+-- a transcript's text with more lines than any script's transcript has
+pub record HasTooManyLines (text : List ℕ) : Type 0 where
+  pub lines : List (List SeenLine)
+  pub is_text : IsTranscriptText text lines
+  pub many : 65600 < length (all_lines lines)
 
 -- ---- the words
 

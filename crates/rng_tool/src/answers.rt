@@ -1,5 +1,5 @@
 //! Short lines that answer, with the status that they say.
-ghost use Rattle.std.specs.Prelude.{◌≡◌, ◌×◌, ◌≤◌};
+ghost use Rattle.std.specs.Prelude.{◌≡◌, ◌≤◌};
 ghost use Rattle.io_edges.specs.Faults.{Rose};
 ghost use Rattle.rng_tool.specs.Ends.{IsAnswered};
 ghost use Rattle.rng_tool.specs.Reads.{WritesEnds};

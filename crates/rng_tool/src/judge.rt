@@ -1,8 +1,8 @@
 //! The commands `check` and `replay`: a script with a transcript behind it in, what is said of it out.
-ghost use Rattle.std.specs.Prelude.{◌≡◌, ◌⊎◌, ◌≤◌, ◌^◌, IfSome, Some, length};
+ghost use Rattle.std.specs.Prelude.{◌≡◌, ◌⊎◌, ◌≤◌, ◌^◌, IfOk, IfSome, IsTrue, Some, length};
 ghost use Rattle.io_edges.specs.Faults.{Rose};
 ghost use Rattle.key_names.specs.ScriptGrammar.{WellFormed, IsScript};
-ghost use Rattle.rng_tool.specs.JudgeOutcome.{IsJudge, JudgeCalls, JudgeEnds, SaidOf, TextSaidOf, no_line, word_of, yes_line};
+ghost use Rattle.rng_tool.specs.JudgeOutcome.{HasTooManyLines, IsJudge, JudgeCalls, JudgeEnds, SaidOf, TextSaidOf, no_line, word_of, yes_line};
 ghost use Rattle.rng_tool.specs.Reads.{WritesEnds};
 
 use crate::answers::put_answer;
@@ -14,12 +14,15 @@ use event_script::{Script, ScriptError, read_front};
 use io_edges::{Failed, ReadError, Sink, Source, put_all, read_to_limit};
 use key_names::{FaultKind, ScriptFault};
 use serial_replay::replay::{Replayed, replay};
-use std::alloc::Global;
+use std::alloc::{AllocError, Global};
 use transcript_check::check::{Verdict, check};
-use transcript_text::{TextError, Transcript, read, write_all};
+use transcript_text::{TextError, Transcript, count_lines, read, write_all};
 
 /// The most bytes of a script and a transcript: 96 MiB.
 const MOST_INPUT: usize = 100_663_296;
+
+/// The most lines of a script's transcript: one for each of 65,536 events, and the last one of each of 64 callers.
+const MOST_LINES: u64 = 65_600;
 
 /// What is asked of a script and a transcript: whether it is lawful, or its answers and data anew.
 #[derive(Clone, Copy, Debug, PartialEq, Eq)]
@@ -106,6 +109,22 @@ fn say_replayed<K: Sink>(alloc: Global, script: &Script, t: &Transcript, sink: &
     }
 }
 
+// Whether the text is that of more lines than a script's transcript can have. It is not read then: its lines would take
+// more memory than those of any lawful one.
+fn has_too_many_lines(alloc: Global, text: &[u8]) -> Result<bool, AllocError>
+    requires { length text.now ≤ 2 ^ 31 }
+    ensures { IfOk result (λ many. IsTrue many → HasTooManyLines text.now) }
+{
+    let ends = text.iter().filter(|byte| **byte == b'\n').count();
+    if ends as u64 <= MOST_LINES {
+        return Ok(false);
+    }
+    match count_lines(alloc, text)? {
+        Some(count) => Ok(count > MOST_LINES),
+        None => Ok(false),
+    }
+}
+
 // What is said of the text behind a script.
 fn say_of<K: Sink>(alloc: Global, judge: Judge, script: &Script, text: &[u8], sink: &mut K) -> Status
     requires well { WellFormed script.now }
@@ -115,6 +134,11 @@ fn say_of<K: Sink>(alloc: Global, judge: Judge, script: &Script, text: &[u8], si
     ensures silent { result ≡ Status.NoMemory → sink.new ≡ sink.old }
     ensures never_falls { K.faults sink.old ≤ K.faults sink.new }
 {
+    match has_too_many_lines(alloc, text) {
+        Ok(true) => return put_answer(Status::No, &no_line(2), sink),
+        Ok(false) => {}
+        Err(_) => return Status::NoMemory,
+    }
     let t = match read(alloc, text) {
         Ok(t) => t,
         Err(TextError::Fault { .. }) => return put_answer(Status::No, &no_line(1), sink),
