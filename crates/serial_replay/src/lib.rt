@@ -10,5 +10,6 @@
 //! `caller_answers` for what each line says.
 #![tactic(auto)]
 
+mod looks;
 pub mod remake;
 pub mod replay;

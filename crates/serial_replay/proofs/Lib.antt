@@ -1,0 +1,3 @@
+pub mod LooksStand
+pub mod MarksCounted
+pub mod LaneVisits
