@@ -1,3 +1,4 @@
 pub mod Remade
 pub mod Replayed
 pub mod Seen
+pub mod Agreement

@@ -7,8 +7,8 @@ use Rattle.line_orders.proofs.settings.caller_settings.Goals as goal
 
 pub loop-call-preserved : goal.loop-call-preserved
 loop-call-preserved c = rw (c.in_ok-push.ensures.items, c.follow.ensures, c.again.ensures)
-    (found_next c.args.calls.now c.loop-call.call-index c.loop-call-item.result c.loop-call.set c.loop-call.settings.items _
-    c.loop-call-test.true c.loop-call-item.is c.loop-call.invariant)
+    (found_next c.args.calls.now c.loop-call.call-index c.call-item.result c.loop-call.set c.loop-call.settings.items _
+    c.loop-call-test.true c.call-item.is c.loop-call.invariant)
 
 pub returns : goal.returns
 returns c =
