@@ -1,3 +1,4 @@
+pub mod Stubs
 pub mod LooksStand
 pub mod MarksCounted
 pub mod LaneVisits
@@ -6,3 +7,5 @@ pub mod Callers
 pub mod MadeBooks
 pub mod BareMade
 pub mod Agreement
+pub mod RemadeLines
+pub mod OneCaller

@@ -3,6 +3,7 @@ ghost use Rattle.std.specs.Prelude.{◌≡◌, length, IfOk, IfSome, IsSome, map
 ghost use Rattle.std.specs.List.{AllByRecursion};
 ghost use Rattle.key_names.specs.Book.{Lists as BookLists, LawfulLanes, list_at};
 ghost use Rattle.key_names.specs.IsTranscript.{start_setting};
+ghost use Rattle.key_names.specs.SameSteps.{bare};
 ghost use Rattle.key_names.specs.ScriptGrammar.{Script as ScriptLines, WellFormed};
 ghost use Rattle.key_names.specs.SeenLine.{SeenLine};
 ghost use Rattle.line_orders.specs.Called.{seen_calls};
@@ -106,7 +107,8 @@ fn of_lines(
 /// `AllocError` where there is no memory for it.
 pub fn remake(alloc: Global, script: &Script, t: &Transcript) -> Result<Remade, AllocError>
     requires { WellFormed script.now }
-    ensures { IfOk result (λ remade. IsRemade script.now t.now remade) }
+    ensures made { IfOk result (λ remade. IsRemade script.now t.now remade) }
+    ensures of_steps { IfOk result (λ remade. IsRemade script.now (map (map bare) t.now) remade) }
 {
     let _callers = t.callers();
     let lines = bare_callers(alloc, t)?;
