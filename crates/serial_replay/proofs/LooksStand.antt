@@ -2,6 +2,7 @@
 use Rattle.std.proofs.Common.{◌≡◌, ℕ, zero, suc, ◌+◌, ◌<◌, ◌≤◌, Option, Some, None, List, [], ◌∷◌, ◌++◌, length, map, max, take, refl, sym, subst, ap, ◌∙◌, arith}
 use Rattle.std.specs.Prelude.{◌↔◌, ⊤, slice_get, unwrap_or, option_map}
 use Rattle.std.specs.List.{fold, AllByRecursion}
+use Rattle.std.specs.Global.{Vec}
 use Rattle.key_names.specs.declared.names.LaneId.{LaneId}
 use Rattle.key_names.specs.declared.names.LaneId.TheVariants.{Pool as PoolLane, Base as BaseLane, Cpu as CpuLane}
 use Rattle.key_names.specs.declared.names.Step.{Step}
@@ -24,7 +25,7 @@ use Rattle.list_replay.specs.declared.kept.KeptCpu.{KeptCpu}
 use Rattle.list_replay.specs.declared.kept.Lists.{Lists as KeptLists}
 use Rattle.list_replay.specs.Places.{AllKept}
 use Rattle.list_replay.specs.Kept.{Keeps, KeepsBase, KeepsCpu, KeepsBaseLane, KeepsCpuLane}
-use Rattle.serial_replay.specs.Seen.{cpu_lanes, left_at, found_by, seen_more, seen_behind, MayLook, reseeds_in}
+use Rattle.serial_replay.specs.Seen.{lane_of, left_at, found_by, seen_more, seen_behind, MayLook, reseeds_in}
 
 -- what is kept of a place, if there is a visit
 pub record KeptAt {K E : Type 0} (S : ℕ → K → E → Type 0) (kept : List K) (i : ℕ) (e : E) : Type 0 where
@@ -73,6 +74,14 @@ lane_there (ks ∷ kept) (es ∷ lists) (suc c) o is long S at none =
     down None at = at
     down (Some es) at = record { k = at.k; here = at.here; holds = at.holds }
 
+abbrev cpu_lanes : KeptLists → List (List KeptCpu)
+cpu_lanes kept = map (λ lane. lane.items) kept.cpus.items
+
+lane_is : (cpus : List (Vec KeptCpu)) (c : ℕ) → lane_of (slice_get cpus c) ≡ list_at (map (λ lane. lane.items) cpus) c
+lane_is [] c = refl
+lane_is (lane ∷ cpus) zero = refl
+lane_is (lane ∷ cpus) (suc c) = lane_is cpus c
+
 module _ (kept : KeptLists) (lists : Lists) (keeps : Keeps kept lists) where
   cpu_kept : (c : ℕ) → KeepsCpuLane lists c (list_at (cpu_lanes kept) c) (cpu_list lists c)
   cpu_kept c = lane_there (cpu_lanes kept) lists.cpus c (slice_get lists.cpus c) refl keeps.cpus.count
@@ -90,7 +99,8 @@ module _ (kept : KeptLists) (lists : Lists) (keeps : Keeps kept lists) where
       ∙ ap (max (unwrap_or seen 0)) at.holds.generation
 
   cpu_left : (seen : Option ℕ) (c place : ℕ) (o : Option CpuEntry) →
-      AtPlace (λ place k e. KeepsCpu (cpu_used_at lists c) k (cpu_visit lists c place e)) (list_at (cpu_lanes kept) c) place o →
+      AtPlace (λ place k e. KeepsCpu (cpu_used_at lists c) k (cpu_visit lists c place e)) (lane_of (slice_get kept.cpus.items c))
+      place o →
       unwrap_or (seen_more seen (left_at kept (CpuLane c) place)) 0
       ≡ seen_after (unwrap_or seen 0) (deed_or (λ e. at_cpu (cpu_visit lists c place e)) o)
   cpu_left seen c place None at =
@@ -111,8 +121,9 @@ module _ (kept : KeptLists) (lists : Lists) (keeps : Keeps kept lists) where
       (at_place (λ i k e. KeepsBase (base_used_at lists.pool lists.base i) k (base_visit lists i e)) kept.base.items
       lists.base place keeps.base)
   lane_left seen (CpuLane c) place = cpu_left seen c place (slice_get (cpu_list lists c) place)
-      (at_place (λ place k e. KeepsCpu (cpu_used_at lists c) k (cpu_visit lists c place e)) (list_at (cpu_lanes kept) c)
-      (cpu_list lists c) place (cpu_kept c))
+      (at_place (λ place k e. KeepsCpu (cpu_used_at lists c) k (cpu_visit lists c place e)) (lane_of (slice_get kept.cpus.items c))
+      (cpu_list lists c) place
+      (subst (λ lane. KeepsCpuLane lists c lane (cpu_list lists c)) (sym (lane_is kept.cpus.items c)) (cpu_kept c)))
 
   step_left : (seen : Option ℕ) (step : Step) →
       unwrap_or (seen_behind kept seen step) 0 ≡ seen_after (unwrap_or seen 0) (deed_of lists step)

@@ -9,6 +9,7 @@ use Rattle.key_names.specs.declared.names.LaneId.TheVariants.{Pool as PoolLane, 
 use Rattle.key_names.specs.declared.names.Mark.{Mark}
 use Rattle.key_names.specs.Book.{list_at}
 use Rattle.key_names.specs.IsTranscript.{MarkBy, is_same_lane, lane_marks}
+use Rattle.key_names.proofs.SortedVisits.{one_if}
 
 -- how many marks are of CPUs from c on, n CPUs
 abbrev on_cpus : ℕ → ℕ → List MarkBy → ℕ
@@ -18,14 +19,14 @@ on_cpus c (suc n) marks = length (lane_marks (CpuLane c) marks) + on_cpus (suc c
 -- a mark of CPU e is counted once, if e is one of them
 abbrev one_of : ℕ → ℕ → ℕ → ℕ
 one_of c zero e = 0
-one_of c (suc n) e = cond (e == c) 1 0 + one_of (suc c) n e
+one_of c (suc n) e = one_if (e == c) + one_of (suc c) n e
 
 lane_more : (lane : LaneId) (by : MarkBy) (marks : List MarkBy) →
-    length (lane_marks lane (by ∷ marks)) ≡ cond (is_same_lane by.mark.lane lane) 1 0 + length (lane_marks lane marks)
+    length (lane_marks lane (by ∷ marks)) ≡ one_if (is_same_lane by.mark.lane lane) + length (lane_marks lane marks)
 lane_more lane by marks = go (is_same_lane by.mark.lane lane)
   where
     go : (b : Bool) → length (if b then by.mark ∷ lane_marks lane marks else lane_marks lane marks)
-        ≡ cond b 1 0 + length (lane_marks lane marks)
+        ≡ one_if b + length (lane_marks lane marks)
     go true = omega arith
     go false = omega arith
 
@@ -33,8 +34,8 @@ cpu_more : (c n e : ℕ) (by : MarkBy) (marks : List MarkBy) → by.mark.lane �
     on_cpus c n (by ∷ marks) ≡ one_of c n e + on_cpus c n marks
 cpu_more c zero e by marks is = refl
 cpu_more c (suc n) e by marks is =
-    let here : length (lane_marks (CpuLane c) (by ∷ marks)) ≡ cond (e == c) 1 0 + length (lane_marks (CpuLane c) marks) =
-    lane_more (CpuLane c) by marks ∙ ap (λ l. cond (is_same_lane l (CpuLane c)) 1 0 + length (lane_marks (CpuLane c) marks)) is in
+    let here : length (lane_marks (CpuLane c) (by ∷ marks)) ≡ one_if (e == c) + length (lane_marks (CpuLane c) marks) =
+    lane_more (CpuLane c) by marks ∙ ap (λ l. one_if (is_same_lane l (CpuLane c)) + length (lane_marks (CpuLane c) marks)) is in
     let rest : on_cpus (suc c) n (by ∷ marks) ≡ one_of (suc c) n e + on_cpus (suc c) n marks =
     cpu_more (suc c) n e by marks is in omega arith
 
@@ -43,29 +44,30 @@ other_more : (c n : ℕ) (by : MarkBy) (marks : List MarkBy) → ((d : ℕ) → 
 other_more c zero by marks other = refl
 other_more c (suc n) by marks other =
     let here : length (lane_marks (CpuLane c) (by ∷ marks)) ≡ length (lane_marks (CpuLane c) marks) =
-    lane_more (CpuLane c) by marks ∙ ap (λ b. cond b 1 0 + length (lane_marks (CpuLane c) marks)) (other c) in
+    (let m = lane_more (CpuLane c) by marks in let none : one_if (is_same_lane by.mark.lane (CpuLane c)) ≡ 0 = ap one_if (other c) in
+    omega arith) in
     let rest : on_cpus (suc c) n (by ∷ marks) ≡ on_cpus (suc c) n marks = other_more (suc c) n by marks other in omega arith
 
 one_past : (c n e : ℕ) → e < c → one_of c n e ≡ 0
 one_past c zero e low = refl
 one_past c (suc n) e low =
     let none : (e == c) ≡ false = grind (arith, nat_tests) in
-    let here : cond (e == c) 1 0 ≡ 0 = ap (λ b. cond b 1 0) none in
+    let here : one_if (e == c) ≡ 0 = ap one_if none in
     let rest : one_of (suc c) n e ≡ 0 = one_past (suc c) n e (omega arith) in omega arith
 
 one_among : (c n e : ℕ) → c ≤ e → e < c + n → one_of c n e ≡ 1
 one_among c zero e from low = absurd (omega arith)
-one_among c (suc n) e from low = go (e == c) refl
+one_among c (suc n) e from low = go (e == c) refl (λ above. one_among (suc c) n e above (omega arith))
   where
-    go : (b : Bool) → (e == c) ≡ b → one_of c (suc n) e ≡ 1
-    go true is =
+    go : (b : Bool) → (e == c) ≡ b → (suc c ≤ e → one_of (suc c) n e ≡ 1) → one_of c (suc n) e ≡ 1
+    go true is later =
         let same : e < suc c = grind (arith, nat_tests) in
-        let here : cond (e == c) 1 0 ≡ 1 = ap (λ b. cond b 1 0) is in
+        let here : one_if (e == c) ≡ 1 = ap one_if is in
         let rest : one_of (suc c) n e ≡ 0 = one_past (suc c) n e same in omega arith
-    go false is =
+    go false is later =
         let above : suc c ≤ e = grind (arith, nat_tests) in
-        let here : cond (e == c) 1 0 ≡ 0 = ap (λ b. cond b 1 0) is in
-        let rest : one_of (suc c) n e ≡ 1 = one_among (suc c) n e above (omega arith) in omega arith
+        let here : one_if (e == c) ≡ 0 = ap one_if is in
+        let rest : one_of (suc c) n e ≡ 1 = later above in omega arith
 
 -- a CPU that is visited is there
 abbrev IsThere : ℕ → LaneId → Type 0
@@ -83,11 +85,11 @@ all_counted n [] all = none n 0
 all_counted n (by ∷ marks) all = go by.mark.lane refl all.0 (all_counted n marks all.1)
   where
     pool : length (lane_marks PoolLane (by ∷ marks))
-        ≡ cond (is_same_lane by.mark.lane PoolLane) 1 0 + length (lane_marks PoolLane marks)
+        ≡ one_if (is_same_lane by.mark.lane PoolLane) + length (lane_marks PoolLane marks)
     pool = lane_more PoolLane by marks
 
     base : length (lane_marks BaseLane (by ∷ marks))
-        ≡ cond (is_same_lane by.mark.lane BaseLane) 1 0 + length (lane_marks BaseLane marks)
+        ≡ one_if (is_same_lane by.mark.lane BaseLane) + length (lane_marks BaseLane marks)
     base = lane_more BaseLane by marks
 
     go : (lane : LaneId) → by.mark.lane ≡ lane → IsThere n by.mark.lane →
@@ -96,20 +98,20 @@ all_counted n (by ∷ marks) all = go by.mark.lane refl all.0 (all_counted n mar
         + on_cpus 0 n (by ∷ marks)
     go PoolLane is there rest =
         let a = pool in let b = base in
-        let x : cond (is_same_lane by.mark.lane PoolLane) 1 0 ≡ 1 = ap (λ l. cond (is_same_lane l PoolLane) 1 0) is in
-        let y : cond (is_same_lane by.mark.lane BaseLane) 1 0 ≡ 0 = ap (λ l. cond (is_same_lane l BaseLane) 1 0) is in
+        let x : one_if (is_same_lane by.mark.lane PoolLane) ≡ 1 = ap (λ l. one_if (is_same_lane l PoolLane)) is in
+        let y : one_if (is_same_lane by.mark.lane BaseLane) ≡ 0 = ap (λ l. one_if (is_same_lane l BaseLane)) is in
         let z : on_cpus 0 n (by ∷ marks) ≡ on_cpus 0 n marks =
         other_more 0 n by marks (λ d. ap (λ l. is_same_lane l (CpuLane d)) is) in omega arith
     go BaseLane is there rest =
         let a = pool in let b = base in
-        let x : cond (is_same_lane by.mark.lane PoolLane) 1 0 ≡ 0 = ap (λ l. cond (is_same_lane l PoolLane) 1 0) is in
-        let y : cond (is_same_lane by.mark.lane BaseLane) 1 0 ≡ 1 = ap (λ l. cond (is_same_lane l BaseLane) 1 0) is in
+        let x : one_if (is_same_lane by.mark.lane PoolLane) ≡ 0 = ap (λ l. one_if (is_same_lane l PoolLane)) is in
+        let y : one_if (is_same_lane by.mark.lane BaseLane) ≡ 1 = ap (λ l. one_if (is_same_lane l BaseLane)) is in
         let z : on_cpus 0 n (by ∷ marks) ≡ on_cpus 0 n marks =
         other_more 0 n by marks (λ d. ap (λ l. is_same_lane l (CpuLane d)) is) in omega arith
     go (CpuLane c) is there rest =
         let a = pool in let b = base in
-        let x : cond (is_same_lane by.mark.lane PoolLane) 1 0 ≡ 0 = ap (λ l. cond (is_same_lane l PoolLane) 1 0) is in
-        let y : cond (is_same_lane by.mark.lane BaseLane) 1 0 ≡ 0 = ap (λ l. cond (is_same_lane l BaseLane) 1 0) is in
+        let x : one_if (is_same_lane by.mark.lane PoolLane) ≡ 0 = ap (λ l. one_if (is_same_lane l PoolLane)) is in
+        let y : one_if (is_same_lane by.mark.lane BaseLane) ≡ 0 = ap (λ l. one_if (is_same_lane l BaseLane)) is in
         let low : c < n = (let P : LaneId → Type 0 = λ l. IsThere n l in subst P is there) in
         let one : one_of 0 n c ≡ 1 = one_among 0 n c (omega arith) (omega arith) in
         let z : on_cpus 0 n (by ∷ marks) ≡ one_of 0 n c + on_cpus 0 n marks = cpu_more 0 n c by marks is in omega arith
@@ -136,8 +138,8 @@ below_all n (by ∷ marks) none = (here by.mark.lane refl, below_all n marks lat
             let self : (c == c) ≡ true = grind (arith, nat_tests) in
             let gone : length (lane_marks (CpuLane c) (by ∷ marks)) ≡ 0 = none c high in
             let m = lane_more (CpuLane c) by marks in
-            let one : cond (is_same_lane by.mark.lane (CpuLane c)) 1 0 ≡ 1 =
-            ap (λ l. cond (is_same_lane l (CpuLane c)) 1 0) is ∙ ap (λ b. cond b 1 0) self in absurd (omega arith)
+            let one : one_if (is_same_lane by.mark.lane (CpuLane c)) ≡ 1 =
+            ap (λ l. one_if (is_same_lane l (CpuLane c))) is ∙ ap one_if self in absurd (omega arith)
 
 beyond : {X : Type 0} (xss : List (List X)) (c : ℕ) → length xss ≤ c → list_at xss c ≡ []
 beyond [] c high = refl

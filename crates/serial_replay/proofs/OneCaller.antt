@@ -59,7 +59,7 @@ module _ (callers : List (Vec Called)) (settings : List (Vec Setting)) (c : ℕ)
 
     pub settings_are : found.items ≡ settings_from (start_setting (seen_calls callers) c) (map seen_call calls.items)
     settings_are =
-        stand.settings.each c found (found_at settings c found (omega arith) found_is)
+        stand.found.each c found (found_at settings c found (omega arith) found_is)
         ∙ ap (settings_from (start_setting (seen_calls callers) c)) (sym here)
 
 -- one caller more is said

@@ -86,7 +86,7 @@ module _ (script : Script) (t : List (List SeenLine)) (parts : Parts) (stand : P
         (made_lawful script t parts stand told gathered m))
 
     pub callers_stand : CallersStand script t (seen_calls parts.calls.items) settings
-    callers_stand = record { lines = stand.lines; fit = fit; calls = stand.calls; settings = are }
+    callers_stand = record { lines = stand.lines; fit = fit; calls = stand.calls; found = are }
 
     module _ (kept : KeptLists) (keeps : (lists : Lists) → Fills told lists → Lawful told lists → Keeps kept lists) where
       -- the steps of some line are no form

@@ -38,7 +38,7 @@ pub record CallersStand (script : Script) (t : List (List SeenLine)) (callers : 
   pub lines : HasLines script t
   pub fit : StepsFit t
   pub calls : callers ≡ script_calls script t
-  pub settings : AreSettings callers settings
+  pub found : AreSettings callers settings
 
 -- what one caller's calls mean
 pub record MeansSome (lists : Lists) (set : Setting) (calls : List Call) : Type 0 where

@@ -1,23 +1,24 @@
 -- What a caller has seen, read from what is kept of the lanes.
-use Rattle.std.specs.Prelude.{ℕ, ◌≤◌, ⊤, max, Option, Some, None, List, [], ◌∷◌, map, slice_get, unwrap_or, option_map}
+use Rattle.std.specs.Prelude.{ℕ, ◌≤◌, ⊤, max, Option, Some, None, List, [], ◌∷◌, slice_get, unwrap_or, option_map}
+use Rattle.std.specs.Global.{Vec}
 use Rattle.key_names.specs.declared.names.LaneId.{LaneId}
 use Rattle.key_names.specs.declared.names.LaneId.TheVariants.{Pool as PoolLane, Base as BaseLane, Cpu as CpuLane}
 use Rattle.key_names.specs.declared.names.Step.{Step}
 use Rattle.key_names.specs.declared.names.Step.TheVariants.{Look, Visit as Marked}
-use Rattle.key_names.specs.Book.{list_at}
 use Rattle.list_replay.specs.declared.kept.KeptBase.{KeptBase}
 use Rattle.list_replay.specs.declared.kept.KeptCpu.{KeptCpu}
 use Rattle.list_replay.specs.declared.kept.Lists.{Lists as KeptLists}
 
--- the lanes of the CPUs
-abbrev pub cpu_lanes : KeptLists → List (List KeptCpu)
-cpu_lanes kept = map (λ lane. lane.items) kept.cpus.items
+-- what is kept of a CPU's visits
+abbrev pub lane_of : Option (Vec KeptCpu) → List KeptCpu
+lane_of None = []
+lane_of (Some lane) = lane.items
 
 -- the generation that the visit at a place left; a visit of the pool tells of none
 abbrev pub left_at : KeptLists → LaneId → ℕ → Option ℕ
 left_at kept PoolLane place = None
 left_at kept BaseLane place = option_map (λ k. k.generation) (slice_get kept.base.items place)
-left_at kept (CpuLane c) place = option_map (λ k. k.generation) (slice_get (list_at (cpu_lanes kept) c) place)
+left_at kept (CpuLane c) place = option_map (λ k. k.generation) (slice_get (lane_of (slice_get kept.cpus.items c)) place)
 
 -- the generation that a step finds
 abbrev pub found_by : KeptLists → Step → Option ℕ

@@ -11,5 +11,6 @@
 #![tactic(auto)]
 
 mod looks;
+mod probe;
 pub mod remake;
 pub mod replay;

@@ -1,10 +1,10 @@
 //! Whether each look stands: it finds at least what its caller had seen, and at most the number of reseeds.
-ghost use Rattle.std.specs.Prelude.{◌≡◌};
+ghost use Rattle.std.specs.Prelude.{◌≡◌, slice_get, option_map};
 ghost use Rattle.serial_replay.specs.Seen.{left_at, seen_more, seen_behind, MayLook, reseeds_in};
 
 use key_names::{LaneId, Mark, Step};
 use line_orders::along::Carry;
-use list_replay::{KeptBase, Lists};
+use list_replay::{KeptBase, KeptCpu, Lists};
 
 /// What a caller has seen goes along its order: the greatest of its looks, and of the generations that its visits of the
 /// base and of the CPUs left.
@@ -41,12 +41,30 @@ impl<'a> Looks<'a> {
     {
         match mark.lane {
             LaneId::Pool => None,
-            LaneId::Base => Some(self.lists.base.get(mark.place as usize)?.generation),
-            LaneId::Cpu(cpu) => {
-                let lane = self.lists.cpus.get(cpu as usize)?;
-                Some(lane.get(mark.place as usize)?.generation)
-            }
+            LaneId::Base => left_by_base(&self.lists.base, mark.place),
+            LaneId::Cpu(cpu) => match self.lists.cpus.get(cpu as usize) {
+                Some(lane) => left_by_cpu(lane, mark.place),
+                None => None,
+            },
         }
+    }
+}
+
+fn left_by_base(base: &[KeptBase], place: u64) -> Option<u64>
+    ensures { result ≡ option_map (λ kept. kept.generation) (slice_get base.now place) }
+{
+    match base.get(place as usize) {
+        Some(kept) => Some(kept.generation),
+        None => None,
+    }
+}
+
+fn left_by_cpu(lane: &[KeptCpu], place: u64) -> Option<u64>
+    ensures { result ≡ option_map (λ kept. kept.generation) (slice_get lane.now place) }
+{
+    match lane.get(place as usize) {
+        Some(kept) => Some(kept.generation),
+        None => None,
     }
 }
 
