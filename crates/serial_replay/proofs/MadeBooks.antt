@@ -17,7 +17,7 @@ use Rattle.key_names.specs.ScriptGrammar.{Script}
 use Rattle.key_names.specs.SeenLine.{SeenLine}
 use Rattle.key_names.specs.IsTranscript.{MadeBook, MarkBy, all_marks, lane_marks, script_calls, start_setting, state_lists}
 use Rattle.key_names.specs.IsTranscript.{EachCaller, EachLine, CallerMeans, SeenStands, VisitsAre, forms_clause}
-use Rattle.key_names.proofs.Each.{each_weaker}
+use Rattle.key_names.specs.PlacesInOrder.{InOrder}
 use Rattle.key_names.proofs.PlacesInOrder.{places_count_up}
 use Rattle.line_orders.specs.declared.begin.Parts.{Parts}
 use Rattle.line_orders.specs.declared.marks.MarkOf.{MarkOf}
@@ -54,7 +54,7 @@ module _ (script : Script) (t : List (List SeenLine)) (parts : Parts) (stand : P
   abbrev calls : List (List Call)
   calls = script_calls script t
 
-  in_order : (lane : LaneId) → _
+  in_order : (lane : LaneId) → InOrder 0 (lane_marks lane marks)
   in_order lane = (places_count_up (lane_marks lane marks)).1 (lane_sorted lane parts.marks.items stand.sorted)
       (lane_moved lane (all_marks t) marks stand.all_marks (stand.marks_stand.lanes lane))
 
@@ -66,7 +66,7 @@ module _ (script : Script) (t : List (List SeenLine)) (parts : Parts) (stand : P
     pub made_fills : (made : MadeBook script t) → Fills told (lists_of made.book)
     made_fills made = (gathered.fills made.book (book_is made)).0
         (all_told script t made.book made.meanings made.lines made.forms.callers made.forms.lanes
-        (gathered.sampled made.book (book_is made) made.forms.samples))
+        (gathered.sampled made.book made.meanings (book_is made) made.forms.callers made.forms.lanes made.forms.samples))
 
     pub made_lawful : (made : MadeBook script t) → Lawful told (lists_of made.book)
     made_lawful made = (gathered.samples made.book made.meanings (book_is made) made.forms.callers (made_fills made)

@@ -38,7 +38,7 @@ module _ (callers : List (Vec Called)) (settings : List (Vec Setting)) (c : ℕ)
   pub here : map seen_call calls.items ≡ list_at (seen_calls callers) c
   here = list_found callers c calls low calls_is
 
-  among : c < length (seen_calls callers)
+  pub among : c < length (seen_calls callers)
   among =
       let e : length (seen_calls callers) ≡ length callers =
       length-map callers (λ (calls : Vec Called). map seen_call calls.items) in

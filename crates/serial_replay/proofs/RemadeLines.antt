@@ -6,7 +6,7 @@ use Rattle.std.specs.Global.{Vec}
 use Rattle.std.proofs.lemmas.List.{length-map}
 use Rattle.key_names.specs.declared.names.Step.{Step}
 use Rattle.key_names.specs.BaseList.{base_after}
-use Rattle.key_names.specs.Book.{Lists, LawfulLanes, lists_of, list_at}
+use Rattle.key_names.specs.Book.{Book, Lists, LawfulLanes, lists_of, list_at}
 use Rattle.key_names.specs.Calls.{Setting, Call}
 use Rattle.key_names.specs.Deeds.{deeds_of}
 use Rattle.key_names.specs.History.{LooksStand, caller_orders, calls_steps}
@@ -73,7 +73,7 @@ module _ (script : Script) (t : List (List SeenLine)) (parts : Parts) (stand : P
       (all_in_range script.version script.cpus script.callers t well.ranges)
 
   -- a line visits a CPU that is not there
-  pub none_gathered : ((book : _) → IsBookOf script t book → ⊥) → FailsEarly script t 4
+  pub none_gathered : ((book : Book) → IsBookOf script t book → ⊥) → FailsEarly script t 4
   none_gathered none = stops script t parts stand
       (λ m. none m.book (record { cpus = m.forms.cpus; visits = m.forms.visits }))
 
@@ -96,7 +96,8 @@ module _ (script : Script) (t : List (List SeenLine)) (parts : Parts) (stand : P
       none_said none = stops script t parts stand (λ m.
           let lists : Lists = lists_of m.book in
           let means : AllMeanSome lists calls =
-          (λ c low. caller_means lists (start_setting calls) 0 calls m.meanings m.forms.callers c low) in
+          (λ c low. subst (λ n. MeansSome lists (start_setting calls n) (list_at calls c)) (omega arith)
+          (caller_means lists (start_setting calls) 0 calls m.meanings m.forms.callers c low)) in
           none lists (keeps lists (made_fills script t parts stand told gathered m)
           (made_lawful script t parts stand told gathered m)) m.forms.lanes
           (subst (AllMeanSome lists) (sym stand.calls) means))

@@ -1,5 +1,5 @@
 //! Every answer and all data of a transcript, made anew from its words and steps.
-ghost use Rattle.std.specs.Prelude.{◌≡◌, length, IfOk, IfSome, IsSome, map};
+ghost use Rattle.std.specs.Prelude.{◌≡◌, List, length, IfOk, IfSome, IsSome, map};
 ghost use Rattle.std.specs.List.{AllByRecursion};
 ghost use Rattle.key_names.specs.Book.{Lists as BookLists, LawfulLanes, list_at};
 ghost use Rattle.key_names.specs.IsTranscript.{start_setting};
