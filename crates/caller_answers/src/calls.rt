@@ -1,5 +1,6 @@
 //! A caller's calls in order: what each line answers and shows, and the caller's vgetrandom states.
 ghost use Rattle.std.specs.Prelude.{◌≡◌, List, map, IfOk, IfSome, IsSome};
+ghost use Rattle.std.specs.List.{AllByRecursion};
 ghost use Rattle.key_names.specs.declared.events.Event.{Event};
 ghost use Rattle.key_names.specs.Book.{Lists as BookLists, LawfulLanes};
 ghost use Rattle.key_names.specs.Calls.{Setting as CallSetting};
@@ -10,7 +11,7 @@ ghost use Rattle.line_orders.specs.Called.{seen_call};
 ghost use Rattle.line_orders.specs.Settings.{settings_from};
 ghost use Rattle.list_replay.specs.Kept.{Keeps};
 ghost use Rattle.told_entries.specs.Filled.{CallsFill};
-ghost use Rattle.caller_answers.specs.Said.{IsSaid, AreCallsOf, SampledLines};
+ghost use Rattle.caller_answers.specs.Said.{IsSaid, AreCallsOf, CallInRange};
 
 use crate::said::Said;
 use line_forms::setting::Setting;
@@ -30,6 +31,7 @@ pub fn caller_said(
     settings: &[Setting],
     kept: &Lists,
 ) -> Result<Option<Vec<Said>>, AllocError>
+    requires in_range { AllByRecursion CallInRange (map seen_call calls.now) }
     ensures some { (lists : BookLists) (set : CallSetting) (events : List Event) (lines : List SeenLine) →
         Keeps kept.now lists → LawfulLanes lists → AreCallsOf events lines (map seen_call calls.now) →
         settings.now ≡ settings_from set (map seen_call calls.now) → CallsFill lists set (map seen_call calls.now) →
@@ -37,8 +39,8 @@ pub fn caller_said(
     ensures only { (lists : BookLists) (set : CallSetting) (events : List Event) (lines : List SeenLine)
         (ms : List CallMeaning) →
         Keeps kept.now lists → LawfulLanes lists → AreCallsOf events lines (map seen_call calls.now) →
-        settings.now ≡ settings_from set (map seen_call calls.now) → CallsFill lists set (map seen_call calls.now) →
-        SampledLines lists lines → CallerMeans lists set (map seen_call calls.now) ms →
+        settings.now ≡ settings_from set (map seen_call calls.now) →
+        CallerMeans lists set (map seen_call calls.now) ms →
         IfOk result (λ o. IsSome o) }
 {
     Err(AllocError)

@@ -10,5 +10,7 @@
 //! `caller_answers` for what each line says.
 #![tactic(auto)]
 
+mod looks;
+mod probe;
 pub mod remake;
 pub mod replay;

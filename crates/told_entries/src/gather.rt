@@ -1,5 +1,5 @@
 //! A row for each mark of a transcript.
-ghost use Rattle.std.specs.Prelude.{◌≡◌, ⊤, ⊥, List, IfOk, IfSome, MatchOption};
+ghost use Rattle.std.specs.Prelude.{◌≡◌, ⊤, List, IfOk, IfSome, MatchOption};
 ghost use Rattle.key_names.specs.Book.{Book};
 ghost use Rattle.key_names.specs.ScriptGrammar.{WellFormed};
 ghost use Rattle.key_names.specs.SeenLine.{SeenLine};

@@ -4,7 +4,9 @@ ghost use Rattle.key_names.specs.ScriptGrammar.{WellFormed};
 ghost use Rattle.key_names.specs.IsTranscript.{IsTranscript, FirstFails, Clause, clause_number};
 ghost use Rattle.transcript_check.specs.Judged.{IsJudged};
 
+use crate::compare::{Answers, Data, all_agree};
 use event_script::Script;
+use serial_replay::remake::{Remade, remake};
 use std::alloc::{AllocError, Global};
 use transcript_text::Transcript;
 
@@ -14,6 +16,28 @@ pub enum Verdict {
     Yes,
     /// This clause is the first that fails: 2 to 7.
     No(u8),
+}
+
+// The first clause that fails, if one does.
+fn judge(alloc: Global, script: &Script, t: &Transcript) -> Result<Verdict, AllocError>
+    requires { WellFormed script.now }
+    ensures { IfOk result (λ verdict. IsJudged script.now t.now verdict) }
+{
+    let made = match remake(alloc, script, t)? {
+        Remade::No(clause) => return Ok(Verdict::No(clause)),
+        Remade::Made(made) => made,
+    };
+    if !all_agree(&Answers, t, &made.callers) {
+        return Ok(Verdict::No(5));
+    }
+    if !all_agree(&Data, t, &made.callers) {
+        return Ok(Verdict::No(6));
+    }
+    if made.looks_stand {
+        Ok(Verdict::Yes)
+    } else {
+        Ok(Verdict::No(7))
+    }
 }
 
 /// Whether a transcript is lawful for a script, and if not, which clause is the first that fails.
@@ -28,5 +52,5 @@ pub fn check(alloc: Global, script: &Script, t: &Transcript) -> Result<Verdict, 
     ensures no { (clause : Clause) → FirstFails script.now t.now clause
         → IfOk result (λ verdict. verdict ≡ Verdict.No (clause_number clause)) }
 {
-    Err(AllocError)
+    judge(alloc, script, t)
 }

@@ -7,3 +7,6 @@
 #![tactic(auto)]
 
 pub mod check;
+mod compare;
+#[cfg(test)]
+mod tests;
