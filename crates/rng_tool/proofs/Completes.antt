@@ -1,11 +1,14 @@
 -- Where neither the source nor the sink failed, a command has its answer, or there was no memory.
-use Rattle.std.proofs.Common.{ℕ, ◌≡◌, ◌⊎◌, List, Option, None, Some, ap, sym, ◌∙◌, refl, inl, inr}
+use Rattle.std.proofs.Common.{ℕ, ◌≡◌, ◌≤◌, ◌⊎◌, ltb, false, length, List, Option, None, Some, ap, sym, ◌∙◌, refl, inl, inr}
 use Rattle.std.specs.Prelude.{IfSome}
-use Rattle.key_names.specs.ScriptFaults.{fault_in}
+use Rattle.std.proofs.lemmas.Bool.{le-ltb}
+use Rattle.key_names.specs.ScriptFaults.{fault_in, first_fault, front}
 use Rattle.key_names.specs.ScriptGrammar.{Script, IsScript}
 use Rattle.key_names.proofs.ScriptTexts.{script_again}
 use Rattle.rng_tool.specs.Ends.{AtOutputEnd, EndsWith}
+use Rattle.rng_tool.specs.JudgeOutcome.{IsJudgeRefusal, JudgeEnds, judged_fault, most_judged}
 use Rattle.rng_tool.specs.Outcome.{IsRefusal, RunEnds}
+use Rattle.rng_tool.specs.declared.judge.Judge.{Judge}
 use Rattle.rng_tool.specs.declared.status.Status.{Status}
 use Rattle.rng_tool.specs.declared.status.Status.TheVariants.{Done, No, Usage, ReadFault, WriteFault, Refused, NoMemory}
 
@@ -13,6 +16,15 @@ use Rattle.rng_tool.specs.declared.status.Status.TheVariants.{Done, No, Usage, R
 not_refused : (script : Script) (text output : List ℕ) → IsScript script text → IsRefusal text output → ⊥
 not_refused script text output is refusal =
     let none = ap fault_in (script_again text script is) in cc (none, refusal.first)
+
+-- nor one whose script stands in front, where it is short
+not_judge_refused : (script : Script) (text output : List ℕ) → length text ≤ most_judged → IsScript script (front text)
+    → IsJudgeRefusal text output → ⊥
+not_judge_refused script text output short is refusal =
+    let same : judged_fault text ≡ first_fault (front text) =
+    (let le : ltb most_judged (length text) ≡ false = le-ltb _ _ short in rw le refl) in
+    not_refused script (front text) output is
+    (record { fault = refusal.fault; first = sym same ∙ refusal.first; line = refusal.line })
 
 -- the end of the output makes no fault of reading
 pub read_before : (status result : Status) → AtOutputEnd status result → result ≡ ReadFault → status ≡ ReadFault
@@ -31,8 +43,22 @@ module _ (left_after a b : Option (List ℕ)) where
   run_completes Refused (Some all) e read written = λ script is. absurd (not_refused script all e.output is e.of_all)
   run_completes ReadFault (Some all) e read written = absurd (read refl)
   run_completes WriteFault (Some all) e read written = absurd (written refl)
-  run_completes No (Some all) e read written = absurd e
+  run_completes No (Some all) e read written = absurd e.is
   run_completes Usage (Some all) e read written = absurd e
+
+  pub judge_completes : (judge : Judge) (status : Status) (left : Option (List ℕ))
+      → JudgeEnds judge status left left_after a b → (status ≡ ReadFault → ⊥) → (status ≡ WriteFault → ⊥)
+      → IfSome left (λ all. (script : Script) → length all ≤ most_judged → IsScript script (front all)
+      → (status ≡ Done) ⊎ ((status ≡ No) ⊎ (status ≡ NoMemory)))
+  judge_completes judge status None e read written = tt
+  judge_completes judge Done (Some all) e read written = λ script short is. inl refl
+  judge_completes judge No (Some all) e read written = λ script short is. inr (inl refl)
+  judge_completes judge NoMemory (Some all) e read written = λ script short is. inr (inr refl)
+  judge_completes judge Refused (Some all) e read written =
+      λ script short is. absurd (not_judge_refused script all e.output short is e.of_all)
+  judge_completes judge ReadFault (Some all) e read written = absurd (read refl)
+  judge_completes judge WriteFault (Some all) e read written = absurd (written refl)
+  judge_completes judge Usage (Some all) e read written = absurd e
 
 -- a command that reads nothing
 pub ends_completes : (Of : List ℕ → Type 0) (status : Status) (a b : Option (List ℕ)) → EndsWith Of status a b

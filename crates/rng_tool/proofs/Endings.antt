@@ -8,7 +8,7 @@ use Rattle.io_edges.specs.Faults.{Rose}
 use Rattle.io_edges.specs.Pieces.{AppendsPrefix}
 use Rattle.io_edges.proofs.Pieces.{AppendsPrefix-of_whole, rose_after, rose_before}
 use Rattle.rng_tool.specs.Ends.{AtOutputEnd, EndsWith, IsAnswered}
-use Rattle.rng_tool.specs.Outcome.{CallsFor, IsRefusal, RunEnds}
+use Rattle.rng_tool.specs.Reads.{ReadsEnds, SomeAnswer, WasAnswered}
 use Rattle.rng_tool.specs.declared.status.Status.{Status}
 use Rattle.rng_tool.specs.declared.status.Status.TheVariants.{Done, No, Usage, ReadFault, WriteFault, Refused, NoMemory}
 
@@ -60,30 +60,35 @@ module _ (Of : List ℕ → Type 0) (a b c : Option (List ℕ)) (k : Keeps b c) 
   ]
 
 -- an input that was read to its end is all that was left
-all_read : (left left_after : Option (List ℕ)) (input output : List ℕ) → Consumes left left_after input
-    → IsAtEnd left_after → CallsFor input output → IfSome left (λ all. CallsFor all output)
-all_read None after input output read end calls = tt
-all_read (Some all) None input output read end calls = absurd read
-all_read (Some all) (Some rest) input output read end calls =
+all_read : (Is : List ℕ → List ℕ → Type 0) (left left_after : Option (List ℕ)) (input output : List ℕ)
+    → Consumes left left_after input → IsAtEnd left_after → Is input output → IfSome left (λ all. Is all output)
+all_read Is None after input output read end is = tt
+all_read Is (Some all) None input output read end is = absurd read
+all_read Is (Some all) (Some rest) input output read end is =
     let same : all ≡ input = read ∙ ap (λ l. input ++ l) end ∙ append-nil input in
-    subst (λ text. CallsFor text output) (sym same) calls
+    subst (λ text. Is text output) (sym same) is
 
-also_refused : (left : Option (List ℕ)) (output : List ℕ) → IfSome left (λ all. IsRefusal all output)
-    → IfSome left (λ all. CallsFor all output)
-also_refused None output is = tt
-also_refused (Some all) output is = inr is
+also_refused : (Of : List ℕ → Status → List ℕ → Type 0) (left : Option (List ℕ)) (output : List ℕ)
+    → IfSome left (λ all. Of all Refused output) → IfSome left (λ all. SomeAnswer (Of all) output)
+also_refused Of None output is = tt
+also_refused Of (Some all) output is = (Refused, tt, is)
 
-module _ (left left_after a b c : Option (List ℕ)) (k : Keeps b c) where
-  run_stays : (status : Status) → RunEnds status left left_after a b → RunEnds status left left_after a c
-  run_stays Done e = record {
+module _ (Of : List ℕ → Status → List ℕ → Type 0) (left left_after a b c : Option (List ℕ)) (k : Keeps b c) where
+  answer_stays : (Is : List ℕ → List ℕ → Type 0) → WasAnswered Is left left_after a b
+      → WasAnswered Is left left_after a c
+  answer_stays Is e = record {
     input = e.input;
     output = e.output;
     read = e.read;
     whole = e.whole;
-    run = e.run;
+    is = e.is;
     written = appends_kept a b c e.output e.written k;
   }
-  run_stays Refused e = record {
+
+  read_stays : (status : Status) → ReadsEnds Of status left left_after a b → ReadsEnds Of status left left_after a c
+  read_stays Done e = answer_stays (λ input output. Of input Done output) e
+  read_stays No e = answer_stays (λ input output. Of input No output) e
+  read_stays Refused e = record {
     input = e.input;
     output = e.output;
     read = e.read;
@@ -91,7 +96,7 @@ module _ (left left_after a b c : Option (List ℕ)) (k : Keeps b c) where
     of_all = e.of_all;
     written = appends_kept a b c e.output e.written k;
   }
-  run_stays WriteFault e = record {
+  read_stays WriteFault e = record {
     input = e.input;
     output = e.output;
     read = e.read;
@@ -99,39 +104,43 @@ module _ (left left_after a b c : Option (List ℕ)) (k : Keeps b c) where
     of_all = e.of_all;
     written = prefix_kept a b c e.output e.written k;
   }
-  run_stays ReadFault e = Keeps-trans a b c e k
-  run_stays NoMemory e = Keeps-trans a b c e k
-  run_stays No e = e
-  run_stays Usage e = e
+  read_stays ReadFault e = Keeps-trans a b c e k
+  read_stays NoMemory e = Keeps-trans a b c e k
+  read_stays Usage e = e
 
-  run_cut : (status : Status) → IsAnswered status → RunEnds status left left_after a b
-      → RunEnds WriteFault left left_after a c
-  run_cut Done is e = record {
+  answer_cut : (status : Status) → IsAnswered status → WasAnswered (λ input output. Of input status output) left left_after a b
+      → ReadsEnds Of WriteFault left left_after a c
+  answer_cut status is e = record {
     input = e.input;
     output = e.output;
     read = e.read;
-    output_is = inl e.run;
-    of_all = all_read left left_after e.input e.output e.read e.whole (inl e.run);
+    output_is = (status, is, e.is);
+    of_all = all_read (λ input output. SomeAnswer (Of input) output) left left_after e.input e.output e.read e.whole
+        (status, is, e.is);
     written = whole_cut a b c e.output e.written k;
   }
-  run_cut Refused is e = record {
+
+  read_cut : (status : Status) → IsAnswered status → ReadsEnds Of status left left_after a b
+      → ReadsEnds Of WriteFault left left_after a c
+  read_cut Done is e = answer_cut Done is e
+  read_cut No is e = answer_cut No is e
+  read_cut Refused is e = record {
     input = e.input;
     output = e.output;
     read = e.read;
-    output_is = inr e.refusal;
-    of_all = also_refused left e.output e.of_all;
+    output_is = (Refused, tt, e.refusal);
+    of_all = also_refused Of left e.output e.of_all;
     written = whole_cut a b c e.output e.written k;
   }
-  run_cut No is e = absurd e
-  run_cut Usage is e = absurd is
-  run_cut ReadFault is e = absurd is
-  run_cut WriteFault is e = absurd is
-  run_cut NoMemory is e = absurd is
+  read_cut Usage is e = absurd is
+  read_cut ReadFault is e = absurd is
+  read_cut WriteFault is e = absurd is
+  read_cut NoMemory is e = absurd is
 
-  -- the command `run`
-  pub run_ends_after : (status result : Status) → AtOutputEnd status result → RunEnds status left left_after a b
-      → RunEnds result left left_after a c
-  run_ends_after status result ended e = elim ended [
-    | inl same ↦ subst (λ s. RunEnds s left left_after a c) (sym same) (run_stays status e)
-    | inr faulty ↦ subst (λ s. RunEnds s left left_after a c) (sym faulty.1) (run_cut status faulty.0 e)
+  -- a command that reads its input
+  pub reads_end_after : (status result : Status) → AtOutputEnd status result → ReadsEnds Of status left left_after a b
+      → ReadsEnds Of result left left_after a c
+  reads_end_after status result ended e = elim ended [
+    | inl same ↦ subst (λ s. ReadsEnds Of s left left_after a c) (sym same) (read_stays status e)
+    | inr faulty ↦ subst (λ s. ReadsEnds Of s left left_after a c) (sym faulty.1) (read_cut status faulty.0 e)
   ]

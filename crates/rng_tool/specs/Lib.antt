@@ -1,8 +1,10 @@
 pub mod Refusal
-pub mod Outcome
 pub mod Ends
+pub mod Reads
+pub mod Outcome
 pub mod LoadOutcome
 pub mod DrawOutcome
 pub mod FeedOutcome
+pub mod JudgeOutcome
 pub mod Commands
 pub mod Kept

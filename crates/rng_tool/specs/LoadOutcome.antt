@@ -30,14 +30,15 @@ IsLoad words start callers events = AskLoad (map string_bytes words) start calle
 abbrev pub load_line : ℕ → ℕ → ℕ → List ℕ
 load_line callers events bytes =
     lined (spaced (codes "callers" ∷ decimal callers ∷ codes "events" ∷ decimal events ∷ codes "bytes"
-    ∷ decimal bytes ∷ []) ∷ [])
+    ∷ decimal bytes ∷ codes "check" ∷ codes "yes" ∷ []) ∷ [])
 
 -- how many bytes the data of a line are
 abbrev pub data_len : Data → ℕ
 data_len (Bytes start len) = len
 data_len _ = 0
 
--- the output counts the events of the load's script, and the bytes that the lines of a lawful transcript for it show
+-- the output counts the events of the load's script, and the bytes that the lines of a lawful transcript for it show,
+-- and says that it was checked
 pub record LoadOf (start callers events : ℕ) (output : List ℕ) : Type 0 where
   pub lines : List (List SeenLine)
   pub run : IsRunOf (load_script start callers events) lines

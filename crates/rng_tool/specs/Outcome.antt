@@ -1,7 +1,5 @@
 -- What a run of the program promises for each way to end.
-use Rattle.std.specs.Prelude.{ℕ, ◌≡◌, ◌⊎◌, List, [], ◌∷◌, Option, Some, String, string_bytes, codes, map, IfSome}
-use Rattle.std.specs.Io.KnownBytes.{Appends, Consumes, IsAtEnd, Keeps}
-use Rattle.io_edges.specs.Pieces.{AppendsPrefix}
+use Rattle.std.specs.Prelude.{ℕ, ◌≡◌, ⊥, List, [], ◌∷◌, Option, Some, String, string_bytes, codes, map}
 use Rattle.key_names.specs.Book.{Book, lists_of}
 use Rattle.key_names.specs.IsTranscript.{IsTranscriptBy}
 use Rattle.key_names.specs.Uses.{IsDisjoint}
@@ -12,6 +10,7 @@ use Rattle.key_names.specs.ScriptFaults.{first_fault}
 use Rattle.key_names.specs.ScriptGrammar.{Script, IsScript}
 use Rattle.key_names.specs.TranscriptGrammar.{IsTranscriptText}
 use Rattle.key_names.specs.declared.faults.ScriptFault.{ScriptFault}
+use Rattle.rng_tool.specs.Reads.{ReadsEnds}
 use Rattle.rng_tool.specs.Refusal.{refusal_line}
 use Rattle.rng_tool.specs.declared.status.Status.{Status}
 use Rattle.rng_tool.specs.declared.status.Status.TheVariants.{Done, No, Usage, ReadFault, WriteFault, Refused, NoMemory}
@@ -52,46 +51,19 @@ pub record CallsForRun (input output : List ℕ) : Type 0 where
   pub is_script : IsScript script input
   pub run : RunOf script output
 
--- the output that an input calls for
-abbrev pub CallsFor : List ℕ → List ℕ → Type 0
-CallsFor input output = CallsForRun input output ⊎ IsRefusal input output
-
--- the whole input was read, and the transcript was written
-pub record WasRun (left left_after held held_after : Option (List ℕ)) : Type 0 where
-  pub input : List ℕ
-  pub output : List ℕ
-  pub read : Consumes left left_after input
-  pub whole : IsAtEnd left_after
-  pub run : CallsForRun input output
-  pub written : Appends held held_after output
-
--- the refusal of what was read was written; it is also that of all that was left
-pub record WasRefused (left left_after held held_after : Option (List ℕ)) : Type 0 where
-  pub input : List ℕ
-  pub output : List ℕ
-  pub read : Consumes left left_after input
-  pub refusal : IsRefusal input output
-  pub of_all : IfSome left (λ all. IsRefusal all output)
-  pub written : Appends held held_after output
-
--- the sink failed, and holds a prefix of the output that what was read calls for; so does all that was left
-pub record WasCutShort (left left_after held held_after : Option (List ℕ)) : Type 0 where
-  pub input : List ℕ
-  pub output : List ℕ
-  pub read : Consumes left left_after input
-  pub output_is : CallsFor input output
-  pub of_all : IfSome left (λ all. CallsFor all output)
-  pub written : AppendsPrefix held held_after output
+-- the output that an input of a run calls for, and the status that says so
+abbrev pub CallsFor : List ℕ → Status → List ℕ → Type 0
+CallsFor input Done output = CallsForRun input output
+CallsFor input Refused output = IsRefusal input output
+CallsFor input No output = ⊥
+CallsFor input Usage output = ⊥
+CallsFor input ReadFault output = ⊥
+CallsFor input WriteFault output = ⊥
+CallsFor input NoMemory output = ⊥
 
 -- how the command `run` ends, what the source then has left and what the sink holds
 abbrev pub RunEnds : Status → Option (List ℕ) → Option (List ℕ) → Option (List ℕ) → Option (List ℕ) → Type 0
-RunEnds Done left left_after held held_after = WasRun left left_after held held_after
-RunEnds Refused left left_after held held_after = WasRefused left left_after held held_after
-RunEnds WriteFault left left_after held held_after = WasCutShort left left_after held held_after
-RunEnds ReadFault left left_after held held_after = Keeps held held_after
-RunEnds NoMemory left left_after held held_after = Keeps held held_after
-RunEnds No left left_after held held_after = ⊥
-RunEnds Usage left left_after held held_after = ⊥
+RunEnds = ReadsEnds CallsFor
 
 -- the words of a run
 abbrev pub IsRun : {A : Type 0} → List (String A) → Type 0

@@ -266,7 +266,7 @@ fn the_gate_is_called_before_each_event(rt: HostRuntime) -> Result<(), Fail> {
             b"",
             0,
             Status::Done,
-            b"callers 1 events 10 bytes 137\n",
+            b"callers 1 events 10 bytes 137 check yes\n",
             10,
         ),
         (
@@ -274,7 +274,7 @@ fn the_gate_is_called_before_each_event(rt: HostRuntime) -> Result<(), Fail> {
             b"",
             0,
             Status::Done,
-            b"callers 8 events 3216 bytes 84000\n",
+            b"callers 8 events 3216 bytes 84000 check yes\n",
             3216,
         ),
     ];

@@ -3,22 +3,25 @@ ghost use Rattle.std.specs.Prelude.{◌≡◌, ◌↔◌, ℕ, Some, IsTrue, IfS
 ghost use Rattle.rng_tool.specs.Commands.{Asks};
 ghost use Rattle.rng_tool.specs.DrawOutcome.{IsDraw};
 ghost use Rattle.rng_tool.specs.FeedOutcome.{IsFeed};
+ghost use Rattle.rng_tool.specs.JudgeOutcome.{IsJudge};
 ghost use Rattle.rng_tool.specs.LoadOutcome.{IsLoad};
 ghost use Rattle.rng_tool.specs.Outcome.{IsRun};
 
 use crate::draw::{Draw, draw_of};
 use crate::feed::{Feed, feed_of};
+use crate::judge::{Judge, judge_of};
 use crate::load::{Load, load_of};
 
 /// The forms of the command line, as the line that answers any other words has them.
-pub(crate) const USAGE: &str =
-    "usage: rng run | rng load START CALLERS EVENTS | rng draw C K | rng feed START FEEDERS SAMPLES";
+pub(crate) const USAGE: &str = "usage: rng run | rng check | rng replay | rng load START CALLERS EVENTS | rng draw C K | rng feed START FEEDERS SAMPLES";
 
 /// A command, with the numbers that its words give.
 #[derive(Clone, Copy, Debug, PartialEq, Eq)]
 pub(crate) enum Command {
     /// `run`
     Run,
+    /// `check` or `replay`
+    Judge(Judge),
     /// `load START CALLERS EVENTS`
     Load(Load),
     /// `draw C K`
@@ -42,6 +45,7 @@ impl Command {
     pub(crate) fn of(words: &[String]) -> Option<Command>
         ensures found { IfSome result (Asks words.now) }
         ensures run { IsRun words.now → result ≡ Some Command.Run }
+        ensures judge { (judge : Judge) → IsJudge words.now judge → result ≡ Some (Command.Judge judge) }
         ensures load { (start callers events : ℕ) → IsLoad words.now start callers events
             → result ≡ Some (Command.Load (record { start = start; callers = callers; events = events })) }
         ensures draw { (bound count : ℕ) → IsDraw words.now bound count
@@ -51,6 +55,9 @@ impl Command {
     {
         if is_run(words) {
             return Some(Command::Run);
+        }
+        if let Some(judge) = judge_of(words) {
+            return Some(Command::Judge(judge));
         }
         if let Some(load) = load_of(words) {
             return Some(Command::Load(load));

@@ -1,4 +1,4 @@
-//! A source that remembers what it gave.
+//! A source that remembers what it gave, up to the length of a script.
 ghost use Rattle.std.specs.Prelude.{◌≡◌, ◌<◌, ◌≤◌, ◌++◌, [], take, length, None, Some, IfOk, IfSome, OnErr};
 ghost use Rattle.std.specs.Io.{ReadsAtMost};
 ghost use Rattle.std.specs.Io.KnownBytes.{Consumes, IsAtEnd, Keeps};
@@ -8,7 +8,11 @@ ghost use Rattle.rng_tool.specs.Kept.{given_by, source_of};
 use io_edges::{Failed, Source};
 use std::alloc::Global;
 
-/// A source that remembers the bytes which it gave, while there is memory for them.
+/// The most bytes that are remembered, 16 MiB: no script is longer.
+const MOST_KEPT: usize = 16_777_216;
+
+/// A source that remembers the bytes which it gave, while they are no more than a script can have and there is memory for
+/// them.
 #[derive(Drop)]
 pub(crate) struct KeptSource<S: Source + Drop> {
     source: S,
@@ -28,7 +32,7 @@ impl<S: Source + Drop> KeptSource<S> {
         }
     }
 
-    /// All the bytes that it gave, or `None` where there was no memory for them.
+    /// All the bytes that it gave, or `None` where they are too many, or there was no memory for them.
     pub(crate) fn given(&self) -> Option<&[u8]>
         ensures none { result ≡ None → given_by self.now ≡ None }
         ensures some { IfSome result (λ bytes. given_by self.now ≡ Some bytes.now) }
@@ -60,9 +64,11 @@ impl<S: Source + Drop> Source for KeptSource<S> {
         ensures never_falls { S.faults (source_of self.old) ≤ S.faults (source_of self.new) }
     {
         let count = self.source.take(buf)?;
-        if self.given.extend_from_slice(&buf[..count]).is_err() {
-            self.is_whole = false;
-        }
+        let is_kept = self.is_whole
+            && count <= MOST_KEPT
+            && self.given.len() <= MOST_KEPT - count
+            && self.given.extend_from_slice(&buf[..count]).is_ok();
+        self.is_whole = is_kept;
         Ok(count)
     }
 }

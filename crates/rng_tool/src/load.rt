@@ -17,6 +17,7 @@ use key_names::Data;
 use std::alloc::Global;
 use std::sync::Wait;
 use std::thread::Threads;
+use transcript_check::check::{Verdict, check};
 use transcript_text::{CallerLines, Transcript};
 
 /// The most callers of a load.
@@ -84,7 +85,7 @@ fn load_line(callers: u32, events: u64, bytes: u64) -> ShortLine
     add_number(&mut line, "callers ", u64::from(callers));
     add_number(&mut line, " events ", events);
     add_number(&mut line, " bytes ", bytes);
-    line.push_str("\n");
+    line.push_str(" check yes\n");
     line
 }
 
@@ -135,7 +136,7 @@ fn shown_len(transcript: &Transcript) -> u64
     sum
 }
 
-// The line of a load that was run. No memory is taken behind the run.
+// The line of a load that was run and checked.
 fn summary<R: Threads + Wait + Sync, G: Gate>(
     rt: &R,
     alloc: Global,
@@ -147,6 +148,11 @@ fn summary<R: Threads + Wait + Sync, G: Gate>(
 {
     let script = Script::load(alloc, load.start, load.callers, load.events)?;
     let transcript = transcript_of(rt, alloc, &script, gate)?;
+    match check(alloc, &script, &transcript) {
+        Ok(Verdict::Yes) => {}
+        Ok(Verdict::No(_)) => unreachable!(),
+        Err(_) => return Err(NoMemory),
+    }
     Ok(load_line(load.callers, event_count(&script), shown_len(&transcript)))
 }
 

@@ -1,6 +1,7 @@
 //! `rng`: the Linux random number core, replayed from a script of recorded events.
 #![tactic(auto)]
 
+mod answers;
 #[cfg(test)]
 mod caller_tests;
 mod callers;
@@ -8,6 +9,7 @@ mod command;
 mod draw;
 mod ending;
 mod feed;
+mod judge;
 mod kept;
 mod load;
 mod numbers;
@@ -20,10 +22,11 @@ mod status;
 mod tests;
 mod told;
 
+use crate::judge::judge_of;
 use crate::kept::KeptSource;
 use crate::run::run;
 use crate::status::Status;
-use crate::told::tell;
+use crate::told::{Given, tell};
 use io_edges::{OpenGate, Source, StdSink, StdSource};
 use std::alloc::Global;
 use std::io::{BufWriter, Write};
@@ -68,10 +71,14 @@ fn run_gathered<R: Threads + Wait + Sync, S: Source, O: Write + Drop>(
 
 fn main(rt: HostRuntime) -> ExitCode {
     let mut source = KeptSource::of(rt.alloc(), StdSource::of(rt.stdin()));
-    let status = match words(&rt) {
-        Ok(words) => run_gathered(&rt, rt.alloc(), &words, &mut source, rt.stdout()),
-        Err(status) => status,
+    let (status, has_more) = match words(&rt) {
+        Ok(words) => {
+            let status = run_gathered(&rt, rt.alloc(), &words, &mut source, rt.stdout());
+            (status, judge_of(&words).is_some())
+        }
+        Err(status) => (status, false),
     };
-    tell(&rt, rt.alloc(), status, source.given());
+    let input = source.given();
+    tell(&rt, rt.alloc(), status, Given { input, has_more });
     ExitCode::from(status.code())
 }

@@ -1,18 +1,16 @@
 //! The command `run`: a script in, a transcript out.
-ghost use Rattle.std.specs.Prelude.{◌≡◌, ◌⊎◌, ◌≤◌, ℕ, List};
-ghost use Rattle.std.specs.Io.KnownBytes.{Appends};
+ghost use Rattle.std.specs.Prelude.{◌≡◌, ◌⊎◌, ◌≤◌};
 ghost use Rattle.io_edges.specs.Faults.{Rose};
-ghost use Rattle.io_edges.specs.Pieces.{AppendsPrefix};
 ghost use Rattle.key_names.specs.ScriptGrammar.{WellFormed};
-ghost use Rattle.rng_tool.specs.Outcome.{CallsFor, CallsForRun, IsRefusal, RunEnds, RunOf};
-ghost use Rattle.rng_tool.specs.Refusal.{refusal_line};
+ghost use Rattle.rng_tool.specs.Outcome.{CallsFor, RunEnds, RunOf};
+ghost use Rattle.rng_tool.specs.Reads.{OnlyDone, WritesEnds};
 
+use crate::answers::put_answer;
 use crate::callers::transcript_of;
 use crate::refusal::refusal_line;
 use crate::status::Status;
 use event_script::{Script, ScriptError, read};
-use io_edges::{Failed, Gate, ReadError, Sink, Source, put_all, read_to_limit};
-use key_names::ScriptFault;
+use io_edges::{Failed, Gate, ReadError, Sink, Source, read_to_limit};
 use std::alloc::Global;
 use std::sync::Wait;
 use std::thread::Threads;
@@ -20,21 +18,6 @@ use transcript_text::write_all;
 
 /// The most bytes of a script: 16 MiB.
 const MOST_INPUT: usize = 16_777_216;
-
-// The refusal of an input with this fault.
-fn refuse<K: Sink>(fault: ScriptFault, sink: &mut K) -> Status
-    ensures either { (result ≡ Status.Refused) ⊎ (result ≡ Status.WriteFault) }
-    ensures whole { result ≡ Status.Refused → Appends (K.held sink.old) (K.held sink.new) (refusal_line fault) }
-    ensures cut { result ≡ Status.WriteFault → Rose (K.faults sink.old) (K.faults sink.new) }
-    ensures prefix { result ≡ Status.WriteFault
-        → AppendsPrefix (K.held sink.old) (K.held sink.new) (refusal_line fault) }
-    ensures never_falls { K.faults sink.old ≤ K.faults sink.new }
-{
-    match put_all(sink, refusal_line(fault).as_str().as_bytes()) {
-        Ok(()) => Status::Refused,
-        Err(Failed) => Status::WriteFault,
-    }
-}
 
 // The run of an accepted script.
 fn run_script<R: Threads + Wait + Sync, K: Sink, G: Gate>(
@@ -45,12 +28,8 @@ fn run_script<R: Threads + Wait + Sync, K: Sink, G: Gate>(
     gate: &G,
 ) -> Status
     requires { WellFormed script.now }
-    ensures either { (result ≡ Status.Done) ⊎ (result ≡ Status.WriteFault) ⊎ (result ≡ Status.NoMemory) }
-    ensures whole { result ≡ Status.Done
-        → (output : List ℕ) × RunOf script.now output × Appends (K.held sink.old) (K.held sink.new) output }
+    ensures ends { WritesEnds (OnlyDone (RunOf script.now)) result (K.held sink.old) (K.held sink.new) }
     ensures cut { result ≡ Status.WriteFault → Rose (K.faults sink.old) (K.faults sink.new) }
-    ensures prefix { result ≡ Status.WriteFault
-        → (output : List ℕ) × RunOf script.now output × AppendsPrefix (K.held sink.old) (K.held sink.new) output }
     ensures silent { result ≡ Status.NoMemory → sink.new ≡ sink.old }
     ensures never_falls { K.faults sink.old ≤ K.faults sink.new }
 {
@@ -71,21 +50,14 @@ fn answer<R: Threads + Wait + Sync, K: Sink, G: Gate>(
     sink: &mut K,
     gate: &G,
 ) -> Status
-    ensures either { (result ≡ Status.Done) ⊎ (result ≡ Status.Refused) ⊎ (result ≡ Status.WriteFault) ⊎
-        (result ≡ Status.NoMemory) }
-    ensures done { result ≡ Status.Done → (output : List ℕ) × CallsForRun input.now output
-        × Appends (K.held sink.old) (K.held sink.new) output }
-    ensures refused { result ≡ Status.Refused → (output : List ℕ) × IsRefusal input.now output
-        × Appends (K.held sink.old) (K.held sink.new) output }
+    ensures ends { WritesEnds (CallsFor input.now) result (K.held sink.old) (K.held sink.new) }
     ensures cut { result ≡ Status.WriteFault → Rose (K.faults sink.old) (K.faults sink.new) }
-    ensures prefix { result ≡ Status.WriteFault → (output : List ℕ) × CallsFor input.now output
-        × AppendsPrefix (K.held sink.old) (K.held sink.new) output }
     ensures silent { result ≡ Status.NoMemory → sink.new ≡ sink.old }
     ensures never_falls { K.faults sink.old ≤ K.faults sink.new }
 {
     match read(alloc, input) {
         Ok(script) => run_script(rt, alloc, &script, sink, gate),
-        Err(ScriptError::Fault(fault)) => refuse(fault, sink),
+        Err(ScriptError::Fault(fault)) => put_answer(Status::Refused, &refusal_line(fault), sink),
         Err(ScriptError::NoMemory) => Status::NoMemory,
     }
 }

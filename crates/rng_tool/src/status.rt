@@ -7,7 +7,7 @@ ghost use Rattle.rng_tool.specs.Outcome.{code_of};
 pub enum Status {
     /// The whole output was written.
     Done,
-    /// A transcript was found unlawful. It does not come before there is a check.
+    /// A clause fails in a transcript, and the line that names it was written.
     No,
     /// The words are no form of the command line. Nothing was read or written.
     Usage,

@@ -99,7 +99,7 @@ const INSIDE_TRANSCRIPT: &[u8] = b"rngtranscript 1\n\
     end\n";
 
 // Of `load 1 1 8`.
-const LOAD_LINE: &[u8] = b"callers 1 events 10 bytes 137\n";
+const LOAD_LINE: &[u8] = b"callers 1 events 10 bytes 137 check yes\n";
 
 // More than any output here.
 const ROOM: usize = 1000;
@@ -273,16 +273,16 @@ fn loads_are_summed_up(rt: HostRuntime) -> Result<(), Fail> {
         (&["load", "1", "1", "8"], LOAD_LINE),
         (
             &["load", "0", "64", "1"],
-            b"callers 64 events 192 bytes 96\n",
+            b"callers 64 events 192 bytes 96 check yes\n",
         ),
-        (&["load", "0", "1", "1"], b"callers 1 events 3 bytes 1\n"),
+        (&["load", "0", "1", "1"], b"callers 1 events 3 bytes 1 check yes\n"),
         (
             &["load", "4294967295", "1", "9"],
-            b"callers 1 events 11 bytes 113\n",
+            b"callers 1 events 11 bytes 113 check yes\n",
         ),
         (
             &["load", "1", "1", "1000"],
-            b"callers 1 events 1002 bytes 26125\n",
+            b"callers 1 events 1002 bytes 26125 check yes\n",
         ),
     ];
     // The source fails as soon as it is read.

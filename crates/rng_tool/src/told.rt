@@ -2,7 +2,7 @@
 
 use crate::command::USAGE;
 use crate::status::Status;
-use event_script::{ScriptError, read};
+use event_script::{ScriptError, read, read_front};
 use key_names::{FaultKind, ScriptFault};
 use std::alloc::Global;
 
@@ -48,18 +48,44 @@ fn tell_fault<R: Eprint>(rt: &R, fault: ScriptFault, input: &[u8]) {
     };
 }
 
+/// What is known of an input that was read: its bytes, and whether something stands behind its script.
+#[derive(Clone, Copy)]
+pub(crate) struct Given<'a> {
+    pub(crate) input: Option<&'a [u8]>,
+    pub(crate) has_more: bool,
+}
+
+// The first fault of a script that was refused.
+fn fault_of(alloc: Global, text: &[u8], has_more: bool) -> Option<ScriptFault> {
+    let error = if has_more {
+        read_front(alloc, text).err()?
+    } else {
+        read(alloc, text).err()?
+    };
+    match error {
+        ScriptError::Fault(fault) => Some(fault),
+        ScriptError::NoMemory => None,
+    }
+}
+
+fn tell_refusal<R: Eprint>(rt: &R, alloc: Global, given: Given<'_>) {
+    if let Some(input) = given.input {
+        if let Some(fault) = fault_of(alloc, input, given.has_more) {
+            return tell_fault(rt, fault, input);
+        }
+    }
+    let _told = eprintln!(rt; "rng: the script has a fault, which standard output names");
+}
+
 /// Writes one line to standard error where a command ended otherwise than by its answer: the usage, or what could not be
-/// read, written or had, or a script's fault. `input` is what was read, if it is known.
-pub(crate) fn tell<R: Eprint>(rt: &R, alloc: Global, status: Status, input: Option<&[u8]>) {
+/// read, written or had, or a script's fault.
+pub(crate) fn tell<R: Eprint>(rt: &R, alloc: Global, status: Status, given: Given<'_>) {
     let _told = match status {
         Status::Done | Status::No => return,
         Status::Usage => eprintln!(rt; "{USAGE}"),
         Status::ReadFault => eprintln!(rt; "rng: standard input could not be read"),
         Status::WriteFault => eprintln!(rt; "rng: standard output could not be written"),
         Status::NoMemory => eprintln!(rt; "rng: there is not enough memory"),
-        Status::Refused => match input.map(|text| (text, read(alloc, text))) {
-            Some((text, Err(ScriptError::Fault(fault)))) => return tell_fault(rt, fault, text),
-            _ => eprintln!(rt; "rng: the script has a fault, which standard output names"),
-        },
+        Status::Refused => return tell_refusal(rt, alloc, given),
     };
 }

@@ -2,8 +2,10 @@ use Rattle.std.proofs.Common.{◌≡◌, subst}
 use Rattle.rng_tool.specs.DrawOutcome.{DrawEnds, DrawOf}
 use Rattle.rng_tool.specs.FeedOutcome.{FeedEnds, FeedOf}
 use Rattle.rng_tool.specs.LoadOutcome.{LoadEnds, LoadOf}
-use Rattle.rng_tool.proofs.Completes.{ends_completes, read_before, run_completes}
-use Rattle.rng_tool.proofs.Endings.{ends_after, rose_at_end, run_ends_after}
+use Rattle.rng_tool.specs.JudgeOutcome.{JudgeCalls, JudgeEnds}
+use Rattle.rng_tool.specs.Outcome.{CallsFor}
+use Rattle.rng_tool.proofs.Completes.{ends_completes, judge_completes, read_before, run_completes}
+use Rattle.rng_tool.proofs.Endings.{ends_after, reads_end_after, rose_at_end}
 use Rattle.rng_tool.proofs.run.run.Goals as goal
 
 pub returns-in-Some-Run-clause-write_fault : goal.returns-in-Some-Run-clause-write_fault
@@ -13,16 +15,42 @@ returns-in-Some-Run-clause-write_fault g c cut =
 
 pub returns-in-Some-Run-clause-ran : goal.returns-in-Some-Run-clause-ran
 returns-in-Some-Run-clause-ran g c is =
-    run_ends_after _ _ _ _ _ c.end_output.ensures.kept _ _ c.end_output.ensures.ended c.run_input.ensures.ends
+    reads_end_after CallsFor _ _ _ _ _ c.end_output.ensures.kept _ _ c.end_output.ensures.ended
+    c.run_input.ensures.ends
 
 pub returns-in-Some-Run-clause-run_completes : goal.returns-in-Some-Run-clause-run_completes
 returns-in-Some-Run-clause-run_completes g c is unread unwritten =
     let ended = c.end_output.ensures.ended in
     run_completes _ _ _ c.end_output.result _
-    (run_ends_after _ _ _ _ _ c.end_output.ensures.kept _ _ ended c.run_input.ensures.ends)
+    (reads_end_after CallsFor _ _ _ _ _ c.end_output.ensures.kept _ _ ended c.run_input.ensures.ends)
     (λ fault. unread (c.run_input.ensures.read_fault (read_before _ _ ended fault)))
     (λ fault. unwritten (rose_at_end _ _ _ _ c.run_input.ensures.cut c.run_input.ensures.never_falls
     (c.end_output.ensures.cut fault) c.end_output.ensures.never_falls))
+
+pub returns-in-Some-Judge-clause-write_fault : goal.returns-in-Some-Judge-clause-write_fault
+returns-in-Some-Judge-clause-write_fault g c cut =
+    rose_at_end _ _ _ _ c.judge_input.ensures.cut c.judge_input.ensures.never_falls
+    (c.end_output-in-Some-Judge.ensures.cut cut) c.end_output-in-Some-Judge.ensures.never_falls
+
+pub returns-in-Some-Judge-clause-judged : goal.returns-in-Some-Judge-clause-judged
+returns-in-Some-Judge-clause-judged g c judge is =
+    let same : c.in-Some-Judge.judge ≡ judge = cc (c.of.ensures.judge judge is, c.in-Some-Judge.is) in
+    reads_end_after (JudgeCalls judge) _ _ _ _ _ c.end_output-in-Some-Judge.ensures.kept _ _
+    c.end_output-in-Some-Judge.ensures.ended
+    (subst (λ one. JudgeEnds one c.judge_input.result (g.S.Source.left c.args.source.now)
+    (g.S.Source.left c.judge_input.new.source) (g.K.Sink.held c.args.sink.now) (g.K.Sink.held c.judge_input.new.sink))
+    same c.judge_input.ensures.ends)
+
+pub returns-in-Some-Judge-clause-judge_completes : goal.returns-in-Some-Judge-clause-judge_completes
+returns-in-Some-Judge-clause-judge_completes g c judge is unread unwritten =
+    let ended = c.end_output-in-Some-Judge.ensures.ended in
+    let asked = c.in-Some-Judge.judge in
+    judge_completes _ _ _ asked c.end_output-in-Some-Judge.result _
+    (reads_end_after (JudgeCalls asked) _ _ _ _ _ c.end_output-in-Some-Judge.ensures.kept _ _ ended
+    c.judge_input.ensures.ends)
+    (λ fault. unread (c.judge_input.ensures.read_fault (read_before _ _ ended fault)))
+    (λ fault. unwritten (rose_at_end _ _ _ _ c.judge_input.ensures.cut c.judge_input.ensures.never_falls
+    (c.end_output-in-Some-Judge.ensures.cut fault) c.end_output-in-Some-Judge.ensures.never_falls))
 
 pub returns-in-Some-Load-clause-write_fault : goal.returns-in-Some-Load-clause-write_fault
 returns-in-Some-Load-clause-write_fault g c cut =

@@ -1,0 +1,51 @@
+-- What is said of the lines of a caller.
+use Rattle.std.specs.Prelude.{ℕ, ◌≡◌, ◌<◌, ◌≤◌, ◌^◌, ⊤, Some, List, slice_get}
+use Rattle.std.specs.List.{AllByRecursion}
+use Rattle.key_names.specs.declared.events.Event.{Event}
+use Rattle.key_names.specs.declared.events.Event.TheVariants.{State}
+use Rattle.key_names.specs.Book.{Lists}
+use Rattle.key_names.specs.Calls.{Setting, Call, alone, vread_call, unbound, ending, calls_of}
+use Rattle.key_names.specs.IsTranscript.{CallerMeans, EachLine, LinesFit}
+use Rattle.key_names.specs.Meaning.{LineMeaning, CallMeaning}
+use Rattle.key_names.specs.SeenLine.{SeenLine, Shown, no_data, count, bytes_or_none}
+use Rattle.key_names.specs.TranscriptGrammar.{StepFits}
+use Rattle.vread_course.specs.Recipe.{bytes_made}
+use Rattle.caller_answers.specs.declared.said.Said.{Said}
+use Rattle.caller_answers.specs.declared.said.Shows.{Shows}
+use Rattle.caller_answers.specs.declared.said.Shows.TheVariants.{Nothing, Count, Served}
+
+abbrev pub shown_by : Shows → Shown
+shown_by Nothing = no_data
+shown_by (Count n) = count n
+shown_by (Served recipe) = bytes_or_none (bytes_made recipe)
+
+-- the answer and the data of a line are said at its event's number
+pub record SaysIt (said : List Said) (line : SeenLine) (m : LineMeaning) : Type 0 where
+  pub one : Said
+  pub is : slice_get said line.event ≡ Some one
+  pub answer : m.answer ≡ one.answer
+  pub shown : m.shown ≡ shown_by one.shows
+
+-- the calls mean what they may, and what is said is what they mean
+pub record IsSaid (lists : Lists) (set : Setting) (calls : List Call) (said : List Said) : Type 0 where
+  pub meanings : List CallMeaning
+  pub mean : CallerMeans lists set calls meanings
+  pub says : EachLine (SaysIt said) calls meanings
+
+-- the calls are those of events with a line each, and no look is 2^63 or more
+pub record AreCallsOf (events : List Event) (lines : List SeenLine) (calls : List Call) : Type 0 where
+  pub caller : ℕ
+  pub fit : LinesFit caller 0 events lines
+  pub looks : AllByRecursion (λ line. AllByRecursion StepFits line.steps) lines
+  pub are : calls ≡ calls_of events lines
+
+abbrev pub StateInRange : Event → Type 0
+StateInRange (State number) = number < 16
+StateInRange _ = ⊤
+
+-- a vread is of at most 2^20 bytes, and one of sixteen states is chosen
+abbrev pub CallInRange : Call → Type 0
+CallInRange (alone event line) = StateInRange event
+CallInRange (vread_call len flags line acts) = len ≤ 2 ^ 20
+CallInRange (unbound bound) = ⊤
+CallInRange (ending line) = ⊤

@@ -1,0 +1,110 @@
+-- What is made of bare lines is made of the lines themselves.
+use Rattle.std.proofs.Common.{◌≡◌, ℕ, suc, List, [], ◌∷◌, length, map, refl, sym, subst, ap, ◌∙◌}
+use Rattle.std.specs.Prelude.{◌↔◌, IsTrue}
+use Rattle.std.specs.List.{AllByRecursion}
+use Rattle.std.proofs.lemmas.List.{length-map}
+use Rattle.key_names.specs.declared.names.Step.{Step}
+use Rattle.key_names.specs.BaseList.{base_after}
+use Rattle.key_names.specs.Book.{Book, lists_of, list_at}
+use Rattle.key_names.specs.Calls.{Call, alone, vread_call, unbound, ending, BoundAct}
+use Rattle.key_names.specs.Deeds.{deeds_of}
+use Rattle.key_names.specs.History.{LooksStand}
+use Rattle.key_names.specs.Meaning.{LineMeaning, CallMeaning}
+use Rattle.key_names.specs.ScriptGrammar.{Script}
+use Rattle.key_names.specs.SeenLine.{SeenLine}
+use Rattle.key_names.specs.SameSteps.{bare, SameSteps}
+use Rattle.key_names.specs.IsTranscript.{MadeBook, EachCaller, EachAct, EachOfCall, EachLine, script_calls, SeenStands}
+use Rattle.key_names.specs.IsTranscript.{Clause, lines_clause, marks_clause, forms_clause, answers_clause, data_clause}
+use Rattle.key_names.specs.IsTranscript.{looks_clause, FirstFails}
+use Rattle.key_names.proofs.BareLines.{bare_act, bare_call, bare_all}
+use Rattle.key_names.proofs.BareMeanings.{steps_make_the_book}
+use Rattle.line_orders.proofs.BareStands.{lines_both, marks_both, orders_both, same_bare}
+use Rattle.caller_answers.specs.declared.said.Said.{Said}
+use Rattle.caller_answers.specs.Said.{SaysIt}
+use Rattle.serial_replay.specs.declared.remake.Made.{Made}
+use Rattle.serial_replay.specs.declared.remake.Remade.{Remade}
+use Rattle.serial_replay.specs.declared.remake.Remade.TheVariants.{Made as MadeAll, No}
+use Rattle.serial_replay.specs.Remade.{made_by, IsEarly, AllMade, FailsEarly, IsRemade}
+
+module _ (said : List Said) where
+  line_says : (line : SeenLine) (m : LineMeaning) → SaysIt said (bare line) m → SaysIt said line m
+  line_says line m s = record { one = s.one; is = s.is; answer = s.answer; shown = s.shown }
+
+  acts_say : (acts : List BoundAct) (ms : List LineMeaning) → EachAct (SaysIt said) (map bare_act acts) ms →
+      EachAct (SaysIt said) acts ms
+  acts_say [] [] all = tt
+  acts_say [] (m ∷ ms) all = absurd all
+  acts_say (bound ∷ acts) [] all = absurd all
+  acts_say (bound ∷ acts) (m ∷ ms) all = (line_says bound.line m all.0, acts_say acts ms all.1)
+
+  call_says : (call : Call) (m : CallMeaning) → EachOfCall (SaysIt said) (bare_call call) m → EachOfCall (SaysIt said) call m
+  call_says (alone event line) m s = line_says line m.own s
+  call_says (vread_call n flags line acts) m s = (line_says line m.own s.0, acts_say acts m.acts s.1)
+  call_says (unbound bound) m s = line_says bound.line m.own s
+  call_says (ending line) m s = line_says line m.own s
+
+  calls_say : (calls : List Call) (ms : List CallMeaning) → EachLine (SaysIt said) (map bare_call calls) ms →
+      EachLine (SaysIt said) calls ms
+  calls_say [] [] all = tt
+  calls_say [] (m ∷ ms) all = absurd all
+  calls_say (call ∷ calls) [] all = absurd all
+  calls_say (call ∷ calls) (m ∷ ms) all = (call_says call m all.0, calls_say calls ms all.1)
+
+callers_say : (saids : ℕ → List Said) (c : ℕ) (callers : List (List Call)) (mss : List (List CallMeaning)) →
+    EachCaller (λ c calls ms. EachLine (SaysIt (saids c)) calls ms) c (map (map bare_call) callers) mss →
+    EachCaller (λ c calls ms. EachLine (SaysIt (saids c)) calls ms) c callers mss
+callers_say saids c [] [] all = tt
+callers_say saids c [] (ms ∷ mss) all = absurd all
+callers_say saids c (calls ∷ callers) [] all = absurd all
+callers_say saids c (calls ∷ callers) (ms ∷ mss) all =
+    (calls_say (saids c) calls ms all.0, callers_say saids (suc c) callers mss all.1)
+
+module _ (script : Script) (t : List (List SeenLine)) where
+  abbrev bares : List (List SeenLine)
+  bares = map (map bare) t
+
+  fails_both : (clause : Clause) → IsEarly clause → FirstFails script bares clause → FirstFails script t clause
+  fails_both lines_clause early f = λ has. f ((lines_both script t).1 has)
+  fails_both marks_clause early f = ((lines_both script t).0 f.0, (λ stand. f.1 ((marks_both script t).1 stand)))
+  fails_both forms_clause early f = (
+    (lines_both script t).0 f.0,
+    (marks_both script t).0 f.1,
+    (λ made. f.2 (steps_make_the_book script t bares (sym (same_bare t)) made).0),
+  )
+  fails_both answers_clause early f = absurd early
+  fails_both data_clause early f = absurd early
+  fails_both looks_clause early f = absurd early
+
+  all_made : (m : Made) → AllMade script bares m → AllMade script t m
+  all_made m a =
+      let other = steps_make_the_book script bares t (same_bare t) a.made in
+      let saids : ℕ → List Said = list_at (made_by m) in
+      let says : EachCaller (λ c calls ms. EachLine (SaysIt (saids c)) calls ms) 0 (script_calls script t) a.made.meanings =
+      callers_say saids 0 (script_calls script t) a.made.meanings
+      (subst (λ (calls : List (List Call)).
+      EachCaller (λ c calls ms. EachLine (SaysIt (saids c)) calls ms) 0 calls a.made.meanings)
+      (bare_all script.callers t) a.says) in
+      let P : List (List Step) → Book → Type 0 = λ orders book.
+      AllByRecursion (λ order. LooksStand (base_after (lists_of book).base).generation [] (deeds_of (lists_of book) order))
+      orders in
+      let looks : SeenStands script bares (lists_of a.made.book) ≡ SeenStands script t (lists_of other.0.book) =
+      (λ i. P (orders_both script t i) (sym other.1 i)) in
+      record {
+        made = other.0;
+        long = a.long ∙ length-map t (map bare);
+        says = subst (λ mss. EachCaller (λ c calls ms. EachLine (SaysIt (saids c)) calls ms) 0 (script_calls script t) mss)
+            (sym other.2) says;
+        looks = (
+          (λ h. subst (λ (X : Type 0). X) looks (a.looks.0 h)),
+          (λ h. a.looks.1 (subst (λ (X : Type 0). X) (sym looks) h)),
+        );
+      }
+
+  pub remade_of_bare : (r : Remade) → IsRemade script bares r → IsRemade script t r
+  remade_of_bare (MadeAll m) a = all_made m a
+  remade_of_bare (No number) f = record {
+    clause = f.clause;
+    is = f.is;
+    early = f.early;
+    fails = fails_both f.clause f.early f.fails;
+  }

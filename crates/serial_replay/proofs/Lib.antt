@@ -1,0 +1,11 @@
+pub mod Stubs
+pub mod LooksStand
+pub mod MarksCounted
+pub mod LaneVisits
+pub mod StatesAside
+pub mod Callers
+pub mod MadeBooks
+pub mod BareMade
+pub mod Agreement
+pub mod RemadeLines
+pub mod OneCaller

@@ -1,0 +1,156 @@
+-- The book that a transcript's steps make, out of the lists that are as told; and that there is none where there are no
+-- such lists.
+use Rattle.std.proofs.Common.{◌≡◌, ℕ, ◌+◌, ◌<◌, ◌≤◌, List, [], length, map, refl, sym, subst, ap, ◌∙◌, arith}
+use Rattle.std.specs.Prelude.{◌↔◌, IsTrue}
+use Rattle.std.specs.List.{AllByRecursion}
+use Rattle.key_names.specs.declared.names.LaneId.{LaneId}
+use Rattle.key_names.specs.declared.names.LaneId.TheVariants.{Pool as PoolLane, Base as BaseLane, Cpu as CpuLane}
+use Rattle.key_names.specs.declared.names.Step.{Step}
+use Rattle.key_names.specs.declared.entries.VEntry.{VEntry}
+use Rattle.key_names.specs.BaseList.{base_after}
+use Rattle.key_names.specs.Book.{Book, Lists, LawfulLanes, lists_of, list_at}
+use Rattle.key_names.specs.Calls.{Setting, Call}
+use Rattle.key_names.specs.Deeds.{Deed, deeds_of}
+use Rattle.key_names.specs.History.{LooksStand, caller_orders}
+use Rattle.key_names.specs.Meaning.{CallMeaning}
+use Rattle.key_names.specs.ScriptGrammar.{Script}
+use Rattle.key_names.specs.SeenLine.{SeenLine}
+use Rattle.key_names.specs.IsTranscript.{MadeBook, MarkBy, all_marks, lane_marks, script_calls, start_setting, state_lists}
+use Rattle.key_names.specs.IsTranscript.{EachCaller, EachLine, CallerMeans, SeenStands, VisitsAre, forms_clause}
+use Rattle.key_names.specs.PlacesInOrder.{InOrder}
+use Rattle.key_names.proofs.PlacesInOrder.{places_count_up}
+use Rattle.line_orders.specs.declared.begin.Parts.{Parts}
+use Rattle.line_orders.specs.declared.marks.MarkOf.{MarkOf}
+use Rattle.line_orders.specs.Begun.{PartsStand}
+use Rattle.line_orders.specs.Marks.{seen_mark}
+use Rattle.line_orders.proofs.MarksMoved.{lane_moved, same_long}
+use Rattle.line_orders.proofs.Runs.{lane_sorted}
+use Rattle.list_replay.specs.Tables.{Tables}
+use Rattle.list_replay.specs.Fills.{Fills}
+use Rattle.list_replay.specs.Lawful.{Lawful}
+use Rattle.told_entries.specs.Filled.{AllCallsFill}
+use Rattle.told_entries.specs.Gathered.{IsBookOf, AllMean, IsGathered}
+use Rattle.serial_replay.proofs.Stubs.{all_told}
+use Rattle.caller_answers.specs.declared.said.Said.{Said}
+use Rattle.caller_answers.specs.Said.{SaysIt}
+use Rattle.serial_replay.specs.Remade.{FailsEarly}
+use Rattle.serial_replay.proofs.Callers.{each_caller, SaidByAll}
+use Rattle.serial_replay.proofs.LaneVisits.{Laid, book_of, lists_back, as_many_cpus, visits_are}
+use Rattle.serial_replay.proofs.StatesAside.{aside, deeds_same, fills_aside, lawful_aside, means_aside}
+
+module _ (script : Script) (t : List (List SeenLine)) (parts : Parts) (stand : PartsStand script t parts) where
+  -- where no book is made the forms fail first
+  pub stops : (MadeBook script t → ⊥) → FailsEarly script t 4
+  stops none = record {
+    clause = forms_clause;
+    is = refl;
+    early = tt;
+    fails = (stand.lines, stand.marks_stand, none);
+  }
+
+  abbrev marks : List MarkBy
+  marks = map seen_mark parts.marks.items
+
+  abbrev calls : List (List Call)
+  calls = script_calls script t
+
+  in_order : (lane : LaneId) → InOrder 0 (lane_marks lane marks)
+  in_order lane = (places_count_up (lane_marks lane marks)).1 (lane_sorted lane parts.marks.items stand.sorted)
+      (lane_moved lane (all_marks t) marks stand.all_marks (stand.marks_stand.lanes lane))
+
+  module _ (told : Tables) (gathered : IsGathered script t told) where
+    book_is : (made : MadeBook script t) → IsBookOf script t made.book
+    book_is made = record { cpus = made.forms.cpus; visits = made.forms.visits }
+
+    -- a book that is made has lists that are as told and lawful
+    pub made_fills : (made : MadeBook script t) → Fills told (lists_of made.book)
+    made_fills made = (gathered.fills made.book (book_is made)).0
+        (all_told script t made.book made.meanings made.lines made.forms.callers made.forms.lanes
+        (gathered.sampled made.book made.meanings (book_is made) made.forms.callers made.forms.lanes made.forms.samples))
+
+    pub made_lawful : (made : MadeBook script t) → Lawful told (lists_of made.book)
+    made_lawful made = (gathered.samples made.book made.meanings (book_is made) made.forms.callers (made_fills made)
+        made.forms.lanes).0 made.forms.samples
+
+    module _ (lists : Lists) (fills : Fills told lists) (lawful : Lawful told lists) where
+      laid : Laid marks lists
+      laid = record {
+        pool = same_long PoolLane (all_marks t) marks stand.all_marks ∙ sym gathered.pool_count ∙ sym fills.pool_count;
+        base = same_long BaseLane (all_marks t) marks stand.all_marks ∙ sym gathered.base_count ∙ sym fills.base_count;
+        cpu = λ c. same_long (CpuLane c) (all_marks t) marks stand.all_marks ∙ sym (gathered.cpu_count c)
+            ∙ sym (fills.cpu_count c);
+        order = in_order;
+      }
+
+      book_with : (states : List (List (List VEntry))) → IsBookOf script t (book_of marks lists states)
+      book_with states = record {
+        cpus = as_many_cpus marks lists states laid ∙ fills.cpus_count ∙ gathered.cpus_count;
+        visits = visits_are marks lists states laid (all_marks t) stand.all_marks;
+      }
+
+      -- each line's visits are as its steps tell
+      pub lines_fill : AllCallsFill lists calls
+      lines_fill =
+          let back : lists_of (book_of marks lists lists.callers) ≡ lists = lists_back marks lists lists.callers laid in
+          subst (λ l. AllCallsFill l calls) back
+          ((gathered.fills (book_of marks lists lists.callers) (book_with lists.callers)).1
+          (subst (Fills told) (sym back) fills))
+
+      module _ (saids : ℕ → List Said) (said : SaidByAll lists (start_setting calls) saids 0 calls) where
+        abbrev states : List (List (List VEntry))
+        states = map state_lists said.mss
+
+        abbrev book : Book
+        book = book_of marks lists states
+
+        back : lists_of book ≡ aside lists states
+        back = lists_back marks lists states laid
+
+        book_fills : Fills told (lists_of book)
+        book_fills = subst (Fills told) (sym back) (fills_aside lists states told fills)
+
+        book_lawful : Lawful told (lists_of book)
+        book_lawful = subst (Lawful told) (sym back) (lawful_aside lists states told lawful)
+
+        means : AllMean script t book said.mss
+        means = each_caller (λ c calls' ms. CallerMeans lists (start_setting calls c) calls' ms)
+            (λ c calls' ms. CallerMeans (lists_of book) (start_setting calls c) calls' ms)
+            (λ c calls' ms m. subst (λ l. CallerMeans l (start_setting calls c) calls' ms) (sym back)
+            (means_aside lists states (start_setting calls c) calls' ms m)) 0 calls said.mss said.means
+
+        pub made : MadeBook script t
+        made = record {
+          book = book;
+          meanings = said.mss;
+          lines = stand.lines;
+          marks = stand.marks_stand;
+          forms = record {
+            cpus = (book_with states).cpus;
+            visits = (book_with states).visits;
+            callers = means;
+            states = refl;
+            lanes = book_lawful.lanes;
+            samples = (gathered.samples book said.mss (book_with states) means book_fills book_lawful.lanes).1 book_lawful;
+          };
+        }
+
+        same_deeds : (order : List Step) → deeds_of lists order ≡ deeds_of (lists_of book) order
+        same_deeds order = sym (ap (λ l. deeds_of l order) back ∙ deeds_same lists states order)
+
+        same_reseeds : (base_after lists.base).generation ≡ (base_after (lists_of book).base).generation
+        same_reseeds = ap (λ l. (base_after l.base).generation) (sym back)
+
+        Of : ℕ → (List Step → List Deed) → Type 0
+        Of n deeds = AllByRecursion (λ order. LooksStand n [] (deeds order)) (caller_orders calls)
+
+        -- looks stand in the book where they stand in the lists
+        pub seen_stands : (b : _) →
+            (IsTrue b ↔ AllByRecursion (λ order. LooksStand (base_after lists.base).generation [] (deeds_of lists order))
+            (caller_orders calls)) →
+            IsTrue b ↔ SeenStands script t (lists_of made.book)
+        seen_stands b is =
+            let path : Of (base_after lists.base).generation (deeds_of lists) ≡ SeenStands script t (lists_of book) =
+            (λ i. Of (same_reseeds i) (λ order. same_deeds order i)) in (
+              (λ h. subst (λ (X : Type 0). X) path (is.0 h)),
+              (λ h. is.1 (subst (λ (X : Type 0). X) (sym path) h)),
+            )

@@ -1,0 +1,89 @@
+-- One caller's calls and settings, by its number.
+use Rattle.std.proofs.Common.{◌≡◌, ◌⊎◌, inl, inr, ℕ, zero, suc, ◌+◌, ◌<◌, ◌≤◌, Some, List, [], ◌∷◌, ◌++◌, length, get_or, map, refl, sym, subst, ap, ◌∙◌, arith}
+use Rattle.std.specs.Prelude.{slice_get}
+use Rattle.std.specs.List.{AllByRecursion}
+use Rattle.std.specs.Global.{Vec}
+use Rattle.std.proofs.lemmas.List.{map-append, length-map}
+use mathlib.Core.Logic.{dite}
+use native.Mathlib.Decide.{ℕ_discrete}
+use Rattle.key_names.specs.Book.{Lists, list_at}
+use Rattle.key_names.specs.Calls.{Setting, Call}
+use Rattle.key_names.specs.IsTranscript.{start_setting, script_calls}
+use Rattle.key_names.specs.ScriptGrammar.{Script}
+use Rattle.key_names.specs.SeenLine.{SeenLine}
+use Rattle.key_names.proofs.CallerOrders.{list_front, list_last}
+use Rattle.line_orders.specs.declared.called.Called.{Called}
+use Rattle.line_orders.specs.Called.{seen_call, seen_calls}
+use Rattle.line_orders.specs.Settings.{settings_from, AreSettings}
+use Rattle.line_orders.proofs.SettingsFound.{list_found}
+use Rattle.caller_answers.specs.declared.said.Said.{Said}
+use Rattle.caller_answers.specs.Said.{CallInRange, IsSaid}
+use Rattle.serial_replay.specs.Remade.{CallersStand, said_lists}
+use Rattle.serial_replay.proofs.Callers.{CallsOf, calls_of_caller}
+
+pub found_at : {X : Type 0} (xs : List X) (i : ℕ) (x : X) → i < length xs → x ≡ get_or xs i x → slice_get xs i ≡ Some x
+found_at [] i x low is = absurd (omega arith)
+found_at (y ∷ xs) zero x low is = ap Some (sym is)
+found_at (y ∷ xs) (suc i) x low is = found_at xs i x (omega arith) is
+
+each_at : {X : Type 0} (P : List X → Type 0) (xss : List (List X)) (c : ℕ) → c < length xss → AllByRecursion P xss →
+    P (list_at xss c)
+each_at P [] c low all = absurd (omega arith)
+each_at P (xs ∷ xss) zero low all = all.0
+each_at P (xs ∷ xss) (suc c) low all = each_at P xss c (omega arith) all.1
+
+module _ (callers : List (Vec Called)) (settings : List (Vec Setting)) (c : ℕ) (calls : Vec Called) (found : Vec Setting)
+    (low : c < length callers) (calls_is : calls ≡ get_or callers c calls) (long : length settings ≡ length callers)
+    (found_is : found ≡ get_or settings c found) where
+  pub here : map seen_call calls.items ≡ list_at (seen_calls callers) c
+  here = list_found callers c calls low calls_is
+
+  pub among : c < length (seen_calls callers)
+  among =
+      let e : length (seen_calls callers) ≡ length callers =
+      length-map callers (λ (calls : Vec Called). map seen_call calls.items) in
+      omega arith
+
+  pub range_of : AllByRecursion (AllByRecursion CallInRange) (seen_calls callers) →
+      AllByRecursion CallInRange (map seen_call calls.items)
+  range_of all = subst (AllByRecursion CallInRange) (sym here)
+      (each_at (AllByRecursion CallInRange) (seen_calls callers) c among all)
+
+  module _ (script : Script) (t : List (List SeenLine)) (stand : CallersStand script t (seen_calls callers) settings) where
+    pub calls_of : CallsOf (map seen_call calls.items)
+    calls_of =
+        let whole : CallsOf (list_at (script_calls script t) c) =
+        calls_of_caller 0 script.callers t stand.lines stand.fit c
+        (subst (λ (cs : List (List Call)). c < length cs) stand.calls among) in
+        subst CallsOf (ap (λ (cs : List (List Call)). list_at cs c) (sym stand.calls) ∙ sym here) whole
+
+    pub settings_are : found.items ≡ settings_from (start_setting (seen_calls callers) c) (map seen_call calls.items)
+    settings_are =
+        stand.found.each c found (found_at settings c found (omega arith) found_is)
+        ∙ ap (settings_from (start_setting (seen_calls callers) c)) (sym here)
+
+-- one caller more is said
+module _ (lists : Lists) (callers : List (List Call)) (said : List (Vec Said)) (n : ℕ) (more : Vec Said)
+    (long : length said ≡ n) where
+  abbrev SaidAt : List (Vec Said) → ℕ → Type 0
+  SaidAt all c = IsSaid lists (start_setting callers c) (list_at callers c) (list_at (said_lists all) c)
+
+  lists_more : said_lists (said ++ more ∷ []) ≡ said_lists said ++ more.items ∷ []
+  lists_more = map-append (λ (s : Vec Said). s.items) said (more ∷ [])
+
+  lists_long : length (said_lists said) ≡ n
+  lists_long = length-map said (λ (s : Vec Said). s.items) ∙ long
+
+  pub said_more : ((c : ℕ) → c < n → SaidAt said c) →
+      IsSaid lists (start_setting callers n) (list_at callers n) more.items → (c : ℕ) → c < n + 1 →
+      SaidAt (said ++ more ∷ []) c
+  said_more before here c low = dite (ℕ_discrete c n)
+      (λ e. subst (IsSaid lists (start_setting callers c) (list_at callers c))
+      (sym (ap (λ (ss : List (List Said)). list_at ss c) lists_more
+      ∙ ap (list_at (said_lists said ++ more.items ∷ [])) (e ∙ sym lists_long)
+      ∙ list_last (said_lists said) more.items))
+      (subst (λ m. IsSaid lists (start_setting callers m) (list_at callers m) more.items) (sym e) here))
+      (λ ne. subst (IsSaid lists (start_setting callers c) (list_at callers c))
+      (sym (ap (λ (ss : List (List Said)). list_at ss c) lists_more
+      ∙ list_front (said_lists said) more.items c (let l = lists_long in omega arith)))
+      (before c (omega arith)))

@@ -1,0 +1,134 @@
+-- What is made of lines whose parts stand.
+use Rattle.std.proofs.Common.{◌≡◌, ℕ, ◌+◌, ◌<◌, ◌≤◌, Option, Some, None, List, length, map, refl, sym, subst, ap, ◌∙◌, arith}
+use Rattle.std.specs.Prelude.{◌↔◌, IsTrue}
+use Rattle.std.specs.List.{AllByRecursion}
+use Rattle.std.specs.Global.{Vec}
+use Rattle.std.proofs.lemmas.List.{length-map}
+use Rattle.key_names.specs.declared.names.Step.{Step}
+use Rattle.key_names.specs.BaseList.{base_after}
+use Rattle.key_names.specs.Book.{Book, Lists, LawfulLanes, lists_of, list_at}
+use Rattle.key_names.specs.Calls.{Setting, Call}
+use Rattle.key_names.specs.Deeds.{deeds_of}
+use Rattle.key_names.specs.History.{LooksStand, caller_orders, calls_steps}
+use Rattle.key_names.specs.ScriptGrammar.{Script, WellFormed}
+use Rattle.key_names.specs.SeenLine.{SeenLine}
+use Rattle.key_names.specs.IsTranscript.{MadeBook, script_calls, start_setting}
+use Rattle.line_orders.specs.declared.begin.Parts.{Parts}
+use Rattle.line_orders.specs.declared.called.Called.{Called}
+use Rattle.line_orders.specs.declared.order.Fork.{Fork}
+use Rattle.line_orders.specs.Along.{Along}
+use Rattle.line_orders.specs.Begun.{PartsStand}
+use Rattle.line_orders.specs.Called.{seen_call, seen_calls}
+use Rattle.line_orders.specs.Orders.{all_forks}
+use Rattle.line_orders.specs.Settings.{AreSettings}
+use Rattle.line_orders.proofs.AllCalls.{calls_long}
+use Rattle.line_orders.proofs.ForksRise.{all_rise}
+use Rattle.line_orders.proofs.LineFits.{callers_long}
+use Rattle.list_replay.specs.declared.kept.Lists.{Lists as KeptLists}
+use Rattle.list_replay.specs.Tables.{Tables}
+use Rattle.list_replay.specs.Fills.{Fills}
+use Rattle.list_replay.specs.Kept.{Keeps}
+use Rattle.list_replay.specs.Lawful.{Lawful}
+use Rattle.told_entries.specs.Filled.{AllCallsFill}
+use Rattle.told_entries.specs.Gathered.{IsBookOf, IsGathered}
+use Rattle.caller_answers.specs.declared.said.Said.{Said}
+use Rattle.caller_answers.specs.Said.{CallInRange, IsSaid}
+use Rattle.serial_replay.proofs.Stubs.{all_in_range}
+use Rattle.serial_replay.specs.declared.remake.Made.{Made}
+use Rattle.serial_replay.specs.Remade.{StepsFit, CallersStand, MeansSome, AllMeanSome, said_lists, AllSaid, made_by, AllMade}
+use Rattle.serial_replay.specs.Remade.{FailsEarly}
+use Rattle.serial_replay.specs.Seen.{seen_behind, MayLook, reseeds_in}
+use Rattle.serial_replay.proofs.Callers.{caller_means, SaidByAll, said_by_all}
+use Rattle.serial_replay.proofs.LooksStand.{looks_stand}
+use Rattle.serial_replay.proofs.MadeBooks.{stops, made_fills, made_lawful, lines_fill, made, seen_stands}
+
+module _ (script : Script) (t : List (List SeenLine)) (parts : Parts) (stand : PartsStand script t parts)
+    (well : WellFormed script) where
+  abbrev calls : List (List Call)
+  calls = script_calls script t
+
+  pub few_calls : length parts.calls.items ≤ 64
+  few_calls =
+      let many : length parts.calls.items ≡ length script.callers =
+      sym (length-map parts.calls.items (λ (calls : Vec Called). map seen_call calls.items))
+      ∙ ap length stand.calls ∙ calls_long script.callers t in
+      omega (arith, well.callers.1)
+
+  pub few_orders : length parts.orders.own.items ≤ 64
+  few_orders =
+      let many : length parts.orders.own.items ≡ length script.callers =
+      sym (length-map parts.orders.own.items (λ (own : Vec Step). own.items)) ∙ ap length stand.own
+      ∙ length-map calls calls_steps ∙ calls_long script.callers t in
+      omega (arith, well.callers.1)
+
+  pub forks_are : parts.orders.forks.items ≡ all_forks 0 (seen_calls parts.calls.items)
+  forks_are = stand.forks ∙ ap (all_forks 0) (sym stand.calls)
+
+  pub forks_rise : AllByRecursion (λ fork. fork.parent < fork.child) parts.orders.forks.items
+  forks_rise = subst (λ (forks : List Fork). AllByRecursion (λ fork. fork.parent < fork.child) forks) (sym stand.forks)
+      (all_rise 0 script.callers t well.above)
+
+  pub in_range : AllByRecursion (AllByRecursion CallInRange) (seen_calls parts.calls.items)
+  in_range = subst (λ (calls : List (List Call)). AllByRecursion (AllByRecursion CallInRange) calls) (sym stand.calls)
+      (all_in_range script.version script.cpus script.callers t well.ranges)
+
+  -- a line visits a CPU that is not there
+  pub none_gathered : ((book : Book) → IsBookOf script t book → ⊥) → FailsEarly script t 4
+  none_gathered none = stops script t parts stand
+      (λ m. none m.book (record { cpus = m.forms.cpus; visits = m.forms.visits }))
+
+  module _ (settings : List (Vec Setting)) (fit : StepsFit t) (are : AreSettings (seen_calls parts.calls.items) settings)
+      (told : Tables) (gathered : IsGathered script t told) where
+    -- no lists are as told and lawful
+    pub none_replayed : ((lists : Lists) → Fills told lists → Lawful told lists → ⊥) → FailsEarly script t 4
+    none_replayed none = stops script t parts stand
+        (λ m. none (lists_of m.book) (made_fills script t parts stand told gathered m)
+        (made_lawful script t parts stand told gathered m))
+
+    pub callers_stand : CallersStand script t (seen_calls parts.calls.items) settings
+    callers_stand = record { lines = stand.lines; fit = fit; calls = stand.calls; found = are }
+
+    module _ (kept : KeptLists) (keeps : (lists : Lists) → Fills told lists → Lawful told lists → Keeps kept lists) where
+      -- the steps of some line are no form
+      pub none_said :
+          ((lists : Lists) → Keeps kept lists → LawfulLanes lists → AllMeanSome lists (seen_calls parts.calls.items) → ⊥) →
+          FailsEarly script t 4
+      none_said none = stops script t parts stand (λ m.
+          let lists : Lists = lists_of m.book in
+          let means : AllMeanSome lists calls =
+          (λ c low. subst (λ n. MeansSome lists (start_setting calls n) (list_at calls c)) (omega arith)
+          (caller_means lists (start_setting calls) 0 calls m.meanings m.forms.callers c low)) in
+          none lists (keeps lists (made_fills script t parts stand told gathered m)
+          (made_lawful script t parts stand told gathered m)) m.forms.lanes
+          (subst (AllMeanSome lists) (sym stand.calls) means))
+
+      module _ (lists : Lists) (fills : Fills told lists) (lawful : Lawful told lists) where
+        pub all_fill : AllCallsFill lists (seen_calls parts.calls.items)
+        all_fill = subst (AllCallsFill lists) (sym stand.calls)
+            (lines_fill script t parts stand told gathered lists fills lawful)
+
+        module _ (m : Made) (all : AllSaid lists (seen_calls parts.calls.items) m.callers.items) where
+          said : SaidByAll lists (start_setting calls) (list_at (made_by m)) 0 calls
+          said =
+              let each : AllSaid lists calls m.callers.items =
+              subst (λ cs. AllSaid lists cs m.callers.items) stand.calls all in
+              said_by_all lists (start_setting calls) (list_at (made_by m)) 0 calls (λ d low.
+              subst (λ n. IsSaid lists (start_setting calls n) (list_at calls d) (list_at (made_by m) n)) (omega arith)
+              (each.each d low))
+
+          long : length (made_by m) ≡ length t
+          long =
+              length-map m.callers.items (λ (s : Vec Said). s.items) ∙ all.long ∙ ap length stand.calls
+              ∙ calls_long script.callers t ∙ sym (callers_long 0 script.callers t stand.lines)
+
+          pub all_made : (reseeds : ℕ) → reseeds ≡ reseeds_in kept.base.items →
+              (IsTrue m.looks_stand ↔ AllByRecursion (Along (seen_behind kept) (MayLook reseeds) None) (caller_orders calls)) →
+              AllMade script t m
+          all_made reseeds is looks =
+              let both = looks_stand kept lists (keeps lists fills lawful) reseeds is (caller_orders calls) in record {
+                made = made script t parts stand told gathered lists fills lawful (list_at (made_by m)) said;
+                long = long;
+                says = said.says;
+                looks = seen_stands script t parts stand told gathered lists fills lawful (list_at (made_by m)) said
+                    m.looks_stand ((λ h. both.0 (looks.0 h)), (λ h. looks.1 (both.1 h)));
+              }

@@ -1,0 +1,21 @@
+use Rattle.std.proofs.Common.{◌≡◌, ℕ, ◌<◌, List, length}
+use Rattle.key_names.specs.Book.{Lists, LawfulLanes, list_at}
+use Rattle.key_names.specs.IsTranscript.{start_setting}
+use Rattle.key_names.specs.ScriptGrammar.{Script}
+use Rattle.key_names.specs.SeenLine.{SeenLine}
+use Rattle.line_orders.specs.Called.{seen_calls}
+use Rattle.list_replay.specs.Kept.{Keeps}
+use Rattle.told_entries.specs.Filled.{AllCallsFill}
+use Rattle.caller_answers.specs.Said.{IsSaid}
+use Rattle.serial_replay.specs.Remade.{CallersStand, said_lists}
+use Rattle.serial_replay.proofs.remake.all_said.Given as goal
+
+abbrev pub invariant-loop-caller : goal.invariant-loop-caller
+invariant-loop-caller l = record {
+  long : length l.callers.items ≡ l.caller;
+  each : (script : Script) (t : List (List SeenLine)) (lists : Lists) →
+      CallersStand script t (seen_calls l.calls) l.settings → Keeps l.kept lists → LawfulLanes lists →
+      AllCallsFill lists (seen_calls l.calls) → (c : ℕ) → c < l.caller →
+      IsSaid lists (start_setting (seen_calls l.calls) c) (list_at (seen_calls l.calls) c)
+      (list_at (said_lists l.callers.items) c);
+}

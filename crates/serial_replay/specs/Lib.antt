@@ -1,0 +1,5 @@
+pub mod Remade
+pub mod Replayed
+pub mod Seen
+pub mod Agreement
+pub mod Written

@@ -1,0 +1,82 @@
+-- What is made of a transcript's steps.
+use Rattle.std.specs.Prelude.{ℕ, ◌≡◌, ◌<◌, ◌↔◌, ⊤, IsTrue, List, length, map}
+use Rattle.std.specs.List.{AllByRecursion}
+use Rattle.std.specs.Global.{Vec}
+use Rattle.key_names.specs.Book.{Lists, lists_of, list_at}
+use Rattle.key_names.specs.Calls.{Setting, Call}
+use Rattle.key_names.specs.Meaning.{CallMeaning}
+use Rattle.key_names.specs.TranscriptGrammar.{StepFits}
+use Rattle.key_names.specs.ScriptGrammar.{Script}
+use Rattle.key_names.specs.SeenLine.{SeenLine}
+use Rattle.key_names.specs.IsTranscript.{MadeBook, SeenStands, FirstFails, Clause, clause_number, EachCaller}
+use Rattle.key_names.specs.IsTranscript.{EachLine, script_calls, HasLines, CallerMeans, start_setting}
+use Rattle.line_orders.specs.Settings.{AreSettings}
+use Rattle.key_names.specs.IsTranscript.{lines_clause, marks_clause, forms_clause, answers_clause, data_clause}
+use Rattle.key_names.specs.IsTranscript.{looks_clause}
+use Rattle.caller_answers.specs.declared.said.Said.{Said}
+use Rattle.caller_answers.specs.Said.{SaysIt, IsSaid}
+use Rattle.serial_replay.specs.declared.remake.Made.{Made}
+use Rattle.serial_replay.specs.declared.remake.Remade.{Remade}
+use Rattle.serial_replay.specs.declared.remake.Remade.TheVariants.{Made as MadeAll, No}
+
+-- a clause that is judged before any answer
+abbrev pub IsEarly : Clause → Type 0
+IsEarly lines_clause = ⊤
+IsEarly marks_clause = ⊤
+IsEarly forms_clause = ⊤
+IsEarly answers_clause = ⊥
+IsEarly data_clause = ⊥
+IsEarly looks_clause = ⊥
+
+-- the numbers in all steps are those of a transcript
+abbrev pub StepsFit : List (List SeenLine) → Type 0
+StepsFit t = AllByRecursion (AllByRecursion (λ line. AllByRecursion StepFits line.steps)) t
+
+-- the callers have these calls, and find these settings
+pub record CallersStand (script : Script) (t : List (List SeenLine)) (callers : List (List Call))
+    (settings : List (Vec Setting)) : Type 0 where
+  pub lines : HasLines script t
+  pub fit : StepsFit t
+  pub calls : callers ≡ script_calls script t
+  pub found : AreSettings callers settings
+
+-- what one caller's calls mean
+pub record MeansSome (lists : Lists) (set : Setting) (calls : List Call) : Type 0 where
+  pub ms : List CallMeaning
+  pub means : CallerMeans lists set calls ms
+
+-- what each caller's calls mean, and what is said of its lines
+abbrev pub AllMeanSome : Lists → List (List Call) → Type 0
+AllMeanSome lists callers =
+    (c : ℕ) → c < length callers → MeansSome lists (start_setting callers c) (list_at callers c)
+
+abbrev pub said_lists : List (Vec Said) → List (List Said)
+said_lists callers = map (λ said. said.items) callers
+
+pub record AllSaid (lists : Lists) (callers : List (List Call)) (said : List (Vec Said)) : Type 0 where
+  pub long : length said ≡ length callers
+  pub each : (c : ℕ) → c < length callers →
+      IsSaid lists (start_setting callers c) (list_at callers c) (list_at (said_lists said) c)
+
+-- what was made of each caller's lines
+abbrev pub made_by : Made → List (List Said)
+made_by m = said_lists m.callers.items
+
+-- the steps make a book, each line's answer and data are said at its event's number, and whether the looks stand
+pub record AllMade (script : Script) (t : List (List SeenLine)) (m : Made) : Type 0 where
+  pub made : MadeBook script t
+  pub long : length (made_by m) ≡ length t
+  pub says : EachCaller (λ c calls ms. EachLine (SaysIt (list_at (made_by m) c)) calls ms) 0 (script_calls script t)
+      made.meanings
+  pub looks : IsTrue m.looks_stand ↔ SeenStands script t (lists_of made.book)
+
+-- the clause of this number is the first that fails, and one before the answers
+pub record FailsEarly (script : Script) (t : List (List SeenLine)) (number : ℕ) : Type 0 where
+  pub clause : Clause
+  pub is : number ≡ clause_number clause
+  pub early : IsEarly clause
+  pub fails : FirstFails script t clause
+
+abbrev pub IsRemade : Script → List (List SeenLine) → Remade → Type 0
+IsRemade script t (MadeAll m) = AllMade script t m
+IsRemade script t (No number) = FailsEarly script t number

@@ -1,0 +1,100 @@
+//! Whether each look stands: it finds at least what its caller had seen, and at most the number of reseeds.
+ghost use Rattle.std.specs.Prelude.{◌≡◌, slice_get, option_map};
+ghost use Rattle.serial_replay.specs.Seen.{left_at, seen_more, seen_behind, MayLook, reseeds_in};
+
+use key_names::{LaneId, Mark, Step};
+use line_orders::along::Carry;
+use list_replay::{KeptBase, KeptCpu, Lists};
+
+/// What a caller has seen goes along its order: the greatest of its looks, and of the generations that its visits of the
+/// base and of the CPUs left.
+#[derive(Drop)]
+pub(crate) struct Looks<'a> {
+    lists: &'a Lists,
+    reseeds: u64,
+}
+
+fn reseeds_in(base: &[KeptBase]) -> u64
+    ensures { result ≡ reseeds_in base.now }
+{
+    match base {
+        [] => 0,
+        [kept] => kept.generation,
+        [_, rest @ ..] => reseeds_in(rest),
+    }
+}
+
+impl<'a> Looks<'a> {
+    pub(crate) fn of(lists: &'a Lists) -> Looks<'a>
+        ensures lists { result.lists.now ≡ lists.now }
+        ensures reseeds { result.reseeds ≡ reseeds_in lists.now.base.items }
+    {
+        Looks {
+            lists,
+            reseeds: reseeds_in(&lists.base),
+        }
+    }
+
+    // The generation that a visit left; a visit of the pool tells of none.
+    fn left_by(&self, mark: Mark) -> Option<u64>
+        ensures { result ≡ left_at self.now.lists.now mark.lane mark.place }
+    {
+        match mark.lane {
+            LaneId::Pool => None,
+            LaneId::Base => left_by_base(&self.lists.base, mark.place),
+            LaneId::Cpu(cpu) => match self.lists.cpus.get(cpu as usize) {
+                Some(lane) => left_by_cpu(lane, mark.place),
+                None => None,
+            },
+        }
+    }
+}
+
+fn left_by_base(base: &[KeptBase], place: u64) -> Option<u64>
+    ensures { result ≡ option_map (λ kept. kept.generation) (slice_get base.now place) }
+{
+    match base.get(place as usize) {
+        Some(kept) => Some(kept.generation),
+        None => None,
+    }
+}
+
+fn left_by_cpu(lane: &[KeptCpu], place: u64) -> Option<u64>
+    ensures { result ≡ option_map (λ kept. kept.generation) (slice_get lane.now place) }
+{
+    match lane.get(place as usize) {
+        Some(kept) => Some(kept.generation),
+        None => None,
+    }
+}
+
+fn seen_more(carried: Option<u64>, found: Option<u64>) -> Option<u64>
+    ensures { result ≡ seen_more carried found }
+{
+    match found {
+        Some(found) => Some(carried.unwrap_or(0).max(found)),
+        None => carried,
+    }
+}
+
+impl Carry for Looks<'_> {
+    ghost after = { λ looks carried step. seen_behind looks.lists.now carried step };
+
+    ghost MayFollow = { λ looks carried step. MayLook looks.reseeds carried step };
+
+    fn may_follow(&self, carried: Option<u64>, step: Step) -> bool
+    {
+        match step {
+            Step::Look(found) => carried.unwrap_or(0) <= found && found <= self.reseeds,
+            Step::Visit(_) => true,
+        }
+    }
+
+    fn after(&self, carried: Option<u64>, step: Step) -> Option<u64>
+    {
+        match step {
+            Step::Look(found) => seen_more(carried, Some(found)),
+            Step::Visit(mark) => seen_more(carried, self.left_by(mark)),
+        }
+    }
+}

@@ -1,0 +1,48 @@
+-- What is told of all marks, and what it has to do with the lines.
+use Rattle.std.specs.Prelude.{ℕ, ◌≡◌, ◌↔◌, List, length}
+use Rattle.std.specs.List.{AllByRecursion}
+use Rattle.key_names.specs.declared.names.LaneId.TheVariants.{Pool as PoolLane, Base as BaseLane, Cpu as CpuLane}
+use Rattle.key_names.specs.Book.{Book, lists_of, list_at, LawfulLanes}
+use Rattle.key_names.specs.Samples.{LawfulSamples}
+use Rattle.key_names.specs.LineSamples.{SamplesStand}
+use Rattle.key_names.specs.ScriptGrammar.{Script}
+use Rattle.key_names.specs.SeenLine.{SeenLine}
+use Rattle.key_names.specs.Deeds.{deeds_of}
+use Rattle.key_names.specs.Meaning.{CallMeaning}
+use Rattle.key_names.specs.IsTranscript.{EachCaller, CallerMeans, VisitsAre, all_marks, lane_marks, script_calls}
+use Rattle.key_names.specs.IsTranscript.{start_setting}
+use Rattle.line_forms.specs.LaneFacts.{facts_of}
+use Rattle.list_replay.specs.Tables.{Tables, InRange}
+use Rattle.list_replay.specs.Fills.{Fills}
+use Rattle.list_replay.specs.Lawful.{Lawful}
+use Rattle.told_entries.specs.Filled.{AllCallsFill}
+
+-- the book's visits are the marks of the transcript, on the CPUs of the script
+pub record IsBookOf (script : Script) (t : List (List SeenLine)) (book : Book) : Type 0 where
+  pub cpus : length book.cpus ≡ script.cpus
+  pub visits : VisitsAre book (all_marks t)
+
+-- each call of each caller means what it may, in these lists
+abbrev pub AllMean : Script → List (List SeenLine) → Book → List (List CallMeaning) → Type 0
+AllMean script t book ms =
+    EachCaller (λ c calls ms. CallerMeans (lists_of book) (start_setting (script_calls script t) c) calls ms) 0
+    (script_calls script t) ms
+
+pub record IsGathered (script : Script) (t : List (List SeenLine)) (told : Tables) : Type 0 where
+  pub in_range : InRange told
+  -- a row for each mark
+  pub pool_count : length told.pool ≡ length (lane_marks PoolLane (all_marks t))
+  pub base_count : length told.base ≡ length (lane_marks BaseLane (all_marks t))
+  pub cpus_count : length told.cpus ≡ script.cpus
+  pub cpu_count : (c : ℕ) → length (list_at told.cpus c) ≡ length (lane_marks (CpuLane c) (all_marks t))
+  -- each line's visits are as its steps tell exactly where each place of the lanes is as told
+  pub fills : (book : Book) → IsBookOf script t book →
+      AllCallsFill (lists_of book) (script_calls script t) ↔ Fills told (lists_of book)
+  -- the samples are where they belong exactly where what is told of dumps stands
+  pub samples : (book : Book) (ms : List (List CallMeaning)) → IsBookOf script t book → AllMean script t book ms →
+      Fills told (lists_of book) → LawfulLanes (lists_of book) → LawfulSamples book ↔ Lawful told (lists_of book)
+  -- samples that are where they belong stand in each line
+  pub sampled : (book : Book) (ms : List (List CallMeaning)) → IsBookOf script t book → AllMean script t book ms →
+      LawfulLanes (lists_of book) → LawfulSamples book →
+      AllByRecursion (AllByRecursion (λ line. SamplesStand (facts_of (lists_of book)).fast
+      (deeds_of (lists_of book) line.steps))) t

@@ -1,0 +1,137 @@
+-- What a check tells, from what was made of the lines.
+use Rattle.std.proofs.Common.{◌≡◌, ℕ, ◌≤◌, List, [], ◌∷◌, max, refl, sym, subst, ap, ◌∙◌, arith}
+use Rattle.std.specs.Prelude.{◌↔◌, IsTrue}
+use Rattle.std.specs.List.{AllByRecursion}
+use Rattle.key_names.specs.declared.names.Step.{Step}
+use Rattle.key_names.specs.BaseList.{base_after}
+use Rattle.key_names.specs.Book.{lists_of}
+use Rattle.key_names.specs.Deeds.{Deed, looked, at_pool, at_base, at_cpu, nothing_there, deeds_of}
+use Rattle.key_names.specs.History.{LooksStand, seen_after, caller_orders}
+use Rattle.key_names.specs.CallerOrders.{LooksFrom}
+use Rattle.key_names.specs.IsTranscript.{IsTranscript, IsTranscriptBy, MadeBook, SeenStands, FirstFails, Clause, clause_number}
+use Rattle.key_names.specs.IsTranscript.{lines_clause, marks_clause, forms_clause, answers_clause, data_clause, looks_clause}
+use Rattle.key_names.specs.IsTranscript.{AnswersStand, DataStand, script_calls}
+use Rattle.key_names.specs.ScriptGrammar.{Script, WellFormed}
+use Rattle.key_names.specs.SeenLine.{SeenLine}
+use Rattle.key_names.specs.VreadSteps.{NeverFall, looks_of}
+use Rattle.key_names.proofs.Each.{each_weaker}
+use Rattle.key_names.proofs.BookUses.{lawful_is_disjoint}
+use Rattle.key_names.proofs.CallerOrders.{looks_are_counted}
+use Rattle.key_names.proofs.PrintedNamed.{transcript_prints_named}
+use Rattle.key_names.proofs.TranscriptLaws.{transcript_is_lawful}
+use Rattle.key_names.proofs.UniqueBook.{first_fail_is_unique}
+use Rattle.serial_replay.specs.declared.remake.Made.{Made}
+use Rattle.serial_replay.specs.Agreement.{SameAnswer, SameShown, AllAgree}
+use Rattle.serial_replay.specs.Remade.{AllMade, FailsEarly, made_by}
+use Rattle.serial_replay.proofs.Agreement.{answers_both, data_both}
+use Rattle.transcript_check.specs.declared.check.Verdict.{Verdict}
+use Rattle.transcript_check.specs.declared.check.Verdict.TheVariants.{Yes, No}
+use Rattle.transcript_check.specs.Judged.{IsSound, FailsFirst, IsJudged}
+
+-- looks that stand never fall
+
+lower : (a b : ℕ) (xs : List ℕ) → a ≤ b → NeverFall (b ∷ xs) → NeverFall (a ∷ xs)
+lower a b [] le h = tt
+lower a b (x ∷ xs) le h = (let first : b ≤ x = h.0 in omega arith, h.1)
+
+never_from : (reseeds seen : ℕ) (deeds : List Deed) → LooksFrom reseeds seen deeds → NeverFall (seen ∷ looks_of deeds)
+never_from reseeds seen [] h = tt
+never_from reseeds seen (looked g ∷ deeds) h =
+    let le : seen ≤ g = h.0.0 in
+    let same : max seen g ≡ g = omega arith in
+    (le, subst (λ n. NeverFall (n ∷ looks_of deeds)) same (never_from reseeds (max seen g) deeds h.1))
+never_from reseeds seen (at_pool v ∷ deeds) h = never_from reseeds seen deeds h.1
+never_from reseeds seen (at_base v ∷ deeds) h =
+    lower seen (max seen v.after.generation) (looks_of deeds) (omega arith)
+    (never_from reseeds (max seen v.after.generation) deeds h.1)
+never_from reseeds seen (at_cpu v ∷ deeds) h =
+    lower seen (max seen v.after.generation) (looks_of deeds) (omega arith)
+    (never_from reseeds (max seen v.after.generation) deeds h.1)
+never_from reseeds seen (nothing_there ∷ deeds) h = never_from reseeds seen deeds h.1
+
+behind_first : (a : ℕ) (xs : List ℕ) → NeverFall (a ∷ xs) → NeverFall xs
+behind_first a [] h = tt
+behind_first a (x ∷ xs) h = h.1
+
+looks_rise : (reseeds : ℕ) (deeds : List Deed) → LooksStand reseeds [] deeds → NeverFall (looks_of deeds)
+looks_rise reseeds deeds h = behind_first 0 (looks_of deeds)
+    (never_from reseeds 0 deeds ((looks_are_counted reseeds [] deeds).0 h))
+
+module _ (script : Script) (t : List (List SeenLine)) (well : WellFormed script) where
+  -- a lawful transcript is sound
+  sound : (made : MadeBook script t) → AnswersStand script t made.meanings → DataStand script t made.meanings →
+      SeenStands script t (lists_of made.book) → IsSound script t
+  sound made answers shown looks =
+      let lawful : IsTranscriptBy script t made.book made.meanings = record {
+        lines = made.lines;
+        marks = made.marks;
+        forms = made.forms;
+        answers = answers;
+        shown = shown;
+        looks = looks;
+      } in record {
+        book = made.book;
+        meanings = made.meanings;
+        lawful = lawful;
+        disjoint = lawful_is_disjoint (lists_of made.book) (transcript_is_lawful script t made.book made.meanings lawful);
+        printed = transcript_prints_named script t made.book made.meanings well lawful;
+        rising = each_weaker
+            (λ order. LooksStand (base_after (lists_of made.book).base).generation [] (deeds_of (lists_of made.book) order))
+            (λ order. NeverFall (looks_of (deeds_of (lists_of made.book) order)))
+            (caller_orders (script_calls script t))
+            (λ order h. looks_rise (base_after (lists_of made.book).base).generation (deeds_of (lists_of made.book) order) h)
+            looks;
+      }
+
+  pub early : (number : ℕ) → FailsEarly script t number → FailsFirst script t number
+  early number f = record { clause = f.clause; is = f.is; fails = f.fails }
+
+  module _ (m : Made) (a : AllMade script t m) where
+    abbrev Answers : Type 0
+    Answers = AllAgree SameAnswer (made_by m) t
+
+    abbrev Data : Type 0
+    Data = AllAgree SameShown (made_by m) t
+
+    answers : AnswersStand script t a.made.meanings ↔ Answers
+    answers = answers_both script t a.made.meanings (made_by m) a.made.lines a.says
+
+    shown : DataStand script t a.made.meanings ↔ Data
+    shown = data_both script t a.made.meanings (made_by m) a.made.lines a.says
+
+    pub other_answers : (Answers → ⊥) → FailsFirst script t 5
+    other_answers differ = record {
+      clause = answers_clause;
+      is = refl;
+      fails = (a.made, (λ stand. differ (answers.0 stand)));
+    }
+
+    pub other_data : Answers → (Data → ⊥) → FailsFirst script t 6
+    other_data same differ = record {
+      clause = data_clause;
+      is = refl;
+      fails = (a.made, answers.1 same, (λ stand. differ (shown.0 stand)));
+    }
+
+    pub other_looks : Answers → Data → (IsTrue m.looks_stand → ⊥) → FailsFirst script t 7
+    other_looks same same' fall = record {
+      clause = looks_clause;
+      is = refl;
+      fails = (a.made, answers.1 same, shown.1 same', (λ stand. fall (a.looks.1 stand)));
+    }
+
+    pub all_same : Answers → Data → IsTrue m.looks_stand → IsSound script t
+    all_same same same' stand = sound a.made (answers.1 same) (shown.1 same') (a.looks.0 stand)
+
+-- the verdict is the only one
+
+pub yes_of : (script : Script) (t : List (List SeenLine)) (v : Verdict) → IsJudged script t v → IsTranscript script t → v ≡ Yes
+yes_of script t Yes j is = refl
+yes_of script t (No number) j is = absurd ((first_fail_is_unique script t j.clause j.fails).1 is)
+
+pub no_of : (script : Script) (t : List (List SeenLine)) (v : Verdict) (clause : Clause) → IsJudged script t v →
+    FirstFails script t clause → v ≡ No (clause_number clause)
+no_of script t Yes clause j f =
+    absurd ((first_fail_is_unique script t clause f).1 (j.book, j.meanings, j.lawful))
+no_of script t (No number) clause j f =
+    ap No (j.is ∙ ap clause_number ((first_fail_is_unique script t j.clause j.fails).0 clause f))

@@ -1,0 +1,56 @@
+//! The check of a transcript.
+ghost use Rattle.std.specs.Prelude.{◌≡◌, IfOk};
+ghost use Rattle.key_names.specs.ScriptGrammar.{WellFormed};
+ghost use Rattle.key_names.specs.IsTranscript.{IsTranscript, FirstFails, Clause, clause_number};
+ghost use Rattle.transcript_check.specs.Judged.{IsJudged};
+
+use crate::compare::{Answers, Data, all_agree};
+use event_script::Script;
+use serial_replay::remake::{Remade, remake};
+use std::alloc::{AllocError, Global};
+use transcript_text::Transcript;
+
+/// Whether a transcript is lawful.
+#[derive(Clone, Copy, Debug, PartialEq, Eq)]
+pub enum Verdict {
+    Yes,
+    /// This clause is the first that fails: 2 to 7.
+    No(u8),
+}
+
+// The first clause that fails, if one does.
+fn judge(alloc: Global, script: &Script, t: &Transcript) -> Result<Verdict, AllocError>
+    requires { WellFormed script.now }
+    ensures { IfOk result (λ verdict. IsJudged script.now t.now verdict) }
+{
+    let made = match remake(alloc, script, t)? {
+        Remade::No(clause) => return Ok(Verdict::No(clause)),
+        Remade::Made(made) => made,
+    };
+    if !all_agree(&Answers, t, &made.callers) {
+        return Ok(Verdict::No(5));
+    }
+    if !all_agree(&Data, t, &made.callers) {
+        return Ok(Verdict::No(6));
+    }
+    if made.looks_stand {
+        Ok(Verdict::Yes)
+    } else {
+        Ok(Verdict::No(7))
+    }
+}
+
+/// Whether a transcript is lawful for a script, and if not, which clause is the first that fails.
+///
+/// # Errors
+///
+/// `AllocError` where there is no memory to judge it.
+pub fn check(alloc: Global, script: &Script, t: &Transcript) -> Result<Verdict, AllocError>
+    requires { WellFormed script.now }
+    ensures judged { IfOk result (λ verdict. IsJudged script.now t.now verdict) }
+    ensures yes { IsTranscript script.now t.now → IfOk result (λ verdict. verdict ≡ Verdict.Yes) }
+    ensures no { (clause : Clause) → FirstFails script.now t.now clause
+        → IfOk result (λ verdict. verdict ≡ Verdict.No (clause_number clause)) }
+{
+    judge(alloc, script, t)
+}

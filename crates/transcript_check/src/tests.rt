@@ -1,0 +1,3 @@
+use std::test::Fail;
+#[test]
+fn nothing(rt: HostRuntime) -> Result<(), Fail> { let _rt = rt; Ok(()) }
