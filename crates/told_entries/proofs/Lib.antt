@@ -1,0 +1,9 @@
+pub mod FilledLanes
+pub mod Gathers
+pub mod LanePlaces
+pub mod MarkedSteps
+pub mod Matches
+pub mod RowRanges
+pub mod SpotRows
+pub mod TableChanges
+pub mod TableRanges
