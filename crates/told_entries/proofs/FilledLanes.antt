@@ -1,5 +1,5 @@
 -- From rows that are what the lines tell: all lines' visits are as told exactly where the lists are as the tables tell.
-use Rattle.std.proofs.Common.{◌≡◌, ℕ, ◌<◌, List, [], ◌∷◌, length, Option, Some, None, refl, sym, subst, ap, ◌∙◌, arith, map}
+use Rattle.std.proofs.Common.{◌≡◌, ℕ, zero, suc, ◌<◌, List, [], ◌∷◌, length, Option, Some, None, refl, sym, subst, ap, ◌∙◌, arith, map}
 use Rattle.std.specs.Prelude.{◌↔◌, slice_get}
 use Rattle.std.specs.List.{AllByRecursion}
 use Rattle.std.proofs.lemmas.List.{length-map}
@@ -13,7 +13,7 @@ use Rattle.key_names.specs.declared.names.Step.{Step}
 use Rattle.key_names.specs.declared.names.Step.TheVariants.{Look, Visit as Marked}
 use Rattle.key_names.specs.Book.{Book, Visit, Lists, lists_of, entries_of, list_at, cpu_list}
 use Rattle.key_names.specs.Calls.{Call}
-use Rattle.key_names.specs.Deeds.{at_pool, at_base, at_cpu, deed_or, deed_at, deed_of, deeds_of, pool_visit, base_visit, cpu_visit}
+use Rattle.key_names.specs.Deeds.{Deed, at_pool, at_base, at_cpu, deed_or, deed_at, deed_of, deeds_of, pool_visit, base_visit, cpu_visit}
 use Rattle.key_names.specs.ScriptGrammar.{Script}
 use Rattle.key_names.specs.SeenLine.{SeenLine}
 use Rattle.key_names.specs.IsTranscript.{HasLines, MarksStand, MarkBy, all_marks, lane_marks, stamped_at, script_calls, start_setting}
@@ -46,11 +46,11 @@ list_at_map f (xs ∷ xss) zero = refl
 list_at_map f (xs ∷ xss) (suc c) = list_at_map f xss c
 
 pub book_lanes : (book : Book) (lane : LaneId) → entries_in (lists_of book) lane ≡ lane_length book lane
-book_lanes book PoolLane = length-map (λ (v : Visit PoolEntry). v.entry) book.pool
-book_lanes book BaseLane = length-map (λ (v : Visit BaseEntry). v.entry) book.base
+book_lanes book PoolLane = length-map book.pool (λ (v : Visit PoolEntry). v.entry)
+book_lanes book BaseLane = length-map book.base (λ (v : Visit BaseEntry). v.entry)
 book_lanes book (CpuLane c) =
     ap length (list_at_map (λ (v : Visit CpuEntry). v.entry) book.cpus c)
-    ∙ length-map (λ (v : Visit CpuEntry). v.entry) (list_at book.cpus c)
+    ∙ length-map (list_at book.cpus c) (λ (v : Visit CpuEntry). v.entry)
 
 -- ---- something stands at each place of a lane
 
@@ -128,7 +128,7 @@ module _ (script : Script) (t : List (List SeenLine)) (told : Tables) (book : Bo
     places_fill = record {
       pool_count = count PoolLane;
       base_count = count BaseLane;
-      cpus_count = length-map (λ (visits : List (Visit CpuEntry)). entries_of visits) book.cpus ∙ is.cpus ∙ sym long.count;
+      cpus_count = length-map book.cpus (λ (visits : List (Visit CpuEntry)). entries_of visits) ∙ is.cpus ∙ sym long.count;
       cpu_count = λ c. count (CpuLane c);
       pool = λ p u e at stands. at_place PoolLane p (slice_get_within told.pool p u at) u e at stands;
       base = λ i u e at stands. at_place BaseLane i (slice_get_within told.base i u at) u e at stands;

@@ -1,9 +1,12 @@
+pub mod BareRows
 pub mod FilledLanes
 pub mod Gathers
 pub mod LanePlaces
 pub mod MarkedSteps
 pub mod Matches
+pub mod OneRow
 pub mod RowRanges
 pub mod SpotRows
 pub mod TableChanges
 pub mod TableRanges
+pub mod TellSteps

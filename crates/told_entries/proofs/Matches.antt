@@ -1,5 +1,6 @@
 -- From rows that are what the lines tell: the visits of a line are as told exactly where each place that it visits is.
-use Rattle.std.proofs.Common.{◌≡◌, ℕ, ◌<◌, ⊤, List, [], ◌∷◌, length, Option, Some, None, refl, sym, subst, ap, ◌∙◌}
+use Rattle.std.proofs.Common.{◌≡◌, ℕ, ◌<◌, List, [], ◌∷◌, length, Option, Some, None, refl, sym, subst, ap, ◌∙◌}
+use Rattle.std.specs.Bool.{⊤}
 use Rattle.std.specs.Prelude.{◌↔◌, slice_get}
 use Rattle.std.specs.List.{AllByRecursion}
 use Rattle.key_names.specs.declared.entries.PoolEntry.{PoolEntry}

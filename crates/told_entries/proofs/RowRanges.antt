@@ -1,5 +1,6 @@
 -- What lines tell is in the ranges that tables keep: moments are those of the script, and integers have its widths.
-use Rattle.std.proofs.Common.{◌≡◌, ℕ, zero, suc, ◌+◌, ◌<◌, ◌≤◌, ◌^◌, ⊤, Bool, true, false, List, [], ◌∷◌, ◌++◌, length, Option, Some, None, inl, inr, refl, sym, subst, ap, ◌∙◌, arith}
+use Rattle.std.proofs.Common.{◌≡◌, ℕ, zero, suc, ◌+◌, ◌<◌, ◌≤◌, ◌^◌, Bool, true, false, List, [], ◌∷◌, ◌++◌, length, Option, Some, None, inl, inr, refl, sym, subst, ap, ◌∙◌, arith}
+use Rattle.std.specs.Bool.{⊤}
 use Rattle.std.specs.Prelude.{slice_get, if◌then◌else◌, ◌==◌}
 use Rattle.std.specs.List.{AllByRecursion, fold}
 use Rattle.key_names.specs.declared.entries.PoolEntry.{PoolEntry}
@@ -17,7 +18,7 @@ use Rattle.key_names.specs.declared.notes.PoolNote.TheVariants.{Mix as MixNote, 
 use Rattle.key_names.specs.declared.notes.PoolNote.TheVariants.{Bits as BitsNote, Extract as ExtractNote}
 use Rattle.key_names.specs.Book.{list_at}
 use Rattle.key_names.specs.Calls.{Setting, Call, alone, vread_call, unbound, ending, BoundAct, setting_after, setting_after_call}
-use Rattle.key_names.specs.Calls.{first_setting, setting_of, ForkPoint, with_call_before, fork_point, Parent, parent_here, parent_from, inherited_setting, first_settings, all_calls}
+use Rattle.key_names.specs.Calls.{first_setting, setting_of, ForkPoint, with_call_before, fork_point, Parent, parent_here, parent_from, inherited_setting, first_settings, calls_from, all_calls}
 use Rattle.key_names.specs.IsTranscript.{start_setting}
 use Rattle.key_names.specs.PoolNotes.{entry_of}
 use Rattle.key_names.specs.ScriptGrammar.{InRange as EventInRange}
@@ -168,14 +169,12 @@ module _ (told : Tables) where
         AllByRecursion (StepHas NearAt) steps
     steps_near tell first a b [] tells rows = tt
     steps_near tell first a b (step ∷ steps) tells rows =
-        (one step rows.0, steps_near tell first b (step_sign step) steps tells rows.1)
+        let around : Around = record { second_before = a; before = b; behind = first_shown steps } in
+        (one around step rows.0, steps_near tell first b (step_sign step) steps tells rows.1)
       where
-        abbrev around : Around
-        around = record { second_before = a; before = b; behind = first_shown steps }
-
-        one : (step : Step) → RowStands told set tell first around step → StepHas NearAt step
-        one (Look g) row = tt
-        one (Marked mark) row = row_near set (tell around) first around mark.lane mark.place near (tells around) row
+        one : (around : Around) (step : Step) → RowStands told set tell first around step → StepHas NearAt step
+        one around (Look g) row = tt
+        one around (Marked mark) row = row_near set (tell around) first around mark.lane mark.place near (tells around) row
 
     line_near : (tell : Around → Telling) (steps : List Step) → ((around : Around) → TellsNear (tell around)) →
         LineRows told set tell steps → AllByRecursion (StepHas NearAt) steps
@@ -264,12 +263,12 @@ with_call call (Some fork) near all = (near, all)
 
 fork_near : (c : ℕ) (calls : List Call) → AllByRecursion CallIsNear calls → ForkIsNear (fork_point c calls)
 fork_near c [] all = tt
-fork_near c (alone (Fork child) line ∷ calls) all = go (child == c)
+fork_near c (alone (Fork child) line ∷ calls) all = go (child == c) (fork_near c calls all.1)
   where
-    go : (b : Bool) → ForkIsNear (if b then Some (record { before = []; line = line })
+    go : (b : Bool) → ForkIsNear (fork_point c calls) → ForkIsNear (if b then Some (record { before = []; line = line })
         else with_call_before (alone (Fork child) line) (fork_point c calls))
-    go true = tt
-    go false = with_call (alone (Fork child) line) (fork_point c calls) tt (fork_near c calls all.1)
+    go true near = tt
+    go false near = with_call (alone (Fork child) line) (fork_point c calls) tt near
 fork_near c (call ∷ calls) all = with_call call (fork_point c calls) all.0 (fork_near c calls all.1)
 
 abbrev ParentIsNear : Option Parent → Type 0
@@ -312,7 +311,8 @@ firsts_near callers (suc c) all =
 abbrev Near : OfCalls
 Near waiting es lines calls = AllByRecursion EventIsNear es → AllByRecursion CallIsNear calls
 
-near_calls : (waiting : List BoundAct) (es : List Event) (lines : List SeenLine) → Near waiting es lines _
+near_calls : (waiting : List BoundAct) (es : List Event) (lines : List SeenLine) →
+    Near waiting es lines (calls_from waiting es lines)
 near_calls waiting es lines = of_calls Near (record {
   over = λ waiting all. tt;
   ends = λ waiting line lines all. (tt, tt);

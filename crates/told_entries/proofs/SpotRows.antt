@@ -1,5 +1,6 @@
 -- The spots of all lines: each place is told of at most once, and spots whose rows stand are lines whose rows stand.
-use Rattle.std.proofs.Common.{◌≡◌, ℕ, zero, suc, ◌+◌, ◌<◌, ◌≤◌, ⊤, Bool, true, false, cond, List, [], ◌∷◌, ◌++◌, length, refl, sym, subst, ap, ◌∙◌, arith, map, Some, None, Option}
+use Rattle.std.proofs.Common.{◌≡◌, ℕ, zero, suc, ◌+◌, ◌<◌, ◌≤◌, Bool, true, false, cond, List, [], ◌∷◌, ◌++◌, length, refl, sym, subst, ap, ◌∙◌, arith, map, Some, None, Option}
+use Rattle.std.specs.Bool.{⊤}
 use Rattle.std.specs.Prelude.{slice_get, ◌==◌, ◌&&◌, if◌then◌else◌}
 use Rattle.std.specs.List.{AllByRecursion}
 use Rattle.std.specs.Global.{Vec}
@@ -40,7 +41,7 @@ module _ (lane : LaneId) (place : ℕ) where
   steps_takes : (set : CallSetting) (tell : Around → Telling) (first a b : Sign) (steps : List Step) →
       spots_takes lane place (spots_from set tell first a b steps) ≡ mark_takes lane place steps
   steps_takes set tell first a b [] = refl
-  steps_takes set tell first a b (Look g ∷ steps) = steps_takes set tell first b (step_sign (Look g)) steps
+  steps_takes set tell first a b (Look g ∷ steps) = omega (arith, steps_takes set tell first b (step_sign (Look g)) steps)
   steps_takes set tell first a b (Marked mark ∷ steps) =
       omega (arith, one_takes mark.lane mark.place, steps_takes set tell first b (step_sign (Marked mark)) steps)
 
@@ -174,15 +175,15 @@ module _ (told : Tables) where
       AllRows (RowStands told set (λ around. silent) first) a b steps →
       AllRows (RowStands told set (λ around. ends) first) a b steps
   end_rows set first a b [] rows = tt
-  end_rows set first a b (step ∷ steps) rows = (one step rows.0, end_rows set first b (step_sign step) steps rows.1)
+  end_rows set first a b (step ∷ steps) rows = (
+    one (record { second_before = a; before = b; behind = first_shown steps }) step rows.0,
+    end_rows set first b (step_sign step) steps rows.1,
+  )
     where
-      abbrev around : Around
-      around = record { second_before = a; before = b; behind = first_shown steps }
-
-      one : (step : Step) → RowStands told set (λ around. silent) first around step →
+      one : (around : Around) (step : Step) → RowStands told set (λ around. silent) first around step →
           RowStands told set (λ around. ends) first around step
-      one (Look g) row = tt
-      one (Marked mark) row = end_row set first around mark.lane mark.place row
+      one around (Look g) row = tt
+      one around (Marked mark) row = end_row set first around mark.lane mark.place row
 
   acts_rows : (set : CallSetting) (acts : List BoundAct) → AllByRecursion (SpotStands told) (acts_spots set acts) →
       AllByRecursion (ActRows told set) acts

@@ -1,5 +1,6 @@
 -- Rows put into tables, one behind the other: where each place is told of once, its row is what is told there.
-use Rattle.std.proofs.Common.{◌≡◌, ◌≢◌, ℕ, suc, ◌+◌, ◌<◌, ◌≤◌, ⊤, Bool, true, false, cond, List, [], ◌∷◌, ◌++◌, length, Option, Some, None, refl, sym, subst, ap, ◌∙◌, arith}
+use Rattle.std.proofs.Common.{◌≡◌, ◌≢◌, ℕ, suc, ◌+◌, ◌<◌, ◌≤◌, Bool, true, false, cond, List, [], ◌∷◌, ◌++◌, length, Option, Some, None, refl, sym, subst, ap, ◌∙◌, arith}
+use Rattle.std.specs.Bool.{⊤}
 use Rattle.std.specs.Prelude.{MatchOption, ◌==◌, ◌&&◌, if◌then◌else◌}
 use Rattle.std.specs.List.{AllByRecursion}
 use Rattle.std.proofs.lemmas.Bool.{eq-eqb}
@@ -43,7 +44,7 @@ same_both a b c PoolLane place p q = q ∙ p
 same_both a b c BaseLane place p q = q ∙ p
 same_both a b c (CpuLane d) place p q = q ∙ p
 
-same_itself : (a : Tables) (lane : LaneId) (place : ℕ) → SameRow a a lane place
+pub same_itself : (a : Tables) (lane : LaneId) (place : ℕ) → SameRow a a lane place
 same_itself a PoolLane place = refl
 same_itself a BaseLane place = refl
 same_itself a (CpuLane c) place = refl
@@ -108,12 +109,13 @@ module _ (lane : LaneId) (place : ℕ) where
 
   last_none : (spots : List Spot) → spots_takes spots ≡ 0 → last_at lane place spots ≡ None
   last_none [] none = refl
-  last_none (spot ∷ spots) none = go (is_visit lane place spot.step) none
+  last_none (spot ∷ spots) none = go (is_visit lane place spot.step) none (last_none spots)
     where
       go : (b : Bool) → hit b + spots_takes spots ≡ 0 →
+          (spots_takes spots ≡ 0 → last_at lane place spots ≡ None) →
           or_else (last_at lane place spots) (if b then Some spot else None) ≡ None
-      go true none = absurd (omega arith)
-      go false none = or_none (last_at lane place spots) ∙ last_none spots (omega arith)
+      go true none rest = absurd (omega arith)
+      go false none rest = or_none (last_at lane place spots) ∙ rest (omega arith)
 
   -- the first of spots of which one tells of the place
   last_first : (spot : Spot) (spots : List Spot) → spots_takes (spot ∷ spots) ≤ 1 →

@@ -94,11 +94,12 @@ marks_count c (es ∷ ess) (lines ∷ t) fit few = omega (
 
 lane_count : (lane : LaneId) (marks : List MarkBy) → length (lane_marks lane marks) ≤ length marks
 lane_count lane [] = omega arith
-lane_count lane (by ∷ marks) = go (is_same_lane by.mark.lane lane)
+lane_count lane (by ∷ marks) = go (is_same_lane by.mark.lane lane) (lane_count lane marks)
   where
-    go : (b : Bool) → length (if b then by.mark ∷ lane_marks lane marks else lane_marks lane marks) ≤ suc (length marks)
-    go true = omega (arith, lane_count lane marks)
-    go false = omega (arith, lane_count lane marks)
+    go : (b : Bool) → length (lane_marks lane marks) ≤ length marks →
+        length (if b then by.mark ∷ lane_marks lane marks else lane_marks lane marks) ≤ suc (length marks)
+    go true rest = omega arith
+    go false rest = omega arith
 
 cpus_few : (version cpus : ℕ) → cpus ≤ most_cpus version → cpus < 2 ^ 32
 cpus_few version cpus le = go (nat_lt version 3) le

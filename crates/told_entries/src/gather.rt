@@ -1,10 +1,12 @@
 //! A row for each mark of a transcript.
-ghost use Rattle.std.specs.Prelude.{◌≡◌, ◌<◌, ℕ, ⊤, ⊥, Some, List, length, map, slice_get, Any, IfOk, IfSome, MatchBool, MatchOption};
+ghost use Rattle.std.specs.Prelude.{◌≡◌, ◌≢◌, ◌<◌, ℕ, ⊤, Some, List, [], ◌∷◌, length, drop, map, slice_get, Any, IfOk, IfSome, MatchBool, MatchOption};
+ghost use Rattle.key_names.specs.declared.entries.Taken.TheVariants.{User};
 ghost use Rattle.key_names.specs.Book.{Book, list_at};
 ghost use Rattle.key_names.specs.PoolNotes.{entry_of};
 ghost use Rattle.key_names.specs.ScriptGrammar.{WellFormed};
 ghost use Rattle.key_names.specs.SeenLine.{SeenLine};
-ghost use Rattle.line_forms.specs.Told as tells;
+ghost use Rattle.line_forms.specs.declared.told.PoolTold.TheVariants.{Extracted};
+ghost use Rattle.line_forms.specs.Told as forms;
 ghost use Rattle.line_orders.specs.Begun.{PartsStand};
 ghost use Rattle.line_orders.specs.Called.{seen_act, seen_call, seen_calls};
 ghost use Rattle.line_orders.specs.Marks.{seen_mark};
@@ -13,13 +15,14 @@ ghost use Rattle.list_replay.specs.Tables.{tables_of};
 ghost use Rattle.told_entries.specs.Gathered.{IsBookOf, IsGathered};
 ghost use Rattle.told_entries.specs.Rows.{IsPoolRow, dumps_told, cpu_row, step_sign, first_shown};
 ghost use Rattle.told_entries.specs.Spots.{tells_by, line_spots, acts_spots, call_spots, calls_spots, callers_spots};
-ghost use Rattle.told_entries.specs.Spots.{Changes, IsLonger, IsAbsent, HasRows, Spot};
+ghost use Rattle.told_entries.specs.Spots.{Changes, IsLonger, IsAbsent, HasRows};
 
 use event_script::Script;
-use key_names::{BaseEntry, CpuEntry, Event, InsideAct, LaneId, Mark, PoolNote, Step, Taken};
+use key_names::{BaseEntry, CpuEntry, Event, InsideAct, LaneId, PoolNote, Step, Taken};
 use line_forms::setting::Setting;
 use line_forms::told::{
-    Around, BaseTold, CpuTold, PoolTold, Sign, base_told, cpu_read_told, cpu_told, pool_told, read_told,
+    Around, BaseTold, CpuTold, PoolTold, Sign, base_told, cpu_read_told, cpu_told, pool_told,
+    read_told,
 };
 use line_orders::begin::Parts;
 use line_orders::called::{ActLine, Called};
@@ -63,7 +66,7 @@ fn sign_at(steps: &[Step], number: usize) -> Sign
 }
 
 fn base_place_in(sign: Sign) -> u64
-    ensures { result ≡ tells.base_place_in sign }
+    ensures { result ≡ forms.base_place_in sign }
 {
     match sign {
         Sign::InBase(place) => place,
@@ -73,7 +76,7 @@ fn base_place_in(sign: Sign) -> u64
 
 // The event's own entry of the pool.
 fn own_note<'a>(set: &Setting, event: &'a Event) -> PoolNote<'a>
-    ensures { entry_of result ≡ tells.own_entry (tells.telling set.now event.now) }
+    ensures { entry_of result ≡ forms.own_entry (forms.telling set.now event.now) }
 {
     match event {
         Event::Write { text } => PoolNote::Mix {
@@ -109,7 +112,7 @@ fn own_note<'a>(set: &Setting, event: &'a Event) -> PoolNote<'a>
 }
 
 fn extraction<'a>(set: &Setting, base_place: u64) -> ToldPool<'a>
-    ensures { IsPoolRow set.now tells.silent (Extracted base_place) result }
+    ensures { IsPoolRow set.now forms.silent (Extracted base_place) result }
 {
     ToldPool::Is(PoolNote::Extract {
         hw: set.hw(),
@@ -118,8 +121,8 @@ fn extraction<'a>(set: &Setting, base_place: u64) -> ToldPool<'a>
 }
 
 fn event_pool_row<'a>(set: &Setting, event: &'a Event, around: Around) -> ToldPool<'a>
-    ensures { IsPoolRow set.now (tells.telling set.now event.now)
-        (tells.pool_told (tells.telling set.now event.now) around) result }
+    ensures { IsPoolRow set.now (forms.telling set.now event.now)
+        (forms.pool_told (forms.telling set.now event.now) around) result }
 {
     match pool_told(set, event, around) {
         PoolTold::Own => ToldPool::Is(own_note(set, event)),
@@ -129,8 +132,8 @@ fn event_pool_row<'a>(set: &Setting, event: &'a Event, around: Around) -> ToldPo
 }
 
 fn pool_row<'a>(set: &Setting, teller: Teller<'a>, around: Around) -> ToldPool<'a>
-    ensures { IsPoolRow set.now (tells_by set.now teller around)
-        (tells.pool_told (tells_by set.now teller around) around) result }
+    ensures { IsPoolRow set.now (tells_by set.now teller.entry around)
+        (forms.pool_told (tells_by set.now teller.entry around) around) result }
 {
     match teller {
         Teller::Event(event) => event_pool_row(set, event, around),
@@ -142,7 +145,7 @@ fn pool_row<'a>(set: &Setting, teller: Teller<'a>, around: Around) -> ToldPool<'
 
 // What a read of a `vread` takes: the last one the bytes that are asked for, and those before it keys.
 fn taken(len: u32, behind: Sign) -> Taken
-    ensures { result ≡ tells.taken_by (User 32) (User len) behind }
+    ensures { result ≡ forms.taken_by (User 32) (User len) behind }
 {
     match behind {
         Sign::Nowhere => Taken::User(len),
@@ -151,7 +154,7 @@ fn taken(len: u32, behind: Sign) -> Taken
 }
 
 fn base_row(set: &Setting, teller: Teller<'_>, around: Around) -> BaseTold
-    ensures { result ≡ tells.base_told set.now (tells_by set.now teller around) around }
+    ensures { result ≡ forms.base_told set.now (tells_by set.now teller.entry around) around }
 {
     match teller {
         Teller::Event(event) => base_told(set, event, around),
@@ -163,7 +166,7 @@ fn base_row(set: &Setting, teller: Teller<'_>, around: Around) -> BaseTold
 }
 
 fn cpu_entry(set: &Setting, teller: Teller<'_>, first: Sign, around: Around) -> CpuTold
-    ensures { result ≡ tells.cpu_told set.now (tells_by set.now teller around) first around }
+    ensures { result ≡ forms.cpu_told set.now (tells_by set.now teller.entry around) first around }
 {
     match teller {
         Teller::Event(event) => cpu_told(set, event, first, around),
@@ -183,11 +186,20 @@ fn cpu_entry(set: &Setting, teller: Teller<'_>, first: Sign, around: Around) -> 
 
 // Whether the line dumps a CPU's fast pool behind this visit.
 fn dumps(set: &Setting, teller: Teller<'_>, around: Around) -> bool
-    ensures { result ≡ dumps_told (tells_by set.now teller around) around }
+    ensures { result ≡ dumps_told (tells_by set.now teller.entry around) around }
 {
     match (teller, around.behind) {
         (Teller::Event(Event::Irq { .. }), Sign::InCpu(..)) => true,
         _ => false,
+    }
+}
+
+fn cpu_row(set: &Setting, teller: Teller<'_>, first: Sign, around: Around) -> ToldCpu
+    ensures { result ≡ cpu_row set.now (tells_by set.now teller.entry around) first around }
+{
+    ToldCpu {
+        entry: cpu_entry(set, teller, first, around),
+        dumps: dumps(set, teller, around),
     }
 }
 
@@ -202,28 +214,32 @@ fn put<T: Copy>(rows: &mut Vec<T>, place: u64, row: T)
     }
 }
 
-// Puts the row of a visit at its place.
+// Puts the row of a step at the place that it visits, if it is a visit.
 fn put_row<'a>(
     told: &mut Told<'a>,
-    mark: Mark,
+    step: Step,
     set: &Setting,
     teller: Teller<'a>,
     first: Sign,
     around: Around,
 )
-    ensures { Changes (record { set = set.now; tells = tells_by set.now teller around; first = first; around = around;
-        step = Visit mark } ∷ []) (tables_of told.old) (tables_of told.new) }
+    ensures { Changes (record {
+      set = set.now;
+      tells = tells_by set.now teller.entry around;
+      first = first;
+      around = around;
+      step = step;
+    } ∷ []) (tables_of told.old) (tables_of told.new) }
 {
+    let Step::Visit(mark) = step else {
+        return;
+    };
     match mark.lane {
         LaneId::Pool => put(&mut told.pool, mark.place, pool_row(set, teller, around)),
         LaneId::Base => put(&mut told.base, mark.place, base_row(set, teller, around)),
         LaneId::Cpu(cpu) => {
-            let row = ToldCpu {
-                entry: cpu_entry(set, teller, first, around),
-                dumps: dumps(set, teller, around),
-            };
             if let Some(lane) = told.cpus.get_mut(cpu as usize) {
-                put(lane, mark.place, row);
+                put(lane, mark.place, cpu_row(set, teller, first, around));
             }
         }
     }
@@ -231,7 +247,7 @@ fn put_row<'a>(
 
 // Puts the rows of a line's visits at their places.
 fn tell_line<'a>(told: &mut Told<'a>, set: &Setting, teller: Teller<'a>, steps: &[Step])
-    ensures { Changes (line_spots set.now (tells_by set.now teller) steps.now) (tables_of told.old) (tables_of told.new) }
+    ensures { Changes (line_spots set.now (tells_by set.now teller.entry) steps.now) (tables_of told.old) (tables_of told.new) }
 {
     let first = sign_at(steps, 0);
     let mut second_before = Sign::Nowhere;
@@ -242,9 +258,7 @@ fn tell_line<'a>(told: &mut Told<'a>, set: &Setting, teller: Teller<'a>, steps: 
             before,
             behind: sign_at(steps, number + 1),
         };
-        if let Step::Visit(mark) = step {
-            put_row(told, *mark, set, teller, first, around);
-        }
+        put_row(told, *step, set, teller, first, around);
         second_before = before;
         before = sign(*step);
     }
@@ -264,7 +278,10 @@ fn tell_call<'a>(told: &mut Told<'a>, set: &Setting, call: &Called<'a>)
     match call {
         Called::Alone { event, line } => tell_line(told, set, Teller::Event(event), line.steps),
         Called::Vread {
-            len, line, acts, ..
+            len,
+            line,
+            acts,
+            ..
         } => {
             tell_acts(told, set, acts);
             tell_line(told, set, Teller::Vread(*len), line.steps);
@@ -326,11 +343,7 @@ fn add_row(told: &mut Told<'_>, lane: LaneId) -> Result<bool, AllocError>
 }
 
 // Tables with a row for each mark, of which nothing is told; nothing where a mark is of a CPU that is not there.
-fn bare_rows<'a>(
-    alloc: Global,
-    cpus: u32,
-    marks: &[MarkOf],
-) -> Result<Option<Told<'a>>, AllocError>
+fn bare_rows<'a>(alloc: Global, cpus: u32, marks: &[MarkOf]) -> Result<Option<Told<'a>>, AllocError>
     ensures some { IfOk result (λ o. IfSome o (λ told. HasRows cpus (map seen_mark marks.now) (tables_of told))) }
     ensures none { IfOk result (λ o. MatchOption o (Any (λ of. IsAbsent cpus of.mark.lane) marks.now) (λ told. ⊤)) }
 {
