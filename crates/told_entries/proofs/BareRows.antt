@@ -1,5 +1,5 @@
 -- Tables of which nothing is told yet: lanes without rows, and one more row of a lane.
-use Rattle.std.proofs.Common.{◌≡◌, ◌≢◌, ℕ, zero, suc, ◌+◌, ◌<◌, ◌≤◌, Bool, true, false, List, [], ◌∷◌, ◌++◌, length, map, drop, slice_set, get_or, Vec, Global, refl, sym, subst, ap, ◌∙◌, arith}
+use Rattle.std.proofs.Common.{◌≡◌, ◌≢◌, ℕ, zero, suc, ◌+◌, ◌<◌, ◌≤◌, Bool, true, false, List, [], ◌∷◌, ◌++◌, length, map, drop, slice_set, get_or, Vec, Global, ◌⊎◌, inl, inr, refl, sym, subst, ap, ◌∙◌, arith}
 use Rattle.std.proofs.Common.{add-one}
 use Rattle.std.proofs.lemmas.List.{length_push}
 use Rattle.key_names.specs.declared.names.Mark.{Mark}
@@ -12,6 +12,10 @@ use Rattle.told_entries.specs.Rows.{cpu_row}
 use Rattle.told_entries.specs.Spots.{Spot, rows_in, Changes, IsLonger}
 use Rattle.told_entries.proofs.OneRow.{PutAt, cpu_put}
 use Rattle.std.specs.Prelude.{slice_get, Some, None, ◌==◌, if◌then◌else◌}
+use Rattle.std.proofs.lemmas.Option.{slice_get-get_or}
+use Rattle.key_names.specs.declared.entries.CpuEntry.TheVariants.{Prepare}
+use Rattle.key_names.proofs.TranscriptBooks.{lt_or_le}
+use Rattle.line_forms.specs.declared.told.CpuTold.TheVariants.{Is as cpu_is}
 use Rattle.std.proofs.lemmas.Bool.{eq-eqb, eqb-true, ne_eqb}
 use Rattle.key_names.specs.declared.names.LaneId.{LaneId}
 use Rattle.key_names.specs.declared.names.LaneId.TheVariants.{Pool as PoolLane, Base as BaseLane, Cpu as CpuLane}
@@ -111,13 +115,14 @@ cpu_row_put pool base vecs c v spot mark low is lane_is put =
     (λ d other. lane_kept vecs c d v other) (set_long vecs c v) refl refl
 
 -- after one more row there are as many as before, and one mark fewer is left
-pub rows_and_left : (lane : LaneId) (marks : List MarkOf) (i : ℕ) (of : MarkOf) (old new : Tables) (n : ℕ) →
-    slice_get marks i ≡ Some of → IsLonger of.mark.lane old new →
+pub rows_and_left : (lane : LaneId) (marks : List MarkOf) (i : ℕ) (d : MarkOf) (old new : Tables) (n : ℕ) →
+    i < length marks → IsLonger (get_or marks i d).mark.lane old new →
     rows_in old lane + length (lane_marks lane (map seen_mark (drop i marks))) ≡ n →
     rows_in new lane + length (lane_marks lane (map seen_mark (drop (i + 1) marks))) ≡ n
-rows_and_left lane marks i of old new n is longer so_far =
+rows_and_left lane marks i d old new n low longer so_far =
     subst (λ k. rows_in new lane + length (lane_marks lane (map seen_mark (drop k marks))) ≡ n) (sym (add-one i))
-    (go (is_same_lane of.mark.lane lane) (marks_left lane marks i of is) (longer.rows lane))
+    (go (is_same_lane (get_or marks i d).mark.lane lane)
+    (marks_left lane marks i (get_or marks i d) (slice_get-get_or marks i d low)) (longer.rows lane))
   where
     go : (b : Bool) → length (lane_marks lane (map seen_mark (drop i marks)))
         ≡ (if b then suc (length (lane_marks lane (map seen_mark (drop (suc i) marks))))
@@ -126,3 +131,22 @@ rows_and_left lane marks i of old new n is longer so_far =
         rows_in new lane + length (lane_marks lane (map seen_mark (drop (suc i) marks))) ≡ n
     go true marks_are rows_are = omega arith
     go false marks_are rows_are = omega arith
+
+pub longer_at : (l m : LaneId) (old new : Tables) → l ≡ m → IsLonger m old new → IsLonger l old new
+longer_at l m old new is longer = subst (λ x. IsLonger x old new) (sym is) longer
+
+-- what is put before something is told
+abbrev pub bare_row : ToldCpu
+bare_row = record { entry = cpu_is Prepare; dumps = false }
+
+pub put_as : {A : Type 0} (old old' new : List A) (place : ℕ) (row row' : A) → old ≡ old' → row ≡ row' →
+    PutAt old new place row → PutAt old' new place row'
+put_as {A = A} old old' new place row row' same is put =
+    subst (λ (xs : List A). PutAt xs new place row') same (subst (λ (r : A). PutAt old new place r) is put)
+
+pub not_low : (c n : ℕ) → (c < n → false ≡ true) → n ≤ c
+not_low c n never = go (lt_or_le c n)
+  where
+    go : (c < n) ⊎ (n ≤ c) → n ≤ c
+    go (inl low) = let no_way : false ≡ true = never low in cc
+    go (inr high) = high

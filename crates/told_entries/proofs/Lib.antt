@@ -1,5 +1,6 @@
 pub mod BareRows
 pub mod FilledLanes
+pub mod GatheredTables
 pub mod Gathers
 pub mod LanePlaces
 pub mod MarkedSteps

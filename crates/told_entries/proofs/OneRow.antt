@@ -130,7 +130,7 @@ look_put spot g a is = one_row spot a a refl (λ lane. refl)
     (λ lane place hits. (let never : false ≡ true = sym (ap (is_visit lane place) is) ∙ hits in cc))
     (λ lane place no. same_itself a lane place)
 
-list_beyond : {A : Type 0} (xss : List (List A)) (c : ℕ) → length xss ≤ c → list_at xss c ≡ []
+pub list_beyond : {A : Type 0} (xss : List (List A)) (c : ℕ) → length xss ≤ c → list_at xss c ≡ []
 list_beyond [] c le = refl
 list_beyond (xs ∷ xss) zero le = absurd (omega arith)
 list_beyond (xs ∷ xss) (suc c) le = list_beyond xss c (omega arith)

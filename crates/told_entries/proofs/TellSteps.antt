@@ -2,7 +2,7 @@
 use Rattle.std.proofs.Common.{◌≡◌, ℕ, suc, ◌+◌, ◌<◌, ◌≤◌, List, [], ◌∷◌, ◌++◌, length, drop, get_or, map, min, refl, sym, subst, ap, ◌∙◌, arith, ◌⊎◌, inl, inr}
 use Rattle.std.proofs.Math.Nat.{min-eq_left, min-eq_right}
 use Rattle.std.specs.Global.{Vec}
-use Rattle.std.proofs.lemmas.List.{at_drop_all}
+use Rattle.std.proofs.lemmas.List.{at_drop_all, drop_more}
 use Rattle.key_names.specs.declared.names.Step.{Step}
 use Rattle.key_names.specs.Calls.{Setting as CallSetting, Call, BoundAct}
 use Rattle.key_names.proofs.TranscriptBooks.{lt_or_le}
@@ -14,37 +14,33 @@ use Rattle.line_orders.specs.declared.called.Called.{Called}
 use Rattle.line_orders.specs.Called.{seen_act, seen_call, seen_calls}
 use Rattle.line_orders.proofs.Fronts.{dropped}
 use Rattle.list_replay.specs.Tables.{Tables}
-use Rattle.told_entries.specs.Rows.{first_shown, step_sign}
+use Rattle.told_entries.specs.Rows.{first_shown, step_sign, part_telling}
 use Rattle.told_entries.specs.Spots.{Spot, spots_from, line_spots, acts_spots, call_spots, calls_spots, callers_spots, Changes}
 use Rattle.told_entries.proofs.TableChanges.{changes_both, changes_none}
+
+abbrev pub between : Sign → Sign → Sign → Around
+between a b behind = record { second_before = a; before = b; behind = behind }
 
 abbrev pub spot_at : CallSetting → (Around → Telling) → Sign → Around → Step → Spot
 spot_at set tell first around step =
     record { set = set; tells = tell around; first = first; around = around; step = step }
 
 -- one step, and then those behind it
-pub line_more : (set : CallSetting) (tell : Around → Telling) (first a b s : Sign) (around : Around) (steps : List Step)
-    (n : ℕ) (step : Step) (x y z : Tables) → n < length steps → step ≡ get_or steps n step →
-    around ≡ record { second_before = a; before = b; behind = first_shown (drop (n + 1) steps) } → s ≡ step_sign step →
-    Changes (spot_at set tell first around step ∷ []) x y →
+pub line_more : (set : CallSetting) (tell : Around → Telling) (first a b behind s : Sign) (steps : List Step) (n : ℕ)
+    (d : Step) (x y z : Tables) → n < length steps → behind ≡ first_shown (drop (n + 1) steps) →
+    s ≡ step_sign (get_or steps n d) →
+    Changes (spot_at set tell first (between a b behind) (get_or steps n d) ∷ []) x y →
     Changes (spots_from set tell first b s (drop (n + 1) steps)) y z →
     Changes (spots_from set tell first a b (drop n steps)) x z
-line_more set tell first a b s around steps n step x y z low is around_is sign_is one rest =
-    let rest' : Changes (spots_from set tell first b (step_sign step) (drop (n + 1) steps)) y z =
-    subst (λ t. Changes (spots_from set tell first b t (drop (n + 1) steps)) y z) sign_is rest in
-    let one' : Changes (spot_at set tell first (record {
-      second_before = a;
-      before = b;
-      behind = first_shown (drop (n + 1) steps);
-    }) step ∷ []) x y =
-    subst (λ (r : Around). Changes (spot_at set tell first r step ∷ []) x y) around_is one in
-    subst (λ (ss : List Step). Changes (spots_from set tell first a b ss) x z) (sym (dropped steps n step low is))
-    (changes_both (spot_at set tell first (record {
-      second_before = a;
-      before = b;
-      behind = first_shown (drop (n + 1) steps);
-    }) step ∷ [])
-    (spots_from set tell first b (step_sign step) (drop (n + 1) steps)) x y z one' rest')
+line_more set tell first a b behind s steps n d x y z low behind_is sign_is one rest =
+    let step = get_or steps n d in let more = drop (n + 1) steps in
+    let rest' : Changes (spots_from set tell first b (step_sign step) more) y z =
+    subst (λ t. Changes (spots_from set tell first b t more) y z) sign_is rest in
+    let one' : Changes (spot_at set tell first (between a b (first_shown more)) step ∷ []) x y =
+    subst (λ t. Changes (spot_at set tell first (between a b t) step ∷ []) x y) behind_is one in
+    subst (λ (ss : List Step). Changes (spots_from set tell first a b ss) x z) (sym (drop_more steps n d low))
+    (changes_both (spot_at set tell first (between a b (first_shown more)) step ∷ [])
+    (spots_from set tell first b (step_sign step) more) x y z one' rest')
 
 -- at the end nothing is left
 pub line_end : (set : CallSetting) (tell : Around → Telling) (first a b : Sign) (steps : List Step) (n : ℕ) (x : Tables) →
@@ -136,3 +132,35 @@ short_of i m n is = go (lt_or_le m n)
     go : (m < n) ⊎ (n ≤ m) → (m ≤ i) ⊎ (n ≤ i)
     go (inl low) = inl (let le : m ≤ n = omega arith in let e : i ≡ m = is ∙ min-eq_left le in omega arith)
     go (inr high) = inr (let e : i ≡ n = is ∙ min-eq_right high in omega arith)
+
+pub call_at : (set : CallSetting) (k l : Called) (x y : Tables) → k ≡ l → Changes (call_spots set (seen_call l)) x y →
+    Changes (call_spots set (seen_call k)) x y
+call_at set k l x y is changes = subst (λ (m : Called). Changes (call_spots set (seen_call m)) x y) (sym is) changes
+
+pub vread_changes : (set : CallSetting) (len : ℕ) (acts acts' : List ActLine) (steps : List Step) (x y z : Tables) →
+    acts' ≡ acts → Changes (acts_spots set (map seen_act acts')) x y →
+    Changes (line_spots set (part_telling len) steps) y z →
+    Changes (acts_spots set (map seen_act acts) ++ line_spots set (part_telling len) steps) x z
+vread_changes set len acts acts' steps x y z same first second =
+    changes_both (acts_spots set (map seen_act acts)) (line_spots set (part_telling len) steps) x y z
+    (subst (λ (xs : List ActLine). Changes (acts_spots set (map seen_act xs)) x y) same first) second
+
+pub calls_at : (calls calls' : List Called) (sets sets' : List CallSetting) (x y : Tables) → calls' ≡ calls →
+    sets' ≡ sets → Changes (calls_spots (map seen_call calls') sets') x y →
+    Changes (calls_spots (map seen_call calls) sets) x y
+calls_at calls calls' sets sets' x y same same' changes =
+    subst (λ (cs : List Called). Changes (calls_spots (map seen_call cs) sets) x y) same
+    (subst (λ (ss : List CallSetting). Changes (calls_spots (map seen_call calls') ss) x y) same' changes)
+
+-- where the rest begins, by the length of what is done
+pub calls_from_next : (calls : List Called) (sets : List CallSetting) (m n : ℕ) (x y : Tables) → m ≡ n →
+    Changes (calls_spots (map seen_call (drop m calls)) (drop m sets)) x y →
+    Changes (calls_spots (map seen_call (drop n calls)) (drop n sets)) x y
+calls_from_next calls sets m n x y is changes =
+    subst (λ k. Changes (calls_spots (map seen_call (drop k calls)) (drop k sets)) x y) is changes
+
+pub callers_from_next : (callers : List (Vec Called)) (settings : List (Vec CallSetting)) (m n : ℕ) (x y : Tables) →
+    m ≡ n → Changes (callers_spots (seen_calls (drop m callers)) (sets_of (drop m settings))) x y →
+    Changes (callers_spots (seen_calls (drop n callers)) (sets_of (drop n settings))) x y
+callers_from_next callers settings m n x y is changes =
+    subst (λ k. Changes (callers_spots (seen_calls (drop k callers)) (sets_of (drop k settings))) x y) is changes
