@@ -1,0 +1,10 @@
+pub mod CallForms
+pub mod CallLines
+pub mod MadeTold
+pub mod Lines
+pub mod DeedPlaces
+pub mod LineVisits
+pub mod QuietForms
+pub mod IrqShapes
+pub mod SampleLaw
+pub mod SampledLines
