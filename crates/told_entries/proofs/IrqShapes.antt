@@ -28,7 +28,7 @@ use Rattle.line_forms.specs.Told.{AllFill, FillsPart, FillsCpu, cpu_read_told, t
 use Rattle.line_forms.specs.declared.told.Sign.{Sign}
 use Rattle.line_forms.specs.declared.told.Sign.TheVariants.{Saw as saw, InPool as in_pool, InBase as in_base, InCpu as in_cpu, Nowhere as nowhere}
 use Rattle.told_entries.proofs.CallForms.{ActDone, CallForm, CallsForm}
-use Rattle.told_entries.proofs.QuietForms.{form_samples, end_samples, sys, IsNoInterrupt}
+use Rattle.told_entries.proofs.QuietForms.{quiet, end_quiet, sys}
 
 -- ---- reads make no dump due
 
@@ -164,20 +164,25 @@ module _ (lists : Lists) where
   abbrev Stands : SeenLine → Type 0
   Stands line = SamplesStand c.fast (deeds line)
 
-  none_stands : (line : SeenLine) → deeds line ≡ [] → Stands line
-  none_stands line none = subst (SamplesStand c.fast) (sym none) (inl tt)
+  abbrev Quiet : SeenLine → Type 0
+  Quiet line = AllByRecursion (IsQuiet c.fast) (deeds line)
 
-  act_stands : (set : Setting) (act : InsideAct) (line : SeenLine) → ActForm set act (deeds line) → Stands line
-  act_stands set WipeAct line form = none_stands line form
-  act_stands set (VreadAct n) line form = inl (sys c.fast set n 0 (deeds line) form)
-  act_stands set ReseedAct line form = form_samples c.fast set Reseed (deeds line) tt form
+  pub none_quiet : (line : SeenLine) → deeds line ≡ [] → Quiet line
+  none_quiet line none = subst (AllByRecursion (IsQuiet c.fast)) (sym none) tt
+
+  act_form_quiet : (set : Setting) (act : InsideAct) (line : SeenLine) → ActForm set act (deeds line) → Quiet line
+  act_form_quiet set WipeAct line form = none_quiet line form
+  act_form_quiet set (VreadAct n) line form = sys c.fast set n 0 (deeds line) form
+  act_form_quiet set ReseedAct line form = quiet c.fast set Reseed (deeds line) tt form
+
+  pub act_quiet : (set : Setting) (bound : BoundAct) → ActDone lists set bound → Quiet bound.line
+  act_quiet set bound (inl form) = act_form_quiet set bound.act bound.line form
+  act_quiet set bound (inr none) = none_quiet bound.line none
 
   acts_stand : (set : Setting) (acts : List BoundAct) → AllByRecursion (ActDone lists set) acts →
       AllByRecursion (λ bound. Stands bound.line) acts
   acts_stand set [] done = tt
-  acts_stand set (bound ∷ acts) (inl form, rest) =
-      (act_stands set bound.act bound.line form, acts_stand set acts rest)
-  acts_stand set (bound ∷ acts) (inr none, rest) = (none_stands bound.line none, acts_stand set acts rest)
+  acts_stand set (bound ∷ acts) done = (inl (act_quiet set bound done.0), acts_stand set acts done.1)
 
   module _ (Here : Setting → Event → SeenLine → Type 0)
       (irq : (set : Setting) (v1 v2 : ℕ) (line : SeenLine) → Here set (Irq v1 v2) line →
@@ -196,7 +201,7 @@ module _ (lists : Lists) where
     alone_stands : (set : Setting) (event : Event) (line : SeenLine) → Here set event line →
         Form set event (deeds line) → Stands line
     alone_stands set (Irq v1 v2) line here form = irq set v1 v2 line here form
-    alone_stands set event line here form = form_samples c.fast set event (deeds line) tt form
+    alone_stands set event line here form = inl (quiet c.fast set event (deeds line) tt form)
 
     call_stands : (set : Setting) (call : Call) → CallHere set call → CallForm lists set call → OfCall Stands call
     call_stands set (alone event line) here form = alone_stands set event line here form
@@ -204,8 +209,8 @@ module _ (lists : Lists) where
       inl (part_quiet c set (User 32) (User n) (first_sign (deeds line)) nowhere nowhere (deeds line) form.0),
       acts_stand set acts form.1,
     )
-    call_stands set (unbound bound) here form = none_stands bound.line form
-    call_stands set (ending line) here form = end_samples c.fast (deeds line) form
+    call_stands set (unbound bound) here form = inl (none_quiet bound.line form)
+    call_stands set (ending line) here form = inl (end_quiet c.fast (deeds line) form)
 
     pub calls_stand : (set : Setting) (calls : List Call) → CallsHere set calls → CallsForm lists set calls →
         AllByRecursion (OfCall Stands) calls

@@ -8,3 +8,6 @@ pub mod QuietForms
 pub mod IrqShapes
 pub mod SampleLaw
 pub mod SampledLines
+pub mod DumpRows
+pub mod RisingSteps
+pub mod Samples

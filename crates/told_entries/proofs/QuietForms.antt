@@ -15,7 +15,7 @@ use Rattle.key_names.specs.Calls.{Setting}
 use Rattle.key_names.specs.Deeds.{Deed, CpuVisit, looked, at_pool, at_base, at_cpu}
 use Rattle.key_names.specs.FastPool.{FastPool}
 use Rattle.key_names.specs.Forms.{Rooted, BaseOnly, Cross, DrawForm, CpuReadForm, Looked, ReadForm, WaitedInVain, Waited, LookedForm, SysForm, CreditForm, PoolOnly, IntForm, ReseedForm, Form, EndForm}
-use Rattle.key_names.specs.LineSamples.{EntryIsQuiet, IsQuiet, SamplesStand}
+use Rattle.key_names.specs.LineSamples.{EntryIsQuiet, IsQuiet}
 
 -- an event that is no interrupt
 abbrev pub IsNoInterrupt : Event → Type 0
@@ -115,7 +115,7 @@ module _ (fast : ℕ → ℕ → FastPool) where
   counted set taken n deeds f =
       choice (n == 0) _ _ deeds (λ e. empty deeds e) (λ h. behind_look (ReadForm set taken) (read set taken) deeds h) f
 
-  quiet : (set : Setting) (event : Event) (deeds : List Deed) → IsNoInterrupt event → Form set event deeds → Quiet deeds
+  pub quiet : (set : Setting) (event : Event) (deeds : List Deed) → IsNoInterrupt event → Form set event deeds → Quiet deeds
   quiet set (At moment) deeds other f = empty deeds f
   quiet set (On c) deeds other f = empty deeds f
   quiet set (Hw bytes) deeds other f = empty deeds f
@@ -149,10 +149,5 @@ module _ (fast : ℕ → ℕ → FastPool) where
   quiet set (Vread n flags) deeds other f = absurd f
   quiet set (Inside point act) deeds other f = absurd f
 
-  -- so the samples behind it stand
-  pub form_samples : (set : Setting) (event : Event) (deeds : List Deed) → IsNoInterrupt event → Form set event deeds →
-      SamplesStand fast deeds
-  form_samples set event deeds other f = inl (quiet set event deeds other f)
-
-  pub end_samples : (deeds : List Deed) → EndForm deeds → SamplesStand fast deeds
-  end_samples deeds f = inl (base_only _ deeds f)
+  pub end_quiet : (deeds : List Deed) → EndForm deeds → Quiet deeds
+  end_quiet deeds f = base_only _ deeds f

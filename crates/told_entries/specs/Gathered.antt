@@ -42,6 +42,7 @@ pub record IsGathered (script : Script) (t : List (List SeenLine)) (told : Table
   pub samples : (book : Book) (ms : List (List CallMeaning)) → IsBookOf script t book → AllMean script t book ms →
       Fills told (lists_of book) → LawfulLanes (lists_of book) → LawfulSamples book ↔ Lawful told (lists_of book)
   -- samples that are where they belong stand in each line
-  pub sampled : (book : Book) → IsBookOf script t book → LawfulSamples book →
+  pub sampled : (book : Book) (ms : List (List CallMeaning)) → IsBookOf script t book → AllMean script t book ms →
+      LawfulLanes (lists_of book) → LawfulSamples book →
       AllByRecursion (AllByRecursion (λ line. SamplesStand (facts_of (lists_of book)).fast
       (deeds_of (lists_of book) line.steps))) t
