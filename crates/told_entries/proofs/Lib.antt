@@ -1,6 +1,6 @@
 pub mod CallForms
 pub mod CallLines
-pub mod MadeTold
+pub mod MadeIsTold
 pub mod Lines
 pub mod DeedPlaces
 pub mod LineVisits

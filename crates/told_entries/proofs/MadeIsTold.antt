@@ -1,15 +1,17 @@
 -- In what callers mean, each line's visits have the entries that its steps tell.
 use Rattle.std.proofs.Common.{◌≡◌, ℕ, ◌<◌, ◌⊎◌, inl, inr, List, [], ◌∷◌, length, sym, subst}
 use Rattle.std.specs.List.{AllByRecursion}
+use Rattle.key_names.specs.declared.events.Event.{Event}
 use Rattle.key_names.specs.Book.{Book, Lists, LawfulLanes, lists_of, list_at}
-use Rattle.key_names.specs.Calls.{Setting, Call, alone, vread_call, unbound, ending, BoundAct, setting_after_call}
+use Rattle.key_names.specs.Calls.{Setting, Call, alone, vread_call, unbound, ending, BoundAct, calls_of, setting_after_call}
 use Rattle.key_names.specs.Deeds.{Deed, deeds_of}
 use Rattle.key_names.specs.LineSamples.{SamplesStand}
 use Rattle.key_names.specs.ScriptGrammar.{Script}
 use Rattle.key_names.specs.SeenLine.{SeenLine}
 use Rattle.key_names.specs.Meaning.{CallMeaning}
-use Rattle.key_names.specs.IsTranscript.{CallerMeans, HasLines, script_calls, start_setting}
+use Rattle.key_names.specs.IsTranscript.{CallerMeans, LinesFit, HasLines, script_calls, start_setting}
 use Rattle.key_names.proofs.UniqueMeanings.{OfCall}
+use Rattle.key_names.proofs.UniqueLines.{Covers, calls_cover}
 use Rattle.line_forms.specs.LaneFacts.{LaneFacts, AllFit, facts_of}
 use Rattle.line_forms.specs.Told.{Telling, LineFills, act_telling, silent}
 use Rattle.line_forms.proofs.ActLines.{lists_fit, act_told}
@@ -57,10 +59,17 @@ module _ (lists : Lists) (lawful : LawfulLanes lists) where
   calls_fill set (call ∷ calls) stands form =
       (call_fills set call stands.0 form.0, calls_fill (setting_after_call set call) calls stands.1 form.1)
 
-  -- where a caller's calls mean what they may, and the samples of each line stand, each visit is as told
-  pub made_is_told : (set : Setting) (calls : List Call) (ms : List CallMeaning) → CallerMeans lists set calls ms →
-      AllByRecursion (OfCall Stands) calls → CallsFill lists set calls
-  made_is_told set calls ms means stands = calls_fill set calls stands (caller_form lists lawful set calls ms means)
+-- where a caller's calls mean what they may, and the samples of each line stand, each visit is as told
+pub made_is_told : (lists : Lists) (set : Setting) (caller : ℕ) (events : List Event) (lines : List SeenLine)
+    (ms : List CallMeaning) → LinesFit caller 0 events lines → LawfulLanes lists →
+    CallerMeans lists set (calls_of events lines) ms →
+    AllByRecursion (λ line. SamplesStand (facts_of lists).fast (deeds_of lists line.steps)) lines →
+    CallsFill lists set (calls_of events lines)
+made_is_told lists set caller events lines ms fit lawful means stands =
+    let cover : Covers (Stands lists lawful) (Stands lists lawful) [] lines (calls_of events lines) =
+    calls_cover (Stands lists lawful) (Stands lists lawful) caller events lines fit in
+    calls_fill lists lawful set (calls_of events lines) (cover.to_calls tt stands)
+    (caller_form lists lawful set (calls_of events lines) ms means)
 
 -- the same of all callers
 pub all_told : (script : Script) (t : List (List SeenLine)) (book : Book) (ms : List (List CallMeaning)) →
