@@ -13,8 +13,8 @@ use Rattle.key_names.specs.VreadSteps.{published_by, is_reached, points_of}
 use Rattle.key_names.specs.ScriptGrammar.{Script}
 use Rattle.key_names.specs.SeenLine.{SeenLine}
 use Rattle.key_names.specs.Meaning.{CallerState, caller_start, caller_after, current_state, LineMeaning, CallMeaning}
-use Rattle.key_names.specs.Meaning.{unused_line, ActMeans, ActsMean, Means, AloneMeans, VreadMeans, UnboundMeans}
-use Rattle.key_names.specs.Meaning.{EndingMeans, ByLocalCopy, ByVgetrandom, LocalOrCall, tries_local}
+use Rattle.key_names.specs.Meaning.{unused_line, ActMeans, ActsMean, Means, AloneMeans, VreadMeans}
+use Rattle.key_names.specs.Meaning.{ByLocalCopy, ByVgetrandom, LocalOrCall, tries_local}
 use Rattle.key_names.specs.IsTranscript.{EachAct, EachOfCall, EachLine, EachCaller, CallsMean, CallerMeans}
 use Rattle.key_names.specs.IsTranscript.{script_calls, start_setting}
 use Rattle.line_forms.specs.LaneFacts.{AllFit, facts_of}

@@ -1,9 +1,9 @@
 -- What holds of each line of a transcript, and of each line of its calls.
-use Rattle.std.proofs.Common.{◌≡◌, ℕ, zero, suc, ◌<◌, List, [], ◌∷◌, length, arith}
+use Rattle.std.proofs.Common.{ℕ, zero, suc, ◌<◌, List, [], ◌∷◌, length, arith}
 use Rattle.std.specs.List.{AllByRecursion}
 use Rattle.key_names.specs.declared.events.Event.{Event}
 use Rattle.key_names.specs.Book.{list_at}
-use Rattle.key_names.specs.Calls.{Call, all_calls, calls_of}
+use Rattle.key_names.specs.Calls.{all_calls, calls_of}
 use Rattle.key_names.specs.SeenLine.{SeenLine}
 use Rattle.key_names.specs.IsTranscript.{EachCaller, LinesFit}
 use Rattle.key_names.proofs.UniqueMeanings.{OfCall}

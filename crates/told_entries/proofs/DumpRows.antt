@@ -1,6 +1,6 @@
 -- What the rows of a line say of dumps, and when its samples stand by them.
 use Rattle.std.proofs.Common.{◌≡◌, ℕ, ◌<◌, ◌⊎◌, inl, inr, Bool, true, false, List, [], ◌∷◌, refl, sym, ap, ◌∙◌, subst, Some, None, Option}
-use Rattle.std.specs.Prelude.{IsTrue, ⊤, slice_get, take}
+use Rattle.std.specs.Prelude.{⊤, slice_get}
 use Rattle.std.specs.List.{AllByRecursion}
 use Rattle.key_names.specs.declared.names.LaneId.{LaneId}
 use Rattle.key_names.specs.declared.names.LaneId.TheVariants.{Pool as PoolLane, Base as BaseLane, Cpu as CpuLane}
@@ -16,15 +16,15 @@ use Rattle.key_names.specs.Calls.{Setting}
 use Rattle.key_names.specs.Deeds.{Deed, PoolVisit, CpuVisit, looked, at_pool, at_base, at_cpu, nothing_there}
 use Rattle.key_names.specs.Deeds.{deed_or, deed_at, deed_of, deeds_of, pool_visit, base_visit, cpu_visit}
 use Rattle.key_names.specs.FastPool.{FastPool, makes_due, dump_bytes, dump_bits}
-use Rattle.key_names.specs.LineSamples.{EntryIsQuiet, IsQuiet, Dumps, IsCrossing, SamplesStand}
+use Rattle.key_names.specs.LineSamples.{EntryIsQuiet, IsQuiet, SamplesStand}
 use Rattle.key_names.specs.Samples.{MakesDue, IsDump}
-use Rattle.line_forms.specs.LaneFacts.{LaneFacts, facts_of}
+use Rattle.line_forms.specs.LaneFacts.{facts_of}
 use Rattle.line_forms.specs.declared.told.Around.{Around}
 use Rattle.line_forms.specs.declared.told.PoolTold.{PoolTold}
-use Rattle.line_forms.specs.declared.told.PoolTold.TheVariants.{Own as own, Extracted as extracted, Dumped as dumped_told}
+use Rattle.line_forms.specs.declared.told.PoolTold.TheVariants.{Dumped as dumped_told}
 use Rattle.line_forms.specs.declared.told.Sign.{Sign}
 use Rattle.line_forms.specs.declared.told.Sign.TheVariants.{Saw as saw, InPool as in_pool, InBase as in_base, InCpu as in_cpu, Nowhere as nowhere}
-use Rattle.line_forms.specs.Told.{Telling, reads, ints, mixes, credits, samples, reseeds, ticks, forks, prepares, vmforks, ends, silent}
+use Rattle.line_forms.specs.Told.{Telling, mixes, credits, samples, vmforks}
 use Rattle.line_forms.specs.Told.{pool_told, own_or_extracted, sign_of, first_sign, AllFill, IsThere, AllThere}
 use Rattle.list_replay.specs.declared.told.ToldPool.{ToldPool}
 use Rattle.list_replay.specs.declared.told.ToldPool.TheVariants.{Is as pool_is, Dumped as dumped}
@@ -164,8 +164,8 @@ module _ (told : Tables) (lists : Lists) where
   IsNoSample _ = ⊤
 
   no_dump_told : (t : Telling) (around : Around) → IsNoSample t → dumps_told t around ≡ false
-  no_dump_told (samples v1 v2) around no = absurd no
-  no_dump_told _ around no = refl
+  no_dump_told (samples v1 v2) around never = absurd never
+  no_dump_told _ around never = refl
 
   quiet_due : (f : FastPool) (e : CpuEntry) → EntryIsQuiet f e → DueStands f false e
   quiet_due f (IrqSample v1 v2 now) quiet = quiet
@@ -177,43 +177,43 @@ module _ (told : Tables) (lists : Lists) where
 
   not_dumped : (set : Setting) (t : Telling) (behind before : Sign) (cpu place : ℕ) →
       IsPoolRow set t (own_or_extracted behind before) (dumped cpu place) → ⊥
-  not_dumped set t behind nowhere cpu place no = no
-  not_dumped set t behind (saw g) cpu place no = no
-  not_dumped set t behind (in_pool p) cpu place no = no
-  not_dumped set t behind (in_base p) cpu place no = no
-  not_dumped set t behind (in_cpu c p) cpu place no = no
+  not_dumped set t behind nowhere cpu place never = never
+  not_dumped set t behind (saw g) cpu place never = never
+  not_dumped set t behind (in_pool p) cpu place never = never
+  not_dumped set t behind (in_base p) cpu place never = never
+  not_dumped set t behind (in_cpu c p) cpu place never = never
 
   never_dumped : (set : Setting) (t : Telling) (around : Around) → IsNoSample t → (cpu place : ℕ) →
       IsPoolRow set t (pool_told t around) (dumped cpu place) → ⊥
-  never_dumped set (mixes e) around is cpu place no = not_dumped set (mixes e) around.behind around.before cpu place no
-  never_dumped set (credits e) around is cpu place no =
-      not_dumped set (credits e) around.behind around.before cpu place no
-  never_dumped set (vmforks e) around is cpu place no =
-      not_dumped set (vmforks e) around.behind around.before cpu place no
-  never_dumped set (samples v1 v2) around is cpu place no = absurd is
-  never_dumped set _ around is cpu place no = no
+  never_dumped set (mixes e) around is cpu place never = not_dumped set (mixes e) around.behind around.before cpu place never
+  never_dumped set (credits e) around is cpu place never =
+      not_dumped set (credits e) around.behind around.before cpu place never
+  never_dumped set (vmforks e) around is cpu place never =
+      not_dumped set (vmforks e) around.behind around.before cpu place never
+  never_dumped set (samples v1 v2) around is cpu place never = absurd is
+  never_dumped set _ around is cpu place never = never
 
   module _ (set : Setting) (tell : Around → Telling) (first : Sign) (plain : (around : Around) → IsNoSample (tell around))
-      where
-    quiet_deed : (around : Around) (d : Deed) → IsQuiet fast d → RowBehind set tell first around d → TablesStand d
-    quiet_deed around (looked g) quiet row = tt
-    quiet_deed around (at_pool v) quiet row = mix_here set (tell around) around v row
-        (λ cpu place no. absurd (never_dumped set (tell around) around (plain around) cpu place no))
-    quiet_deed around (at_base v) quiet row = tt
-    quiet_deed around (at_cpu v) quiet row =
-        let P : Bool → Type 0 = λ b. DueStands (fast v.cpu v.place) b v.entry in
-        due_here (cpu_row set (tell around) first around) v row
-        (subst P (sym (no_dump_told (tell around) around (plain around)))
-        (quiet_due (fast v.cpu v.place) v.entry quiet))
-    quiet_deed around nothing_there quiet row = tt
+    where
+      quiet_deed : (around : Around) (d : Deed) → IsQuiet fast d → RowBehind set tell first around d → TablesStand d
+      quiet_deed around (looked g) quiet row = tt
+      quiet_deed around (at_pool v) quiet row = mix_here set (tell around) around v row
+          (λ cpu place never. absurd (never_dumped set (tell around) around (plain around) cpu place never))
+      quiet_deed around (at_base v) quiet row = tt
+      quiet_deed around (at_cpu v) quiet row =
+          let P : Bool → Type 0 = λ b. DueStands (fast v.cpu v.place) b v.entry in
+          due_here (cpu_row set (tell around) first around) v row
+          (subst P (sym (no_dump_told (tell around) around (plain around)))
+          (quiet_due (fast v.cpu v.place) v.entry quiet))
+      quiet_deed around nothing_there quiet row = tt
 
-    pub quiet_tables : (a b : Sign) (ds : List Deed) → AllByRecursion (IsQuiet fast) ds →
-        AllFill (RowBehind set tell first) a b ds → AllByRecursion TablesStand ds
-    quiet_tables a b [] quiet rows = tt
-    quiet_tables a b (d ∷ ds) quiet rows = (
-      quiet_deed (record { second_before = a; before = b; behind = first_sign ds }) d quiet.0 rows.0,
-      quiet_tables b (sign_of d) ds quiet.1 rows.1,
-    )
+      pub quiet_tables : (a b : Sign) (ds : List Deed) → AllByRecursion (IsQuiet fast) ds →
+          AllFill (RowBehind set tell first) a b ds → AllByRecursion TablesStand ds
+      quiet_tables a b [] quiet rows = tt
+      quiet_tables a b (d ∷ ds) quiet rows = (
+        quiet_deed (record { second_before = a; before = b; behind = first_sign ds }) d quiet.0 rows.0,
+        quiet_tables b (sign_of d) ds quiet.1 rows.1,
+      )
 
   -- ---- lines of interrupts
 
@@ -237,11 +237,7 @@ module _ (told : Tables) (lists : Lists) where
     quiet_no f e is quiet = subst (EntryIsQuiet f) is quiet
 
     due_yes : (f : FastPool) (e : CpuEntry) → e ≡ IrqSample v1 v2 set.now → MakesDue f e → makes_due f set.now ≡ true
-    due_yes f e is due = go (makes_due f set.now) (subst (MakesDue f) is due)
-      where
-        go : (b : Bool) → IsTrue b → b ≡ true
-        go true yes = refl
-        go false no = absurd no
+    due_yes f e is due = subst (MakesDue f) is due
 
     dump_due : (f : FastPool) (b : Bool) (e : CpuEntry) → e ≡ Dump set.now → DueStands f b e
     dump_due f b e is = let P : CpuEntry → Type 0 = λ x. DueStands f b x in subst P (sym is) tt
@@ -262,22 +258,22 @@ module _ (told : Tables) (lists : Lists) where
       only_tables f (inl quiet) rows =
           let q = subst (AllByRecursion (IsQuiet fast)) f.deeds_are quiet in
           let r = subst RowsOf f.deeds_are rows in
-          let no : makes_due (fast f.sample.cpu f.sample.place) set.now ≡ false =
+          let never : makes_due (fast f.sample.cpu f.sample.place) set.now ≡ false =
           quiet_no (fast f.sample.cpu f.sample.place) f.sample.entry f.samples q.0 in
           subst (AllByRecursion TablesStand) (sym f.deeds_are)
-          (due_here _ f.sample r.0 (due_is (fast f.sample.cpu f.sample.place) false f.sample.entry f.samples no), tt)
+          (due_here _ f.sample r.0 (due_is (fast f.sample.cpu f.sample.place) false f.sample.entry f.samples never), tt)
       only_tables f (inr d) rows = let p = f.deeds_are in let q = d.deeds_are in absurd (cc (sym p ∙ q))
 
       -- behind the mix nothing is told to mix a dump's bytes
-      rest_tables : (a b rest : _) (p : ℕ) → Crossed rest → AllFill (RowBehind set tell first) a (in_pool p) rest →
+      rest_tables : (a : Sign) (rest : List Deed) (p : ℕ) → Crossed rest → AllFill (RowBehind set tell first) a (in_pool p) rest →
           AllByRecursion TablesStand rest
-      rest_tables a b rest p (inl none) rows = subst (AllByRecursion TablesStand) (sym none) tt
-      rest_tables a b rest p (inr (inl f)) rows = subst (AllByRecursion TablesStand) (sym f.are) (tt, tt)
-      rest_tables a b rest p (inr (inr f)) rows =
+      rest_tables a rest p (inl empty) rows = subst (AllByRecursion TablesStand) (sym empty) tt
+      rest_tables a rest p (inr (inl f)) rows = subst (AllByRecursion TablesStand) (sym f.are) (tt, tt)
+      rest_tables a rest p (inr (inr f)) rows =
           let R : List Deed → Type 0 = λ xs. AllFill (RowBehind set tell first) a (in_pool p) xs in
           let r = subst R f.are rows in
           subst (AllByRecursion TablesStand) (sym f.are)
-          (mix_here set (samples v1 v2) _ f.pool r.0 (λ cpu place no. absurd no), (tt, tt))
+          (mix_here set (samples v1 v2) _ f.pool r.0 (λ cpu place never. absurd never), (tt, tt))
 
       dumps_tables : (f : IrqDumps set v1 v2 ds) → SamplesStand fast ds → RowsOf ds → AllByRecursion TablesStand ds
       dumps_tables f (inl quiet) rows =
@@ -287,19 +283,23 @@ module _ (told : Tables) (lists : Lists) where
           let same : f.sample ≡ d.sample = (let p = f.deeds_are in let q = d.deeds_are in cc) in
           let due : MakesDue (fast f.sample.cpu f.sample.place) f.sample.entry =
           (let P : CpuVisit → Type 0 = λ v. MakesDue (fast v.cpu v.place) v.entry in subst P (sym same) d.due) in
-          let yes : makes_due (fast f.sample.cpu f.sample.place) set.now ≡ true =
+          let sure : makes_due (fast f.sample.cpu f.sample.place) set.now ≡ true =
           due_yes (fast f.sample.cpu f.sample.place) f.sample.entry f.samples due in
           let r = subst RowsOf f.deeds_are rows in
           let at : DumpsAt lists f.dump.cpu f.dump.place =
           record { now = set.now; is = r.1.0.entry_is ∙ ap Some f.dumps } in
           subst (AllByRecursion TablesStand) (sym f.deeds_are) (
-            due_here _ f.sample r.0 (due_is (fast f.sample.cpu f.sample.place) true f.sample.entry f.samples yes),
-            due_here _ f.dump r.1.0 (dump_due (fast f.dump.cpu f.dump.place) _ f.dump.entry f.dumps),
-            mix_here set (samples v1 v2) _ f.mix r.1.1.0 (λ cpu place names.
-                let P : ℕ → Type 0 = λ c. DumpsAt lists c place in
-                let Q : ℕ → Type 0 = λ k. DumpsAt lists f.dump.cpu k in
-                subst P (sym names.0) (subst Q (sym names.1) at)),
-            rest_tables _ nowhere f.rest f.mix.place f.crossed r.1.1.1,
+            due_here _ f.sample r.0 (due_is (fast f.sample.cpu f.sample.place) true f.sample.entry f.samples sure),
+            (
+              due_here _ f.dump r.1.0 (dump_due (fast f.dump.cpu f.dump.place) _ f.dump.entry f.dumps),
+              (
+                mix_here set (samples v1 v2) _ f.mix r.1.1.0 (λ cpu place names.
+                    let P : ℕ → Type 0 = λ c. DumpsAt lists c place in
+                    let Q : ℕ → Type 0 = λ k. DumpsAt lists f.dump.cpu k in
+                    subst P (sym names.0) (subst Q (sym names.1) at)),
+                rest_tables _ f.rest f.mix.place f.crossed r.1.1.1,
+              ),
+            ),
           )
 
       pub irq_tables : IrqOnly set v1 v2 ds ⊎ IrqDumps set v1 v2 ds → SamplesStand fast ds → RowsOf ds →
@@ -313,13 +313,13 @@ module _ (told : Tables) (lists : Lists) where
         due_at : (row : ToldCpu) (v : CpuVisit) → CpuRow row v → DueStands (fast v.cpu v.place) row.dumps v.entry
         due_at row v r = lawful.dues v.cpu v.place row v.entry r.row_is r.entry_is
 
-        only_samples : (f : IrqOnly set v1 v2 ds) → RowsOf ds → SamplesStand fast ds
+        pub only_samples : (f : IrqOnly set v1 v2 ds) → RowsOf ds → SamplesStand fast ds
         only_samples f rows =
             let r = subst RowsOf f.deeds_are rows in
-            let no : makes_due (fast f.sample.cpu f.sample.place) set.now ≡ false =
+            let never : makes_due (fast f.sample.cpu f.sample.place) set.now ≡ false =
             is_due (fast f.sample.cpu f.sample.place) false f.sample.entry f.samples (due_at _ f.sample r.0) in
             inl (subst (AllByRecursion (IsQuiet fast)) (sym f.deeds_are)
-            (sample_quiet (fast f.sample.cpu f.sample.place) f.sample.entry v1 v2 set.now f.samples no, tt))
+            (sample_quiet (fast f.sample.cpu f.sample.place) f.sample.entry v1 v2 set.now f.samples never, tt))
 
         -- the mix is what is told
         mixed : (c k : ℕ) (t : Telling) (around : Around) (v : PoolVisit) → pool_told t around ≡ dumped_told c k →
@@ -330,15 +330,15 @@ module _ (told : Tables) (lists : Lists) where
           where
             go : (row : ToldPool) → slice_get told.pool v.place ≡ Some row → IsPoolRow set t (dumped_told c k) row →
                 v.entry ≡ Mix (dump_bytes (fast c k)) (dump_bits (fast c k))
-            go (pool_is note) at no = absurd no
+            go (pool_is note) at never = absurd never
             go (dumped cpu place) at names =
                 fills.pool v.place (dumped cpu place) v.entry at r.entry_is
                 ∙ (λ i. Mix (dump_bytes (fast (names.0 i) (names.1 i))) (dump_bits (fast (names.0 i) (names.1 i))))
 
-        dumps_samples : (f : IrqDumps set v1 v2 ds) → f.sample.place < f.dump.place → RowsOf ds → SamplesStand fast ds
+        pub dumps_samples : (f : IrqDumps set v1 v2 ds) → f.sample.place < f.dump.place → RowsOf ds → SamplesStand fast ds
         dumps_samples f after rows =
             let r = subst RowsOf f.deeds_are rows in
-            let yes : makes_due (fast f.sample.cpu f.sample.place) set.now ≡ true =
+            let sure : makes_due (fast f.sample.cpu f.sample.place) set.now ≡ true =
             is_due (fast f.sample.cpu f.sample.place) true f.sample.entry f.samples (due_at _ f.sample r.0) in
             inr (record {
               sample = f.sample;
@@ -346,7 +346,7 @@ module _ (told : Tables) (lists : Lists) where
               mix = f.mix;
               rest = f.rest;
               deeds_are = f.deeds_are;
-              due = sample_due (fast f.sample.cpu f.sample.place) f.sample.entry v1 v2 set.now f.samples yes;
+              due = sample_due (fast f.sample.cpu f.sample.place) f.sample.entry v1 v2 set.now f.samples sure;
               on = f.on;
               after = after;
               dumps = subst IsDump (sym f.dumps) tt;

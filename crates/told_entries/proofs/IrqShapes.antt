@@ -1,6 +1,6 @@
 -- The lines of interrupts, with and without a dump, and that no other line makes a dump due.
-use Rattle.std.proofs.Common.{◌≡◌, ℕ, ◌⊎◌, inl, inr, Bool, true, false, List, [], ◌∷◌, sym, ap, ◌∙◌, subst}
-use Rattle.std.specs.Prelude.{IsTrue, ⊤}
+use Rattle.std.proofs.Common.{◌≡◌, ℕ, ◌⊎◌, inl, inr, true, false, List, [], ◌∷◌, sym, ap, ◌∙◌, subst}
+use Rattle.std.specs.Prelude.{⊤}
 use Rattle.std.specs.List.{AllByRecursion}
 use Rattle.key_names.specs.declared.entries.Taken.{Taken}
 use Rattle.key_names.specs.declared.entries.Taken.TheVariants.{User}
@@ -17,7 +17,7 @@ use Rattle.key_names.specs.Book.{Lists}
 use Rattle.key_names.specs.Calls.{Setting, Call, alone, vread_call, unbound, ending, BoundAct, setting_after_call}
 use Rattle.key_names.specs.Deeds.{Deed, PoolVisit, BaseVisit, CpuVisit, looked, at_pool, at_base, at_cpu, nothing_there, deeds_of}
 use Rattle.key_names.specs.FastPool.{FastPool, makes_due}
-use Rattle.key_names.specs.Forms.{Form, Rooted, BaseOnly, Cross, DumpForm, IrqForm}
+use Rattle.key_names.specs.Forms.{Form, Rooted, Cross, DumpForm, IrqForm}
 use Rattle.key_names.specs.LineSamples.{EntryIsQuiet, IsQuiet, IsCrossing, IsMix, SamplesStand}
 use Rattle.key_names.specs.Samples.{MakesDue}
 use Rattle.key_names.specs.SeenLine.{SeenLine}
@@ -72,7 +72,7 @@ abbrev pub Crossed : List Deed → Type 0
 Crossed rest = (rest ≡ []) ⊎ (BaseAlone rest ⊎ RootAndBase rest)
 
 pub crosses : (rest : List Deed) → Crossed rest → AllByRecursion IsCrossing rest
-crosses rest (inl none) = subst (AllByRecursion IsCrossing) (sym none) tt
+crosses rest (inl empty) = subst (AllByRecursion IsCrossing) (sym empty) tt
 crosses rest (inr (inl f)) = subst (AllByRecursion IsCrossing) (sym f.are) (tt, tt)
 crosses rest (inr (inr f)) = subst (AllByRecursion IsCrossing) (sym f.are) (f.no_mix, (tt, tt))
 
@@ -121,9 +121,9 @@ pub irq_shape : (set : Setting) (v1 v2 : ℕ) (ds : List Deed) → IrqForm set v
 irq_shape set v1 v2 ds f = go f.dumps
   where
     go : (f.rest ≡ []) ⊎ DumpForm set f.rest → IrqOnly set v1 v2 ds ⊎ IrqDumps set v1 v2 ds
-    go (inl none) = inl (record {
+    go (inl empty) = inl (record {
       sample = f.sample;
-      deeds_are = f.deeds_are ∙ ap (λ r. at_cpu f.sample ∷ r) none;
+      deeds_are = f.deeds_are ∙ ap (λ r. at_cpu f.sample ∷ r) empty;
       samples = f.samples;
     })
     go (inr d) = inr (record {
@@ -145,12 +145,11 @@ irq_shape set v1 v2 ds f = go f.dumps
 
 pub sample_quiet : (f : FastPool) (e : CpuEntry) (v1 v2 now : ℕ) → e ≡ IrqSample v1 v2 now →
     makes_due f now ≡ false → EntryIsQuiet f e
-sample_quiet f e v1 v2 now is no = subst (EntryIsQuiet f) (sym is) no
+sample_quiet f e v1 v2 now is not_due = subst (EntryIsQuiet f) (sym is) not_due
 
 pub sample_due : (f : FastPool) (e : CpuEntry) (v1 v2 now : ℕ) → e ≡ IrqSample v1 v2 now → makes_due f now ≡ true →
     MakesDue f e
-sample_due f e v1 v2 now is yes =
-    let Q : Bool → Type 0 = λ b. IsTrue b in subst (MakesDue f) (sym is) (subst Q (sym yes) tt)
+sample_due f e v1 v2 now is due = subst (MakesDue f) (sym is) due
 
 -- ---- calls whose samples stand, where those of interrupts do
 
@@ -168,7 +167,7 @@ module _ (lists : Lists) where
   Quiet line = AllByRecursion (IsQuiet c.fast) (deeds line)
 
   pub none_quiet : (line : SeenLine) → deeds line ≡ [] → Quiet line
-  none_quiet line none = subst (AllByRecursion (IsQuiet c.fast)) (sym none) tt
+  none_quiet line empty = subst (AllByRecursion (IsQuiet c.fast)) (sym empty) tt
 
   act_form_quiet : (set : Setting) (act : InsideAct) (line : SeenLine) → ActForm set act (deeds line) → Quiet line
   act_form_quiet set WipeAct line form = none_quiet line form
@@ -177,7 +176,7 @@ module _ (lists : Lists) where
 
   pub act_quiet : (set : Setting) (bound : BoundAct) → ActDone lists set bound → Quiet bound.line
   act_quiet set bound (inl form) = act_form_quiet set bound.act bound.line form
-  act_quiet set bound (inr none) = none_quiet bound.line none
+  act_quiet set bound (inr empty) = none_quiet bound.line empty
 
   acts_stand : (set : Setting) (acts : List BoundAct) → AllByRecursion (ActDone lists set) acts →
       AllByRecursion (λ bound. Stands bound.line) acts

@@ -1,10 +1,10 @@
 -- Stamps rise along the steps of an event by itself, and places of one lane with them.
-use Rattle.std.proofs.Common.{◌≡◌, ◌≢◌, ℕ, zero, suc, ◌<◌, ◌≤◌, ◌⊎◌, inl, inr, Bool, true, false, List, [], ◌∷◌, ◌++◌, length, refl, sym, ap, ◌∙◌, subst, arith, Some}
+use Rattle.std.proofs.Common.{◌≡◌, ◌≢◌, ℕ, zero, suc, ◌<◌, inl, inr, Bool, true, false, List, [], ◌∷◌, ◌++◌, length, refl, sym, ap, ◌∙◌, subst, arith, Some, Option}
 use Rattle.std.specs.Prelude.{⊤, if◌then◌else◌, unwrap_or}
 use Rattle.std.specs.List.{AllByRecursion}
 use Rattle.std.proofs.lemmas.Bool.{eq-eqb}
 use Rattle.key_names.specs.declared.names.LaneId.{LaneId}
-use Rattle.key_names.specs.declared.names.LaneId.TheVariants.{Pool as PoolLane, Base as BaseLane, Cpu as CpuLane}
+use Rattle.key_names.specs.declared.names.LaneId.TheVariants.{Cpu as CpuLane}
 use Rattle.key_names.specs.declared.names.Mark.{Mark}
 use Rattle.key_names.specs.declared.names.Who.{Who}
 use Rattle.key_names.specs.declared.names.Step.{Step}
@@ -108,9 +108,9 @@ in_lane lane by (m ∷ marks) same (inr rest) =
     go false later = later
 
 in_order : (a b : ℕ) → (a ≡ b → ⊥) → (b < a → ⊥) → a < b
-in_order a b ne no = elim (lt_or_le a b) [
+in_order a b ne above = elim (lt_or_le a b) [
   | inl lt ↦ lt
-  | inr le ↦ (let other : a ≢ b = ne in absurd (no (omega arith)))
+  | inr le ↦ (let other : a ≢ b = ne in absurd (above (omega arith)))
 ]
 
 module _ (t : List (List SeenLine)) (book : Book) (visits : VisitsAre book (all_marks t))
@@ -145,27 +145,27 @@ module _ (t : List (List SeenLine)) (book : Book) (visits : VisitsAre book (all_
 
   -- of two marks of a CPU the one with the lower stamp has the lower place
   marks_in_order : (c p q a b : ℕ) → MarkAt c p a → MarkAt c q b → a < b → p < q
-  marks_in_order c p q a b m n lt = in_order p q ne no
+  marks_in_order c p q a b m n lt = in_order p q ne above
     where
-      abbrev Above : Mark → Mark → Type 0
+      Above : Mark → Mark → Type 0
       Above x y = x.place < y.place → x.stamp < y.stamp
 
       ne : p ≡ q → ⊥
       ne same =
-          let both : Some (m.mark.stamp, m.who) ≡ Some (n.mark.stamp, n.who) =
+          let both : ◌≡◌ {A = Option (ℕ × Who)} (Some (m.mark.stamp, m.who)) (Some (n.mark.stamp, n.who)) =
           sym m.at ∙ ap (λ i. stamped_at book (CpuLane c) i) same ∙ n.at in
-          let stamps : m.mark.stamp ≡ n.mark.stamp = ap (λ o. (unwrap_or o (0, m.who)).0) both in
+          let stamps : m.mark.stamp ≡ n.mark.stamp = ap (λ o. (unwrap_or {T = ℕ × Who} o (0, m.who)).0) both in
           let x = m.stamp_is in let y = n.stamp_is in omega arith
 
-      no : q < p → ⊥
-      no less =
+      above : q < p → ⊥
+      above less =
           let all : AllByRecursion (Above n.mark) (lane_marks (CpuLane c) (all_marks t)) =
           each_in (λ x. AllByRecursion (Above x) (lane_marks (CpuLane c) (all_marks t))) n.mark
           (lane_marks (CpuLane c) (all_marks t)) (places (CpuLane c)).rise n.there in
-          let above : Above n.mark m.mark =
+          let rise : Above n.mark m.mark =
           each_in (Above n.mark) m.mark (lane_marks (CpuLane c) (all_marks t)) all m.there in
           let x = m.stamp_is in let y = n.stamp_is in let v = m.place_is in let w = n.place_is in
-          let gt : n.mark.stamp < m.mark.stamp = above (omega arith) in omega arith
+          let gt : n.mark.stamp < m.mark.stamp = rise (omega arith) in omega arith
 
   steps_in_order : (line : SeenLine) (steps : List Step) → line.steps ≡ steps → Among line t →
       Rises (stamps_of steps) → (s d : CpuVisit) (ds : List Deed) → deeds_of lists steps ≡ at_cpu s ∷ at_cpu d ∷ ds →

@@ -1,19 +1,17 @@
 -- In a book whose samples are lawful, those of each line stand whose calls mean what they may.
-use Rattle.std.proofs.Common.{◌≡◌, ℕ, ◌<◌, ◌⊎◌, inl, inr, Bool, true, false, List, [], ◌∷◌, length, refl, sym, ap, ◌∙◌, subst}
-use Rattle.std.specs.Prelude.{IsTrue, ⊤}
+use Rattle.std.proofs.Common.{◌≡◌, ℕ, ◌<◌, inl, inr, Bool, true, false, List, [], ◌∷◌, refl, sym, ap, ◌∙◌, subst}
 use Rattle.std.specs.List.{AllByRecursion}
 use Rattle.key_names.specs.declared.names.LaneId.{LaneId}
 use Rattle.key_names.specs.declared.names.Who.{Who}
 use Rattle.key_names.specs.declared.entries.PoolEntry.TheVariants.{Mix}
-use Rattle.key_names.specs.declared.entries.CpuEntry.{CpuEntry}
-use Rattle.key_names.specs.declared.entries.CpuEntry.TheVariants.{Irq as IrqSample, Dump}
+use Rattle.key_names.specs.declared.entries.CpuEntry.TheVariants.{Irq as IrqSample}
 use Rattle.key_names.specs.declared.events.Event.{Event}
 use Rattle.key_names.specs.Book.{Book, Lists, LawfulLanes, lists_of, list_at}
 use Rattle.key_names.specs.Calls.{Setting, Call, alone, vread_call, unbound, ending, setting_after_call}
-use Rattle.key_names.specs.Deeds.{Deed, PoolVisit, CpuVisit, at_pool, at_cpu, deeds_of, cpu_visit}
+use Rattle.key_names.specs.Deeds.{Deed, CpuVisit, at_pool, at_cpu, deeds_of, cpu_visit}
 use Rattle.key_names.specs.FastPool.{FastPool, makes_due, dump_bytes, dump_bits}
 use Rattle.key_names.specs.Forms.{IrqForm}
-use Rattle.key_names.specs.LineSamples.{IsQuiet, Dumps, IsCrossing, SamplesStand}
+use Rattle.key_names.specs.LineSamples.{IsQuiet, IsCrossing, SamplesStand}
 use Rattle.key_names.specs.Samples.{MakesDue, IsDump, DueAt, DumpAt, visits_of, fast_before, LawfulSamples}
 use Rattle.key_names.specs.ScriptGrammar.{Script}
 use Rattle.key_names.specs.SeenLine.{SeenLine}
@@ -24,7 +22,7 @@ use Rattle.key_names.proofs.SortedVisits.{IsIn}
 use Rattle.key_names.proofs.UniqueMeanings.{OfCall}
 use Rattle.line_forms.specs.LaneFacts.{facts_of}
 use Rattle.told_entries.specs.Gathered.{IsBookOf, AllMean}
-use Rattle.told_entries.proofs.CallForms.{CallsForm, AllCallsForm, all_forms}
+use Rattle.told_entries.proofs.CallForms.{CallsForm, all_forms}
 use Rattle.told_entries.proofs.CallLines.{to_calls, to_lines}
 use Rattle.told_entries.proofs.IrqShapes.{IrqOnly, IrqDumps, irq_shape, crosses, sample_quiet, sample_due}
 use Rattle.told_entries.proofs.IrqShapes.{CallsHere, calls_stand}
@@ -66,12 +64,12 @@ module _ (t : List (List SeenLine)) (book : Book) (apart : Apart t) (visits : Vi
         no_dump v dump (inr none) = none
 
         go : (b : Bool) → makes_due (fast f.sample.cpu f.sample.place) set.now ≡ b → Stands line
-        go false no = inl (subst (AllByRecursion (IsQuiet fast)) (sym f.deeds_are)
-            (sample_quiet (fast f.sample.cpu f.sample.place) f.sample.entry v1 v2 set.now f.samples no, tt))
-        go true yes =
+        go false not_due = inl (subst (AllByRecursion (IsQuiet fast)) (sym f.deeds_are)
+            (sample_quiet (fast f.sample.cpu f.sample.place) f.sample.entry v1 v2 set.now f.samples not_due, tt))
+        go true due_now =
             let due : DueAt (visits_of book f.sample.cpu) f.sample.place who =
             due_at t book apart visits places line f.sample who here there refl refl
-            (sample_due (fast f.sample.cpu f.sample.place) f.sample.entry v1 v2 set.now f.samples yes) in
+            (sample_due (fast f.sample.cpu f.sample.place) f.sample.entry v1 v2 set.now f.samples due_now) in
             let d = samples.due_is_dumped f.sample.cpu f.sample.place who due in
             let v : CpuVisit = cpu_visit lists f.sample.cpu d.0 d.2.visit.entry in
             let in_line : IsIn (at_cpu v) (deeds line) =

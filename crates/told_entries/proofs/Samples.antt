@@ -1,10 +1,11 @@
 -- Where lists are as the rows of lines tell, the book's samples are lawful exactly where the tables' dumps stand.
-use Rattle.std.proofs.Common.{◌≡◌, ℕ, ◌<◌, ◌≤◌, ◌⊎◌, inl, inr, List, [], ◌∷◌, length, length-map, refl, sym, ap, ◌∙◌, subst, arith, Some, None, Option}
-use Rattle.std.specs.Prelude.{◌↔◌, ⊤, slice_get}
+use Rattle.std.proofs.Common.{◌≡◌, ℕ, ◌<◌, inl, inr, List, [], ◌∷◌, length, refl, sym, ap, ◌∙◌, subst, arith, Some, None, Option}
+use Rattle.std.specs.Prelude.{◌↔◌, slice_get}
 use Rattle.std.specs.List.{AllByRecursion}
+use Rattle.std.proofs.lemmas.List.{length-map}
 use Rattle.std.proofs.lemmas.Option.{slice_get_within, slice_get-get_or}
 use Rattle.key_names.specs.declared.names.LaneId.{LaneId}
-use Rattle.key_names.specs.declared.names.LaneId.TheVariants.{Pool as PoolLane, Base as BaseLane, Cpu as CpuLane}
+use Rattle.key_names.specs.declared.names.LaneId.TheVariants.{Pool as PoolLane, Cpu as CpuLane}
 use Rattle.key_names.specs.declared.names.Step.TheVariants.{Visit as Marked}
 use Rattle.key_names.specs.declared.entries.Taken.TheVariants.{User}
 use Rattle.key_names.specs.declared.entries.PoolEntry.{PoolEntry}
@@ -14,7 +15,7 @@ use Rattle.key_names.specs.declared.events.Event.{Event}
 use Rattle.key_names.specs.declared.events.Event.TheVariants.{Irq}
 use Rattle.key_names.specs.declared.events.InsideAct.{InsideAct}
 use Rattle.key_names.specs.declared.events.InsideAct.TheVariants.{Wipe as WipeAct, Vread as VreadAct, Reseed as ReseedAct}
-use Rattle.key_names.specs.Book.{Book, Lists, LawfulLanes, entries_of, lists_of, list_at, cpu_list}
+use Rattle.key_names.specs.Book.{Book, Lists, LawfulLanes, lists_of, list_at, cpu_list}
 use Rattle.key_names.specs.Calls.{Setting, Call, alone, vread_call, unbound, ending, BoundAct, setting_after_call}
 use Rattle.key_names.specs.Deeds.{Deed, at_pool, at_cpu, deed_or, deed_at, deeds_of, pool_visit, cpu_visit}
 use Rattle.key_names.specs.Forms.{Form, IrqForm}
@@ -46,7 +47,7 @@ use Rattle.told_entries.proofs.CallForms.{ActDone, CallForm, CallsForm, AllCalls
 use Rattle.told_entries.proofs.CallLines.{to_calls, to_lines}
 use Rattle.told_entries.proofs.DumpRows.{RowBehind, rows_behind, first_is, TablesStand, IsNoSample, quiet_tables, irq_tables}
 use Rattle.told_entries.proofs.DumpRows.{only_samples, dumps_samples}
-use Rattle.told_entries.proofs.IrqShapes.{IrqOnly, IrqDumps, irq_shape, act_quiet, none_quiet, part_quiet}
+use Rattle.told_entries.proofs.IrqShapes.{irq_shape, act_quiet, none_quiet, part_quiet}
 use Rattle.told_entries.proofs.IrqShapes.{CallsHere, calls_stand}
 use Rattle.told_entries.proofs.Lines.{Among, apart, each_among, each_in, each_of, deed_in, LineOf, line_of}
 use Rattle.told_entries.proofs.LineVisits.{line_there}
@@ -95,9 +96,9 @@ module _ (told : Tables) (t : List (List SeenLine)) (book : Book) (visits : Visi
       Form set event (deeds line) → LineRows told set (λ around. telling set event) line.steps → LineTables line
   alone_tables set (Irq v1 v2) line here stands form rows =
       irq_tables told lists set v1 v2 (deeds line) (irq_shape set v1 v2 (deeds line) form) stands
-      (line_rows set _ line here rows)
+      (line_rows set (λ around. telling set (Irq v1 v2)) line here rows)
   alone_tables set event line here stands form rows =
-      quiet_line set _ line (λ around. tt) here (quiet (facts_of lists).fast set event (deeds line) tt form) rows
+      quiet_line set (λ around. telling set event) line (λ around. tt) here (quiet (facts_of lists).fast set event (deeds line) tt form) rows
 
   act_plain : (act : InsideAct) → IsNoSample told lists (act_telling act)
   act_plain WipeAct = tt
@@ -109,7 +110,7 @@ module _ (told : Tables) (t : List (List SeenLine)) (book : Book) (visits : Visi
       AllByRecursion (λ bound. LineTables bound.line) acts
   acts_tables set [] here done rows = tt
   acts_tables set (bound ∷ acts) here done rows = (
-    quiet_line set _ bound.line (λ around. act_plain bound.act) here.0 (act_quiet lists set bound done.0) rows.0,
+    quiet_line set (λ around. act_telling bound.act) bound.line (λ around. act_plain bound.act) here.0 (act_quiet lists set bound done.0) rows.0,
     acts_tables set acts here.1 done.1 rows.1,
   )
 
@@ -123,9 +124,9 @@ module _ (told : Tables) (t : List (List SeenLine)) (book : Book) (visits : Visi
     acts_tables set acts here.1 form.1 rows.1,
   )
   call_tables set (unbound bound) here stands form rows =
-      quiet_line set _ bound.line (λ around. tt) here (none_quiet lists bound.line form) rows
+      quiet_line set (λ around. silent) bound.line (λ around. tt) here (none_quiet lists bound.line form) rows
   call_tables set (ending line) here stands form rows =
-      quiet_line set _ line (λ around. tt) here (end_quiet (facts_of lists).fast (deeds line) form) rows
+      quiet_line set (λ around. ends) line (λ around. tt) here (end_quiet (facts_of lists).fast (deeds line) form) rows
 
   calls_tables : (set : Setting) (calls : List Call) → AllByRecursion (OfCall Here) calls →
       AllByRecursion (OfCall Stands) calls → CallsForm lists set calls → CallsRows told set calls →
