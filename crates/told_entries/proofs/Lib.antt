@@ -8,6 +8,7 @@ pub mod QuietForms
 pub mod IrqShapes
 pub mod SampleLaw
 pub mod SampledLines
+pub mod RowsBehind
 pub mod DumpRows
 pub mod RisingSteps
 pub mod Samples

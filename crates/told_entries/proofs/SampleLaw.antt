@@ -23,7 +23,7 @@ use Rattle.told_entries.proofs.LineVisits.{InLine, Behind, cpu_in_line, pool_in_
 
 -- what excludes what
 
-quiet_dump : (f : FastPool) (e : CpuEntry) → EntryIsQuiet f e → IsDump e → ⊥
+pub quiet_dump : (f : FastPool) (e : CpuEntry) → EntryIsQuiet f e → IsDump e → ⊥
 quiet_dump f (Dump now) quiet dump = quiet
 quiet_dump f _ quiet dump = dump
 

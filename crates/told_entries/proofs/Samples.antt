@@ -45,8 +45,9 @@ use Rattle.told_entries.specs.Gathered.{IsBookOf, AllMean}
 use Rattle.told_entries.specs.Rows.{part_telling, LineRows, ActRows, CallRows, CallsRows, AllCallsRows}
 use Rattle.told_entries.proofs.CallForms.{ActDone, CallForm, CallsForm, AllCallsForm, all_forms}
 use Rattle.told_entries.proofs.CallLines.{to_calls, to_lines}
-use Rattle.told_entries.proofs.DumpRows.{RowBehind, rows_behind, first_is, TablesStand, IsNoSample, quiet_tables, irq_tables}
+use Rattle.told_entries.proofs.DumpRows.{TablesStand, IsNoSample, quiet_tables, irq_tables}
 use Rattle.told_entries.proofs.DumpRows.{only_samples, dumps_samples}
+use Rattle.told_entries.proofs.RowsBehind.{RowBehind, rows_behind, first_is}
 use Rattle.told_entries.proofs.IrqShapes.{irq_shape, act_quiet, none_quiet, part_quiet}
 use Rattle.told_entries.proofs.IrqShapes.{CallsHere, calls_stand}
 use Rattle.told_entries.proofs.Lines.{Among, apart, each_among, each_in, each_of, deed_in, LineOf, line_of}
@@ -86,7 +87,7 @@ module _ (told : Tables) (t : List (List SeenLine)) (book : Book) (visits : Visi
   LineTables line = AllByRecursion (TablesStand told lists) (deeds line)
 
   quiet_line : (set : Setting) (tell : Around → Telling) (line : SeenLine) →
-      ((around : Around) → IsNoSample told lists (tell around)) → Here line →
+      ((around : Around) → IsNoSample (tell around)) → Here line →
       AllByRecursion (IsQuiet (facts_of lists).fast) (deeds line) → LineRows told set tell line.steps → LineTables line
   quiet_line set tell line plain here quiet rows =
       quiet_tables told lists set tell (first_sign (deeds line)) plain nowhere nowhere (deeds line) quiet
@@ -100,7 +101,7 @@ module _ (told : Tables) (t : List (List SeenLine)) (book : Book) (visits : Visi
   alone_tables set event line here stands form rows =
       quiet_line set (λ around. telling set event) line (λ around. tt) here (quiet (facts_of lists).fast set event (deeds line) tt form) rows
 
-  act_plain : (act : InsideAct) → IsNoSample told lists (act_telling act)
+  act_plain : (act : InsideAct) → IsNoSample (act_telling act)
   act_plain WipeAct = tt
   act_plain (VreadAct n) = tt
   act_plain ReseedAct = tt
