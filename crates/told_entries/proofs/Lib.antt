@@ -12,3 +12,4 @@ pub mod RowsBehind
 pub mod DumpRows
 pub mod RisingSteps
 pub mod Samples
+pub mod MadeBooks
