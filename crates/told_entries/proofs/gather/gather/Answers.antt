@@ -12,4 +12,4 @@ returns-clause-some c =
     let long = rw (c.in-Some.is, c.cpus.ensures, c.deref.ensures.value) at c.in_ok-told.ensures.some in
     let changes = rw c.deref-2.ensures.value at c.tell_callers.ensures in
     λ t stands. gathered c.args.script.now t c.args.parts.now c.args.settings.now (tables_of c.in-Some.told)
-        (tables_of c.tell_callers.new.told) c.requires.well c.requires.found long changes stands
+    (tables_of c.tell_callers.new.told) c.requires.well c.requires.found long changes stands
