@@ -18,10 +18,11 @@ use Rattle.line_orders.specs.Begun.{PartsStand}
 use Rattle.line_orders.specs.Called.{seen_calls}
 use Rattle.line_orders.specs.Marks.{seen_mark}
 use Rattle.line_orders.specs.Settings.{AreSettings, settings_from}
+use Rattle.line_orders.proofs.MarksMoved.{same_long}
 use Rattle.list_replay.specs.Tables.{Tables}
 use Rattle.told_entries.specs.Rows.{AllCallsRows}
 use Rattle.told_entries.specs.Spots.{rows_in, callers_spots, Changes, HasRows}
-use Rattle.told_entries.proofs.LanePlaces.{marks_low, same_long}
+use Rattle.told_entries.proofs.LanePlaces.{marks_low}
 use Rattle.told_entries.proofs.MarkedSteps.{LineHas, MarkHas, all_lines, to_callers}
 use Rattle.told_entries.proofs.SpotRows.{SpotHas, callers_takes, callers_have, callers_rows}
 use Rattle.told_entries.proofs.TableChanges.{spots_takes, all_stand}

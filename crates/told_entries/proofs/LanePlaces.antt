@@ -1,11 +1,10 @@
--- The places of a lane's marks are below their number, and how many there are does not hang on the order of all marks.
+-- The places of a lane's marks are below their number.
 use Rattle.std.proofs.Common.{◌≡◌, ℕ, zero, suc, ◌+◌, ◌<◌, ◌≤◌, Bool, true, false, cond, List, [], ◌∷◌, length, refl, sym, subst, ap, ◌∙◌, ◌⊎◌, inl, inr, arith}
-use Rattle.std.specs.Prelude.{count_by, ◌==◌, ◌&&◌, nat_lt, if◌then◌else◌, IsPermutation}
+use Rattle.std.specs.Prelude.{count_by, ◌==◌, ◌&&◌, nat_lt, if◌then◌else◌}
 use Rattle.std.specs.List.{AllByRecursion, range_with_len}
 use Rattle.std.proofs.lemmas.Bool.{eq-eqb}
 use Rattle.std.proofs.lemmas.Bool.Decides.{nat_tests}
 use Rattle.std.proofs.lemmas.List.Sums.{sum_by-cons}
-use Rattle.std.proofs.lemmas.List.Sorted.{sum_by-IsPermutation}
 use Rattle.key_names.specs.declared.names.LaneId.{LaneId}
 use Rattle.key_names.specs.declared.names.LaneId.TheVariants.{Pool as PoolLane, Base as BaseLane, Cpu as CpuLane}
 use Rattle.key_names.specs.declared.names.Mark.{Mark}
@@ -89,7 +88,7 @@ places_low ms stand = low_places (length ms) ms (λ q le. none_at q ms stand le)
 
 -- ---- from lanes to all marks
 
-same_itself : (lane : LaneId) → is_same_lane lane lane ≡ true
+pub same_itself : (lane : LaneId) → is_same_lane lane lane ≡ true
 same_itself PoolLane = refl
 same_itself BaseLane = refl
 same_itself (CpuLane c) = eq-eqb c c refl
@@ -120,23 +119,3 @@ pub marks_low : (marks : List MarkBy) → ((lane : LaneId) → PlacesStand (lane
 marks_low marks stand =
     in_lanes (λ lane m. m.place < length (lane_marks lane marks)) marks
     (λ lane. places_low (lane_marks lane marks) (stand lane))
-
--- ---- in any order
-
-long_here : (lane : LaneId) (xs : List MarkBy) →
-    length (lane_marks lane xs) ≡ count_by (λ by. is_same_lane by.mark.lane lane) xs
-long_here lane [] = refl
-long_here lane (x ∷ xs) =
-    go (is_same_lane x.mark.lane lane) ∙ ap (λ n. hit (is_same_lane x.mark.lane lane) + n) (long_here lane xs)
-    ∙ sym (sum_by-cons (λ (by : MarkBy). hit (is_same_lane by.mark.lane lane)) x xs)
-  where
-    go : (b : Bool) → length (cond b (x.mark ∷ lane_marks lane xs) (lane_marks lane xs))
-        ≡ hit b + length (lane_marks lane xs)
-    go true = omega arith
-    go false = omega arith
-
-pub same_long : (lane : LaneId) (xs ys : List MarkBy) → IsPermutation xs ys →
-    length (lane_marks lane ys) ≡ length (lane_marks lane xs)
-same_long lane xs ys same =
-    long_here lane ys ∙ sum_by-IsPermutation (λ (by : MarkBy). hit (is_same_lane by.mark.lane lane)) xs ys same
-    ∙ sym (long_here lane xs)

@@ -16,16 +16,12 @@ use Rattle.list_replay.specs.declared.told.ToldCpu.{ToldCpu}
 use Rattle.list_replay.specs.Tables.{Tables}
 use Rattle.told_entries.specs.Rows.{IsPoolRow, cpu_row}
 use Rattle.told_entries.specs.Spots.{Spot, rows_in, SameRow, is_visit, SpotRow, Changes}
-use Rattle.told_entries.proofs.TableChanges.{one_row, same_itself}
+use Rattle.told_entries.proofs.LanePlaces.{same_itself}
+use Rattle.told_entries.proofs.TableChanges.{one_row, unchanged}
 
 both_true : (a b : Bool) → (a && b) ≡ true → (a ≡ true) × (b ≡ true)
 both_true true b is = (refl, is)
 both_true false b is = cc
-
-lane_itself : (lane : LaneId) → is_same_lane lane lane ≡ true
-lane_itself PoolLane = refl
-lane_itself BaseLane = refl
-lane_itself (CpuLane c) = eq-eqb c c refl
 
 -- one list has this at a place, and is as the other elsewhere
 pub record PutAt {A : Type 0} (old new : List A) (place : ℕ) (row : A) : Type 0 where
@@ -42,7 +38,7 @@ module _ (spot : Spot) (mark : Mark) (old new : Tables) (is : spot.step ≡ Mark
   not_visited : (lane : LaneId) (place : ℕ) → is_visit lane place spot.step ≡ false → mark.lane ≡ lane →
       place ≢ mark.place
   not_visited lane place misses lane_is = λ same.
-      let a : is_same_lane mark.lane lane ≡ true = ap (λ l. is_same_lane l lane) lane_is ∙ lane_itself lane in
+      let a : is_same_lane mark.lane lane ≡ true = ap (λ l. is_same_lane l lane) lane_is ∙ same_itself lane in
       let b : (mark.place == place) ≡ true = eq-eqb mark.place place (sym same) in
       let hits : (is_same_lane mark.lane lane && mark.place == place) ≡ true =
       ap (λ (x : Bool). x && mark.place == place) a ∙ b in
@@ -128,7 +124,7 @@ module _ (spot : Spot) (mark : Mark) (old new : Tables) (is : spot.step ≡ Mark
 pub look_put : (spot : Spot) (g : ℕ) (a : Tables) → spot.step ≡ Look g → Changes (spot ∷ []) a a
 look_put spot g a is = one_row spot a a refl (λ lane. refl)
     (λ lane place hits. (let never : false ≡ true = sym (ap (is_visit lane place) is) ∙ hits in cc))
-    (λ lane place no. same_itself a lane place)
+    (λ lane place no. unchanged a lane place)
 
 pub list_beyond : {A : Type 0} (xss : List (List A)) (c : ℕ) → length xss ≤ c → list_at xss c ≡ []
 list_beyond [] c le = refl
@@ -140,4 +136,4 @@ pub absent_put : (spot : Spot) (mark : Mark) (a : Tables) (cpu : ℕ) → spot.s
 absent_put spot mark a cpu is lane_is absent = row_put spot mark a a is refl (λ lane. refl)
     (subst (λ l. mark.place < rows_in a l → SpotRow a spot l mark.place) (sym lane_is)
     (λ low. (let none : length (list_at a.cpus cpu) ≡ 0 = ap length (list_beyond a.cpus cpu absent) in absurd (omega arith))))
-    (λ lane place ne. same_itself a lane place)
+    (λ lane place ne. unchanged a lane place)

@@ -10,10 +10,11 @@ use Rattle.key_names.specs.declared.names.Mark.{Mark}
 use Rattle.key_names.specs.declared.names.Step.{Step}
 use Rattle.key_names.specs.declared.names.Step.TheVariants.{Look, Visit as Marked}
 use Rattle.key_names.specs.Book.{list_at}
-use Rattle.line_forms.specs.Told.{pool_told}
+use Rattle.key_names.specs.IsTranscript.{is_same_lane}
 use Rattle.list_replay.specs.Tables.{Tables}
 use Rattle.told_entries.specs.Rows.{RowAt}
 use Rattle.told_entries.specs.Spots.{Spot, rows_in, SameRow, is_visit, or_else, last_at, SpotRow, Changes}
+use Rattle.told_entries.proofs.LanePlaces.{same_itself}
 use Rattle.told_entries.proofs.MarkedSteps.{StepHas}
 
 or_none : {A : Type 0} (o : Option A) → or_else o None ≡ o
@@ -44,13 +45,13 @@ same_both a b c PoolLane place p q = q ∙ p
 same_both a b c BaseLane place p q = q ∙ p
 same_both a b c (CpuLane d) place p q = q ∙ p
 
-pub same_itself : (a : Tables) (lane : LaneId) (place : ℕ) → SameRow a a lane place
-same_itself a PoolLane place = refl
-same_itself a BaseLane place = refl
-same_itself a (CpuLane c) place = refl
+pub unchanged : (a : Tables) (lane : LaneId) (place : ℕ) → SameRow a a lane place
+unchanged a PoolLane place = refl
+unchanged a BaseLane place = refl
+unchanged a (CpuLane c) place = refl
 
 pub changes_none : (a : Tables) → Changes [] a a
-changes_none a = record { cpus = refl; sizes = λ lane. refl; rows = λ lane place. same_itself a lane place }
+changes_none a = record { cpus = refl; sizes = λ lane. refl; rows = λ lane place. unchanged a lane place }
 
 -- what the last to tell of a place made of it
 abbrev pub RowBy : Option Spot → Tables → Tables → LaneId → ℕ → Type 0
@@ -154,10 +155,8 @@ module _ (old new : Tables) (whole : List Spot) (changes : Changes whole old new
         (λ lane place s is. last lane place s (last_behind lane place s spot spots is)) low.1,
   )
     where
-      itself : (lane : LaneId) (place : ℕ) → is_visit lane place (Marked (record { lane = lane; place = place; stamp = 0 })) ≡ true
-      itself PoolLane place = eq-eqb place place refl
-      itself BaseLane place = eq-eqb place place refl
-      itself (CpuLane c) place = ap (λ (b : Bool). b && place == place) (eq-eqb c c refl) ∙ eq-eqb place place refl
+      itself : (lane : LaneId) (place : ℕ) → (is_same_lane lane lane && place == place) ≡ true
+      itself lane place = ap (λ (b : Bool). b && place == place) (same_itself lane) ∙ eq-eqb place place refl
 
       one : (step : Step) → spot.step ≡ step → StepHas Within step →
           StepHas (λ lane place. SpotRow new spot lane place) step
