@@ -1,3 +1,4 @@
 pub mod Filled
 pub mod Gathered
 pub mod Rows
+pub mod Spots

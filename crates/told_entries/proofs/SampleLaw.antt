@@ -1,0 +1,324 @@
+-- Where the samples of each line stand, those of the book are lawful.
+use Rattle.std.proofs.Common.{◌≡◌, ℕ, ◌<◌, inl, inr, List, [], ◌∷◌, refl, sym, ap, ◌∙◌, subst, arith, Some}
+use Rattle.std.specs.Prelude.{slice_get, take}
+use Rattle.std.specs.List.{AllByRecursion}
+use Rattle.key_names.specs.declared.names.LaneId.{LaneId}
+use Rattle.key_names.specs.declared.names.Who.{Who}
+use Rattle.key_names.specs.declared.entries.PoolEntry.{PoolEntry}
+use Rattle.key_names.specs.declared.entries.PoolEntry.TheVariants.{Mix}
+use Rattle.key_names.specs.declared.entries.CpuEntry.{CpuEntry}
+use Rattle.key_names.specs.declared.entries.CpuEntry.TheVariants.{Irq, Dump}
+use Rattle.key_names.specs.Book.{Book, Lists, Visit, lists_of}
+use Rattle.key_names.specs.Deeds.{Deed, PoolVisit, CpuVisit, at_pool, at_cpu, deeds_of, pool_visit, cpu_visit}
+use Rattle.key_names.specs.FastPool.{FastPool, fast_after, dump_bytes, dump_bits}
+use Rattle.key_names.specs.LineSamples.{EntryIsQuiet, IsQuiet, Dumps, IsMix, IsCrossing, SamplesStand}
+use Rattle.key_names.specs.Samples.{SameEvent, fast_before, MakesDue, IsDump, DueAt, DumpAt, MixAt, visits_of, LawfulSamples}
+use Rattle.key_names.specs.SeenLine.{SeenLine}
+use Rattle.key_names.specs.IsTranscript.{all_marks, lane_marks, PlacesStand, VisitsAre}
+use Rattle.key_names.proofs.SortedVisits.{IsIn}
+use Rattle.key_names.proofs.UniqueEvents.{entries_at}
+use Rattle.line_forms.specs.LaneFacts.{facts_of}
+use Rattle.told_entries.proofs.Lines.{each_in, Among, Apart}
+use Rattle.told_entries.proofs.LineVisits.{InLine, Behind, cpu_in_line, pool_in_line, cpu_behind, pool_behind}
+
+-- what excludes what
+
+pub quiet_dump : (f : FastPool) (e : CpuEntry) → EntryIsQuiet f e → IsDump e → ⊥
+quiet_dump f (Dump now) quiet dump = quiet
+quiet_dump f _ quiet dump = dump
+
+quiet_due : (f : FastPool) (e : CpuEntry) → EntryIsQuiet f e → MakesDue f e → ⊥
+quiet_due f (Irq v1 v2 now) quiet due = cc
+quiet_due f _ quiet due = due
+
+pub due_dump : (f : FastPool) (e : CpuEntry) → MakesDue f e → IsDump e → ⊥
+due_dump f (Dump now) due dump = due
+due_dump f _ due dump = dump
+
+abbrev Crosses : List Deed → Type 0
+Crosses rest = AllByRecursion IsCrossing rest
+
+-- the deeds of one line
+module _ (fast : ℕ → ℕ → FastPool) (deeds : List Deed) where
+  must_dump : SamplesStand fast deeds → (s : CpuVisit) → IsIn (at_cpu s) deeds → IsDump s.entry →
+      Dumps fast Crosses deeds
+  must_dump (inl quiet) s here dump = absurd (quiet_dump (fast s.cpu s.place) s.entry
+      (each_in (IsQuiet fast) (at_cpu s) deeds quiet here) dump)
+  must_dump (inr d) s here dump = d
+
+  was_due : SamplesStand fast deeds → (s : CpuVisit) → IsIn (at_cpu s) deeds → MakesDue (fast s.cpu s.place) s.entry →
+      Dumps fast Crosses deeds
+  was_due (inl quiet) s here due = absurd (quiet_due (fast s.cpu s.place) s.entry
+      (each_in (IsQuiet fast) (at_cpu s) deeds quiet here) due)
+  was_due (inr d) s here due = d
+
+  module _ (d : Dumps fast Crosses deeds) where
+    abbrev Front : Deed → Type 0
+    Front deed = IsIn deed (at_cpu d.sample ∷ at_cpu d.dump ∷ at_pool d.mix ∷ d.rest)
+
+    front : (deed : Deed) → IsIn deed deeds → Front deed
+    front deed here = subst (IsIn deed) d.deeds_are here
+
+    is_the_dump : (s : CpuVisit) → IsIn (at_cpu s) deeds → IsDump s.entry → d.dump ≡ s
+    is_the_dump s here dump = go (front (at_cpu s) here)
+      where
+        go : Front (at_cpu s) → d.dump ≡ s
+        go (inl same) =
+            let e : d.sample ≡ s = cc in
+            let due : MakesDue (fast s.cpu s.place) s.entry =
+            subst (λ (v : CpuVisit). MakesDue (fast v.cpu v.place) v.entry) e d.due in
+            absurd (due_dump (fast s.cpu s.place) s.entry due dump)
+        go (inr (inl same)) = cc
+        go (inr (inr (inl same))) = cc
+        go (inr (inr (inr rest))) = absurd (each_in IsCrossing (at_cpu s) d.rest d.crosses rest)
+
+    is_the_sample : (s : CpuVisit) → IsIn (at_cpu s) deeds → MakesDue (fast s.cpu s.place) s.entry → d.sample ≡ s
+    is_the_sample s here due = go (front (at_cpu s) here)
+      where
+        go : Front (at_cpu s) → d.sample ≡ s
+        go (inl same) = cc
+        go (inr (inl same)) =
+            let e : d.dump ≡ s = cc in
+            absurd (due_dump (fast s.cpu s.place) s.entry due (subst (λ (v : CpuVisit). IsDump v.entry) e d.dumps))
+        go (inr (inr (inl same))) = cc
+        go (inr (inr (inr rest))) = absurd (each_in IsCrossing (at_cpu s) d.rest d.crosses rest)
+
+    is_the_mix : (s : PoolVisit) → IsIn (at_pool s) deeds → IsMix s.entry → d.mix ≡ s
+    is_the_mix s here mix = go (front (at_pool s) here)
+      where
+        go : Front (at_pool s) → d.mix ≡ s
+        go (inl same) = cc
+        go (inr (inl same)) = cc
+        go (inr (inr (inl same))) = cc
+        go (inr (inr (inr rest))) = absurd (each_in IsCrossing (at_pool s) d.rest d.crosses rest mix)
+
+    sample_in : IsIn (at_cpu d.sample) deeds
+    sample_in = subst (IsIn (at_cpu d.sample)) (sym d.deeds_are) (inl refl)
+
+    dump_in : IsIn (at_cpu d.dump) deeds
+    dump_in = subst (IsIn (at_cpu d.dump)) (sym d.deeds_are) (inr (inl refl))
+
+    mix_in : IsIn (at_pool d.mix) deeds
+    mix_in = subst (IsIn (at_pool d.mix)) (sym d.deeds_are) (inr (inr (inl refl)))
+
+-- what a mix mixes
+abbrev text_or : PoolEntry → List ℕ
+text_or (Mix text bits) = text
+text_or _ = []
+
+abbrev bits_or : PoolEntry → ℕ
+bits_or (Mix text bits) = bits
+bits_or _ = 0
+
+-- a CPU's fast pool before a place, read from its entries alone
+pub fast_is : (book : Book) (c place : ℕ) →
+    fast_before (visits_of book c) place ≡ (facts_of (lists_of book)).fast c place
+fast_is book c place = ap (λ es. fast_after (take place es)) (entries_at book.cpus c)
+
+module _ (t : List (List SeenLine)) (book : Book) (apart : Apart t) (visits : VisitsAre book (all_marks t))
+    (places : (lane : LaneId) → PlacesStand (lane_marks lane (all_marks t))) where
+  abbrev lists : Lists
+  lists = lists_of book
+
+  abbrev fast : ℕ → ℕ → FastPool
+  fast = (facts_of lists).fast
+
+  abbrev InSome : Who → Deed → Type 0
+  InSome who deed = InLine t book visits who deed
+
+  abbrev deeds : SeenLine → List Deed
+  deeds line = deeds_of lists line.steps
+
+  abbrev Stands : SeenLine → Type 0
+  Stands line = SamplesStand fast (deeds line)
+
+  cpu_line : (c place : ℕ) (v : Visit CpuEntry) → slice_get (visits_of book c) place ≡ Some v →
+      InSome v.who (at_cpu (cpu_visit lists c place v.entry))
+  cpu_line = cpu_in_line t book visits places
+
+  pool_line : (place : ℕ) (v : Visit PoolEntry) → slice_get book.pool place ≡ Some v →
+      InSome v.who (at_pool (pool_visit lists place v.entry))
+  pool_line = pool_in_line t book visits places
+
+  of_cpu : (line : SeenLine) (s : CpuVisit) → Among line t → IsIn (at_cpu s) (deeds line) →
+      Behind t book visits (visits_of book s.cpu) s.place s.entry line
+  of_cpu = cpu_behind t book visits
+
+  of_pool : (line : SeenLine) (s : PoolVisit) → Among line t → IsIn (at_pool s) (deeds line) →
+      Behind t book visits book.pool s.place s.entry line
+  of_pool = pool_behind t book visits
+
+  -- the visit behind a deed of a line whose event is this one's
+  pub due_at : (line : SeenLine) (s : CpuVisit) (who : Who) → Among line t → IsIn (at_cpu s) (deeds line) →
+      line.event ≡ who.event → who.caller ≡ line.caller → MakesDue (fast s.cpu s.place) s.entry →
+      DueAt (visits_of book s.cpu) s.place who
+  due_at line s who among here event by due =
+      let b = of_cpu line s among here in
+      record {
+        visit = b.visit;
+        is = b.at;
+        event = (b.by ∙ sym by, b.event ∙ event);
+        due = subst (λ (e : CpuEntry). MakesDue (fast_before (visits_of book s.cpu) s.place) e) (sym b.is)
+            (subst (λ (f : FastPool). MakesDue f s.entry) (sym (fast_is book s.cpu s.place)) due);
+      }
+
+  pub dump_at : (line : SeenLine) (s : CpuVisit) (who : Who) → Among line t → IsIn (at_cpu s) (deeds line) →
+      line.event ≡ who.event → who.caller ≡ line.caller → IsDump s.entry → DumpAt (visits_of book s.cpu) s.place who
+  dump_at line s who among here event by dump =
+      let b = of_cpu line s among here in
+      record {
+        visit = b.visit;
+        is = b.at;
+        event = (b.by ∙ sym by, b.event ∙ event);
+        dumps = subst IsDump (sym b.is) dump;
+      }
+
+  pub mix_at : (line : SeenLine) (s : PoolVisit) (who : Who) (text : List ℕ) (bits : ℕ) → Among line t →
+      IsIn (at_pool s) (deeds line) → line.event ≡ who.event → who.caller ≡ line.caller → s.entry ≡ Mix text bits →
+      MixAt book.pool s.place who text bits
+  mix_at line s who text bits among here event by mixes =
+      let b = of_pool line s among here in
+      record { visit = b.visit; is = b.at; event = (b.by ∙ sym by, b.event ∙ event); mixes = b.is ∙ mixes }
+
+  -- a visit of a line's event is behind a step of the line
+  own_line : (line : SeenLine) (a who : Who) (deed : Deed) → Among line t → line.event ≡ who.event →
+      who.caller ≡ line.caller → SameEvent a who → InSome a deed → IsIn deed (deeds line)
+  own_line line a who deed among event by same g =
+      let is : g.line ≡ line =
+      apart g.line line g.among among (sym g.by ∙ same.0 ∙ by) (g.event ∙ same.1 ∙ sym event) in
+      subst (λ l. IsIn deed (deeds l)) is g.deed_there
+
+  pub due_in : (line : SeenLine) (c i : ℕ) (who : Who) → Among line t → line.event ≡ who.event →
+      who.caller ≡ line.caller → (a : DueAt (visits_of book c) i who) →
+      IsIn (at_cpu (cpu_visit lists c i a.visit.entry)) (deeds line) × MakesDue (fast c i) a.visit.entry
+  due_in line c i who among event by a = (
+    own_line line a.visit.who who (at_cpu (cpu_visit lists c i a.visit.entry)) among event by a.event
+        (cpu_line c i a.visit a.is),
+    subst (λ (f : FastPool). MakesDue f a.visit.entry) (fast_is book c i) a.due,
+  )
+
+  pub dump_in_line : (line : SeenLine) (c k : ℕ) (who : Who) → Among line t → line.event ≡ who.event →
+      who.caller ≡ line.caller → (a : DumpAt (visits_of book c) k who) →
+      IsIn (at_cpu (cpu_visit lists c k a.visit.entry)) (deeds line)
+  dump_in_line line c k who among event by a =
+      own_line line a.visit.who who (at_cpu (cpu_visit lists c k a.visit.entry)) among event by a.event
+      (cpu_line c k a.visit a.is)
+
+  -- ---- from lines to the book
+
+  module _ (samples : AllByRecursion (AllByRecursion Stands) t) where
+    stands : (line : SeenLine) → Among line t → Stands line
+    stands line (lines, lines_in, line_in) =
+        each_in Stands line lines (each_in (AllByRecursion Stands) lines t samples lines_in) line_in
+
+    -- the line of a dump
+    record OfDump (c k : ℕ) (who : Who) : Type 0 where
+      line : SeenLine
+      among : Among line t
+      event : line.event ≡ who.event
+      by : who.caller ≡ line.caller
+      dumps : Dumps fast Crosses (deeds line)
+      on : dumps.dump.cpu ≡ c
+      at : dumps.dump.place ≡ k
+
+    of_dump : (c k : ℕ) (who : Who) → DumpAt (visits_of book c) k who → OfDump c k who
+    of_dump c k who a =
+        let f : InSome a.visit.who (at_cpu (cpu_visit lists c k a.visit.entry)) = cpu_line c k a.visit a.is in
+        let s : CpuVisit = cpu_visit lists c k a.visit.entry in
+        let d : Dumps fast Crosses (deeds f.line) =
+        must_dump fast (deeds f.line) (stands f.line f.among) s f.deed_there a.dumps in
+        let same : d.dump ≡ s = is_the_dump fast (deeds f.line) d s f.deed_there a.dumps in
+        record {
+          line = f.line;
+          among = f.among;
+          event = f.event ∙ a.event.1;
+          by = sym a.event.0 ∙ f.by;
+          dumps = d;
+          on = ap (λ (v : CpuVisit). v.cpu) same;
+          at = ap (λ (v : CpuVisit). v.place) same;
+        }
+
+    dump_due : (c k : ℕ) (who : Who) → DumpAt (visits_of book c) k who →
+        (i : ℕ) × (i < k) × DueAt (visits_of book c) i who
+    dump_due c k who a =
+        let o : OfDump c k who = of_dump c k who a in
+        let d : Dumps fast Crosses (deeds o.line) = o.dumps in
+        let cpu : d.sample.cpu ≡ c = sym d.on ∙ o.on in (
+          d.sample.place,
+          (let lt = d.after in let e = o.at in omega arith),
+          subst (λ (n : ℕ). DueAt (visits_of book n) d.sample.place who) cpu
+              (due_at o.line d.sample who o.among (sample_in fast (deeds o.line) d) o.event o.by d.due),
+        )
+
+    due_dumped : (c i : ℕ) (who : Who) → DueAt (visits_of book c) i who →
+        (k : ℕ) × (i < k) × DumpAt (visits_of book c) k who
+    due_dumped c i who a =
+        let f : InSome a.visit.who (at_cpu (cpu_visit lists c i a.visit.entry)) = cpu_line c i a.visit a.is in
+        let s : CpuVisit = cpu_visit lists c i a.visit.entry in
+        let due : MakesDue (fast c i) a.visit.entry =
+        subst (λ (f : FastPool). MakesDue f a.visit.entry) (fast_is book c i) a.due in
+        let d : Dumps fast Crosses (deeds f.line) =
+        was_due fast (deeds f.line) (stands f.line f.among) s f.deed_there due in
+        let same : d.sample ≡ s = is_the_sample fast (deeds f.line) d s f.deed_there due in
+        let cpu : d.dump.cpu ≡ c = d.on ∙ ap (λ (v : CpuVisit). v.cpu) same in
+        let from : d.sample.place ≡ i = ap (λ (v : CpuVisit). v.place) same in (
+          d.dump.place,
+          (let lt = d.after in omega arith),
+          subst (λ (n : ℕ). DumpAt (visits_of book n) d.dump.place who) cpu
+              (dump_at f.line d.dump who f.among (dump_in fast (deeds f.line) d) (f.event ∙ a.event.1)
+              (sym a.event.0 ∙ f.by) d.dumps),
+        )
+
+    one_dump : (c j k : ℕ) (who : Who) → DumpAt (visits_of book c) j who → DumpAt (visits_of book c) k who → j ≡ k
+    one_dump c j k who a b =
+        let o : OfDump c j who = of_dump c j who a in
+        let v : CpuVisit = cpu_visit lists c k b.visit.entry in
+        let here : IsIn (at_cpu v) (deeds o.line) = dump_in_line o.line c k who o.among o.event o.by b in
+        let same : o.dumps.dump ≡ v = is_the_dump fast (deeds o.line) o.dumps v here b.dumps in
+        sym o.at ∙ ap (λ (v : CpuVisit). v.place) same
+
+    -- what the fast pool held at the dump
+    dumped : (c k : ℕ) (who : Who) (o : OfDump c k who) →
+        fast o.dumps.dump.cpu o.dumps.dump.place ≡ fast_before (visits_of book c) k
+    dumped c k who o = (λ i. fast (o.on i) (o.at i)) ∙ sym (fast_is book c k)
+
+    mixed : (c k : ℕ) (who : Who) (o : OfDump c k who) → o.dumps.mix.entry
+        ≡ Mix (dump_bytes (fast_before (visits_of book c) k)) (dump_bits (fast_before (visits_of book c) k))
+    mixed c k who o = o.dumps.mixes ∙ ap (λ (f : FastPool). Mix (dump_bytes f) (dump_bits f)) (dumped c k who o)
+
+    dump_mixed : (c k : ℕ) (who : Who) → DumpAt (visits_of book c) k who →
+        (p : ℕ) × MixAt book.pool p who (dump_bytes (fast_before (visits_of book c) k))
+        (dump_bits (fast_before (visits_of book c) k))
+    dump_mixed c k who a =
+        let o : OfDump c k who = of_dump c k who a in
+        let d : Dumps fast Crosses (deeds o.line) = o.dumps in (
+          d.mix.place,
+          mix_at o.line d.mix who (dump_bytes (fast_before (visits_of book c) k))
+              (dump_bits (fast_before (visits_of book c) k)) o.among (mix_in fast (deeds o.line) d) o.event o.by
+              (mixed c k who o),
+        )
+
+    mix_dumped : (c k p : ℕ) (who : Who) (text : List ℕ) (bits : ℕ) → DumpAt (visits_of book c) k who →
+        MixAt book.pool p who text bits →
+        (text ≡ dump_bytes (fast_before (visits_of book c) k))
+        × (bits ≡ dump_bits (fast_before (visits_of book c) k))
+    mix_dumped c k p who text bits a b =
+        let o : OfDump c k who = of_dump c k who a in
+        let s : PoolVisit = pool_visit lists p b.visit.entry in
+        let here : IsIn (at_pool s) (deeds o.line) =
+        own_line o.line b.visit.who who (at_pool s) o.among o.event o.by b.event (pool_line p b.visit b.is) in
+        let same : o.dumps.mix ≡ s =
+        is_the_mix fast (deeds o.line) o.dumps s here (subst IsMix (sym b.mixes) tt) in
+        let f : FastPool = fast_before (visits_of book c) k in
+        let is : Mix text bits ≡ Mix (dump_bytes f) (dump_bits f) =
+        sym b.mixes ∙ sym (ap (λ (v : PoolVisit). v.entry) same) ∙ mixed c k who o in
+        (ap text_or is, ap bits_or is)
+
+    pub samples_lawful : LawfulSamples book
+    samples_lawful = record {
+      dump_is_due = dump_due;
+      due_is_dumped = due_dumped;
+      one_dump = one_dump;
+      dump_is_mixed = dump_mixed;
+      mix_is_dump = mix_dumped;
+    }

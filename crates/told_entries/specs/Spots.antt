@@ -1,0 +1,125 @@
+-- Where lines tell something of a step, one behind the other as they are told, and tables into which their rows are put.
+use Rattle.std.specs.Prelude.{ℕ, suc, ◌≡◌, ◌<◌, ◌≤◌, Bool, true, false, Option, Some, None, List, [], ◌∷◌, ◌++◌}
+use Rattle.std.specs.Prelude.{◌==◌, ◌&&◌, if◌then◌else◌, MatchOption, length, slice_get}
+use Rattle.std.specs.List.{flat_map}
+use Rattle.key_names.specs.declared.names.LaneId.{LaneId}
+use Rattle.key_names.specs.declared.names.LaneId.TheVariants.{Pool as PoolLane, Base as BaseLane, Cpu as CpuLane}
+use Rattle.key_names.specs.declared.names.Step.{Step}
+use Rattle.key_names.specs.declared.names.Step.TheVariants.{Look, Visit as Marked}
+use Rattle.key_names.specs.Book.{list_at}
+use Rattle.key_names.specs.Calls.{Setting, Call, alone, vread_call, unbound, ending, BoundAct}
+use Rattle.key_names.specs.IsTranscript.{MarkBy, is_same_lane, lane_marks}
+use Rattle.line_forms.specs.declared.told.Around.{Around}
+use Rattle.line_forms.specs.declared.told.Sign.{Sign}
+use Rattle.line_forms.specs.declared.told.Sign.TheVariants.{Nowhere as nowhere}
+use Rattle.line_forms.specs.Told.{Telling, silent, telling, act_telling}
+use Rattle.list_replay.specs.Tables.{Tables}
+use Rattle.told_entries.specs.declared.gather.Teller.{Teller}
+use Rattle.told_entries.specs.declared.gather.Teller.TheVariants.{Event as EventTeller, Act as ActTeller, Vread as VreadTeller}
+use Rattle.told_entries.specs.declared.gather.Teller.TheVariants.{Nothing as NoTeller}
+use Rattle.told_entries.specs.Rows.{RowAt, part_telling, first_shown, step_sign}
+
+-- what a line tells by
+abbrev pub tells_by : Setting → Teller → Around → Telling
+tells_by set (EventTeller event) around = telling set event.now
+tells_by set (ActTeller act) around = act_telling act
+tells_by set (VreadTeller n) around = part_telling n around
+tells_by set NoTeller around = silent
+
+-- ---- what is told, step by step
+
+-- a step, what its line tells by there, and the signs around it
+pub record Spot : Type 0 where
+  pub set : Setting
+  pub tells : Telling
+  pub first : Sign
+  pub around : Around
+  pub step : Step
+
+abbrev pub spots_from : Setting → (Around → Telling) → Sign → Sign → Sign → List Step → List Spot
+spots_from set tell first a b [] = []
+spots_from set tell first a b (step ∷ steps) =
+    let around : Around = record { second_before = a; before = b; behind = first_shown steps } in
+    record { set = set; tells = tell around; first = first; around = around; step = step }
+    ∷ spots_from set tell first b (step_sign step) steps
+
+abbrev pub line_spots : Setting → (Around → Telling) → List Step → List Spot
+line_spots set tell steps = spots_from set tell (first_shown steps) nowhere nowhere steps
+
+abbrev pub acts_spots : Setting → List BoundAct → List Spot
+acts_spots set [] = []
+acts_spots set (bound ∷ acts) =
+    line_spots set (λ around. act_telling bound.act) bound.line.steps ++ acts_spots set acts
+
+abbrev pub call_spots : Setting → Call → List Spot
+call_spots set (alone event line) = line_spots set (λ around. telling set event) line.steps
+call_spots set (vread_call n flags line acts) = acts_spots set acts ++ line_spots set (part_telling n) line.steps
+call_spots set (unbound bound) = line_spots set (λ around. silent) bound.line.steps
+call_spots set (ending line) = line_spots set (λ around. silent) line.steps
+
+-- those of a caller's calls, each with the setting that it finds, and those of all callers
+abbrev pub calls_spots : List Call → List Setting → List Spot
+calls_spots [] sets = []
+calls_spots (call ∷ calls) [] = []
+calls_spots (call ∷ calls) (set ∷ sets) = call_spots set call ++ calls_spots calls sets
+
+abbrev pub callers_spots : List (List Call) → List (List Setting) → List Spot
+callers_spots [] settings = []
+callers_spots (calls ∷ callers) [] = []
+callers_spots (calls ∷ callers) (sets ∷ settings) = calls_spots calls sets ++ callers_spots callers settings
+
+-- ---- the tables
+
+abbrev pub rows_in : Tables → LaneId → ℕ
+rows_in told PoolLane = length told.pool
+rows_in told BaseLane = length told.base
+rows_in told (CpuLane c) = length (list_at told.cpus c)
+
+-- the row at a place is as it was
+abbrev pub SameRow : Tables → Tables → LaneId → ℕ → Type 0
+SameRow old new PoolLane place = slice_get new.pool place ≡ slice_get old.pool place
+SameRow old new BaseLane place = slice_get new.base place ≡ slice_get old.base place
+SameRow old new (CpuLane c) place = slice_get (list_at new.cpus c) place ≡ slice_get (list_at old.cpus c) place
+
+-- the step visits a place
+abbrev pub is_visit : LaneId → ℕ → Step → Bool
+is_visit lane place (Look g) = false
+is_visit lane place (Marked mark) = is_same_lane mark.lane lane && mark.place == place
+
+-- the last that tells something of a place
+abbrev pub or_else : {A : Type 0} → Option A → Option A → Option A
+or_else None other = other
+or_else (Some a) other = Some a
+
+abbrev pub last_at : LaneId → ℕ → List Spot → Option Spot
+last_at lane place [] = None
+last_at lane place (spot ∷ spots) =
+    or_else (last_at lane place spots) (if is_visit lane place spot.step then Some spot else None)
+
+abbrev pub SpotRow : Tables → Spot → LaneId → ℕ → Type 0
+SpotRow told spot lane place = RowAt told spot.set spot.tells spot.first spot.around lane place
+
+-- each row is what is told last of its place, or as it was
+pub record Changes (spots : List Spot) (old new : Tables) : Type 0 where
+  pub cpus : length new.cpus ≡ length old.cpus
+  pub sizes : (lane : LaneId) → rows_in new lane ≡ rows_in old lane
+  pub rows : (lane : LaneId) (place : ℕ) → MatchOption (last_at lane place spots) (SameRow old new lane place)
+      (λ spot. place < rows_in old lane → SpotRow new spot lane place)
+
+-- ---- tables with a row for each mark
+
+-- one more row of a lane
+pub record IsLonger (lane : LaneId) (old new : Tables) : Type 0 where
+  pub cpus : length new.cpus ≡ length old.cpus
+  pub rows : (other : LaneId) →
+      rows_in new other ≡ (if is_same_lane lane other then suc (rows_in old other) else rows_in old other)
+
+-- a CPU that is not there
+abbrev pub IsAbsent : ℕ → LaneId → Type 0
+IsAbsent cpus PoolLane = ⊥
+IsAbsent cpus BaseLane = ⊥
+IsAbsent cpus (CpuLane c) = cpus ≤ c
+
+pub record HasRows (cpus : ℕ) (marks : List MarkBy) (told : Tables) : Type 0 where
+  pub count : length told.cpus ≡ cpus
+  pub rows : (lane : LaneId) → rows_in told lane ≡ length (lane_marks lane marks)
