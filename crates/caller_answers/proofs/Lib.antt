@@ -1,0 +1,2 @@
+pub mod MetDeeds
+pub mod MetSays
