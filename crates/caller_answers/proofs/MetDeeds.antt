@@ -16,10 +16,9 @@ use Rattle.key_names.specs.declared.names.Step.TheVariants.{Look, Visit as Marke
 use Rattle.key_names.specs.declared.entries.Taken.{Taken}
 use Rattle.key_names.specs.declared.entries.Taken.TheVariants.{User, Kernel}
 use Rattle.key_names.specs.declared.entries.BaseEntry.{BaseEntry}
-use Rattle.key_names.specs.declared.entries.BaseEntry.TheVariants.{Early, Reseed, Tick, Draw, Refill, Fork, End, Wait}
-use Rattle.key_names.specs.declared.entries.BaseEntry.TheVariants.{Resume, Interrupt, Stall, Unstall}
+use Rattle.key_names.specs.declared.entries.BaseEntry.TheVariants.{Draw}
 use Rattle.key_names.specs.declared.entries.CpuEntry.{CpuEntry}
-use Rattle.key_names.specs.declared.entries.CpuEntry.TheVariants.{Read, Int, Irq, Dump, Prepare, Online}
+use Rattle.key_names.specs.declared.entries.CpuEntry.TheVariants.{Read, Int}
 use Rattle.key_names.specs.Book.{Lists, cpu_list, list_at}
 use Rattle.key_names.specs.Batches.{Fill, batched_int, must_fill}
 use Rattle.key_names.specs.BaseList.{base_erases}
@@ -64,17 +63,7 @@ base_made : (e : BaseEntry) (key : Option (List ℕ)) (used : List ℕ) → (bas
     BaseServes e key used
 base_made (Draw root taken) key used h =
     subst (λ k. BaseServes (Draw root taken) k used) (sym (h refl)) (refl, sym (taken_made used taken))
-base_made (Early root) key used h = (refl, refl)
-base_made (Reseed root now) key used h = (refl, refl)
-base_made (Tick now root) key used h = (refl, refl)
-base_made (Refill cpu cpu_place) key used h = (refl, refl)
-base_made (Fork child) key used h = (refl, refl)
-base_made End key used h = (refl, refl)
-base_made Wait key used h = (refl, refl)
-base_made Resume key used h = (refl, refl)
-base_made Interrupt key used h = (refl, refl)
-base_made Stall key used h = (refl, refl)
-base_made Unstall key used h = (refl, refl)
+base_made _ key used h = (refl, refl)
 
 -- of a visit of a CPU
 pub record MetCpu (k : KeptCpu) (v : CpuVisit) : Type 0 where
@@ -123,10 +112,7 @@ module _ (book : Lists) (c : ℕ) (fills : ℕ → Option Fill) (place : ℕ) wh
           ≡ batched_int (used place) width 0 in (tt, subst P (sym (mul-zero width)) refl)
   cpu_made s (Int look refill width false) same fit =
       (tt, int_made look width refill (fills width) (fit.fills ∙ ap (λ f. must_fill look width (f width)) same))
-  cpu_made s (Irq v1 v2 now) same fit = (tt, refl)
-  cpu_made s (Dump now) same fit = (tt, refl)
-  cpu_made s Prepare same fit = (tt, refl)
-  cpu_made s Online same fit = (tt, refl)
+  cpu_made s _ same fit = (tt, refl)
 
 -- ---- a step
 
@@ -167,7 +153,7 @@ unlisted (ys ∷ xss) (suc c) is = unlisted xss c is
 module _ (kept : KeptLists) (book : Lists) (keeps : Keeps kept book)
     (fit : (step : Step) → DeedFits (facts_of book) (deed_of book step)) where
   pool_is : (place : ℕ) → IsMet (mark_met kept PoolLane place) (deed_at book PoolLane place)
-  pool_is place = elim both_found kept.pool.items book.pool place keeps.pool.count [
+  pool_is place = elim (both_found kept.pool.items book.pool place keeps.pool.count) [
     | inl none ↦ rw (none.0, none.1) tt
     | inr one ↦ rw (one.2, one.3) (keeps.pool.each place one.0 one.1 one.2 one.3)
   ]
@@ -185,7 +171,7 @@ module _ (kept : KeptLists) (book : Lists) (keeps : Keeps kept book)
       }
 
   base_is : (place : ℕ) → IsMet (mark_met kept BaseLane place) (deed_at book BaseLane place)
-  base_is place = elim both_found kept.base.items book.base place keeps.base.count [
+  base_is place = elim (both_found kept.base.items book.base place keeps.base.count) [
     | inl none ↦ rw (none.0, none.1) tt
     | inr one ↦ rw (one.2, one.3) (base_visit_is place one.0 one.1 one.2 one.3)
   ]
@@ -220,7 +206,7 @@ module _ (kept : KeptLists) (book : Lists) (keeps : Keeps kept book)
   lane_is : (c place : ℕ) (lane : Vec KeptCpu) (es : List CpuEntry) → cpu_list book c ≡ es →
       AllKept (λ at k e. KeepsCpu (cpu_used_at book c) k (cpu_visit book c at e)) lane.items es →
       InLane c place es (Some lane)
-  lane_is c place lane es list_is keeps_lane = elim both_found lane.items es place keeps_lane.count [
+  lane_is c place lane es list_is keeps_lane = elim (both_found lane.items es place keeps_lane.count) [
     | inl none ↦ rw (none.0, none.1) tt
     | inr one ↦
         (let is : slice_get (cpu_list book c) place ≡ Some one.1 = ap (λ xs. slice_get xs place) list_is ∙ one.3 in
@@ -232,13 +218,18 @@ module _ (kept : KeptLists) (book : Lists) (keeps : Keeps kept book)
   cpu_is c place =
       let long : length kept.cpus.items ≡ length book.cpus =
       sym (length-map kept.cpus.items (λ (lane : Vec KeptCpu). lane.items)) ∙ keeps.cpus.count in
-      elim both_found kept.cpus.items book.cpus c long [
-        | inl none ↦ rw (none.0, unlisted book.cpus c none.1) tt
+      elim (both_found kept.cpus.items book.cpus c long) [
+        | inl none ↦
+            (let P : Option (Vec KeptCpu) → List CpuEntry → Type 0 = λ o es. InLane c place es o in
+            subst (λ o. P o (cpu_list book c)) (sym none.0)
+            (subst (λ es. P None es) (sym (unlisted book.cpus c none.1)) tt))
         | inr one ↦
-            (let list_is = listed book.cpus c one.1 one.3 in
-            let lane = lane_is c place one.0 one.1 list_is (keeps.cpus.each c one.0.items one.1
-            (slice_get-map (λ (lane : Vec KeptCpu). lane.items) kept.cpus.items c ∙ ap (option_map (λ (lane : Vec KeptCpu). lane.items)) one.2)
-            one.3) in rw (one.2, list_is) lane)
+            (let P : Option (Vec KeptCpu) → List CpuEntry → Type 0 = λ o es. InLane c place es o in
+            let list_is = listed book.cpus c one.1 one.3 in
+            let items : Vec KeptCpu → List KeptCpu = λ lane. lane.items in
+            let kept_is = slice_get-map items kept.cpus.items c ∙ ap (option_map items) one.2 in
+            let lane = lane_is c place one.0 one.1 list_is (keeps.cpus.each c one.0.items one.1 kept_is one.3) in
+            subst (λ o. P o (cpu_list book c)) (sym one.2) (subst (λ es. P (Some one.0) es) (sym list_is) lane))
       ]
 
   step_is : (step : Step) → IsMet (met_at kept step) (deed_of book step)

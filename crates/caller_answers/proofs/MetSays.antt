@@ -4,13 +4,10 @@ use Rattle.std.specs.Prelude.{◌==◌, ◌&&◌, ◌^◌, not, ⊤, Option, sli
 use Rattle.std.specs.List.{AllByRecursion}
 use Rattle.std.proofs.lemmas.Bool.Decides.{nat_tests}
 use Rattle.key_names.specs.declared.entries.BaseEntry.{BaseEntry}
-use Rattle.key_names.specs.declared.entries.BaseEntry.TheVariants.{Early, Reseed as Reseeded, Tick as Ticked, Draw, Refill}
-use Rattle.key_names.specs.declared.entries.BaseEntry.TheVariants.{Fork as Forked, End, Wait, Resume, Interrupt, Stall, Unstall}
+use Rattle.key_names.specs.declared.entries.BaseEntry.TheVariants.{Resume}
 use Rattle.key_names.specs.declared.events.Event.{Event}
-use Rattle.key_names.specs.declared.events.Event.TheVariants.{At, On, Hw, Device, Write, Add, Credit, Bits, Irq, Input}
-use Rattle.key_names.specs.declared.events.Event.TheVariants.{Read, Vread, Kread, Dread, Uread, Int8, Int16, Int32}
-use Rattle.key_names.specs.declared.events.Event.TheVariants.{Int64, Reseed, Tick, Drop, Fork, Inside, Prepare, Online}
-use Rattle.key_names.specs.declared.events.Event.TheVariants.{Vmfork, State}
+use Rattle.key_names.specs.declared.events.Event.TheVariants.{Bits, Read, Kread, Dread, Uread, Int8, Int16, Int32, Int64}
+use Rattle.key_names.specs.declared.events.Event.TheVariants.{Reseed, Tick}
 use Rattle.key_names.specs.declared.names.LaneId.{LaneId}
 use Rattle.key_names.specs.declared.names.LaneId.TheVariants.{Pool as PoolLane, Base as BaseLane, Cpu as CpuLane}
 use Rattle.key_names.specs.declared.names.Step.{Step}
@@ -112,17 +109,7 @@ module _ (cpu : ℕ) where
   base_is : (e : BaseEntry) (key : List ℕ) (v : BaseVisit) → v.entry ≡ e → v.serves ≡ base_serves key v.entry →
       IsSeen cpu (base_seen (is_resume e) key) (at_base v)
   base_is Resume key v is h = (is, h ∙ ap (base_serves key) is)
-  base_is (Early root) key v is h = (ap base_kind is, h)
-  base_is (Reseeded root now) key v is h = (ap base_kind is, h)
-  base_is (Ticked now root) key v is h = (ap base_kind is, h)
-  base_is (Draw root taken) key v is h = (ap base_kind is, h)
-  base_is (Refill c place) key v is h = (ap base_kind is, h)
-  base_is (Forked child) key v is h = (ap base_kind is, h)
-  base_is End key v is h = (ap base_kind is, h)
-  base_is Wait key v is h = (ap base_kind is, h)
-  base_is Interrupt key v is h = (ap base_kind is, h)
-  base_is Stall key v is h = (ap base_kind is, h)
-  base_is Unstall key v is h = (ap base_kind is, h)
+  base_is _ key v is h = (ap base_kind is, h)
 
   cpu_is : (on : ℕ) (k : KeptCpu) (p : OfCpu on k) (b : Bool) → (on == cpu) ≡ b →
       IsSeen cpu (cpu_seen b (unwrap_or k.key zero_key)) (at_cpu p.v)
@@ -217,47 +204,20 @@ crossings_known c (nothing_there ∷ ds) fit = (tt, crossings_known c ds fit.1)
 unready_in : (met : List Met) (s : Shape met) → found_unready met ≡ answers.found_unready (deeds_in met s)
 unready_in [] s = refl
 unready_in (Looked g ∷ met) s = refl
-unready_in (InPool k ∷ met) s = refl
-unready_in (InBase k ∷ met) s = refl
-unready_in (InCpu on k ∷ met) s = refl
-unready_in (Nothing ∷ met) s = refl
+unready_in _ s = refl
 
 interrupted_in : (met : List Met) (s : Shape met) → was_interrupted met ≡ answers.was_interrupted (deeds_in met s)
-interrupted_in [] s = refl
-interrupted_in (InPool k ∷ met) s = refl
-interrupted_in (InBase k ∷ met) s = refl
-interrupted_in (InCpu on k ∷ met) s = refl
-interrupted_in (Nothing ∷ met) s = refl
-interrupted_in (Looked g ∷ []) s = refl
-interrupted_in (Looked g ∷ Looked h ∷ met) s = refl
-interrupted_in (Looked g ∷ InPool k ∷ met) s = refl
-interrupted_in (Looked g ∷ InCpu on k ∷ met) s = refl
-interrupted_in (Looked g ∷ Nothing ∷ met) s = refl
-interrupted_in (Looked g ∷ InBase k ∷ []) s = refl
-interrupted_in (Looked g ∷ InBase k ∷ Looked h ∷ met) s = refl
-interrupted_in (Looked g ∷ InBase k ∷ InPool l ∷ met) s = refl
-interrupted_in (Looked g ∷ InBase k ∷ InCpu on l ∷ met) s = refl
-interrupted_in (Looked g ∷ InBase k ∷ Nothing ∷ met) s = refl
 interrupted_in (Looked g ∷ InBase k ∷ InBase l ∷ []) s = ap answers.is_interrupt s.1.1.0.met.entry
-interrupted_in (Looked g ∷ InBase k ∷ InBase l ∷ m ∷ met) s = refl
+interrupted_in _ s = refl
 
 tick_in : (met : List Met) (s : Shape met) → tick_says met ≡ answers.tick_answer (deeds_in met s)
 tick_in [] s = refl
-tick_in (Looked g ∷ met) s = refl
-tick_in (InPool k ∷ met) s = refl
 tick_in (InBase k ∷ []) s = refl
-tick_in (InBase k ∷ m ∷ met) s = refl
-tick_in (InCpu on k ∷ met) s = refl
-tick_in (Nothing ∷ met) s = refl
+tick_in _ s = refl
 
 bits_in : (met : List Met) (s : Shape met) → shown_by (bits_shown met) ≡ answers.bits_read (deeds_in met s)
-bits_in [] s = refl
-bits_in (Looked g ∷ met) s = refl
 bits_in (InPool k ∷ []) s = ap count s.0.keeps.before
-bits_in (InPool k ∷ m ∷ met) s = refl
-bits_in (InBase k ∷ met) s = refl
-bits_in (InCpu on k ∷ met) s = refl
-bits_in (Nothing ∷ met) s = refl
+bits_in _ s = refl
 
 visit_bytes : (m : Met) (p : One m) → bytes_made (recipe_met m) ≡ answers.deed_bytes (deed m p)
 visit_bytes (Looked g) p = refl
@@ -306,23 +266,7 @@ module _ (met : List Met) (s : Shape met) where
   event_in Bits = (refl, sym (bits_in met s))
   event_in Reseed = (sym reseed_in, refl)
   event_in Tick = (sym (tick_in met s), refl)
-  event_in (At moment) = (refl, refl)
-  event_in (On cpu) = (refl, refl)
-  event_in (Hw bytes) = (refl, refl)
-  event_in (Device word text) = (refl, refl)
-  event_in (Write text) = (refl, refl)
-  event_in (Add text bits) = (refl, refl)
-  event_in (Credit bits) = (refl, refl)
-  event_in (Irq v1 v2) = (refl, refl)
-  event_in (Input word kind code value) = (refl, refl)
-  event_in (Vread len flags) = (refl, refl)
-  event_in Drop = (refl, refl)
-  event_in (Fork child) = (refl, refl)
-  event_in (Inside point act) = (refl, refl)
-  event_in (Prepare cpu) = (refl, refl)
-  event_in (Online cpu) = (refl, refl)
-  event_in (Vmfork word text) = (refl, refl)
-  event_in (State number) = (refl, refl)
+  event_in _ = (refl, refl)
 
 module _ (met : List Met) (ds : List Deed) (h : AreMet met ds) where
   shape : (s : Shape met) × (ds ≡ deeds_in met s)

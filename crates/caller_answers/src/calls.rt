@@ -39,7 +39,7 @@ fn alone_call(
     said: &mut Vec<Said>,
 ) -> Result<bool, AllocError>
     requires { StateInRange event.now }
-    ensures { IfOk result (IsCallSaid lists.now set.now (alone event.now (seen_bare line)) states.old states.new
+    ensures { IfOk result (IsCallSaid lists.now set.now (alone event.now (seen_bare line.entry)) states.old states.new
         said.old.items said.new.items) }
 {
     let Some(one) = alone_said(alloc, lists, set, event, line.steps)? else {
@@ -62,7 +62,7 @@ fn vread_call(
 ) -> Result<bool, AllocError>
     requires short { asked.0 ≤ 2 ^ 20 }
     ensures { IfOk result (IsCallSaid lists.now set.now
-        (vread_call asked.0 asked.1 (seen_bare line) (map seen_act acts.now)) states.old states.new
+        (vread_call asked.0 asked.1 (seen_bare line.entry) (map seen_act acts.now)) states.old states.new
         said.old.items said.new.items) }
 {
     let met = met_in(alloc, lists, line.steps)?;
@@ -102,7 +102,7 @@ fn ending_call(
     line: BareLine<'_>,
     said: &mut Vec<Said>,
 ) -> Result<bool, AllocError>
-    ensures { IfOk result (λ stands. (s : VStates) → IsCallSaid lists.now set.now (ending (seen_bare line)) s s
+    ensures { IfOk result (λ stands. (s : VStates) → IsCallSaid lists.now set.now (ending (seen_bare line.entry)) s s
         said.old.items said.new.items stands) }
 {
     if !end_stands(alloc, lists, set, line.steps)? {

@@ -44,7 +44,7 @@ impl States {
         ensures { IfOk result (λ states. states ≡ first_states) }
     {
         let mut all = Vec::with_capacity(alloc, STATES)?;
-        for _ in 0..STATES {
+        while all.len() < STATES {
             all.push(VState::wiped())?;
         }
         Ok(States { all, current: 0 })

@@ -1,0 +1,98 @@
+-- One call after another is said.
+use Rattle.std.proofs.Common.{◌≡◌, ℕ, zero, suc, ◌+◌, ◌<◌, ◌≤◌, min, List, [], ◌∷◌, ◌++◌, length, get_or, take, drop, map, refl, sym, subst, ap, ◌∙◌, arith, append_assoc, Some}
+use Rattle.std.proofs.lemmas.List.{append-nil, drop_more, length-take-le}
+use Rattle.std.specs.List.{AllByRecursion}
+use Rattle.key_names.specs.Calls.{Setting, Call, alone, vread_call, unbound, ending}
+use Rattle.list_replay.specs.declared.kept.Lists.{Lists as KeptLists}
+use Rattle.vread_course.specs.Course.{Followed}
+use Rattle.caller_answers.specs.declared.said.Said.{Said}
+use Rattle.caller_answers.specs.Writes.{Write, IsPut, Written}
+use Rattle.caller_answers.specs.CallSays.{VStates, with_state, CallSaid, CallsSaid}
+use Rattle.caller_answers.proofs.Going.{taken_more}
+
+pub written_more : (writes more : List Write) (old mid new : List Said) → Written writes old mid → Written more mid new →
+    Written (writes ++ more) old new
+written_more [] more old mid new is later = subst (λ said. Written more said new) is later
+written_more (w ∷ writes) more old mid new put later =
+    (put.0, put.1, written_more writes more put.0 mid new put.2 later)
+
+some_same : {X : Type 0} (x y : X) → Some x ≡ Some y → x ≡ y
+some_same x y e = cc
+
+module _ (kept : KeptLists) where
+  -- a call leaves the states in one way
+  pub determined : (set : Setting) (call : Call) (s t u : VStates) (writes more : List Write) →
+      CallSaid kept set call s t writes → CallSaid kept set call s u more → t ≡ u
+  determined set (alone event line) s t u writes more one other = one.new_is ∙ sym other.new_is
+  determined set (vread_call n flags line acts) s t u writes more one other =
+      one.new_is ∙ ap (λ f. with_state s f.state) (some_same one.f other.f (sym one.follows ∙ other.follows))
+      ∙ sym other.new_is
+  determined set (unbound bound) s t u writes more one other = one.new_is ∙ sym other.new_is
+  determined set (ending line) s t u writes more one other = one.new_is ∙ sym other.new_is
+
+  snoc : (sets : List Setting) (calls : List Call) (set : Setting) (call : Call) (s mid t : VStates)
+      (writes first : List Write) → length sets ≡ length calls → CallsSaid kept sets calls s mid writes →
+      CallSaid kept set call mid t first → CallsSaid kept (sets ++ set ∷ []) (calls ++ call ∷ []) s t (writes ++ first)
+  snoc [] [] set call s mid t writes first long before said = (
+    t,
+    first,
+    [],
+    subst (λ x. CallSaid kept set call x t first) before.0 said,
+    (refl, refl),
+    ap (λ ws. ws ++ first) before.1 ∙ sym (append-nil first),
+  )
+  snoc [] (y ∷ calls) set call s mid t writes first long before said = absurd (omega arith)
+  snoc (x ∷ sets) [] set call s mid t writes first long before said = absurd (omega arith)
+  snoc (x ∷ sets) (y ∷ calls) set call s mid t writes first long before said = (
+    before.0,
+    before.1,
+    before.2 ++ first,
+    before.3,
+    snoc sets calls set call before.0 mid t before.2 first (omega arith) before.4 said,
+    ap (λ ws. ws ++ first) before.5 ∙ append_assoc before.1 before.2 first,
+  )
+
+  module _ (sets : List Setting) (calls : List Call) (n : ℕ) (low : n < length sets) (low' : n < length calls)
+      (set : Setting) (call : Call) (set_is : set ≡ get_or sets n set) (call_is : call ≡ get_or calls n call)
+      (s mid t : VStates) (writes first : List Write) where
+    pub said_more : CallsSaid kept (take n sets) (take n calls) s mid writes → CallSaid kept set call mid t first →
+        CallsSaid kept (take (n + 1) sets) (take (n + 1) calls) s t (writes ++ first)
+    said_more before said =
+        let a = length-take-le n sets (omega arith) in
+        let b = length-take-le n calls (omega arith) in
+        let P : List Setting → List Call → Type 0 = λ xs ys. CallsSaid kept xs ys s t (writes ++ first) in
+        subst (λ ys. P (take (n + 1) sets) ys) (sym (taken_more calls n call low' call_is))
+        (subst (λ xs. P xs (take n calls ++ call ∷ [])) (sym (taken_more sets n set low set_is))
+        (snoc (take n sets) (take n calls) set call s mid t writes first (a ∙ sym b) before said))
+
+    abbrev pub Left : VStates → ℕ → Type 0
+    Left here k = (end : VStates) × (rest : List Write) × CallsSaid kept (drop k sets) (drop k calls) here end rest
+
+    -- the next of those that are left
+    next_left : Left mid n → (at : VStates) × (one : List Write) × CallSaid kept set call mid at one × Left at (n + 1)
+    next_left left =
+        let P : List Setting → List Call → Type 0 = λ xs ys. CallsSaid kept xs ys mid left.0 left.1 in
+        let a : drop n sets ≡ set ∷ drop (n + 1) sets = drop_more sets n set low ∙ ap (λ x. x ∷ drop (n + 1) sets) (sym set_is) in
+        let b : drop n calls ≡ call ∷ drop (n + 1) calls =
+        drop_more calls n call low' ∙ ap (λ x. x ∷ drop (n + 1) calls) (sym call_is) in
+        let here = subst (λ ys. P (set ∷ drop (n + 1) sets) ys) b (subst (λ xs. P xs (drop n calls)) a left.2) in
+        (here.0, here.1, here.3, (left.0, here.2, here.4))
+
+    pub left_more : CallSaid kept set call mid t first → Left mid n → Left t (n + 1)
+    left_more said left =
+        let next = next_left left in
+        subst (λ here. Left here (n + 1)) (determined set call mid next.0 t next.1 first next.2 said) next.3
+
+    pub none_left : ((u : VStates) (more : List Write) → CallSaid kept set call mid u more → ⊥) → Left mid n → ⊥
+    none_left no left = let next = next_left left in no next.0 next.1 next.2
+
+  pub all_said : (sets : List Setting) (calls : List Call) (n : ℕ) (s t : VStates) (writes : List Write) →
+      n ≡ min (length calls) (length sets) → CallsSaid kept (take n sets) (take n calls) s t writes →
+      CallsSaid kept sets calls s t writes
+  all_said [] calls zero s t writes is said = said
+  all_said [] calls (suc n) s t writes is said = said
+  all_said (set ∷ sets) [] zero s t writes is said = said
+  all_said (set ∷ sets) [] (suc n) s t writes is said = said
+  all_said (set ∷ sets) (call ∷ calls) zero s t writes is said = absurd (omega arith)
+  all_said (set ∷ sets) (call ∷ calls) (suc n) s t writes is said =
+      (said.0, said.1, said.2, said.3, all_said sets calls n said.0 t said.2 (omega arith) said.4, said.5)
