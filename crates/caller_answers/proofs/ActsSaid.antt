@@ -23,6 +23,12 @@ use Rattle.caller_answers.specs.CallSays.{VStates, state_of, with_state, write, 
 use Rattle.caller_answers.proofs.Going.{mapped_more}
 use Rattle.caller_answers.proofs.CallLoop.{written_more}
 
+pub at_true : (b : Bool) (P Q : Type 0) → b ≡ true → MatchBool b P Q → P
+at_true b P Q is h = subst (λ x. MatchBool x P Q) is h
+
+pub at_false : (b : Bool) (P Q : Type 0) → b ≡ false → MatchBool b P Q → Q
+at_false b P Q is h = subst (λ x. MatchBool x P Q) is h
+
 module _ (kept : KeptLists) (set : Setting) (reached : Reached) where
   module _ (bound : BoundAct) (done : Bool) (o : Option Said) (done_is : done ≡ includes reached bound.point)
       (said : IsActSaid kept set done bound.act bound.line.steps o) where
@@ -78,10 +84,10 @@ module _ (kept : KeptLists) (set : Setting) (n flags : ℕ) (line : SeenLine) (a
       (course_is : course ≡ f.course) where
     pub acts_undone : (AllByRecursion (ActDone kept set course.reached) acts → ⊥) → (t : VStates) (writes : List Write) →
         VreadSaid kept set n flags line acts s t writes → ⊥
-    acts_undone no t writes said =
+    acts_undone undone t writes said =
         let same : said.f ≡ f = some_same said.f f (sym said.follows ∙ follows (Some f) is) in
         let e : said.f.course.reached ≡ course.reached = ap (λ x. x.course.reached) same ∙ ap (λ x. x.reached) (sym course_is) in
-        no (subst (λ r. AllByRecursion (ActDone kept set r) acts) e said.done)
+        undone (subst (λ r. AllByRecursion (ActDone kept set r) acts) e said.done)
 
     pub vread_done : (t : VStates) (old mid new : List Said) → t ≡ with_state s f.state →
         AllByRecursion (ActDone kept set course.reached) acts →

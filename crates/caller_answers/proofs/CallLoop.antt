@@ -7,7 +7,7 @@ use Rattle.list_replay.specs.declared.kept.Lists.{Lists as KeptLists}
 use Rattle.vread_course.specs.Course.{Followed}
 use Rattle.caller_answers.specs.declared.said.Said.{Said}
 use Rattle.caller_answers.specs.Writes.{Write, IsPut, Written}
-use Rattle.caller_answers.specs.CallSays.{VStates, with_state, CallSaid, CallsSaid}
+use Rattle.caller_answers.specs.CallSays.{VStates, first_states, with_state, CallSaid, CallsSaid}
 use Rattle.caller_answers.proofs.Going.{taken_more}
 
 pub written_more : (writes more : List Write) (old mid new : List Said) → Written writes old mid → Written more mid new →
@@ -52,39 +52,49 @@ module _ (kept : KeptLists) where
     ap (λ ws. ws ++ first) before.5 ∙ append_assoc before.1 before.2 first,
   )
 
-  module _ (sets : List Setting) (calls : List Call) (n : ℕ) (low : n < length sets) (low' : n < length calls)
-      (set : Setting) (call : Call) (set_is : set ≡ get_or sets n set) (call_is : call ≡ get_or calls n call)
-      (s mid t : VStates) (writes first : List Write) where
-    pub said_more : CallsSaid kept (take n sets) (take n calls) s mid writes → CallSaid kept set call mid t first →
-        CallsSaid kept (take (n + 1) sets) (take (n + 1) calls) s t (writes ++ first)
-    said_more before said =
-        let a = length-take-le n sets (omega arith) in
-        let b = length-take-le n calls (omega arith) in
-        let P : List Setting → List Call → Type 0 = λ xs ys. CallsSaid kept xs ys s t (writes ++ first) in
-        subst (λ ys. P (take (n + 1) sets) ys) (sym (taken_more calls n call low' call_is))
-        (subst (λ xs. P xs (take n calls ++ call ∷ [])) (sym (taken_more sets n set low set_is))
-        (snoc (take n sets) (take n calls) set call s mid t writes first (a ∙ sym b) before said))
+  module _ (sets : List Setting) (calls : List Call) where
+    -- the first calls are said, and what they say is put
+    abbrev pub SoFar : ℕ → VStates → List Said → Type 0
+    SoFar n here said = (writes : List Write) × CallsSaid kept (take n sets) (take n calls) first_states here writes
+        × Written writes [] said
 
-    abbrev pub Left : VStates → ℕ → Type 0
-    Left here k = (end : VStates) × (rest : List Write) × CallsSaid kept (drop k sets) (drop k calls) here end rest
+    -- the rest of the calls can be said
+    abbrev pub Left : ℕ → VStates → Type 0
+    Left n here = (end : VStates) × (rest : List Write) × CallsSaid kept (drop n sets) (drop n calls) here end rest
 
-    -- the next of those that are left
-    next_left : Left mid n → (at : VStates) × (one : List Write) × CallSaid kept set call mid at one × Left at (n + 1)
-    next_left left =
-        let P : List Setting → List Call → Type 0 = λ xs ys. CallsSaid kept xs ys mid left.0 left.1 in
-        let a : drop n sets ≡ set ∷ drop (n + 1) sets = drop_more sets n set low ∙ ap (λ x. x ∷ drop (n + 1) sets) (sym set_is) in
-        let b : drop n calls ≡ call ∷ drop (n + 1) calls =
-        drop_more calls n call low' ∙ ap (λ x. x ∷ drop (n + 1) calls) (sym call_is) in
-        let here = subst (λ ys. P (set ∷ drop (n + 1) sets) ys) b (subst (λ xs. P xs (drop n calls)) a left.2) in
-        (here.0, here.1, here.3, (left.0, here.2, here.4))
+    module _ (n : ℕ) (low : n < length sets) (low' : n < length calls) (set : Setting) (call : Call)
+        (set_is : set ≡ get_or sets n set) (call_is : call ≡ get_or calls n call) (here : VStates) where
+      pub so_far_more : (next : VStates) (said more : List Said) → SoFar n here said →
+          (writes : List Write) × CallSaid kept set call here next writes × Written writes said more →
+          SoFar (n + 1) next more
+      so_far_more next said more before one =
+          let a = length-take-le n sets (omega arith) in
+          let b = length-take-le n calls (omega arith) in
+          let P : List Setting → List Call → Type 0 = λ xs ys. CallsSaid kept xs ys first_states next (before.0 ++ one.0) in
+          let calls_said = subst (λ ys. P (take (n + 1) sets) ys) (sym (taken_more calls n call low' call_is))
+          (subst (λ xs. P xs (take n calls ++ call ∷ [])) (sym (taken_more sets n set low set_is))
+          (snoc (take n sets) (take n calls) set call first_states here next before.0 one.0 (a ∙ sym b) before.1 one.1)) in
+          (before.0 ++ one.0, calls_said, written_more before.0 one.0 [] said more before.2 one.2)
 
-    pub left_more : CallSaid kept set call mid t first → Left mid n → Left t (n + 1)
-    left_more said left =
-        let next = next_left left in
-        subst (λ here. Left here (n + 1)) (determined set call mid next.0 t next.1 first next.2 said) next.3
+      -- the next of those that are left
+      next_left : Left n here → (at : VStates) × (one : List Write) × CallSaid kept set call here at one × Left (n + 1) at
+      next_left left =
+          let P : List Setting → List Call → Type 0 = λ xs ys. CallsSaid kept xs ys here left.0 left.1 in
+          let a : drop n sets ≡ set ∷ drop (n + 1) sets =
+          drop_more sets n set low ∙ ap (λ x. x ∷ drop (n + 1) sets) (sym set_is) in
+          let b : drop n calls ≡ call ∷ drop (n + 1) calls =
+          drop_more calls n call low' ∙ ap (λ x. x ∷ drop (n + 1) calls) (sym call_is) in
+          let first = subst (λ ys. P (set ∷ drop (n + 1) sets) ys) b (subst (λ xs. P xs (drop n calls)) a left.2) in
+          (first.0, first.1, first.3, (left.0, first.2, first.4))
 
-    pub none_left : ((u : VStates) (more : List Write) → CallSaid kept set call mid u more → ⊥) → Left mid n → ⊥
-    none_left no left = let next = next_left left in no next.0 next.1 next.2
+      pub left_more : (next : VStates) (writes : List Write) → CallSaid kept set call here next writes → Left n here →
+          Left (n + 1) next
+      left_more next writes said left =
+          let one = next_left left in
+          subst (λ s. Left (n + 1) s) (determined set call here one.0 next one.1 writes one.2 said) one.3
+
+      pub none_left : ((t : VStates) (writes : List Write) → CallSaid kept set call here t writes → ⊥) → Left n here → ⊥
+      none_left unsaid left = let one = next_left left in unsaid one.0 one.1 one.2
 
   pub all_said : (sets : List Setting) (calls : List Call) (n : ℕ) (s t : VStates) (writes : List Write) →
       n ≡ min (length calls) (length sets) → CallsSaid kept (take n sets) (take n calls) s t writes →
