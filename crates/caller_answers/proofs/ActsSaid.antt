@@ -19,7 +19,7 @@ use Rattle.caller_answers.specs.declared.said.Shows.TheVariants.{Served}
 use Rattle.caller_answers.specs.Met.{met_in, seen_in}
 use Rattle.caller_answers.specs.EventSays.{IsActSaid}
 use Rattle.caller_answers.specs.Writes.{Write, IsPut, Written}
-use Rattle.caller_answers.specs.CallSays.{VStates, state_of, with_state, write, ActDone, act_write, VreadSaid, IsCallSaid}
+use Rattle.caller_answers.specs.CallSays.{VStates, state_of, with_state, write, ActDone, act_write, VreadSaid}
 use Rattle.caller_answers.proofs.Going.{mapped_more}
 use Rattle.caller_answers.proofs.CallLoop.{written_more}
 
@@ -97,7 +97,7 @@ module _ (kept : KeptLists) (set : Setting) (n flags : ℕ) (line : SeenLine) (a
     vread_done t old mid new t_is done written put =
         let P : Course → Type 0 = λ x. AllByRecursion (ActDone kept set x.reached) acts in
         let W : Course → List Write = λ x. map (act_write kept set x.reached) acts
-            ++ write line (record { answer = x.answer; shows = Served x.served }) ∷ [] in
+        ++ write line (record { answer = x.answer; shows = Served x.served }) ∷ [] in
         let all = written_more (map (act_write kept set course.reached) acts) _ old mid new written (new, put, refl) in (
           W course,
           record {

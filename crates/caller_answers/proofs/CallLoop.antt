@@ -1,12 +1,10 @@
 -- One call after another is said.
-use Rattle.std.proofs.Common.{◌≡◌, ℕ, zero, suc, ◌+◌, ◌<◌, ◌≤◌, min, List, [], ◌∷◌, ◌++◌, length, get_or, take, drop, map, refl, sym, subst, ap, ◌∙◌, arith, append_assoc, Some}
+use Rattle.std.proofs.Common.{◌≡◌, ℕ, zero, suc, ◌+◌, ◌<◌, min, List, [], ◌∷◌, ◌++◌, length, get_or, take, drop, refl, sym, subst, ap, ◌∙◌, arith, append_assoc, Some}
 use Rattle.std.proofs.lemmas.List.{append-nil, drop_more, length-take-le}
-use Rattle.std.specs.List.{AllByRecursion}
 use Rattle.key_names.specs.Calls.{Setting, Call, alone, vread_call, unbound, ending}
 use Rattle.list_replay.specs.declared.kept.Lists.{Lists as KeptLists}
-use Rattle.vread_course.specs.Course.{Followed}
 use Rattle.caller_answers.specs.declared.said.Said.{Said}
-use Rattle.caller_answers.specs.Writes.{Write, IsPut, Written}
+use Rattle.caller_answers.specs.Writes.{Write, Written}
 use Rattle.caller_answers.specs.CallSays.{VStates, first_states, with_state, CallSaid, CallsSaid}
 use Rattle.caller_answers.proofs.Going.{taken_more}
 

@@ -1,8 +1,7 @@
 -- What is said of a call is what it means.
-use Rattle.std.proofs.Common.{◌≡◌, ℕ, Bool, true, false, List, [], ◌∷◌, ◌++◌, map, refl, sym, subst, ap, ◌∙◌, Some}
-use Rattle.std.specs.Prelude.{◌^◌, ◌≤◌, ⊤, MatchBool, slice_get}
+use Rattle.std.proofs.Common.{◌≡◌, ℕ, Bool, true, false, List, [], ◌∷◌, map, refl, sym, subst, ap, ◌∙◌, Some}
+use Rattle.std.specs.Prelude.{⊤, MatchBool, slice_get}
 use Rattle.std.specs.List.{AllByRecursion}
-use Rattle.key_names.specs.declared.entries.VEntry.{VEntry}
 use Rattle.key_names.specs.declared.events.Event.{Event}
 use Rattle.key_names.specs.declared.events.Event.TheVariants.{Drop, State, Reseed}
 use Rattle.key_names.specs.declared.events.InsideAct.{InsideAct}
@@ -13,41 +12,36 @@ use Rattle.key_names.specs.declared.names.Step.{Step}
 use Rattle.key_names.specs.Answers.{answer_of, shown_of}
 use Rattle.key_names.specs.Book.{Lists, LawfulLanes}
 use Rattle.key_names.specs.Calls.{Setting, Call, alone, vread_call, unbound, ending, BoundAct, setting_after_call}
-use Rattle.key_names.specs.Deeds.{Deed, deed_of, deeds_of}
-use Rattle.key_names.specs.Forms.{Form, EndForm}
+use Rattle.key_names.specs.Deeds.{Deed, deeds_of}
 use Rattle.key_names.specs.IsTranscript.{EachAct, EachOfCall}
 use Rattle.key_names.specs.Meaning.{CallerState, caller_after, LineMeaning, CallMeaning, Means, ActMeans, ActsMean}
-use Rattle.key_names.specs.Meaning.{event_entries, unused_line, current_state, AloneMeans, EndingMeans, UnboundMeans, VreadMeans}
-use Rattle.key_names.specs.SeenLine.{SeenLine, no_data, bytes_or_none}
+use Rattle.key_names.specs.Meaning.{event_entries, unused_line}
+use Rattle.key_names.specs.SeenLine.{SeenLine, no_data}
 use Rattle.key_names.specs.TranscriptGrammar.{StepFits}
 use Rattle.line_forms.specs.Kinds.{kinds_of}
 use Rattle.line_forms.specs.LaneFacts.{facts_of, AllFit}
 use Rattle.line_forms.specs.Laws.{ActForm}
 use Rattle.line_forms.specs.Rows.{IsRow, IsActRow, IsEnd, cpu_for}
 use Rattle.line_forms.specs.Told.{LineFills, act_telling}
-use Rattle.line_forms.proofs.ActLines.{lists_fit, act_form, act_row, act_is_row}
-use Rattle.line_forms.proofs.FormRows.{form_row, end_form}
+use Rattle.line_forms.proofs.ActLines.{lists_fit, act_row}
 use Rattle.line_forms.proofs.RowEvents.{row_form, end_row}
 use Rattle.list_replay.specs.declared.kept.Lists.{Lists as KeptLists}
 use Rattle.list_replay.specs.Kept.{Keeps}
 use Rattle.told_entries.specs.Filled.{ActFills, CallFills}
 use Rattle.vread_course.specs.declared.inside.Reached.{Reached}
-use Rattle.vread_course.specs.Course.{Followed}
 use Rattle.vread_course.specs.Inside.{includes}
-use Rattle.vread_course.specs.Laws.{meaning_of, IsFollowed}
-use Rattle.vread_course.specs.Recipe.{bytes_made}
-use Rattle.vread_course.specs.Seen.{AllSeen, LookFits}
-use Rattle.vread_course.proofs.Vreads.{vread_of_followed, followed_of_vread}
+use Rattle.vread_course.specs.Laws.{meaning_of}
+use Rattle.vread_course.proofs.Vreads.{vread_of_followed}
 use Rattle.key_names.proofs.Each.{each_parts}
 use Rattle.caller_answers.specs.declared.met.Met.{Met}
 use Rattle.caller_answers.specs.declared.said.Said.{Said}
 use Rattle.caller_answers.specs.declared.said.Shows.TheVariants.{Nothing as ShowsNothing, Served}
 use Rattle.caller_answers.specs.Met.{met_in, seen_in, kinds_met}
-use Rattle.caller_answers.specs.EventSays.{first_crossing, event_says, event_shows, act_says, unused, AloneStands, alone_says}
-use Rattle.caller_answers.specs.EventSays.{ActStands, act_says_at, EndStands}
+use Rattle.caller_answers.specs.EventSays.{first_crossing, act_says, unused, alone_says}
+use Rattle.caller_answers.specs.EventSays.{ActStands, act_says_at}
 use Rattle.caller_answers.specs.Said.{shown_by, SaysIt}
 use Rattle.caller_answers.specs.Writes.{Write}
-use Rattle.caller_answers.specs.CallSays.{VStates, states_after, with_state, write, AloneSaid, ActDone, act_write, VreadSaid}
+use Rattle.caller_answers.specs.CallSays.{VStates, states_after, AloneSaid, ActDone, act_write, VreadSaid}
 use Rattle.caller_answers.specs.CallSays.{UnboundSaid, EndingSaid, CallSaid}
 use Rattle.caller_answers.proofs.MetDeeds.{AreMet, steps_are}
 use Rattle.caller_answers.proofs.MetSays.{all_seen, kinds_are, looks_fit, crossing_is, crossings_known, event_said, system_said}
@@ -217,8 +211,10 @@ module _ (kept : KeptLists) (book : Lists) (keeps : Keeps kept book) (lawful : L
       where
         ds : List Deed
         ds = deeds_of book steps
+
         met : List Met
         met = met_in kept steps
+
         by : (act : InsideAct) → ActForm set act ds → ActMeans set act (record {
           deeds = ds;
           answer = (act_says act met).answer;
@@ -284,13 +280,15 @@ module _ (kept : KeptLists) (book : Lists) (keeps : Keeps kept book) (lawful : L
         after = ap (standing set) (sym said.new_is);
         says = λ to all.
             let P : List Write → Type 0 = λ ws. AllByRecursion (IsSaidIn to) ws in
-            let parts = each_parts (IsSaidIn to) (map (act_write kept set reached) acts) _ (subst P said.writes_are all) in
-            (record {
-              one = record { answer = said.f.course.answer; shows = Served said.f.course.served };
-              is = parts.1.0;
-              answer = refl;
-              shown = refl;
-            }, acts_say set reached to acts parts.0);
+            let parts = each_parts (IsSaidIn to) (map (act_write kept set reached) acts) _ (subst P said.writes_are all) in (
+              record {
+                one = record { answer = said.f.course.answer; shows = Served said.f.course.served };
+                is = parts.1.0;
+                answer = refl;
+                shown = refl;
+              },
+              acts_say set reached to acts parts.0,
+            );
       }
 
   pub call_meant : (set : Setting) (s t : VStates) (writes : List Write) (call : Call) → CallLooks call →

@@ -1,19 +1,18 @@
 -- What is said of calls one after another is what they mean.
-use Rattle.std.proofs.Common.{◌≡◌, ℕ, suc, ◌+◌, ◌<◌, ◌≤◌, List, [], ◌∷◌, ◌++◌, length, map, refl, sym, subst, ap, ◌∙◌, arith, append_assoc}
-use Rattle.std.specs.Prelude.{⊤, Bool, true, false, if◌then◌else◌, Option, Some, None, MatchOption, IfSome, IsSome}
+use Rattle.std.proofs.Common.{◌≡◌, ℕ, suc, List, [], ◌∷◌, ◌++◌, map, refl, sym, subst, ap, ◌∙◌}
+use Rattle.std.specs.Prelude.{true, false, if◌then◌else◌, Option, Some, None, MatchOption, IfSome, IsSome}
 use Rattle.std.specs.Global.{Vec}
 use Rattle.std.specs.List.{AllByRecursion}
 use Rattle.std.proofs.lemmas.List.{map-append}
 use Rattle.key_names.specs.declared.events.Event.{Event}
 use Rattle.key_names.specs.declared.events.Event.TheVariants.{Vread, Inside}
 use Rattle.key_names.specs.Book.{Lists, LawfulLanes}
-use Rattle.key_names.specs.Calls.{Setting, Call, alone, vread_call, unbound, ending, BoundAct, has_vread, calls_from, calls_of}
+use Rattle.key_names.specs.Calls.{Setting, Call, alone, vread_call, unbound, ending, BoundAct, has_vread, calls_from}
 use Rattle.key_names.specs.Calls.{setting_after_call}
 use Rattle.key_names.specs.IsTranscript.{CallerMeans, CallsMean, EachLine, LinesFit}
 use Rattle.key_names.specs.Meaning.{CallerState, CallMeaning}
 use Rattle.key_names.specs.SeenLine.{SeenLine}
 use Rattle.key_names.specs.TranscriptGrammar.{StepFits}
-use Rattle.key_names.specs.VgetrandomState.{VgetrandomState}
 use Rattle.key_names.proofs.Each.{each_parts}
 use Rattle.line_orders.specs.Settings.{settings_from}
 use Rattle.list_replay.specs.declared.kept.Lists.{Lists as KeptLists}
@@ -97,8 +96,6 @@ module _ (kept : KeptLists) (book : Lists) (keeps : Keeps kept book) (lawful : L
 
 -- ---- looks of lines, and of calls
 
-
-
 looks_from : (c n : ℕ) (waiting : List BoundAct) (events : List Event) (lines : List SeenLine) →
     LinesFit c n events lines → AllByRecursion (λ line. AllByRecursion StepFits line.steps) lines →
     AllByRecursion CallLooks (calls_from waiting events lines)
@@ -148,7 +145,7 @@ module _ (kept : KeptLists) (book : Lists) (set : Setting) (events : List Event)
       let said = meant_calls kept book keeps lawful set calls ms first_states (calls_look events lines calls of)
       means.follows means.deeds in
       let P : List Setting → Type 0 = λ sets. (t : VStates) × (writes : List Write)
-          × CallsSaid kept sets calls first_states t writes in subst P (sym found) said
+      × CallsSaid kept sets calls first_states t writes in subst P (sym found) said
 
   abbrev Said_ : Option (Vec Said) → Type 0
   Said_ o = MatchOption o

@@ -1,10 +1,10 @@
 -- The calls of events in range are in range.
-use Rattle.std.proofs.Common.{ℕ, Bool, true, false, List, [], ◌∷◌, ◌++◌}
+use Rattle.std.proofs.Common.{ℕ, true, false, List, [], ◌∷◌, ◌++◌}
 use Rattle.std.specs.Prelude.{if◌then◌else◌}
 use Rattle.std.specs.List.{AllByRecursion}
 use Rattle.key_names.specs.declared.events.Event.{Event}
 use Rattle.key_names.specs.declared.events.Event.TheVariants.{Vread, Inside, State}
-use Rattle.key_names.specs.Calls.{Call, BoundAct, unbound, has_vread, calls_from, calls_of, all_calls}
+use Rattle.key_names.specs.Calls.{BoundAct, unbound, has_vread, calls_from, all_calls}
 use Rattle.key_names.specs.ScriptGrammar.{InRange}
 use Rattle.key_names.specs.SeenLine.{SeenLine}
 use Rattle.caller_answers.specs.Said.{StateInRange, CallInRange}

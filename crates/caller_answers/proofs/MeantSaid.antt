@@ -1,14 +1,13 @@
 -- What a call means is said of it.
-use Rattle.std.proofs.Common.{◌≡◌, ℕ, Bool, true, false, List, [], ◌∷◌, ◌++◌, map, refl, sym, subst, ap, ◌∙◌, Some}
-use Rattle.std.specs.Prelude.{⊤, MatchBool}
+use Rattle.std.proofs.Common.{◌≡◌, ℕ, Bool, true, false, List, [], ◌∷◌, refl, sym, subst, ap, ◌∙◌}
+use Rattle.std.specs.Prelude.{MatchBool}
 use Rattle.std.specs.List.{AllByRecursion}
 use Rattle.key_names.specs.declared.events.Event.{Event}
-use Rattle.key_names.specs.declared.events.InsideAct.{InsideAct}
 use Rattle.key_names.specs.declared.events.Answer.TheVariants.{Ok as Done}
 use Rattle.key_names.specs.declared.names.Step.{Step}
 use Rattle.key_names.specs.Book.{Lists, LawfulLanes}
 use Rattle.key_names.specs.Calls.{Setting, Call, alone, vread_call, unbound, ending, BoundAct, setting_after_call}
-use Rattle.key_names.specs.Deeds.{Deed, deed_of, deeds_of}
+use Rattle.key_names.specs.Deeds.{Deed, deeds_of}
 use Rattle.key_names.specs.Forms.{Form}
 use Rattle.key_names.specs.IsTranscript.{EachAct, EachOfCall}
 use Rattle.key_names.specs.Meaning.{CallerState, caller_after, LineMeaning, CallMeaning, Means, ActMeans, ActsMean}
@@ -26,15 +25,14 @@ use Rattle.list_replay.specs.Kept.{Keeps}
 use Rattle.vread_course.specs.declared.inside.Reached.{Reached}
 use Rattle.vread_course.specs.Inside.{includes, inside_of}
 use Rattle.vread_course.specs.Course.{followed}
-use Rattle.vread_course.specs.Laws.{IsFollowed}
 use Rattle.vread_course.specs.Seen.{AllSeen}
 use Rattle.vread_course.proofs.Vreads.{followed_of_vread}
-use Rattle.caller_answers.specs.declared.said.Shows.TheVariants.{Nothing as ShowsNothing, Served}
-use Rattle.caller_answers.specs.Met.{met_in, seen_in, kinds_met}
-use Rattle.caller_answers.specs.EventSays.{first_crossing, AloneStands, alone_says, ActStands, EndStands, unused}
+use Rattle.caller_answers.specs.declared.said.Shows.TheVariants.{Nothing as ShowsNothing}
+use Rattle.caller_answers.specs.Met.{met_in, seen_in}
+use Rattle.caller_answers.specs.EventSays.{first_crossing, alone_says, ActStands, unused}
 use Rattle.caller_answers.specs.Writes.{Write}
-use Rattle.caller_answers.specs.CallSays.{VStates, states_after, state_of, with_state, write, AloneSaid, ActDone, act_write}
-use Rattle.caller_answers.specs.CallSays.{VreadSaid, UnboundSaid, EndingSaid, CallSaid}
+use Rattle.caller_answers.specs.CallSays.{VStates, states_after, with_state, write, ActDone}
+use Rattle.caller_answers.specs.CallSays.{CallSaid}
 use Rattle.caller_answers.proofs.MetSays.{all_seen, looks_fit, crossing_is}
 use Rattle.caller_answers.proofs.CallMeant.{standing, CallLooks, HasDeeds, stands_after, all_fit, met_are, kinds_at}
 

@@ -1,13 +1,12 @@
 -- What is kept of the steps of a line is what stands behind them.
-use Rattle.std.proofs.Common.{◌≡◌, ℕ, zero, suc, ◌+◌, ◌*◌, ◌/◌, ◌<◌, ◌≤◌, Bool, true, false, List, [], ◌∷◌, length, take, map, refl, sym, subst, ap, ◌∙◌, arith, Some, None, inl, inr, ◌⊎◌}
-use Rattle.std.specs.Prelude.{◌==◌, ◌||◌, ◌^◌, not, ⊤, Option, slice_get, unwrap_or, nat_le, nat_lt, if◌then◌else◌}
+use Rattle.std.proofs.Common.{◌≡◌, ℕ, zero, suc, ◌+◌, ◌*◌, ◌/◌, ◌<◌, ◌≤◌, Bool, true, false, List, [], ◌∷◌, length, take, refl, sym, subst, ap, ◌∙◌, arith, Some, None, inl, inr, ◌⊎◌}
+use Rattle.std.specs.Prelude.{◌==◌, ◌||◌, not, ⊤, Option, slice_get, unwrap_or, nat_le, nat_lt, if◌then◌else◌}
 use Rattle.std.proofs.Math.Nat.{zero-mul, mul-zero, mul-suc, mul-div-le, mul-le-mul_left}
 use Rattle.std.proofs.lemmas.Grind.{common_steps}
 use Rattle.std.proofs.lemmas.Option.{slice_get-map}
 use Rattle.std.proofs.lemmas.List.{length-map}
 use Rattle.std.specs.Option.{option_map}
 use Rattle.std.specs.Global.{Vec}
-use Rattle.std.specs.List.{AllByRecursion}
 use Rattle.std.proofs.lemmas.Bool.Decides.{nat_tests}
 use Rattle.key_names.specs.declared.names.LaneId.{LaneId}
 use Rattle.key_names.specs.declared.names.LaneId.TheVariants.{Pool as PoolLane, Base as BaseLane, Cpu as CpuLane}
@@ -23,25 +22,24 @@ use Rattle.key_names.specs.Book.{Lists, cpu_list, list_at}
 use Rattle.key_names.specs.Batches.{Fill, batched_int, must_fill}
 use Rattle.key_names.specs.BaseList.{base_erases}
 use Rattle.key_names.specs.CpuList.{CpuState, CpuFits}
-use Rattle.key_names.specs.KeyInUse.{zero_key, taken_bytes, base_used_at, base_value_at, base_value_after, base_value_in_use, cpu_used_at}
+use Rattle.key_names.specs.KeyInUse.{zero_key, taken_bytes, base_value_at, base_value_after, base_value_in_use, cpu_used_at}
 use Rattle.key_names.specs.KeyInUse.{cpu_value_at, cpu_value_after, next_int}
-use Rattle.key_names.specs.Deeds.{Deed, looked, at_pool, at_base, at_cpu, nothing_there, PoolVisit, BaseVisit, CpuVisit}
-use Rattle.key_names.specs.Deeds.{base_serves, cpu_serves, int_of, pool_visit, base_visit, cpu_visit, deed_at, deed_of, deeds_of}
+use Rattle.key_names.specs.Deeds.{Deed, looked, at_pool, at_base, at_cpu, nothing_there, BaseVisit, CpuVisit}
+use Rattle.key_names.specs.Deeds.{base_serves, cpu_serves, int_of, base_visit, cpu_visit, deed_at, deed_of, deeds_of}
 use Rattle.key_names.specs.Deeds.{deed_or}
 use Rattle.line_forms.specs.LaneFacts.{facts_of, DeedFits}
-use Rattle.list_replay.specs.declared.kept.KeptPool.{KeptPool}
 use Rattle.list_replay.specs.declared.kept.KeptBase.{KeptBase}
 use Rattle.list_replay.specs.declared.kept.KeptCpu.{KeptCpu}
 use Rattle.list_replay.specs.declared.kept.Lists.{Lists as KeptLists}
 use Rattle.list_replay.specs.Places.{AllKept}
-use Rattle.list_replay.specs.Kept.{KeepsPool, KeepsBase, KeepsCpu, Keeps, Source, no_source, source_in, source_of}
-use Rattle.vread_course.specs.Recipe.{Recipe, bytes_made, no_recipe, int_recipe}
+use Rattle.list_replay.specs.Kept.{KeepsPool, KeepsCpu, Keeps, Source, source_in, source_of}
+use Rattle.vread_course.specs.Recipe.{bytes_made, no_recipe, int_recipe}
 use Rattle.vread_course.specs.Seen.{ServesBy}
 use Rattle.vread_course.proofs.CalledSays.{user_bytes}
 use Rattle.caller_answers.specs.declared.met.Met.{Met}
 use Rattle.caller_answers.specs.declared.met.Met.TheVariants.{Looked, InPool, InBase, InCpu, Nothing}
-use Rattle.caller_answers.specs.Met.{pool_met, base_met, cpu_met, lane_met, mark_met, met_at, met_in}
-use Rattle.caller_answers.specs.EventSays.{taken_recipe, batch_recipe, base_recipe, cpu_recipe}
+use Rattle.caller_answers.specs.Met.{lane_met, mark_met, met_at, met_in}
+use Rattle.caller_answers.specs.EventSays.{taken_recipe, base_recipe, cpu_recipe}
 
 -- ---- what a visit serves
 
@@ -103,13 +101,13 @@ module _ (book : Lists) (c : ℕ) (fills : ℕ → Option Fill) (place : ℕ) wh
   int_made look width refill None h = refl
   int_made look width refill (Some fill) h =
       let P : Bool → Type 0 = λ b. bytes_made (if b then int_recipe (used fill.place) width fill.count else no_recipe)
-          ≡ next_int book c width fill in subst P (sym (has_bytes look width fill h)) refl
+      ≡ next_int book c width fill in subst P (sym (has_bytes look width fill h)) refl
 
   cpu_made : (s : CpuState) (e : CpuEntry) → s.fills ≡ fills → CpuFits s e → CpuServes e (source_of used fills place e)
   cpu_made s (Read look refill taken) same fit = (refl, sym (taken_made (used place) taken))
   cpu_made s (Int look refill width true) same fit =
       let P : ℕ → Type 0 = λ n. bytes_made (if nat_lt n 96 then int_recipe (used place) width 0 else no_recipe)
-          ≡ batched_int (used place) width 0 in (tt, subst P (sym (mul-zero width)) refl)
+      ≡ batched_int (used place) width 0 in (tt, subst P (sym (mul-zero width)) refl)
   cpu_made s (Int look refill width false) same fit =
       (tt, int_made look width refill (fills width) (fit.fills ∙ ap (λ f. must_fill look width (f width)) same))
   cpu_made s _ same fit = (tt, refl)
@@ -186,7 +184,7 @@ module _ (kept : KeptLists) (book : Lists) (keeps : Keeps kept book)
       let P : Source → Type 0 = λ s. CpuServes book c v.before.fills place e s in
       let kept_made = subst P (sym keeps_it.source) made in
       let Q : List ℕ → Type 0 = λ u. ServesBy (unwrap_or k.key zero_key) e (cpu_serves book c v.before.fills u e)
-          × (bytes_made (cpu_recipe e k.key k.served) ≡ cpu_serves book c v.before.fills u e) in
+      × (bytes_made (cpu_recipe e k.key k.served) ≡ cpu_serves book c v.before.fills u e) in
       let here = subst Q (ap (cpu_value_at book before) is) kept_made in record {
         entry = keeps_it.entry;
         serves = here.0;
@@ -210,8 +208,11 @@ module _ (kept : KeptLists) (book : Lists) (keeps : Keeps kept book)
     | inl none ↦ rw (none.0, none.1) tt
     | inr one ↦
         (let is : slice_get (cpu_list book c) place ≡ Some one.1 = ap (λ xs. slice_get xs place) list_is ∙ one.3 in
-        rw (one.2, one.3) (refl, cpu_visit_is c place one.0 one.1
-        (keeps_lane.each place one.0 one.1 one.2 one.3) is (fits_at c place one.1 is)))
+        rw (one.2, one.3) (
+          refl,
+          cpu_visit_is c place one.0 one.1
+              (keeps_lane.each place one.0 one.1 one.2 one.3) is (fits_at c place one.1 is),
+        ))
   ]
 
   cpu_is : (c place : ℕ) → IsMet (mark_met kept (CpuLane c) place) (deed_at book (CpuLane c) place)

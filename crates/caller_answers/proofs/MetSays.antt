@@ -1,6 +1,6 @@
 -- What is said of steps by what is kept of them is what their deeds say.
-use Rattle.std.proofs.Common.{◌≡◌, ℕ, zero, suc, ◌-◌, ◌<◌, ◌≤◌, Bool, true, false, List, [], ◌∷◌, length, map, refl, sym, subst, ap, ◌∙◌, arith, Some, None}
-use Rattle.std.specs.Prelude.{◌==◌, ◌&&◌, ◌^◌, not, ⊤, Option, slice_get, unwrap_or, if◌then◌else◌}
+use Rattle.std.proofs.Common.{◌≡◌, ℕ, suc, ◌-◌, ◌<◌, Bool, true, false, List, [], ◌∷◌, length, refl, sym, subst, ap, ◌∙◌, arith, Some, None}
+use Rattle.std.specs.Prelude.{◌==◌, ◌^◌, ⊤, Option, slice_get, unwrap_or, if◌then◌else◌}
 use Rattle.std.specs.List.{AllByRecursion}
 use Rattle.std.proofs.lemmas.Bool.Decides.{nat_tests}
 use Rattle.key_names.specs.declared.entries.BaseEntry.{BaseEntry}
@@ -20,7 +20,6 @@ use Rattle.key_names.specs.SeenLine.{count, bytes_or_none}
 use Rattle.key_names.specs.TranscriptGrammar.{StepFits}
 use Rattle.input_pool.specs.PoolStands.{crossing_of}
 use Rattle.line_forms.specs.Kinds.{base_kind, is_resume, kinds_of}
-use Rattle.line_forms.specs.declared.kind.Kind.TheVariants.{Base as BaseKind}
 use Rattle.line_forms.specs.LaneFacts as facts
 use Rattle.line_orders.proofs.Fronts.{map_twice}
 use Rattle.list_replay.specs.declared.kept.KeptPool.{KeptPool}
@@ -28,14 +27,13 @@ use Rattle.list_replay.specs.declared.kept.KeptBase.{KeptBase}
 use Rattle.list_replay.specs.declared.kept.KeptCpu.{KeptCpu}
 use Rattle.list_replay.specs.declared.kept.Lists.{Lists as KeptLists}
 use Rattle.list_replay.specs.Kept.{KeepsPool}
-use Rattle.vread_course.specs.declared.seen.Seen.{Seen}
-use Rattle.vread_course.specs.declared.seen.Seen.TheVariants.{Unready, Ready, Pool, Base, Resumed, Cpu, Elsewhere}
+use Rattle.vread_course.specs.declared.seen.Seen.TheVariants.{Unready, Ready}
 use Rattle.vread_course.specs.Recipe.{bytes_made}
 use Rattle.vread_course.specs.Seen.{seen_kind, IsSeen, AllSeen, LookFits}
 use Rattle.vread_course.proofs.SeenShapes.{kinds_seen}
 use Rattle.caller_answers.specs.declared.met.Met.{Met}
 use Rattle.caller_answers.specs.declared.met.Met.TheVariants.{Looked, InPool, InBase, InCpu, Nothing}
-use Rattle.caller_answers.specs.Met.{pool_met, base_met, cpu_met, lane_met, mark_met, met_at, met_in, look_seen, base_seen}
+use Rattle.caller_answers.specs.Met.{pool_met, base_met, cpu_met, lane_met, mark_met, met_at, met_in, base_seen}
 use Rattle.caller_answers.specs.Met.{cpu_seen, seen_of, seen_in, kinds_met}
 use Rattle.caller_answers.specs.EventSays.{first_crossing, recipe_met, recipe_or_none, last_recipe, found_unready}
 use Rattle.caller_answers.specs.EventSays.{was_interrupted, system_says, reseed_says, tick_says, event_says, bits_shown}
@@ -277,7 +275,7 @@ module _ (met : List Met) (ds : List Deed) (h : AreMet met ds) where
       × (answers.shown_of event ds ≡ shown_by (event_shows event met))
   event_said event =
       let P : List Deed → Type 0 = λ xs. (answers.answer_of event xs ≡ event_says event met)
-          × (answers.shown_of event xs ≡ shown_by (event_shows event met)) in
+      × (answers.shown_of event xs ≡ shown_by (event_shows event met)) in
       subst P (sym shape.1) (event_in met shape.0 event)
 
   -- and a system call
@@ -285,5 +283,5 @@ module _ (met : List Met) (ds : List Deed) (h : AreMet met ds) where
       × (bytes_or_none (answers.served_bytes ds) ≡ bytes_or_none (bytes_made (last_recipe met)))
   system_said flags =
       let P : List Deed → Type 0 = λ xs. (answers.system_answer flags xs ≡ system_says flags met)
-          × (bytes_or_none (answers.served_bytes xs) ≡ bytes_or_none (bytes_made (last_recipe met))) in
+      × (bytes_or_none (answers.served_bytes xs) ≡ bytes_or_none (bytes_made (last_recipe met))) in
       subst P (sym shape.1) (sym (system_in met shape.0 flags), served_in met shape.0)

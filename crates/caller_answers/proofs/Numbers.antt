@@ -1,16 +1,16 @@
 -- The numbers of the events of calls, each of which is another one.
-use Rattle.std.proofs.Common.{◌≡◌, ℕ, suc, ◌<◌, ◌≤◌, Bool, true, false, List, [], ◌∷◌, ◌++◌, map, refl, sym, subst, ap, ◌∙◌, arith, Some}
+use Rattle.std.proofs.Common.{◌≡◌, ℕ, suc, ◌<◌, ◌≤◌, true, false, List, [], ◌∷◌, ◌++◌, map, sym, subst, ap, ◌∙◌, arith, Some}
 use Rattle.std.specs.Prelude.{⊤, slice_get, if◌then◌else◌}
 use Rattle.std.specs.List.{AllByRecursion}
 use Rattle.std.proofs.lemmas.List.{map-append}
 use Rattle.key_names.specs.declared.events.Event.{Event}
 use Rattle.key_names.specs.declared.events.Event.TheVariants.{Vread, Inside}
 use Rattle.key_names.specs.Calls.{Call, alone, vread_call, unbound, ending, BoundAct, has_vread, calls_from}
-use Rattle.key_names.specs.IsTranscript.{LineIs, LinesFit}
+use Rattle.key_names.specs.IsTranscript.{LinesFit}
 use Rattle.key_names.specs.SeenLine.{SeenLine}
-use Rattle.key_names.proofs.Each.{each_append, each_parts, each_weaker}
+use Rattle.key_names.proofs.Each.{each_append, each_weaker}
 use Rattle.caller_answers.specs.declared.said.Said.{Said}
-use Rattle.caller_answers.specs.Writes.{Write, IsPut, Written}
+use Rattle.caller_answers.specs.Writes.{Write, Written}
 use Rattle.caller_answers.proofs.CallMeant.{IsSaidIn}
 
 abbrev pub Differs : ℕ → ℕ → Type 0
@@ -102,9 +102,10 @@ each_number P c n waiting (Inside point act ∷ events) (line ∷ lines) fit wai
     let goes_on = each_number P c (suc n) waiting events lines fit.1 wait (λ k high. above k (omega arith)) in
     elim (has_vread events) as (λ b. AllByRecursion P (numbers (if b then calls_from (waiting ++ bound ∷ []) events lines
     else unbound bound ∷ calls_from waiting events lines))) [ true ↦ waits | false ↦ (here, goes_on) ]
-each_number P c n waiting (event ∷ events) (line ∷ lines) fit wait above =
-    (subst P (sym fit.0.event) (above n (omega arith)),
-    each_number P c (suc n) waiting events lines fit.1 wait (λ k high. above k (omega arith)))
+each_number P c n waiting (event ∷ events) (line ∷ lines) fit wait above = (
+  subst P (sym fit.0.event) (above n (omega arith)),
+  each_number P c (suc n) waiting events lines fit.1 wait (λ k high. above k (omega arith)),
+)
 
 -- a line of its own comes first
 one_first : (c n : ℕ) (waiting : List BoundAct) (events : List Event) (lines : List SeenLine) (line : SeenLine) →
@@ -133,7 +134,7 @@ distinct_from c n waiting (Vread len flags ∷ events) (line ∷ lines) fit wait
     (each_weaker (λ k. k < suc n) (λ k. AllByRecursion (Differs k) (numbers (calls_from [] events lines)))
     (map act_number waiting ++ line.event ∷ [])
     (λ k low. all_above n k (numbers (calls_from [] events lines)) (omega arith)
-        (each_number (λ m. n < m) c (suc n) [] events lines fit.1 tt (λ m high. omega arith)))
+    (each_number (λ m. n < m) c (suc n) [] events lines fit.1 tt (λ m high. omega arith)))
     (each_append (λ k. k < suc n) (map act_number waiting) (line.event ∷ [])
     (all_below n (map act_number waiting) wait) ((let at = fit.0.event in omega arith), tt)))
 distinct_from c n waiting (Inside point act ∷ events) (line ∷ lines) fit wait distinct =

@@ -18,7 +18,7 @@ use Rattle.key_names.specs.declared.events.Answer.TheVariants.{Ok as Done, Again
 use Rattle.key_names.specs.declared.events.Answer.TheVariants.{Idle, Unused}
 use Rattle.key_names.specs.declared.names.Step.{Step}
 use Rattle.key_names.specs.Answers.{is_interrupt}
-use Rattle.key_names.specs.Calls.{Setting, BoundAct}
+use Rattle.key_names.specs.Calls.{Setting}
 use Rattle.key_names.specs.Flags.{is_bad, is_nonblock, is_insecure}
 use Rattle.input_pool.specs.declared.pool.Crossing.{Crossing}
 use Rattle.input_pool.specs.declared.pool.Crossing.TheVariants.{None as CrossedNothing}

@@ -1,4 +1,4 @@
-use Rattle.std.proofs.Common.{◌≡◌, ◌<◌, List, map, length, sym, subst, ap, ◌∙◌, arith}
+use Rattle.std.proofs.Common.{◌≡◌, ◌<◌, map, length, sym, subst, arith}
 use Rattle.std.proofs.lemmas.List.{length-map, length_push}
 use Rattle.std.proofs.lemmas.Slice.Zip.{zip_turn, zip_end}
 use Rattle.line_orders.specs.Called.{seen_call}
@@ -70,7 +70,10 @@ returns c =
     c.loop-call.call-iterator c.next.new.self c.next.result first second c.loop-call.yielded_by c.in-None.is
     c.next.ensures.steps in
     let so_far = c.loop-call.invariant.so_far in
-    let long = length-map c.args.calls.now seen_call in
-    (c.loop-call.states, so_far.0,
-    all_said c.args.lists.now c.args.settings.now (map seen_call c.args.calls.now) (length c.loop-call.yielded) _
-    c.loop-call.states so_far.0 (omega arith) so_far.1, so_far.2)
+    let long = length-map c.args.calls.now seen_call in (
+      c.loop-call.states,
+      so_far.0,
+      all_said c.args.lists.now c.args.settings.now (map seen_call c.args.calls.now) (length c.loop-call.yielded) _
+          c.loop-call.states so_far.0 (omega arith) so_far.1,
+      so_far.2,
+    )

@@ -1,7 +1,7 @@
-use Rattle.std.proofs.Common.{◌≡◌, map, ap, ◌∙◌}
+use Rattle.std.proofs.Common.{map, ap, ◌∙◌}
 use Rattle.line_orders.specs.Called.{seen_act}
 use Rattle.line_orders.specs.Seen.{seen_bare}
-use Rattle.caller_answers.specs.Met.{met_in, seen_in}
+use Rattle.caller_answers.specs.Met.{seen_in}
 use Rattle.caller_answers.proofs.ActsSaid.{at_true, at_false, not_followed, acts_undone, vread_done}
 use Rattle.caller_answers.proofs.calls.vread_call.Goals as goal
 
