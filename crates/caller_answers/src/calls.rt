@@ -29,6 +29,7 @@ use line_orders::called::{ActLine, Called};
 use list_replay::Lists;
 use std::alloc::{AllocError, Global};
 
+// An event by itself; whether its steps are a form of it.
 fn alone_call(
     alloc: Global,
     lists: &Lists,
@@ -50,6 +51,7 @@ fn alone_call(
     Ok(true)
 }
 
+// A `vread` of so many bytes with these flags; whether its steps, and those of the acts inside it, are those of one.
 fn vread_call(
     alloc: Global,
     lists: &Lists,
@@ -84,6 +86,7 @@ fn vread_call(
     Ok(true)
 }
 
+// An act that no `vread` follows is not done, and has no steps.
 fn unbound_call(bound: &ActLine<'_>, said: &mut Vec<Said>) -> Result<bool, AllocError>
     ensures { IfOk result (λ stands. (kept : KeptLists) (set : CallSetting) (s : VStates) →
         IsCallSaid kept set (unbound (seen_act bound.now)) s s said.old.items said.new.items stands) }
@@ -95,6 +98,7 @@ fn unbound_call(bound: &ActLine<'_>, said: &mut Vec<Said>) -> Result<bool, Alloc
     Ok(true)
 }
 
+// A caller's last line.
 fn ending_call(
     alloc: Global,
     lists: &Lists,
@@ -145,7 +149,7 @@ fn call_said(
     }
 }
 
-// The calls one after another.
+// What the calls say one after another, from where a caller starts.
 fn calls_said(
     alloc: Global,
     calls: &[Called<'_>],
