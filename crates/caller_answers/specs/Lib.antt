@@ -1,1 +1,5 @@
 pub mod Said
+pub mod Met
+pub mod EventSays
+pub mod Writes
+pub mod CallSays

@@ -1,23 +1,178 @@
 //! A caller's calls in order: what each line answers and shows, and the caller's vgetrandom states.
-ghost use Rattle.std.specs.Prelude.{◌≡◌, List, map, IfOk, IfSome, IsSome};
+ghost use Rattle.std.specs.Prelude.{◌≡◌, ◌^◌, ◌≤◌, List, [], map, IfOk, IfSome, IsSome, MatchOption};
 ghost use Rattle.std.specs.List.{AllByRecursion};
 ghost use Rattle.key_names.specs.declared.events.Event.{Event};
 ghost use Rattle.key_names.specs.Book.{Lists as BookLists, LawfulLanes};
-ghost use Rattle.key_names.specs.Calls.{Setting as CallSetting};
+ghost use Rattle.key_names.specs.Calls.{Setting as CallSetting, alone, vread_call, unbound, ending};
 ghost use Rattle.key_names.specs.Meaning.{CallMeaning};
 ghost use Rattle.key_names.specs.IsTranscript.{CallerMeans};
 ghost use Rattle.key_names.specs.SeenLine.{SeenLine};
-ghost use Rattle.line_orders.specs.Called.{seen_call};
+ghost use Rattle.line_orders.specs.Called.{seen_act, seen_call};
+ghost use Rattle.line_orders.specs.Seen.{seen_bare};
 ghost use Rattle.line_orders.specs.Settings.{settings_from};
 ghost use Rattle.list_replay.specs.Kept.{Keeps};
+ghost use Rattle.list_replay.specs.declared.kept.Lists.{Lists as KeptLists};
 ghost use Rattle.told_entries.specs.Filled.{CallsFill};
-ghost use Rattle.caller_answers.specs.Said.{IsSaid, AreCallsOf, CallInRange};
+ghost use Rattle.caller_answers.specs.Said.{IsSaid, AreCallsOf, StateInRange, CallInRange};
+ghost use Rattle.caller_answers.specs.Writes.{Write, Written};
+ghost use Rattle.caller_answers.specs.CallSays.{VStates, first_states, IsCallSaid, CallsSaid};
 
-use crate::said::Said;
+use crate::events::{alone_said, end_stands, unused};
+use crate::met::{met_in, seen_in};
+use crate::said::{Said, Shows};
+use crate::states::States;
+use crate::vreads::{acts_said, inside_of, put_said};
+use key_names::{Answer, Event};
 use line_forms::setting::Setting;
-use line_orders::called::Called;
+use line_orders::bare::BareLine;
+use line_orders::called::{ActLine, Called};
 use list_replay::Lists;
 use std::alloc::{AllocError, Global};
+
+// An event by itself; whether its steps are a form of it.
+fn alone_call(
+    alloc: Global,
+    lists: &Lists,
+    set: &Setting,
+    states: &mut States,
+    event: &Event,
+    line: BareLine<'_>,
+    said: &mut Vec<Said>,
+) -> Result<bool, AllocError>
+    requires { StateInRange event.now }
+    ensures { IfOk result (IsCallSaid lists.now set.now (alone event.now (seen_bare line.entry)) states.old states.new
+        said.old.items said.new.items) }
+{
+    let Some(one) = alone_said(alloc, lists, set, event, line.steps)? else {
+        return Ok(false);
+    };
+    states.turn(event);
+    put_said(said, line.event, one)?;
+    Ok(true)
+}
+
+// A `vread` of so many bytes with these flags; whether its steps, and those of the acts inside it, are those of one.
+fn vread_call(
+    alloc: Global,
+    lists: &Lists,
+    set: &Setting,
+    states: &mut States,
+    asked: (u32, u32),
+    line: BareLine<'_>,
+    acts: &[ActLine<'_>],
+    said: &mut Vec<Said>,
+) -> Result<bool, AllocError>
+    requires short { asked.0 ≤ 2 ^ 20 }
+    ensures { IfOk result (IsCallSaid lists.now set.now
+        (vread_call asked.0 asked.1 (seen_bare line.entry) (map seen_act acts.now)) states.old states.new
+        said.old.items said.new.items) }
+{
+    let met = met_in(alloc, lists, line.steps)?;
+    let seen = seen_in(alloc, set.cpu(), &met)?;
+    let Some(course) = states.follow(asked.0, asked.1, inside_of(acts), &seen) else {
+        return Ok(false);
+    };
+    if !acts_said(alloc, lists, set, course.reached, acts, said)? {
+        return Ok(false);
+    }
+    put_said(
+        said,
+        line.event,
+        Said {
+            answer: course.answer,
+            shows: Shows::Served(course.served),
+        },
+    )?;
+    Ok(true)
+}
+
+// An act that no `vread` follows is not done, and has no steps.
+fn unbound_call(bound: &ActLine<'_>, said: &mut Vec<Said>) -> Result<bool, AllocError>
+    ensures { IfOk result (λ stands. (kept : KeptLists) (set : CallSetting) (s : VStates) →
+        IsCallSaid kept set (unbound (seen_act bound.now)) s s said.old.items said.new.items stands) }
+{
+    if !bound.line.steps.is_empty() {
+        return Ok(false);
+    }
+    put_said(said, bound.line.event, unused())?;
+    Ok(true)
+}
+
+// A caller's last line.
+fn ending_call(
+    alloc: Global,
+    lists: &Lists,
+    set: &Setting,
+    line: BareLine<'_>,
+    said: &mut Vec<Said>,
+) -> Result<bool, AllocError>
+    ensures { IfOk result (λ stands. (s : VStates) → IsCallSaid lists.now set.now (ending (seen_bare line.entry)) s s
+        said.old.items said.new.items stands) }
+{
+    if !end_stands(alloc, lists, set, line.steps)? {
+        return Ok(false);
+    }
+    put_said(
+        said,
+        line.event,
+        Said {
+            answer: Answer::Ok,
+            shows: Shows::Nothing,
+        },
+    )?;
+    Ok(true)
+}
+
+// One call; whether its steps are those of one.
+fn call_said(
+    alloc: Global,
+    lists: &Lists,
+    set: &Setting,
+    states: &mut States,
+    call: &Called<'_>,
+    said: &mut Vec<Said>,
+) -> Result<bool, AllocError>
+    requires { CallInRange (seen_call call.now) }
+    ensures { IfOk result (IsCallSaid lists.now set.now (seen_call call.now) states.old states.new
+        said.old.items said.new.items) }
+{
+    match call {
+        Called::Alone { event, line } => alone_call(alloc, lists, set, states, event, *line, said),
+        Called::Vread {
+            len,
+            flags,
+            line,
+            acts,
+        } => vread_call(alloc, lists, set, states, (*len, *flags), *line, acts, said),
+        Called::Unbound(bound) => unbound_call(bound, said),
+        Called::Ending(line) => ending_call(alloc, lists, set, *line, said),
+    }
+}
+
+// What the calls say one after another, from where a caller starts.
+fn calls_said(
+    alloc: Global,
+    calls: &[Called<'_>],
+    settings: &[Setting],
+    lists: &Lists,
+) -> Result<Option<Vec<Said>>, AllocError>
+    requires in_range { AllByRecursion CallInRange (map seen_call calls.now) }
+    ensures { IfOk result (λ o. MatchOption o
+        ((t : VStates) (writes : List Write) →
+        CallsSaid lists.now settings.now (map seen_call calls.now) first_states t writes → ⊥)
+        (λ said. (t : VStates) × (writes : List Write)
+        × CallsSaid lists.now settings.now (map seen_call calls.now) first_states t writes
+        × Written writes [] said.items)) }
+{
+    let mut states = States::new(alloc)?;
+    let mut said = Vec::new(alloc);
+    for (call, set) in calls.iter().zip(settings) {
+        if !call_said(alloc, lists, set, &mut states, call, &mut said)? {
+            return Ok(None);
+        }
+    }
+    Ok(Some(said))
+}
 
 /// What each line of a caller says, by the numbers of its events; nothing where some line's steps are no form of its
 /// call.
@@ -29,19 +184,19 @@ pub fn caller_said(
     alloc: Global,
     calls: &[Called<'_>],
     settings: &[Setting],
-    kept: &Lists,
+    lists: &Lists,
 ) -> Result<Option<Vec<Said>>, AllocError>
     requires in_range { AllByRecursion CallInRange (map seen_call calls.now) }
-    ensures some { (lists : BookLists) (set : CallSetting) (events : List Event) (lines : List SeenLine) →
-        Keeps kept.now lists → LawfulLanes lists → AreCallsOf events lines (map seen_call calls.now) →
-        settings.now ≡ settings_from set (map seen_call calls.now) → CallsFill lists set (map seen_call calls.now) →
-        IfOk result (λ o. IfSome o (λ said. IsSaid lists set (map seen_call calls.now) said.items)) }
-    ensures only { (lists : BookLists) (set : CallSetting) (events : List Event) (lines : List SeenLine)
+    ensures some { (book : BookLists) (set : CallSetting) (events : List Event) (lines : List SeenLine) →
+        Keeps lists.now book → LawfulLanes book → AreCallsOf events lines (map seen_call calls.now) →
+        settings.now ≡ settings_from set (map seen_call calls.now) → CallsFill book set (map seen_call calls.now) →
+        IfOk result (λ o. IfSome o (λ said. IsSaid book set (map seen_call calls.now) said.items)) }
+    ensures only { (book : BookLists) (set : CallSetting) (events : List Event) (lines : List SeenLine)
         (ms : List CallMeaning) →
-        Keeps kept.now lists → LawfulLanes lists → AreCallsOf events lines (map seen_call calls.now) →
+        Keeps lists.now book → LawfulLanes book → AreCallsOf events lines (map seen_call calls.now) →
         settings.now ≡ settings_from set (map seen_call calls.now) →
-        CallerMeans lists set (map seen_call calls.now) ms →
+        CallerMeans book set (map seen_call calls.now) ms →
         IfOk result (λ o. IsSome o) }
 {
-    Err(AllocError)
+    calls_said(alloc, calls, settings, lists)
 }

@@ -6,4 +6,8 @@
 #![tactic(auto)]
 
 pub mod calls;
+mod events;
+mod met;
 pub mod said;
+mod states;
+mod vreads;

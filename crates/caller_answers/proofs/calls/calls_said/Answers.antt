@@ -1,0 +1,79 @@
+use Rattle.std.proofs.Common.{◌≡◌, ◌<◌, map, length, sym, subst, arith}
+use Rattle.std.proofs.lemmas.List.{length-map, length_push}
+use Rattle.std.proofs.lemmas.Slice.Zip.{zip_turn, zip_end}
+use Rattle.line_orders.specs.Called.{seen_call}
+use Rattle.caller_answers.specs.Said.{CallInRange}
+use Rattle.caller_answers.specs.CallSays.{IsCallSaid}
+use Rattle.caller_answers.proofs.Going.{mapped_at, each_mapped_at}
+use Rattle.caller_answers.proofs.CallLoop.{SoFar, Left, so_far_more, left_more, none_left, all_said}
+use Rattle.caller_answers.proofs.calls.calls_said.Goals as goal
+
+pub call_said-requires : goal.call_said-requires
+call_said-requires c =
+    let first : c.into_iter-call-iterator.result.a.rest.now ≡ c.args.calls.now = cc in
+    let second : c.into_iter-call-iterator.result.b.rest.now ≡ c.args.settings.now = cc in
+    let turn = zip_turn c.args.calls.now c.args.settings.now c.loop-call.yielded c.into_iter-call-iterator.result
+    c.loop-call.call-iterator c.next.new.self c.next.result first second c.loop-call.yielded_by
+    (c.in-Some.call, c.in-Some.set) c.in-Some.is c.next.ensures.steps in
+    each_mapped_at c.args.calls.now (length c.loop-call.yielded) c.in-Some.call.now turn.0 (turn.2 c.in-Some.call.now)
+    seen_call CallInRange c.requires.in_range
+
+pub returns-then-not-branch : goal.returns-then-not-branch
+returns-then-not-branch c = λ t writes said.
+    let first : c.into_iter-call-iterator.result.a.rest.now ≡ c.args.calls.now = cc in
+    let second : c.into_iter-call-iterator.result.b.rest.now ≡ c.args.settings.now = cc in
+    let turn = zip_turn c.args.calls.now c.args.settings.now c.loop-call.yielded c.into_iter-call-iterator.result
+    c.loop-call.call-iterator c.next.new.self c.next.result first second c.loop-call.yielded_by
+    (c.in-Some.call, c.in-Some.set) c.in-Some.is c.next.ensures.steps in
+    let n = length c.loop-call.yielded in
+    let low' : n < length (map seen_call c.args.calls.now) = rw length-map turn.0 in
+    let unsaid = subst (IsCallSaid c.args.lists.now c.in-Some.set.now (seen_call c.in-Some.call.now) c.loop-call.states
+    c.call_said.new.states c.loop-call.said.items c.call_said.new.said.items) c.if-not-branch.true
+    c.in_ok-call_said.ensures in
+    none_left c.args.lists.now c.args.settings.now (map seen_call c.args.calls.now) n turn.1 low' c.in-Some.set.now
+    (seen_call c.in-Some.call.now) (turn.3 c.in-Some.set.now)
+    (sym (mapped_at c.args.calls.now n c.in-Some.call.now turn.0 (turn.2 c.in-Some.call.now) seen_call))
+    c.loop-call.states unsaid (c.loop-call.invariant.left t writes said)
+
+pub loop-call-preserved : goal.loop-call-preserved
+loop-call-preserved c =
+    let first : c.into_iter-call-iterator.result.a.rest.now ≡ c.args.calls.now = cc in
+    let second : c.into_iter-call-iterator.result.b.rest.now ≡ c.args.settings.now = cc in
+    let turn = zip_turn c.args.calls.now c.args.settings.now c.loop-call.yielded c.into_iter-call-iterator.result
+    c.loop-call.call-iterator c.next.new.self c.next.result first second c.loop-call.yielded_by
+    (c.in-Some.call, c.in-Some.set) c.in-Some.is c.next.ensures.steps in
+    let n = length c.loop-call.yielded in
+    let low' : n < length (map seen_call c.args.calls.now) = rw length-map turn.0 in
+    let call_is = sym (mapped_at c.args.calls.now n c.in-Some.call.now turn.0 (turn.2 c.in-Some.call.now) seen_call) in
+    let one = subst (IsCallSaid c.args.lists.now c.in-Some.set.now (seen_call c.in-Some.call.now) c.loop-call.states
+    c.call_said.new.states c.loop-call.said.items c.call_said.new.said.items) c.if-not-branch.false
+    c.in_ok-call_said.ensures in
+    let more = sym (length_push c.loop-call.yielded (c.in-Some.call, c.in-Some.set)) in record {
+      so_far = subst (λ k. SoFar c.args.lists.now c.args.settings.now (map seen_call c.args.calls.now) k
+          c.call_said.new.states c.call_said.new.said.items) more
+          (so_far_more c.args.lists.now c.args.settings.now (map seen_call c.args.calls.now) n turn.1 low' c.in-Some.set.now
+          (seen_call c.in-Some.call.now) (turn.3 c.in-Some.set.now) call_is c.loop-call.states c.call_said.new.states
+          c.loop-call.said.items c.call_said.new.said.items c.loop-call.invariant.so_far one);
+      left = λ t writes said.
+          subst (λ k. Left c.args.lists.now c.args.settings.now (map seen_call c.args.calls.now) k c.call_said.new.states)
+          more
+          (left_more c.args.lists.now c.args.settings.now (map seen_call c.args.calls.now) n turn.1 low' c.in-Some.set.now
+          (seen_call c.in-Some.call.now) (turn.3 c.in-Some.set.now) call_is c.loop-call.states c.call_said.new.states one.0
+          one.1 (c.loop-call.invariant.left t writes said));
+    }
+
+pub returns : goal.returns
+returns c =
+    let first : c.into_iter-call-iterator.result.a.rest.now ≡ c.args.calls.now = cc in
+    let second : c.into_iter-call-iterator.result.b.rest.now ≡ c.args.settings.now = cc in
+    let end = zip_end c.args.calls.now c.args.settings.now c.loop-call.yielded c.into_iter-call-iterator.result
+    c.loop-call.call-iterator c.next.new.self c.next.result first second c.loop-call.yielded_by c.in-None.is
+    c.next.ensures.steps in
+    let so_far = c.loop-call.invariant.so_far in
+    let long = length-map c.args.calls.now seen_call in (
+      c.loop-call.states,
+      so_far.0,
+      all_said c.args.lists.now c.args.settings.now (map seen_call c.args.calls.now) (length c.loop-call.yielded) _
+          c.loop-call.states so_far.0 (omega arith) so_far.1,
+      so_far.2,
+    )

@@ -1,0 +1,14 @@
+use Rattle.std.proofs.Common.{List, length, map}
+use Rattle.line_orders.specs.Called.{seen_call}
+use Rattle.caller_answers.specs.Writes.{Write}
+use Rattle.caller_answers.specs.CallSays.{VStates, first_states, CallsSaid}
+use Rattle.caller_answers.proofs.CallLoop.{SoFar, Left}
+use Rattle.caller_answers.proofs.calls.calls_said.Given as goal
+
+abbrev pub invariant-loop-call : goal.invariant-loop-call
+invariant-loop-call l = record {
+  so_far : SoFar l.lists l.settings (map seen_call l.calls) (length l.yielded) l.states l.said.items;
+  left : (t : VStates) (writes : List Write) →
+      CallsSaid l.lists l.settings (map seen_call l.calls) first_states t writes →
+      Left l.lists l.settings (map seen_call l.calls) (length l.yielded) l.states;
+}

@@ -1,0 +1,292 @@
+//! What an event by itself says, or an act inside a `vread`.
+ghost use Rattle.std.specs.Prelude.{◌≡◌, ◌↔◌, IfOk, IsTrue};
+ghost use Rattle.line_forms.specs.Rows.{cpu_for};
+ghost use Rattle.caller_answers.specs.EventSays.{first_crossing, taken_recipe, batch_recipe, base_recipe, cpu_recipe};
+ghost use Rattle.caller_answers.specs.EventSays.{recipe_met, last_recipe, found_unready, was_interrupted, system_says};
+ghost use Rattle.caller_answers.specs.EventSays.{reseed_says, tick_says, event_says, bits_shown, event_shows, act_says};
+ghost use Rattle.caller_answers.specs.EventSays.{unused, IsAloneSaid, IsActSaid, EndStands};
+
+use crate::met::{Met, kinds_met, met_in};
+use crate::said::{Said, Shows};
+use input_pool::Crossing;
+use key_names::{Answer, BaseEntry, CpuEntry, Event, InsideAct, Step, Taken, flags};
+use line_forms::rows::{is_act_row, is_end, is_row};
+use line_forms::setting::Setting;
+use list_replay::{KeptBase, KeptCpu, Lists};
+use std::alloc::{AllocError, Global};
+use vread_course::served::Served;
+
+// What the first visit of the pool crossed.
+fn first_crossing(met: &[Met]) -> Crossing
+    ensures { result ≡ first_crossing met.now }
+{
+    for one in met {
+        if let Met::InPool(kept) = one {
+            return kept.crossing;
+        }
+    }
+    Crossing::None
+}
+
+fn taken_served(key: &[u8; 32], taken: Taken) -> Served
+    ensures { result ≡ taken_recipe key.now taken }
+{
+    match taken {
+        Taken::User(len) => Served::of_user(key, len),
+        Taken::Kernel(len) => Served::of_kernel(key, len),
+    }
+}
+
+// An integer of a batch, which has 96 bytes.
+fn int_served(key: &[u8; 32], width: u8, count: u32) -> Served
+    ensures { result ≡ batch_recipe key.now width count }
+{
+    if u64::from(width) * u64::from(count) < 96 {
+        Served::of_int(key, width, count)
+    } else {
+        Served::none()
+    }
+}
+
+fn base_served(kept: &KeptBase) -> Served
+    ensures { result ≡ base_recipe kept.now.entry kept.now.key }
+{
+    match (kept.entry, kept.key) {
+        (BaseEntry::Draw { taken, .. }, Some(key)) => taken_served(&key, taken),
+        _ => Served::none(),
+    }
+}
+
+fn cpu_served(kept: &KeptCpu) -> Served
+    ensures { result ≡ cpu_recipe kept.now.entry kept.now.key kept.now.served }
+{
+    match (kept.entry, kept.key) {
+        (CpuEntry::Read { taken, .. }, Some(key)) => taken_served(&key, taken),
+        (CpuEntry::Int { width, .. }, Some(key)) => int_served(&key, width, kept.served),
+        _ => Served::none(),
+    }
+}
+
+fn visit_served(met: &Met) -> Served
+    ensures { result ≡ recipe_met met.now }
+{
+    match met {
+        Met::InBase(kept) => base_served(kept),
+        Met::InCpu(_, kept) => cpu_served(kept),
+        Met::Looked(_) | Met::InPool(_) | Met::Nothing => Served::none(),
+    }
+}
+
+// What a read serves: what its last visit serves.
+fn last_served(met: &[Met]) -> Served
+    ensures { result ≡ last_recipe met.now }
+{
+    match met.last() {
+        Some(last) => visit_served(last),
+        None => Served::none(),
+    }
+}
+
+fn found_unready(met: &[Met]) -> bool
+    ensures { result ≡ found_unready met.now }
+{
+    matches!(met, [Met::Looked(0), ..])
+}
+
+// Whether a read waited in vain.
+fn was_interrupted(met: &[Met]) -> bool
+    ensures { result ≡ was_interrupted met.now }
+{
+    match met {
+        [Met::Looked(_), Met::InBase(_), Met::InBase(ended)] => matches!(
+            ended.entry,
+            BaseEntry::Interrupt
+        ),
+        _ => false,
+    }
+}
+
+// The answer of a system call with these flags (getrandom(2)).
+fn system_says(flags: u32, met: &[Met]) -> Answer
+    ensures { result ≡ system_says flags met.now }
+{
+    if flags::are_bad(flags) {
+        Answer::Invalid
+    } else if found_unready(met) && flags % 2 == 1 && flags / flags::GRND_INSECURE % 2 != 1 {
+        Answer::Again
+    } else if was_interrupted(met) {
+        Answer::Interrupted
+    } else {
+        Answer::Ok
+    }
+}
+
+fn reseed_says(met: &[Met]) -> Answer
+    ensures { result ≡ reseed_says met.now }
+{
+    if found_unready(met) {
+        Answer::NoData
+    } else {
+        Answer::Ok
+    }
+}
+
+// A tick fired where it extracted a root.
+fn tick_says(met: &[Met]) -> Answer
+    ensures { result ≡ tick_says met.now }
+{
+    match met {
+        [Met::InBase(_)] => Answer::Idle,
+        _ => Answer::Fired,
+    }
+}
+
+fn event_says(event: &Event, met: &[Met]) -> Answer
+    ensures { result ≡ event_says event.now met.now }
+{
+    match event {
+        Event::Read { flags, .. } | Event::Dread { flag: flags, .. } => system_says(*flags, met),
+        Event::Reseed => reseed_says(met),
+        Event::Tick => tick_says(met),
+        _ => Answer::Ok,
+    }
+}
+
+// The pool's bits before the visit that reads them.
+fn bits_shown(met: &[Met]) -> Shows
+    ensures { result ≡ bits_shown met.now }
+{
+    match met {
+        [Met::InPool(kept)] => Shows::Count(kept.before),
+        _ => Shows::Nothing,
+    }
+}
+
+fn event_shows(event: &Event, met: &[Met]) -> Shows
+    ensures { result ≡ event_shows event.now met.now }
+{
+    match event {
+        Event::Bits => bits_shown(met),
+        Event::Read { .. }
+        | Event::Dread { .. }
+        | Event::Kread { .. }
+        | Event::Uread { .. }
+        | Event::Int8
+        | Event::Int16
+        | Event::Int32
+        | Event::Int64 => Shows::Served(last_served(met)),
+        _ => Shows::Nothing,
+    }
+}
+
+// The CPU that an event's line visits.
+fn event_cpu(event: &Event, set: &Setting) -> u32
+    ensures { result ≡ cpu_for set.now event.now }
+{
+    match event {
+        Event::Prepare { cpu } | Event::Online { cpu } => *cpu,
+        _ => set.cpu(),
+    }
+}
+
+/// What an event by itself says, if its steps are a form of it.
+///
+/// # Errors
+///
+/// `AllocError` where there is no memory to look at the steps.
+pub fn alone_said(
+    alloc: Global,
+    lists: &Lists,
+    set: &Setting,
+    event: &Event,
+    steps: &[Step],
+) -> Result<Option<Said>, AllocError>
+    ensures { IfOk result (λ said. IsAloneSaid lists.now set.now event.now steps.now said) }
+{
+    let met = met_in(alloc, lists, steps)?;
+    let kinds = kinds_met(alloc, event_cpu(event, set), &met)?;
+    if !is_row(event, first_crossing(&met), &kinds) {
+        return Ok(None);
+    }
+    Ok(Some(Said {
+        answer: event_says(event, &met),
+        shows: event_shows(event, &met),
+    }))
+}
+
+fn act_says(act: InsideAct, met: &[Met]) -> Said
+    ensures { result ≡ act_says act met.now }
+{
+    match act {
+        InsideAct::Wipe => Said {
+            answer: Answer::Ok,
+            shows: Shows::Nothing,
+        },
+        InsideAct::Vread(_) => Said {
+            answer: system_says(0, met),
+            shows: Shows::Served(last_served(met)),
+        },
+        InsideAct::Reseed => Said {
+            answer: reseed_says(met),
+            shows: Shows::Nothing,
+        },
+    }
+}
+
+/// What is said of what was not done.
+pub fn unused() -> Said
+    ensures { result ≡ unused }
+{
+    Said {
+        answer: Answer::Unused,
+        shows: Shows::Nothing,
+    }
+}
+
+/// What an act inside a `vread` says, if its steps are a form of it; one whose point was not reached has no steps.
+///
+/// # Errors
+///
+/// `AllocError` where there is no memory to look at the steps.
+pub fn act_said(
+    alloc: Global,
+    lists: &Lists,
+    set: &Setting,
+    reached: bool,
+    act: InsideAct,
+    steps: &[Step],
+) -> Result<Option<Said>, AllocError>
+    ensures { IfOk result (λ said. IsActSaid lists.now set.now reached act steps.now said) }
+{
+    if !reached {
+        return Ok(if steps.is_empty() {
+            Some(unused())
+        } else {
+            None
+        });
+    }
+    let met = met_in(alloc, lists, steps)?;
+    let kinds = kinds_met(alloc, set.cpu(), &met)?;
+    if !is_act_row(act, &kinds) {
+        return Ok(None);
+    }
+    Ok(Some(act_says(act, &met)))
+}
+
+/// Whether the steps of a caller's last line are a form of it.
+///
+/// # Errors
+///
+/// `AllocError` where there is no memory to look at the steps.
+pub fn end_stands(
+    alloc: Global,
+    lists: &Lists,
+    set: &Setting,
+    steps: &[Step],
+) -> Result<bool, AllocError>
+    ensures { IfOk result (λ stands. IsTrue stands ↔ EndStands lists.now set.now steps.now) }
+{
+    let met = met_in(alloc, lists, steps)?;
+    let kinds = kinds_met(alloc, set.cpu(), &met)?;
+    Ok(is_end(&kinds))
+}
