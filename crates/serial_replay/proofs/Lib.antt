@@ -9,3 +9,4 @@ pub mod BareMade
 pub mod Agreement
 pub mod RemadeLines
 pub mod OneCaller
+pub mod Replays
