@@ -1,4 +1,3 @@
-pub mod Stubs
 pub mod LooksStand
 pub mod MarksCounted
 pub mod LaneVisits

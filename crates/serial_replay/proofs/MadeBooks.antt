@@ -30,7 +30,7 @@ use Rattle.list_replay.specs.Fills.{Fills}
 use Rattle.list_replay.specs.Lawful.{Lawful}
 use Rattle.told_entries.specs.Filled.{AllCallsFill}
 use Rattle.told_entries.specs.Gathered.{IsBookOf, AllMean, IsGathered}
-use Rattle.serial_replay.proofs.Stubs.{all_told}
+use Rattle.told_entries.proofs.MadeIsTold.{all_told}
 use Rattle.caller_answers.specs.declared.said.Said.{Said}
 use Rattle.caller_answers.specs.Said.{SaysIt}
 use Rattle.serial_replay.specs.Remade.{FailsEarly}

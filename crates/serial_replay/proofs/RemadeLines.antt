@@ -33,7 +33,7 @@ use Rattle.told_entries.specs.Filled.{AllCallsFill}
 use Rattle.told_entries.specs.Gathered.{IsBookOf, IsGathered}
 use Rattle.caller_answers.specs.declared.said.Said.{Said}
 use Rattle.caller_answers.specs.Said.{CallInRange, IsSaid, SaysIt}
-use Rattle.serial_replay.proofs.Stubs.{all_in_range}
+use Rattle.caller_answers.proofs.CallsRange.{all_in_range}
 use Rattle.serial_replay.specs.declared.remake.Made.{Made}
 use Rattle.serial_replay.specs.Remade.{StepsFit, CallersStand, MeansSome, AllMeanSome, said_lists, AllSaid, made_by, AllMade}
 use Rattle.serial_replay.specs.Remade.{FailsEarly}

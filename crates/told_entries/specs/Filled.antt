@@ -8,7 +8,7 @@ use Rattle.key_names.specs.Deeds.{Deed, deeds_of}
 use Rattle.key_names.specs.IsTranscript.{start_setting}
 use Rattle.line_forms.specs.LaneFacts.{facts_of}
 use Rattle.line_forms.specs.declared.told.Sign.TheVariants.{Nowhere as nowhere}
-use Rattle.line_forms.specs.Told.{Telling, telling, silent, ends, act_telling, LineFills, AllFill, FillsPart, first_sign}
+use Rattle.line_forms.specs.Told.{telling, silent, ends, act_telling, LineFills, AllFill, FillsPart, first_sign}
 
 module _ (lists : Lists) where
   -- what stands behind the steps of a vread: its keys' calls take 32 bytes, and its last call the bytes that it is for

@@ -1,0 +1,3 @@
+pub mod CallForms
+pub mod CallLines
+pub mod MadeIsTold
