@@ -1,6 +1,7 @@
 -- What is made of bare lines is made of the lines themselves.
 use Rattle.std.proofs.Common.{◌≡◌, ℕ, suc, List, [], ◌∷◌, length, map, refl, sym, subst, ap, ◌∙◌}
-use Rattle.std.specs.Prelude.{◌↔◌, IsTrue}
+use Rattle.std.specs.Prelude.{◌↔◌, IsTrue, Result, Ok, Err, IfOk}
+use Rattle.key_names.specs.TranscriptGrammar.{StepFits, LineFits}
 use Rattle.std.specs.List.{AllByRecursion}
 use Rattle.std.proofs.lemmas.List.{length-map}
 use Rattle.key_names.specs.declared.names.Step.{Step}
@@ -24,7 +25,7 @@ use Rattle.caller_answers.specs.Said.{SaysIt}
 use Rattle.serial_replay.specs.declared.remake.Made.{Made}
 use Rattle.serial_replay.specs.declared.remake.Remade.{Remade}
 use Rattle.serial_replay.specs.declared.remake.Remade.TheVariants.{Made as MadeAll, No}
-use Rattle.serial_replay.specs.Remade.{made_by, IsEarly, AllMade, FailsEarly, IsRemade}
+use Rattle.serial_replay.specs.Remade.{made_by, StepsFit, IsEarly, AllMade, FailsEarly, IsRemade}
 
 module _ (said : List Said) where
   line_says : (line : SeenLine) (m : LineMeaning) → SaysIt said (bare line) m → SaysIt said line m
@@ -75,7 +76,7 @@ module _ (script : Script) (t : List (List SeenLine)) where
   fails_both data_clause early f = absurd early
   fails_both looks_clause early f = absurd early
 
-  all_made : (m : Made) → AllMade script bares m → AllMade script t m
+  pub all_made : (m : Made) → AllMade script bares m → AllMade script t m
   all_made m a =
       let other = steps_make_the_book script bares t (same_bare t) a.made in
       let saids : ℕ → List Said = list_at (made_by m) in
@@ -108,3 +109,16 @@ module _ (script : Script) (t : List (List SeenLine)) where
     early = f.early;
     fails = fails_both f.clause f.early f.fails;
   }
+
+line_steps : (lines : List SeenLine) → AllByRecursion LineFits lines →
+    AllByRecursion (λ (line : SeenLine). AllByRecursion StepFits line.steps) (map bare lines)
+line_steps [] fit = tt
+line_steps (line ∷ lines) fit = (fit.0.steps, line_steps lines fit.1)
+
+pub steps_fit : (t : List (List SeenLine)) → AllByRecursion (AllByRecursion LineFits) t → StepsFit (map (map bare) t)
+steps_fit [] fit = tt
+steps_fit (lines ∷ t) fit = (line_steps lines fit.0, steps_fit t fit.1)
+
+pub if_ok : {A E : Type 0} (P Q : A → Type 0) → ((a : A) → P a → Q a) → (r : Result A E) → IfOk r P → IfOk r Q
+if_ok P Q f (Ok a) h = f a h
+if_ok P Q f (Err e) h = tt

@@ -1,4 +1,3 @@
-pub mod Stubs
 pub mod LooksStand
 pub mod MarksCounted
 pub mod LaneVisits
@@ -9,3 +8,4 @@ pub mod BareMade
 pub mod Agreement
 pub mod RemadeLines
 pub mod OneCaller
+pub mod Replays

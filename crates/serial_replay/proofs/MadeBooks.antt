@@ -1,6 +1,6 @@
 -- The book that a transcript's steps make, out of the lists that are as told; and that there is none where there are no
 -- such lists.
-use Rattle.std.proofs.Common.{◌≡◌, ℕ, ◌+◌, ◌<◌, ◌≤◌, List, [], length, map, refl, sym, subst, ap, ◌∙◌, arith}
+use Rattle.std.proofs.Common.{◌≡◌, ℕ, Bool, ◌+◌, ◌<◌, ◌≤◌, List, [], length, map, refl, sym, subst, ap, ◌∙◌, arith}
 use Rattle.std.specs.Prelude.{◌↔◌, IsTrue}
 use Rattle.std.specs.List.{AllByRecursion}
 use Rattle.key_names.specs.declared.names.LaneId.{LaneId}
@@ -30,7 +30,7 @@ use Rattle.list_replay.specs.Fills.{Fills}
 use Rattle.list_replay.specs.Lawful.{Lawful}
 use Rattle.told_entries.specs.Filled.{AllCallsFill}
 use Rattle.told_entries.specs.Gathered.{IsBookOf, AllMean, IsGathered}
-use Rattle.serial_replay.proofs.Stubs.{all_told}
+use Rattle.told_entries.proofs.MadeIsTold.{all_told}
 use Rattle.caller_answers.specs.declared.said.Said.{Said}
 use Rattle.caller_answers.specs.Said.{SaysIt}
 use Rattle.serial_replay.specs.Remade.{FailsEarly}
@@ -118,7 +118,7 @@ module _ (script : Script) (t : List (List SeenLine)) (parts : Parts) (stand : P
             (λ c calls' ms m. subst (λ l. CallerMeans l (start_setting calls c) calls' ms) (sym back)
             (means_aside lists states (start_setting calls c) calls' ms m)) 0 calls said.mss said.means
 
-        pub made : MadeBook script t
+        made : MadeBook script t
         made = record {
           book = book;
           meanings = said.mss;
@@ -140,17 +140,29 @@ module _ (script : Script) (t : List (List SeenLine)) (parts : Parts) (stand : P
         same_reseeds : (base_after lists.base).generation ≡ (base_after (lists_of book).base).generation
         same_reseeds = ap (λ l. (base_after l.base).generation) (sym back)
 
-        Of : ℕ → (List Step → List Deed) → Type 0
+        abbrev Of : ℕ → (List Step → List Deed) → Type 0
         Of n deeds = AllByRecursion (λ order. LooksStand n [] (deeds order)) (caller_orders calls)
 
-        -- looks stand in the book where they stand in the lists
-        pub seen_stands : (b : _) →
+        -- the book, with what is said of its meanings and its looks
+        pub record OfLists : Type 0 where
+          pub made : MadeBook script t
+          pub meanings : made.meanings ≡ said.mss
+          pub looks : (b : Bool) →
+              (IsTrue b ↔ AllByRecursion (λ order. LooksStand (base_after lists.base).generation [] (deeds_of lists order))
+              (caller_orders calls)) →
+              IsTrue b ↔ SeenStands script t (lists_of made.book)
+
+        looks_in_book : (b : Bool) →
             (IsTrue b ↔ AllByRecursion (λ order. LooksStand (base_after lists.base).generation [] (deeds_of lists order))
             (caller_orders calls)) →
-            IsTrue b ↔ SeenStands script t (lists_of made.book)
-        seen_stands b is =
+            IsTrue b ↔ SeenStands script t (lists_of book)
+        looks_in_book b is =
             let path : Of (base_after lists.base).generation (deeds_of lists) ≡ SeenStands script t (lists_of book) =
             (λ i. Of (same_reseeds i) (λ order. same_deeds order i)) in (
               (λ h. subst (λ (X : Type 0). X) path (is.0 h)),
               (λ h. is.1 (subst (λ (X : Type 0). X) (sym path) h)),
             )
+
+        pub of_lists : OfLists
+        unfolding made
+        of_lists = record { made = made; meanings = refl; looks = looks_in_book }

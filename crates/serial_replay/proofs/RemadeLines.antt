@@ -12,7 +12,7 @@ use Rattle.key_names.specs.Deeds.{deeds_of}
 use Rattle.key_names.specs.History.{LooksStand, caller_orders, calls_steps}
 use Rattle.key_names.specs.ScriptGrammar.{Script, WellFormed}
 use Rattle.key_names.specs.SeenLine.{SeenLine}
-use Rattle.key_names.specs.IsTranscript.{MadeBook, script_calls, start_setting}
+use Rattle.key_names.specs.IsTranscript.{MadeBook, script_calls, start_setting, EachCaller, EachLine}
 use Rattle.line_orders.specs.declared.begin.Parts.{Parts}
 use Rattle.line_orders.specs.declared.called.Called.{Called}
 use Rattle.line_orders.specs.declared.order.Fork.{Fork}
@@ -32,15 +32,15 @@ use Rattle.list_replay.specs.Lawful.{Lawful}
 use Rattle.told_entries.specs.Filled.{AllCallsFill}
 use Rattle.told_entries.specs.Gathered.{IsBookOf, IsGathered}
 use Rattle.caller_answers.specs.declared.said.Said.{Said}
-use Rattle.caller_answers.specs.Said.{CallInRange, IsSaid}
-use Rattle.serial_replay.proofs.Stubs.{all_in_range}
+use Rattle.caller_answers.specs.Said.{CallInRange, IsSaid, SaysIt}
+use Rattle.caller_answers.proofs.CallsRange.{all_in_range}
 use Rattle.serial_replay.specs.declared.remake.Made.{Made}
 use Rattle.serial_replay.specs.Remade.{StepsFit, CallersStand, MeansSome, AllMeanSome, said_lists, AllSaid, made_by, AllMade}
 use Rattle.serial_replay.specs.Remade.{FailsEarly}
 use Rattle.serial_replay.specs.Seen.{seen_behind, MayLook, reseeds_in}
 use Rattle.serial_replay.proofs.Callers.{caller_means, SaidByAll, said_by_all}
 use Rattle.serial_replay.proofs.LooksStand.{looks_stand}
-use Rattle.serial_replay.proofs.MadeBooks.{stops, made_fills, made_lawful, lines_fill, made, seen_stands}
+use Rattle.serial_replay.proofs.MadeBooks.{stops, made_fills, made_lawful, lines_fill, OfLists, of_lists}
 
 module _ (script : Script) (t : List (List SeenLine)) (parts : Parts) (stand : PartsStand script t parts)
     (well : WellFormed script) where
@@ -125,10 +125,11 @@ module _ (script : Script) (t : List (List SeenLine)) (parts : Parts) (stand : P
               (IsTrue m.looks_stand ↔ AllByRecursion (Along (seen_behind kept) (MayLook reseeds) None) (caller_orders calls)) →
               AllMade script t m
           all_made reseeds is looks =
-              let both = looks_stand kept lists (keeps lists fills lawful) reseeds is (caller_orders calls) in record {
-                made = made script t parts stand told gathered lists fills lawful (list_at (made_by m)) said;
+              let both = looks_stand kept lists (keeps lists fills lawful) reseeds is (caller_orders calls) in
+              let of = of_lists script t parts stand told gathered lists fills lawful (list_at (made_by m)) said in record {
+                made = of.made;
                 long = long;
-                says = said.says;
-                looks = seen_stands script t parts stand told gathered lists fills lawful (list_at (made_by m)) said
-                    m.looks_stand ((λ h. both.0 (looks.0 h)), (λ h. looks.1 (both.1 h)));
+                says = subst (λ mss. EachCaller (λ c calls' ms. EachLine (SaysIt (list_at (made_by m) c)) calls' ms) 0 calls mss)
+                    (sym of.meanings) said.says;
+                looks = of.looks m.looks_stand ((λ h. both.0 (looks.0 h)), (λ h. looks.1 (both.1 h)));
               }

@@ -4,7 +4,16 @@ use Rattle.key_names.specs.declared.events.Word.{Word}
 use Rattle.key_names.specs.declared.events.Word.TheVariants.{Bits}
 use Rattle.key_names.specs.SeenLine.{SeenLine, Shown, no_data, bytes, count}
 use Rattle.caller_answers.specs.declared.said.Said.{Said}
+use Rattle.caller_answers.specs.declared.said.Shows.{Shows}
+use Rattle.caller_answers.specs.declared.said.Shows.TheVariants.{Nothing, Count, Served}
 use Rattle.caller_answers.specs.Said.{shown_by}
+use Rattle.vread_course.specs.Recipe.{bytes_made}
+
+-- the bytes that are said
+abbrev pub bytes_said : Shows → List ℕ
+bytes_said Nothing = []
+bytes_said (Count n) = []
+bytes_said (Served recipe) = bytes_made recipe
 
 abbrev pub said_of : SeenLine → Option Said → SeenLine
 said_of line None = line

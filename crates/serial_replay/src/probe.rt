@@ -8,7 +8,7 @@ fn probe_low() -> bool
     true
 }
 
-#[tactic(auto, using(crate::proofs::MadeBooks::made, crate::proofs::BareMade::remade_of_bare, crate::proofs::RemadeLines::all_made, crate::proofs::OneCaller::said_more, crate::proofs::Agreement::data_both))]
+#[tactic(auto, using(crate::proofs::MadeBooks::of_lists, crate::proofs::BareMade::remade_of_bare, crate::proofs::RemadeLines::all_made, crate::proofs::OneCaller::said_more, crate::proofs::Agreement::data_both, crate::proofs::Replays::is_the_transcript))]
 fn probe_high() -> bool
     ensures { result ≡ true }
 {

@@ -2,12 +2,14 @@
 ghost use Rattle.std.specs.Prelude.{◌≡◌, ◌∷◌, [], ◌++◌, length, Some, IfOk, OnOk, map};
 ghost use Rattle.std.specs.List.{AllByRecursion};
 ghost use Rattle.key_names.specs.ScriptGrammar.{WellFormed};
-ghost use Rattle.key_names.specs.TranscriptGrammar.{LineFits, LastHasLines};
-ghost use Rattle.transcript_text.specs.Views.{seen};
+ghost use Rattle.key_names.specs.TranscriptGrammar.{LineFits, ShownFits};
+ghost use Rattle.key_names.specs.declared.events.Word.{Word as EventWord};
+ghost use Rattle.transcript_text.specs.Views.{seen, seen_shown};
+ghost use Rattle.caller_answers.specs.Said.{shown_by};
 ghost use Rattle.serial_replay.specs.Agreement.{Agrees, AllAgree};
 ghost use Rattle.serial_replay.specs.Remade.{said_lists};
 ghost use Rattle.serial_replay.specs.Replayed.{IsReplay};
-ghost use Rattle.serial_replay.specs.Written.{said_of, lines_said, said_into, MayShow};
+ghost use Rattle.serial_replay.specs.Written.{bytes_said, said_of, lines_said, said_into, IsFor, MayShow};
 
 use crate::remake::{Remade, remake};
 use caller_answers::said::{Said, Shows};
@@ -36,7 +38,31 @@ fn push_line(lines: &mut CallerLines, line: LineView<'_>) -> Result<(), AllocErr
     Ok(())
 }
 
-// One more line, with the answer and the data that were made. The buffer holds the bytes that it shows.
+// The bytes that a line shows, in the place of those in the buffer.
+fn put_bytes(buffer: &mut Vec<u8>, said: &Said) -> Result<(), AllocError>
+    ensures { OnOk result (buffer.new.items ≡ bytes_said said.now.shows) }
+{
+    buffer.clear();
+    match &said.shows {
+        Shows::Served(served) => served.put(buffer),
+        Shows::Nothing | Shows::Count(_) => Ok(()),
+    }
+}
+
+// What a line shows, its bytes being these.
+fn shown_as<'a>(said: &Said, bytes: &'a [u8]) -> Shown<'a>
+    requires { bytes.now ≡ bytes_said said.now.shows }
+    ensures shown { seen_shown result ≡ shown_by said.now.shows }
+    ensures fits { (word : EventWord) → IsFor word (seen_shown result) → ShownFits word (seen_shown result) }
+{
+    match &said.shows {
+        Shows::Nothing => Shown::None,
+        Shows::Count(number) => Shown::Count(*number),
+        Shows::Served(_) => Shown::Bytes(bytes),
+    }
+}
+
+// One more line, with the answer and the data that were made. The buffer is for the bytes that it shows.
 fn push_said(
     lines: &mut CallerLines,
     line: LineView<'_>,
@@ -47,26 +73,16 @@ fn push_said(
     requires kind { MayShow (seen line) said.now }
     ensures { OnOk result (lines.new.lines ≡ lines.old.lines ++ said_of (seen line.entry) (Some said.now) ∷ []) }
 {
-    let shown = match &said.shows {
-        Shows::Nothing => Shown::None,
-        Shows::Count(number) => Shown::Count(*number),
-        Shows::Served(served) => {
-            buffer.clear();
-            served.put(buffer)?;
-            Shown::Bytes(buffer)
-        }
+    put_bytes(buffer, said)?;
+    let told = LineView {
+        caller: line.caller,
+        event: line.event,
+        word: line.word,
+        answer: said.answer,
+        steps: line.steps,
+        shown: shown_as(said, buffer),
     };
-    push_line(
-        lines,
-        LineView {
-            caller: line.caller,
-            event: line.event,
-            word: line.word,
-            answer: said.answer,
-            steps: line.steps,
-            shown,
-        },
-    )
+    push_line(lines, told)
 }
 
 fn caller_lines(alloc: Global, lines: &CallerLines, said: &[Said]) -> Result<CallerLines, AllocError>

@@ -1,0 +1,80 @@
+use Rattle.std.proofs.Common.{◌≡◌, true, false, List}
+use Rattle.list_replay.specs.Tables.{tables_of}
+use Rattle.key_names.specs.SeenLine.{SeenLine}
+use Rattle.key_names.specs.IsTranscript.{script_calls}
+use Rattle.line_orders.specs.Seen.{seen_callers}
+use Rattle.line_orders.proofs.ForksRise.{all_rise}
+use Rattle.serial_replay.proofs.RemadeLines.{few_calls, few_orders, forks_rise, in_range, none_replayed, callers_stand, none_said, all_fill, all_made}
+use Rattle.serial_replay.proofs.remake.of_lines.Goals as goal
+
+pub all_settings-requires-clause-few : goal.all_settings-requires-clause-few
+all_settings-requires-clause-few c =
+    let stand = rw c.in-Stands.is at c.in_ok-clause.ensures in
+    rw c.deref.ensures.value
+    (few_calls c.args.script.now (seen_callers c.args.lines.now) c.in-Stands.parts stand c.requires.well)
+
+pub all_settings-requires-clause-rise : goal.all_settings-requires-clause-rise
+all_settings-requires-clause-rise c =
+    let stand = rw c.in-Stands.is at c.in_ok-clause.ensures in
+    rw c.deref-2.ensures.value
+    (forks_rise c.args.script.now (seen_callers c.args.lines.now) c.in-Stands.parts stand c.requires.well)
+
+pub returns-in_default-2 : goal.returns-in_default-2
+returns-in_default-2 c =
+    let t : List (List SeenLine) = seen_callers c.args.lines.now in
+    let stand = rw c.in-Stands.is at c.in_ok-clause.ensures in
+    let are = rw c.deref.ensures.value at c.in_ok-settings.ensures in
+    let gathered = rw c.in-Some.is at (c.in_ok-told.ensures.some t stand) in
+    none_replayed c.args.script.now t c.in-Stands.parts stand c.requires.well c.in_ok-settings.settings.items c.requires.fit
+    are (tables_of c.in-Some.told) gathered
+    (λ lists fills lawful. rw c.in_default-2.is at (c.in_ok-kept.ensures.only lists fills lawful))
+
+pub all_said-requires-clause-in_range : goal.all_said-requires-clause-in_range
+all_said-requires-clause-in_range c =
+    let stand = rw c.in-Stands.is at c.in_ok-clause.ensures in
+    rw c.deref-4.ensures.value
+    (in_range c.args.script.now (seen_callers c.args.lines.now) c.in-Stands.parts stand c.requires.well)
+
+pub returns-in_default-3 : goal.returns-in_default-3
+returns-in_default-3 c =
+    let t : List (List SeenLine) = seen_callers c.args.lines.now in
+    let stand = rw c.in-Stands.is at c.in_ok-clause.ensures in
+    let are = rw c.deref.ensures.value at c.in_ok-settings.ensures in
+    let gathered = rw c.in-Some.is at (c.in_ok-told.ensures.some t stand) in
+    let only = rw (c.in_default-3.is, c.deref-4.ensures.value, c.deref-5.ensures.value) at c.in_ok-callers.ensures.only in
+    let there = callers_stand c.args.script.now t c.in-Stands.parts stand c.requires.well c.in_ok-settings.settings.items
+    c.requires.fit are (tables_of c.in-Some.told) gathered in
+    none_said c.args.script.now t c.in-Stands.parts stand c.requires.well c.in_ok-settings.settings.items c.requires.fit are
+    (tables_of c.in-Some.told) gathered c.in-Some-2.kept
+    (λ lists fills lawful. rw c.in-Some-2.is at (c.in_ok-kept.ensures.only lists fills lawful))
+    (λ lists keeps lanes means.
+        let never : false ≡ true = only c.args.script.now t lists there keeps lanes means in cc)
+
+pub all_may_follow-requires : goal.all_may_follow-requires
+all_may_follow-requires c =
+    let stand = rw c.in-Stands.is at c.in_ok-clause.ensures in
+    record {
+      few = few_orders c.args.script.now (seen_callers c.args.lines.now) c.in-Stands.parts stand c.requires.well;
+    }
+
+pub returns : goal.returns
+returns c =
+    let t : List (List SeenLine) = seen_callers c.args.lines.now in
+    let stand = rw c.in-Stands.is at c.in_ok-clause.ensures in
+    let are = rw c.deref.ensures.value at c.in_ok-settings.ensures in
+    let gathered = rw c.in-Some.is at (c.in_ok-told.ensures.some t stand) in
+    let lists = rw c.in-Some-2.is at c.in_ok-kept.ensures.some in
+    let some = rw (c.in-Some-3.is, c.deref-4.ensures.value, c.deref-5.ensures.value) at c.in_ok-callers.ensures.some in
+    let there = callers_stand c.args.script.now t c.in-Stands.parts stand c.requires.well c.in_ok-settings.settings.items
+    c.requires.fit are (tables_of c.in-Some.told) gathered in
+    let fill = all_fill c.args.script.now t c.in-Stands.parts stand c.requires.well c.in_ok-settings.settings.items
+    c.requires.fit are (tables_of c.in-Some.told) gathered c.in-Some-2.kept
+    (λ ls fills lawful. rw c.in-Some-2.is at (c.in_ok-kept.ensures.only ls fills lawful)) lists.0 lists.1 lists.2 in
+    let said = some c.args.script.now t lists.0 there lists.3 lists.2.lanes fill in
+    let looks = rw c.of.ensures.lists at (c.in_ok-looks_stand.ensures (script_calls c.args.script.now t) stand.own stand.forks
+    (all_rise 0 c.args.script.now.callers t c.requires.well.above)) in
+    all_made c.args.script.now t c.in-Stands.parts stand c.requires.well c.in_ok-settings.settings.items c.requires.fit are
+    (tables_of c.in-Some.told) gathered c.in-Some-2.kept
+    (λ ls fills lawful. rw c.in-Some-2.is at (c.in_ok-kept.ensures.only ls fills lawful)) lists.0 lists.1 lists.2
+    (record { callers = c.in-Some-3.callers; looks_stand = c.in_ok-looks_stand.looks_stand }) said c.of.result.reseeds
+    c.of.ensures.reseeds looks

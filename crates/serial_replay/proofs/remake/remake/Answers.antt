@@ -1,0 +1,15 @@
+use Rattle.std.proofs.Common.{map}
+use Rattle.key_names.specs.SameSteps.{bare}
+use Rattle.serial_replay.specs.Remade.{IsRemade}
+use Rattle.serial_replay.proofs.BareMade.{remade_of_bare, steps_fit, if_ok}
+use Rattle.serial_replay.proofs.remake.remake.Goals as goal
+
+pub of_lines-requires-clause-fit : goal.of_lines-requires-clause-fit
+of_lines-requires-clause-fit c =
+    rw (c.deref.ensures.value, c.in_ok-lines.ensures) (steps_fit c.args.t.now c.callers-callers.ensures.fits.lines)
+
+pub returns-clause-made : goal.returns-clause-made
+returns-clause-made c =
+    if_ok (IsRemade c.args.script.now (map (map bare) c.args.t.now)) (IsRemade c.args.script.now c.args.t.now)
+    (remade_of_bare c.args.script.now c.args.t.now) c.of_lines.result
+    (rw (c.deref.ensures.value, c.in_ok-lines.ensures) at c.of_lines.ensures)
