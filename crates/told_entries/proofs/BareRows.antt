@@ -16,7 +16,7 @@ use Rattle.std.proofs.lemmas.Option.{slice_get-get_or}
 use Rattle.key_names.specs.declared.entries.CpuEntry.TheVariants.{Prepare}
 use Rattle.key_names.proofs.TranscriptBooks.{lt_or_le}
 use Rattle.line_forms.specs.declared.told.CpuTold.TheVariants.{Is as cpu_is}
-use Rattle.std.proofs.lemmas.Bool.{eq-eqb, eqb-true, ne_eqb}
+use Rattle.std.proofs.lemmas.Bool.{eq-eqb, eqb-true}
 use Rattle.key_names.specs.declared.names.LaneId.{LaneId}
 use Rattle.key_names.specs.declared.names.LaneId.TheVariants.{Pool as PoolLane, Base as BaseLane, Cpu as CpuLane}
 use Rattle.key_names.specs.Book.{list_at}

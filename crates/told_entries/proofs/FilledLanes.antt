@@ -1,5 +1,5 @@
 -- From rows that are what the lines tell: all lines' visits are as told exactly where the lists are as the tables tell.
-use Rattle.std.proofs.Common.{◌≡◌, ℕ, zero, suc, ◌<◌, List, [], ◌∷◌, length, Option, Some, None, refl, sym, subst, ap, ◌∙◌, arith, map}
+use Rattle.std.proofs.Common.{◌≡◌, ℕ, zero, suc, ◌<◌, List, [], ◌∷◌, length, Some, refl, sym, subst, ap, ◌∙◌, arith, map}
 use Rattle.std.specs.Prelude.{◌↔◌, slice_get}
 use Rattle.std.specs.List.{AllByRecursion}
 use Rattle.std.proofs.lemmas.List.{length-map}
@@ -16,14 +16,11 @@ use Rattle.key_names.specs.Calls.{Call}
 use Rattle.key_names.specs.Deeds.{Deed, at_pool, at_base, at_cpu, deed_or, deed_at, deed_of, deeds_of, pool_visit, base_visit, cpu_visit}
 use Rattle.key_names.specs.ScriptGrammar.{Script}
 use Rattle.key_names.specs.SeenLine.{SeenLine}
-use Rattle.key_names.specs.IsTranscript.{HasLines, MarksStand, MarkBy, all_marks, lane_marks, stamped_at, script_calls, start_setting}
+use Rattle.key_names.specs.IsTranscript.{HasLines, MarksStand, MarkBy, all_marks, stamped_at, script_calls, start_setting}
 use Rattle.key_names.proofs.Each.{each_weaker}
 use Rattle.key_names.proofs.LaneCounts.{every_place, lane_counts, lane_length, within_lane}
 use Rattle.key_names.proofs.UniqueMeanings.{OfCall}
 use Rattle.line_forms.specs.Told.{AllThere, IsThere}
-use Rattle.list_replay.specs.declared.told.ToldPool.{ToldPool}
-use Rattle.list_replay.specs.declared.told.ToldCpu.{ToldCpu}
-use Rattle.line_forms.specs.declared.told.BaseTold.{BaseTold}
 use Rattle.list_replay.specs.Fills.{Fills}
 use Rattle.list_replay.specs.Tables.{Tables}
 use Rattle.told_entries.specs.Filled.{AllCallsFill}

@@ -8,7 +8,6 @@ use Rattle.std.proofs.lemmas.List.Sorted.{All-permutation}
 use Rattle.key_names.specs.declared.names.LaneId.{LaneId}
 use Rattle.key_names.specs.declared.names.LaneId.TheVariants.{Pool as PoolLane, Base as BaseLane, Cpu as CpuLane}
 use Rattle.key_names.specs.declared.names.Who.{Who}
-use Rattle.key_names.specs.declared.entries.CpuEntry.{CpuEntry}
 use Rattle.key_names.specs.Book.{Book, Visit, list_at}
 use Rattle.key_names.specs.Calls.{Setting as CallSetting}
 use Rattle.key_names.specs.ScriptGrammar.{Script, WellFormed}

@@ -1,5 +1,5 @@
 -- What is put into bare tables step by step: a row for each mark, which is what its line tells.
-use Rattle.std.proofs.Common.{◌≡◌, ℕ, zero, suc, ◌<◌, ◌≤◌, List, [], ◌∷◌, length, Option, Some, None, refl, sym, subst, ap, ◌∙◌, arith, map}
+use Rattle.std.proofs.Common.{◌≡◌, ℕ, zero, suc, ◌<◌, ◌≤◌, List, [], ◌∷◌, length, Some, None, refl, sym, subst, ap, ◌∙◌, arith, map}
 use Rattle.std.specs.Prelude.{slice_get}
 use Rattle.std.specs.List.{AllByRecursion}
 use Rattle.std.specs.Global.{Vec}
@@ -11,7 +11,7 @@ use Rattle.key_names.specs.SeenLine.{SeenLine}
 use Rattle.key_names.specs.IsTranscript.{all_marks, lane_marks, script_calls, start_setting}
 use Rattle.key_names.proofs.CallTakes.{all_calls_marks, all_marks_within}
 use Rattle.key_names.proofs.Each.{each_weaker}
-use Rattle.key_names.proofs.TakenMarks.{one_mark, total_takes}
+use Rattle.key_names.proofs.TakenMarks.{one_mark}
 use Rattle.key_names.proofs.UniqueMeanings.{OfCall}
 use Rattle.line_orders.specs.declared.begin.Parts.{Parts}
 use Rattle.line_orders.specs.Begun.{PartsStand}

@@ -1,5 +1,5 @@
 -- What holds of the lane and place of each mark holds of each visit of the lines, of the calls' lines, and back.
-use Rattle.std.proofs.Common.{◌≡◌, ℕ, zero, suc, ◌<◌, List, [], ◌∷◌, ◌++◌, length, refl, arith}
+use Rattle.std.proofs.Common.{ℕ, zero, suc, ◌<◌, List, [], ◌∷◌, length, arith}
 use Rattle.std.specs.Bool.{⊤}
 use Rattle.std.specs.List.{AllByRecursion, flat_map}
 use Rattle.key_names.specs.declared.events.Event.{Event}
@@ -7,7 +7,7 @@ use Rattle.key_names.specs.declared.names.LaneId.{LaneId}
 use Rattle.key_names.specs.declared.names.Step.{Step}
 use Rattle.key_names.specs.declared.names.Step.TheVariants.{Look, Visit as Marked}
 use Rattle.key_names.specs.Book.{list_at}
-use Rattle.key_names.specs.Calls.{Call, calls_of, all_calls}
+use Rattle.key_names.specs.Calls.{all_calls}
 use Rattle.key_names.specs.SeenLine.{SeenLine}
 use Rattle.key_names.specs.IsTranscript.{LinesFit, EachCaller, MarkBy, marks_from, line_marks, all_marks}
 use Rattle.key_names.proofs.Each.{each_append, each_parts}

@@ -1,7 +1,6 @@
 -- From rows that are what the lines tell: the visits of a line are as told exactly where each place that it visits is.
-use Rattle.std.proofs.Common.{◌≡◌, ℕ, ◌<◌, List, [], ◌∷◌, length, Option, Some, None, refl, sym, subst, ap, ◌∙◌}
-use Rattle.std.specs.Bool.{⊤}
-use Rattle.std.specs.Prelude.{◌↔◌, slice_get}
+use Rattle.std.proofs.Common.{◌≡◌, ℕ, List, [], ◌∷◌, Option, Some, None, refl, sym, subst, ap, ◌∙◌}
+use Rattle.std.specs.Prelude.{slice_get}
 use Rattle.std.specs.List.{AllByRecursion}
 use Rattle.key_names.specs.declared.entries.PoolEntry.{PoolEntry}
 use Rattle.key_names.specs.declared.entries.PoolEntry.TheVariants.{Mix}
@@ -33,8 +32,8 @@ use Rattle.list_replay.specs.declared.told.ToldPool.TheVariants.{Is as pool_is, 
 use Rattle.list_replay.specs.declared.told.ToldCpu.{ToldCpu}
 use Rattle.list_replay.specs.Fills.{pool_entry}
 use Rattle.list_replay.specs.Tables.{Tables}
-use Rattle.told_entries.specs.Filled.{CallFills, CallsFill, VreadFills, ActFills}
-use Rattle.told_entries.specs.Rows.{lane_sign, step_sign, first_shown, IsPoolRow, PoolRowAt, RowAt, cpu_row, AllRows}
+use Rattle.told_entries.specs.Filled.{CallFills, CallsFill, ActFills}
+use Rattle.told_entries.specs.Rows.{lane_sign, step_sign, first_shown, IsPoolRow, RowAt, cpu_row, AllRows}
 use Rattle.told_entries.proofs.MarkedSteps.{StepHas}
 use Rattle.told_entries.specs.Rows.{RowStands, LineRows, ActRows, CallRows, CallsRows, part_telling}
 

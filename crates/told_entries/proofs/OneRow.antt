@@ -1,5 +1,5 @@
 -- A row put at the place of a mark, in the table of its lane.
-use Rattle.std.proofs.Common.{◌≡◌, ◌≢◌, ℕ, zero, suc, ◌<◌, ◌≤◌, Bool, true, false, List, [], ◌∷◌, length, Some, refl, sym, subst, ap, ◌∙◌, arith, map}
+use Rattle.std.proofs.Common.{◌≡◌, ◌≢◌, ℕ, zero, suc, ◌<◌, ◌≤◌, Bool, true, false, List, [], ◌∷◌, length, Some, refl, sym, subst, ap, ◌∙◌, arith}
 use Rattle.std.specs.Prelude.{slice_get, ◌==◌, ◌&&◌}
 use Rattle.std.proofs.lemmas.Bool.{eq-eqb, eqb-true}
 use Rattle.key_names.specs.declared.names.LaneId.{LaneId}
@@ -10,7 +10,6 @@ use Rattle.key_names.specs.Book.{list_at}
 use Rattle.key_names.specs.IsTranscript.{is_same_lane}
 use Rattle.key_names.proofs.LaneCounts.{same_lane}
 use Rattle.line_forms.specs.Told.{pool_told, base_told}
-use Rattle.line_forms.specs.declared.told.BaseTold.{BaseTold}
 use Rattle.list_replay.specs.declared.told.ToldPool.{ToldPool}
 use Rattle.list_replay.specs.declared.told.ToldCpu.{ToldCpu}
 use Rattle.list_replay.specs.Tables.{Tables}

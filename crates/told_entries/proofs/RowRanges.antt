@@ -1,12 +1,12 @@
 -- What lines tell is in the ranges that tables keep: moments are those of the script, and integers have its widths.
-use Rattle.std.proofs.Common.{◌≡◌, ℕ, zero, suc, ◌+◌, ◌<◌, ◌≤◌, ◌^◌, Bool, true, false, List, [], ◌∷◌, ◌++◌, length, Option, Some, None, inl, inr, refl, sym, subst, ap, ◌∙◌, arith}
+use Rattle.std.proofs.Common.{◌≡◌, ℕ, zero, suc, ◌<◌, ◌^◌, Bool, true, false, List, [], ◌∷◌, length, Option, Some, None, inl, inr, refl, sym, subst, arith}
 use Rattle.std.specs.Bool.{⊤}
 use Rattle.std.specs.Prelude.{slice_get, if◌then◌else◌, ◌==◌}
 use Rattle.std.specs.List.{AllByRecursion, fold}
 use Rattle.key_names.specs.declared.entries.PoolEntry.{PoolEntry}
 use Rattle.key_names.specs.declared.entries.PoolEntry.TheVariants.{Mix, Extract, Input, Bits as BitsEntry}
 use Rattle.key_names.specs.declared.events.Event.{Event}
-use Rattle.key_names.specs.declared.events.Event.TheVariants.{At, On, Hw, Device, Write, Add, Credit, Bits, Irq, Input as InputEvent, Read, Vread, Kread, Dread, Uread, Int8, Int16, Int32, Int64, Reseed, Tick, Drop, Fork, Inside, Prepare, Online, Vmfork, State}
+use Rattle.key_names.specs.declared.events.Event.TheVariants.{At, On, Hw, Input as InputEvent, Int8, Int16, Int32, Int64, Fork}
 use Rattle.key_names.specs.declared.events.InsideAct.{InsideAct}
 use Rattle.key_names.specs.declared.events.InsideAct.TheVariants.{Wipe as WipeAct, Vread as VreadAct, Reseed as ReseedAct}
 use Rattle.key_names.specs.declared.names.LaneId.{LaneId}
@@ -18,12 +18,12 @@ use Rattle.key_names.specs.declared.notes.PoolNote.TheVariants.{Mix as MixNote, 
 use Rattle.key_names.specs.declared.notes.PoolNote.TheVariants.{Bits as BitsNote, Extract as ExtractNote}
 use Rattle.key_names.specs.Book.{list_at}
 use Rattle.key_names.specs.Calls.{Setting, Call, alone, vread_call, unbound, ending, BoundAct, setting_after, setting_after_call}
-use Rattle.key_names.specs.Calls.{first_setting, setting_of, ForkPoint, with_call_before, fork_point, Parent, parent_here, parent_from, inherited_setting, first_settings, calls_from, all_calls}
+use Rattle.key_names.specs.Calls.{setting_of, ForkPoint, with_call_before, fork_point, Parent, parent_here, parent_from, inherited_setting, first_settings, calls_from, all_calls}
 use Rattle.key_names.specs.IsTranscript.{start_setting}
 use Rattle.key_names.specs.PoolNotes.{entry_of}
 use Rattle.key_names.specs.ScriptGrammar.{InRange as EventInRange}
 use Rattle.key_names.specs.SeenLine.{SeenLine}
-use Rattle.key_names.proofs.CallLists.{OfCalls, EachStep, of_calls, act_of}
+use Rattle.key_names.proofs.CallLists.{OfCalls, of_calls}
 use Rattle.key_names.proofs.Each.{each_append, each_weaker}
 use Rattle.key_names.proofs.UniqueMarks.{one_entry}
 use Rattle.key_names.proofs.UniqueMeanings.{OfCall}
@@ -34,7 +34,7 @@ use Rattle.line_forms.specs.declared.told.PoolTold.TheVariants.{Own as own, Extr
 use Rattle.line_forms.specs.declared.told.Sign.{Sign}
 use Rattle.line_forms.specs.declared.told.Sign.TheVariants.{Saw as saw, InPool as in_pool, InBase as in_base}
 use Rattle.line_forms.specs.declared.told.Sign.TheVariants.{InCpu as in_cpu, Nowhere as nowhere}
-use Rattle.line_forms.specs.Told.{Telling, reads, ints, mixes, credits, samples, reseeds, ticks, forks, prepares, vmforks, ends, silent}
+use Rattle.line_forms.specs.Told.{Telling, reads, ints, credits, samples, reseeds, ticks, forks, prepares, vmforks, ends, silent}
 use Rattle.line_forms.specs.Told.{telling, act_telling, own_entry, pool_told, base_told, cpu_told, read_told, drawn_or_woken, crossed_told, forked_told}
 use Rattle.line_forms.specs.Told.{cpu_read_told, cpu_int_told, int_told, sample_told, look_in}
 use Rattle.key_names.specs.declared.entries.Taken.{Taken}

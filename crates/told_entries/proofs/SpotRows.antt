@@ -1,18 +1,14 @@
 -- The spots of all lines: each place is told of at most once, and spots whose rows stand are lines whose rows stand.
-use Rattle.std.proofs.Common.{◌≡◌, ℕ, zero, suc, ◌+◌, ◌<◌, ◌≤◌, Bool, true, false, cond, List, [], ◌∷◌, ◌++◌, length, refl, sym, subst, ap, ◌∙◌, arith, map, Some, None, Option}
-use Rattle.std.specs.Bool.{⊤}
+use Rattle.std.proofs.Common.{◌≡◌, ℕ, zero, suc, ◌<◌, ◌≤◌, Bool, true, false, List, [], ◌∷◌, length, refl, subst, arith, Some}
 use Rattle.std.specs.Prelude.{slice_get, ◌==◌, ◌&&◌, if◌then◌else◌}
 use Rattle.std.specs.List.{AllByRecursion}
-use Rattle.std.specs.Global.{Vec}
 use Rattle.key_names.specs.declared.names.LaneId.{LaneId}
 use Rattle.key_names.specs.declared.names.LaneId.TheVariants.{Pool as PoolLane, Base as BaseLane, Cpu as CpuLane}
 use Rattle.key_names.specs.declared.names.Step.{Step}
 use Rattle.key_names.specs.declared.names.Step.TheVariants.{Look, Visit as Marked}
-use Rattle.key_names.specs.declared.events.Event.{Event}
 use Rattle.key_names.specs.Book.{list_at}
-use Rattle.key_names.specs.Calls.{Setting as CallSetting, Call, alone, vread_call, unbound, ending, BoundAct, setting_after_call, all_calls}
-use Rattle.key_names.specs.IsTranscript.{is_same_lane, start_setting}
-use Rattle.key_names.specs.SeenLine.{SeenLine}
+use Rattle.key_names.specs.Calls.{Setting as CallSetting, Call, alone, vread_call, unbound, ending, BoundAct, setting_after_call}
+use Rattle.key_names.specs.IsTranscript.{is_same_lane}
 use Rattle.key_names.proofs.CallTakes.{acts_marks, call_marks, calls_marks, all_calls_marks}
 use Rattle.key_names.proofs.Each.{each_append, each_parts}
 use Rattle.key_names.proofs.TakenMarks.{mark_takes, lane_takes}
@@ -24,7 +20,7 @@ use Rattle.line_forms.specs.Told.{Telling, silent, ends, telling, act_telling}
 use Rattle.line_orders.specs.Settings.{settings_from}
 use Rattle.list_replay.specs.Tables.{Tables}
 use Rattle.told_entries.specs.Rows.{first_shown, step_sign, RowAt, AllRows, RowStands, LineRows, ActRows, CallRows, CallsRows, part_telling}
-use Rattle.told_entries.specs.Spots.{Spot, spots_from, line_spots, acts_spots, call_spots, calls_spots, callers_spots, is_visit}
+use Rattle.told_entries.specs.Spots.{Spot, spots_from, line_spots, acts_spots, call_spots, calls_spots, callers_spots}
 use Rattle.told_entries.proofs.MarkedSteps.{StepHas, LineHas}
 use Rattle.told_entries.proofs.TableChanges.{hit, spots_takes, takes_append, SpotStands}
 

@@ -1,18 +1,14 @@
 -- Rows put into tables, one behind the other: where each place is told of once, its row is what is told there.
-use Rattle.std.proofs.Common.{◌≡◌, ◌≢◌, ℕ, suc, ◌+◌, ◌<◌, ◌≤◌, Bool, true, false, cond, List, [], ◌∷◌, ◌++◌, length, Option, Some, None, refl, sym, subst, ap, ◌∙◌, arith}
-use Rattle.std.specs.Bool.{⊤}
+use Rattle.std.proofs.Common.{◌≡◌, ℕ, ◌+◌, ◌<◌, ◌≤◌, Bool, true, false, cond, List, [], ◌∷◌, ◌++◌, length, Option, Some, None, refl, sym, subst, ap, ◌∙◌, arith}
 use Rattle.std.specs.Prelude.{MatchOption, ◌==◌, ◌&&◌, if◌then◌else◌}
 use Rattle.std.specs.List.{AllByRecursion}
 use Rattle.std.proofs.lemmas.Bool.{eq-eqb}
 use Rattle.key_names.specs.declared.names.LaneId.{LaneId}
 use Rattle.key_names.specs.declared.names.LaneId.TheVariants.{Pool as PoolLane, Base as BaseLane, Cpu as CpuLane}
-use Rattle.key_names.specs.declared.names.Mark.{Mark}
 use Rattle.key_names.specs.declared.names.Step.{Step}
 use Rattle.key_names.specs.declared.names.Step.TheVariants.{Look, Visit as Marked}
-use Rattle.key_names.specs.Book.{list_at}
 use Rattle.key_names.specs.IsTranscript.{is_same_lane}
 use Rattle.list_replay.specs.Tables.{Tables}
-use Rattle.told_entries.specs.Rows.{RowAt}
 use Rattle.told_entries.specs.Spots.{Spot, rows_in, SameRow, is_visit, or_else, last_at, SpotRow, Changes}
 use Rattle.told_entries.proofs.LanePlaces.{same_itself}
 use Rattle.told_entries.proofs.MarkedSteps.{StepHas}

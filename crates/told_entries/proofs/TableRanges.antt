@@ -1,5 +1,5 @@
 -- Tables with a row for each mark, which is what its line tells, are in range.
-use Rattle.std.proofs.Common.{◌≡◌, ℕ, zero, suc, ◌+◌, ◌*◌, ◌<◌, ◌≤◌, ◌^◌, List, [], ◌∷◌, ◌++◌, length, Option, Some, None, refl, sym, subst, ap, ◌∙◌, arith, map, Bool, true, false}
+use Rattle.std.proofs.Common.{◌≡◌, ℕ, suc, ◌+◌, ◌*◌, ◌<◌, ◌≤◌, ◌^◌, List, [], ◌∷◌, length, Some, refl, subst, arith, map, Bool, true, false}
 use Rattle.std.specs.Prelude.{slice_get, All, if◌then◌else◌, nat_lt}
 use Rattle.std.specs.List.{AllByRecursion, flat_map, sum_by}
 use Rattle.std.specs.Global.{Vec}
@@ -19,20 +19,18 @@ use Rattle.key_names.specs.SeenLine.{SeenLine}
 use Rattle.key_names.specs.IsTranscript.{LinesFit, EachCaller, MarkBy, marks_from, line_marks, all_marks, lane_marks, is_same_lane, script_calls}
 use Rattle.key_names.proofs.LaneCounts.{every_place}
 use Rattle.key_names.proofs.UniqueMeanings.{OfCall}
-use Rattle.line_forms.specs.declared.told.BaseTold.{BaseTold}
 use Rattle.line_orders.specs.declared.begin.Parts.{Parts}
 use Rattle.line_orders.specs.declared.called.ActLine.{ActLine}
 use Rattle.line_orders.specs.declared.called.Called.{Called}
 use Rattle.line_orders.specs.declared.called.Called.TheVariants.{Alone, Vread, Unbound, Ending}
 use Rattle.line_orders.specs.Begun.{PartsStand}
 use Rattle.line_orders.specs.Called.{seen_act, seen_call, seen_calls}
-use Rattle.list_replay.specs.declared.told.ToldPool.{ToldPool}
 use Rattle.list_replay.specs.declared.told.ToldCpu.{ToldCpu}
 use Rattle.list_replay.specs.Tables.{Tables, InRange, PoolIsNear, BaseIsNear, CpuIsWide}
 use Rattle.told_entries.specs.Rows.{AllCallsRows}
 use Rattle.told_entries.specs.Spots.{rows_in, HasRows}
 use Rattle.told_entries.proofs.MarkedSteps.{LineHas, all_of_lines, to_all_lines}
-use Rattle.told_entries.proofs.RowRanges.{NearAt, CallIsNear, all_calls_near, all_rows_near}
+use Rattle.told_entries.proofs.RowRanges.{NearAt, all_calls_near, all_rows_near}
 
 -- ---- how many marks there are
 

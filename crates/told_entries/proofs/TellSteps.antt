@@ -1,10 +1,10 @@
 -- What is told up to some place of a list, and then of the rest: the steps of the loops that put rows.
-use Rattle.std.proofs.Common.{◌≡◌, ℕ, suc, ◌+◌, ◌<◌, ◌≤◌, List, [], ◌∷◌, ◌++◌, length, drop, get_or, map, min, refl, sym, subst, ap, ◌∙◌, arith, ◌⊎◌, inl, inr}
+use Rattle.std.proofs.Common.{◌≡◌, ℕ, ◌+◌, ◌<◌, ◌≤◌, List, [], ◌∷◌, ◌++◌, length, drop, get_or, map, min, refl, sym, subst, ◌∙◌, arith, ◌⊎◌, inl, inr}
 use Rattle.std.proofs.Math.Nat.{min-eq_left, min-eq_right}
 use Rattle.std.specs.Global.{Vec}
 use Rattle.std.proofs.lemmas.List.{at_drop_all, drop_more}
 use Rattle.key_names.specs.declared.names.Step.{Step}
-use Rattle.key_names.specs.Calls.{Setting as CallSetting, Call, BoundAct}
+use Rattle.key_names.specs.Calls.{Setting as CallSetting, Call}
 use Rattle.key_names.proofs.TranscriptBooks.{lt_or_le}
 use Rattle.line_forms.specs.declared.told.Around.{Around}
 use Rattle.line_forms.specs.declared.told.Sign.{Sign}

@@ -1,4 +1,5 @@
-//! A row for each mark of a transcript.
+//! A row for each mark of a transcript: bare tables are made with a row for each, and then each line, call by call, puts
+//! what it tells of its visits at their places.
 ghost use Rattle.std.specs.Prelude.{◌≡◌, ◌≢◌, ◌<◌, ℕ, ⊤, Some, List, [], ◌∷◌, length, drop, map, slice_get, Any, IfOk, IfSome, MatchBool, MatchOption};
 ghost use Rattle.key_names.specs.declared.entries.Taken.TheVariants.{User};
 ghost use Rattle.key_names.specs.Book.{Book, list_at};
@@ -33,7 +34,8 @@ use std::alloc::{AllocError, Global};
 // The bytes that a `vread` takes for a key.
 const KEY_BYTES: u32 = 32;
 
-/// What a line tells by: an event by itself, an act inside a `vread`, a `vread` of so many bytes, or nothing.
+/// What a line tells by: an event by itself, an act inside a `vread`, or a `vread` of so many bytes. A caller's end and an
+/// act that no `vread` follows tell nothing.
 #[derive(Clone, Copy)]
 pub(crate) enum Teller<'a> {
     Event(&'a Event),

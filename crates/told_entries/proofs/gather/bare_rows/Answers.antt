@@ -1,4 +1,4 @@
-use Rattle.std.proofs.Common.{◌≡◌, sym, ◌∙◌}
+use Rattle.std.proofs.Common.{sym, ◌∙◌}
 use Rattle.list_replay.proofs.Lanes.{items_count}
 use Rattle.list_replay.specs.Tables.{tables_of}
 use Rattle.told_entries.proofs.BareRows.{rows_and_left}

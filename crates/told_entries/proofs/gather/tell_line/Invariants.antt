@@ -1,6 +1,5 @@
 use Rattle.std.proofs.Common.{drop}
 use Rattle.list_replay.specs.Tables.{Tables, tables_of}
-use Rattle.told_entries.specs.Rows.{first_shown}
 use Rattle.told_entries.specs.Spots.{tells_by, spots_from, line_spots, Changes}
 use Rattle.told_entries.proofs.gather.tell_line.Given as goal
 
