@@ -100,7 +100,7 @@ static long take_locked(struct draws *draws, struct request wish, const unsigned
         }
         ask_front(wish.length);
         if (draws->is_full)
-            _exit(STATUS_OWN); // the front says why
+            return OVER;
     }
 }
 

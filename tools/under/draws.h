@@ -8,7 +8,7 @@
 #include <stdint.h>
 #include <sys/types.h>
 
-enum { PLACES = 65536, SHORT = 32, LONGS = 4 << 20, MOST = 1 << 20, STATUS_OWN = 125 };
+enum { PLACES = 65536, SHORT = 32, LONGS = 4 << 20, MOST = 1 << 20, STATUS_OWN = 125, OVER = -100000 };
 enum word { READ, DREAD, UREAD }; // the words of scripts
 
 struct request {
@@ -45,7 +45,7 @@ struct draws {
 struct draws *draws_map(void);
 
 // Takes the lock, and makes the draw of a request. Returns the number of bytes, which stand at *data, or the negative
-// of an errno; draws_release has to follow once they were copied.
+// of an errno; draws_release has to follow once they were copied. OVER: no more is served, and the front says why.
 long draws_take(struct draws *draws, struct request wish, const unsigned char **data);
 void draws_release(struct draws *draws);
 

@@ -54,6 +54,8 @@ static long draw(enum word word, void *to, size_t asked, unsigned flags) {
     if (got > 0)
         memcpy(to, data, (size_t)got);
     draws_release(draws);
+    if (got == OVER)
+        _exit(STATUS_OWN);
     pthread_sigmask(SIG_SETMASK, &before, NULL);
     pthread_setcancelstate(cancel, &cancel);
     errno = got < 0 ? (int)-got : is_errno;
