@@ -63,7 +63,7 @@ static int refusal(const struct draws *draws, const struct request *wish) {
         return EINVAL;
     if (draws->is_ready || wish->word == UREAD || (wish->word == READ && flags & GRND_INSECURE))
         return 0;
-    return flags & GRND_NONBLOCK ? EAGAIN : EINTR;
+    return (flags & GRND_NONBLOCK) ? EAGAIN : EINTR;
 }
 
 static int is_known(const struct draws *draws, uint32_t length) {

@@ -184,7 +184,7 @@ class Draws:
             self.know_long(length)
 
     def stop(self, why):
-        if len(self.requests) >= self.most:
+        if len(self.requests) >= self.most < EVENTS:
             why = f"ended behind {self.most} requests"
         self.why = self.why or why
         self.put(limit=0, is_full=1)

@@ -94,24 +94,15 @@ uint32_t arc4random(void) {
     return word;
 }
 
-// Takes as many bits as the bound has, from the low end on, and what is left of a word before the next one.
+// By whole words, each cut to as many bits as the bound has. C libraries do so in different ways.
 uint32_t arc4random_uniform(uint32_t bound) {
     if (bound <= 1)
         return 0;
-    if (!(bound & (bound - 1)))
-        return arc4random() & (bound - 1);
-    int unused = __builtin_clz(bound), bits = 32 - unused;
-    uint32_t mask = UINT32_MAX >> unused;
-    for (;;) {
-        uint32_t word = arc4random();
-        if ((word & mask) < bound)
-            return word & mask;
-        for (int left = unused; left >= bits; left -= bits) {
-            word >>= bits;
-            if ((word & mask) < bound)
-                return word & mask;
-        }
-    }
+    uint32_t mask = UINT32_MAX >> __builtin_clz(bound - 1), word;
+    do
+        word = arc4random() & mask;
+    while (word >= bound);
+    return word;
 }
 
 long syscall(long number, ...) {
@@ -175,7 +166,7 @@ ssize_t readv(int file, const struct iovec *pieces, int count) {
     for (int at = 0; at < count; at++)
         length += pieces[at].iov_len;
     length = length > MOST ? MOST : length;
-    char *whole = malloc(length ? length : 1);
+    char *whole = malloc(MOST);
     if (!whole)
         return -1;
     ssize_t got = draw_file(word, file, whole, length);
@@ -228,7 +219,7 @@ static FILE *stream_over(int file, const char *mode) {
     stream->file = file;
     FILE *opened = fopencookie(stream, mode, calls);
     if (opened)
-        setvbuf(opened, stream->buffer, _IOFBF, sizeof stream->buffer);
+        (void)setvbuf(opened, stream->buffer, _IOFBF, sizeof stream->buffer);
     else
         free(stream);
     return opened;

@@ -257,22 +257,19 @@ int main(int count, char **words) {
     int ends[2], status;
     if (count < 2 || !draws || socketpair(AF_UNIX, SOCK_STREAM | SOCK_CLOEXEC, 0, ends))
         draws_fail("the supervisor is started by rng-under");
-    prctl(PR_SET_CHILD_SUBREAPER, 1, 0, 0, 0);
     program = fork();
     if (program == 0)
         run_program(ends[1], words + 1);
     close(ends[1]);
     int listener = program < 0 ? -1 : receive(ends[0]);
     if (listener >= 0) {
-        signal(SIGINT, SIG_IGN);
-        signal(SIGQUIT, SIG_IGN);
-        signal(SIGTERM, pass_on);
-        signal(SIGHUP, pass_on);
+        (void)signal(SIGINT, SIG_IGN);
+        (void)signal(SIGQUIT, SIG_IGN);
+        (void)signal(SIGTERM, pass_on);
+        (void)signal(SIGHUP, pass_on);
         supervise(draws, listener);
     }
     if (program < 0 || waitpid(program, &status, 0) != program)
         draws_fail("the program could not be started");
-    while (wait(NULL) > 0)
-        continue;
     return WIFEXITED(status) ? WEXITSTATUS(status) : 128 + WTERMSIG(status);
 }

@@ -117,10 +117,10 @@ static void forks(void) {
     for (int at = 0; at < CHILDREN; at++) {
         fflush(stdout);
         pid_t child = fork();
-        if (!child)
+        if (!child) {
             show("child", getrandom(bytes, sizeof bytes, 0), bytes);
-        if (!child)
             exit(0);
+        }
         if (waitpid(child, NULL, 0) != child)
             exit(1);
         show("parent", getrandom(bytes, sizeof bytes, 0), bytes);
