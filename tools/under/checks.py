@@ -94,9 +94,11 @@ def problem_of_record(path):
 
 
 def drawn(path):
-    """Of each request of a record its answer and its bytes."""
-    lines = [line.split(" ") for line in record_of(path)[1].split("\n")]
-    return [(it[2], it[4]) for it in lines if len(it) == 5 and it[1] in ("read", "dread", "uread")]
+    """Of each request of a record its answer and its bytes, but for the eight bytes that malloc asks for itself."""
+    script, transcript = record_of(path)
+    pairs = zip(script.split("\n")[3:], [line.split(" ") for line in transcript.split("\n")[1:]])
+    return [(its[2], its[4]) for event, its in pairs
+            if event.split(" ")[0] in ("read", "dread", "uread") and event != "read 8 1"]
 
 
 # ---- Checks ------------------------------------------------------------------------------------------------------
@@ -253,7 +255,8 @@ def check_wrong_bytes():
     """A program that tells other bytes when it is asked ahead is found out, by the record."""
     fake = os.path.join(ROOM, "fake")
     with open(fake, "w") as file:
-        file.write(f"""#!/bin/sh\n'{RNG}' "$@" | sed 's/^\\(0[.][0-9]* uread .*\\)[0-9a-f]$/\\1x/; s/0x$/01/; s/x$/0/'\n""")
+        line = r"s/^\(0[.][0-9]* uread ok [^ ]* \)"
+        file.write(f"""#!/bin/sh\n'{RNG}' "$@" | sed '{line}[0-7]/\\18/; t; {line}[89a-f]/\\10/'\n""")
     os.chmod(fake, 0o755)
     status, _, err = under(CALLER, "forks", env=dict(os.environ, RNG=fake))
     is_well = status == 125 and "not what was served" in err

@@ -19,9 +19,10 @@
 enum { THREADS = 8, EACH = 100, CHILDREN = 4 };
 
 static void show(const char *what, long got, const void *bytes) {
+    int fault = errno;
     printf("%s %ld", what, got);
     if (got < 0)
-        printf(" %s", strerrorname_np(errno));
+        printf(" %s", strerrorname_np(fault));
     for (long at = 0; at < got; at++)
         printf("%s%02x", at ? "" : " ", ((const unsigned char *)bytes)[at]);
     putchar('\n');
