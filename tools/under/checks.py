@@ -263,6 +263,17 @@ def check_wrong_bytes():
     tell("wrong bytes are found out", "" if is_well else f"status {status}, {err}")
 
 
+def check_page():
+    """The commands of docs/CALLERS.md write what stands below them there."""
+    with open(os.path.join(TOP, "docs/CALLERS.md")) as file:
+        blocks = [it.split("\n```")[0] for it in file.read().split("```text\n")[1:]]
+    for block in blocks:
+        for its in ("\n" + block).split("\n$ ")[1:]:
+            command, _, wanted = its.partition("\n")
+            ran = run(["sh", "-c", command.replace("./rng ", RNG + " ")], cwd=TOP)
+            tell(f"page: {command}", "" if (ran[1] + ran[2]).strip("\n") == wanted.strip("\n") else str(ran))
+
+
 def main():
     check_sources()
     if FAILED:
@@ -280,6 +291,7 @@ def main():
     check_prologue()
     check_faulty()
     check_wrong_bytes()
+    check_page()
     if len(all_ways) > 1:
         ran = under("--supervise", CALLER, "droppable")
         tell("supervised: no memory for vgetrandom", "" if ran == (0, "not droppable\n", "") else str(ran))
