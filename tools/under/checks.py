@@ -270,7 +270,7 @@ def check_page():
     for block in blocks:
         for its in ("\n" + block).split("\n$ ")[1:]:
             command, _, wanted = its.partition("\n")
-            ran = run(["sh", "-c", command.replace("./rng ", RNG + " ")], cwd=TOP)
+            ran = run(["sh", "-c", command.replace("./rng ", RNG + " ").replace("/tmp/", ROOM + "/")], cwd=TOP)
             tell(f"page: {command}", "" if (ran[1] + ran[2]).strip("\n") == wanted.strip("\n") else str(ran))
 
 
