@@ -134,7 +134,7 @@ def check_errnos(name, words, caller):
 
 
 def check_calls(name, words, caller):
-    for way in ("files", "library", "threads", "forks"):
+    for way in ("files", "library", "threads", "forks", "mixed"):
         path, asked = os.path.join(ROOM, "record"), os.path.join(ROOM, "asked")
         first = under(*words, "--record", path, "--asked", asked, caller, way)
         second = under(*words, caller, way)
@@ -251,6 +251,28 @@ def check_growth(name, words, caller):
         tell(f"{name}: {', '.join(told)}", "" if 0 < runs <= most else f"status {status}, {runs} runs")
 
 
+def check_windows():
+    """Lengths of all kinds, while the prologue goes on: no request is lost, and none is served twice."""
+    path = os.path.join(ROOM, "record")
+    steps = [f"wait {it}" for it in (1, 2, 3, 58, 64, 1, 200, 1)]
+    acts = ["credit 128", "short 7", "credit 128", "reseed", "add 00 8", "short 3000", "at 70000", "tick"]
+    made = prologue(*[line for pair in zip(steps, acts) for line in pair])
+    for name, words in (("preloaded", []), ("static", [STATIC] if os.path.exists(STATIC) else [])):
+        ran = under("--prologue", made, "--record", path, *(words or [CALLER]), "mixed")
+        tell(f"{name}: reads of all lengths over a long prologue", problem_of_record(path) if ran[0] == 0 else str(ran[2]))
+
+
+def check_unserved():
+    """A program that the library was not loaded into is no success."""
+    if os.path.exists(STATIC):
+        status, _, err = under("--preload", STATIC, "forks")
+        tell("a static program is not left unserved", "" if status == 125 and "--supervise" in err else f"{status} {err}")
+    spaced = os.path.join(ROOM, "a b")
+    shutil.copytree(HERE, os.path.join(spaced, "tools/under"), ignore=shutil.ignore_patterns("__pycache__"))
+    ran = run([os.path.join(spaced, "tools/under/rng-under"), CALLER, "retry"], env=dict(os.environ, RNG=RNG))
+    tell("from a folder with a space in its name", "" if ran[:2] == under(CALLER, "retry")[:2] else str(ran))
+
+
 def check_wrong_bytes():
     """A program that tells other bytes when it is asked ahead is found out, by the record."""
     fake = os.path.join(ROOM, "fake")
@@ -270,7 +292,7 @@ def check_page():
     for block in blocks:
         for its in ("\n" + block).split("\n$ ")[1:]:
             command, _, wanted = its.partition("\n")
-            ran = run(["sh", "-c", command.replace("./rng ", RNG + " ").replace("/tmp/", ROOM + "/")], cwd=TOP)
+            ran = run(["sh", "-c", command.replace("/tmp/", ROOM + "/").replace("./rng ", RNG + " ")], cwd=TOP)
             tell(f"page: {command}", "" if (ran[1] + ran[2]).strip("\n") == wanted.strip("\n") else str(ran))
 
 
@@ -291,6 +313,8 @@ def main():
     check_prologue()
     check_faulty()
     check_wrong_bytes()
+    check_windows()
+    check_unserved()
     check_page()
     if len(all_ways) > 1:
         ran = under("--supervise", CALLER, "droppable")

@@ -3,6 +3,7 @@
 
 #include <errno.h>
 #include <fcntl.h>
+#include <stddef.h>
 #include <stdio.h>
 #include <stdlib.h>
 #include <string.h>
@@ -13,6 +14,8 @@
 #include <sys/sysmacros.h>
 #include <sys/un.h>
 #include <unistd.h>
+
+_Static_assert(offsetof(struct draws, list) == 4096 && sizeof(struct request) == 32, "look_ahead.py reads it so");
 
 static char socket_path[sizeof(((struct sockaddr_un *)0)->sun_path)];
 
@@ -27,7 +30,10 @@ struct draws *draws_map(void) {
         return NULL;
     void *at = mmap(NULL, sizeof(struct draws), PROT_READ | PROT_WRITE, MAP_SHARED, file, 0);
     close(file);
-    return at == MAP_FAILED ? NULL : at;
+    if (at == MAP_FAILED)
+        return NULL;
+    ((struct draws *)at)->is_loaded = 1;
+    return at;
 }
 
 void draws_fail(const char *why) {
@@ -90,8 +96,6 @@ static long take_locked(struct draws *draws, struct request wish, const unsigned
         wish.length = is_cut ? draws->cut : whole;
         if (draws->served < draws->limit && wish.length <= draws->room_left) {
             wish.error = refusal(draws, &wish);
-            if (wish.error)
-                wish.length = whole;
             if (wish.error || !wish.length || is_known(draws, wish.length)) {
                 if (is_cut && !wish.error)
                     draws->cut = 0;

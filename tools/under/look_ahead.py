@@ -25,7 +25,8 @@ FIRST_WINDOW, GROWTH, LEAST_WIDTH = 64, 4, 128
 
 # The file that draws.h describes.
 SHORT, LONGS = 32, 4 << 20
-NAMES = ("served", "limit", "is_ready", "is_full", "at", "short_count", "long_count", "long_width", "cut", "room_left")
+NAMES = ("served", "limit", "is_ready", "is_full", "at", "short_count", "long_count", "long_width", "cut", "room_left",
+         "is_loaded")
 HEAD = {name: 64 + 4 * place for place, name in enumerate(NAMES)}
 REQUEST = struct.Struct("<QIIIIIi")
 LIST_AT = 4096

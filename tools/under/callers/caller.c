@@ -153,6 +153,21 @@ static void many(long count, size_t size) {
     (void)fprintf(stderr, "%ld requests, %.4f ms each\n", count, spent / (double)count);
 }
 
+// Lengths of all kinds, in no order that could be foreseen.
+static void mixed(void) {
+    static unsigned char bytes[20000];
+    static const unsigned most[] = {1, 9, 33, 66, 300, 2000, 20, 400};
+    unsigned state = 1, sum = 0;
+    for (int at = 0; at < 400; at++) {
+        state = state * 1103515245 + 12345;
+        size_t length = (state >> 8) % most[(state >> 24) % 8];
+        ssize_t got = getrandom(bytes, at == 200 ? sizeof bytes : length, at % 3 ? 0 : 1);
+        for (ssize_t place = 0; place < got; place++)
+            sum = sum * 31 + bytes[place];
+        printf("%zd %u\n", got, sum);
+    }
+}
+
 // Memory that may be dropped is what vgetrandom wants.
 static void droppable(void) {
     void *at = mmap(NULL, 4096, PROT_READ | PROT_WRITE, MAP_ANONYMOUS | 0x08, -1, 0);
@@ -165,7 +180,8 @@ int main(int count, char **words) {
         const char *name;
         void (*run)(void);
     } ways[] = {{"errnos", errnos}, {"files", files}, {"library", library},     {"threads", threads},
-                {"forks", forks},   {"retry", retry}, {"droppable", droppable}};
+                {"forks", forks},   {"retry", retry}, {"mixed", mixed},
+                {"droppable", droppable}};
     if (count == 4 && !strcmp(way, "many")) {
         many(atol(words[2]), (size_t)atol(words[3]));
         return 0;
