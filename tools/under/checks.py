@@ -134,7 +134,7 @@ def check_errnos(name, words, caller):
 
 
 def check_calls(name, words, caller):
-    for way in ("files", "library", "threads", "forks", "mixed"):
+    for way in ("files", "library", "threads", "forks"):
         path, asked = os.path.join(ROOM, "record"), os.path.join(ROOM, "asked")
         first = under(*words, "--record", path, "--asked", asked, caller, way)
         second = under(*words, caller, way)

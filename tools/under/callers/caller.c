@@ -68,6 +68,9 @@ static void files(void) {
     FILE *stream = fopen("/dev/random", "r");
     show("fread", (long)fread(bytes, 1, 24, stream), bytes);
     fclose(stream);
+    stream = fdopen(100, "rb");
+    show("fdopen", (long)fread(bytes, 1, 40, stream), bytes);
+    fclose(stream);
     int pipe_ends[2];
     if (pipe(pipe_ends) || write(pipe_ends[1], "plain", 5) != 5)
         exit(1);
