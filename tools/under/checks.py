@@ -1,0 +1,330 @@
+"""Checks of rng-under, with programs of this folder and with those of the system. Prints a line for each, and ends
+non-zero where one fails. What this machine does not have or does not allow is skipped, and said."""
+
+import os
+import shutil
+import subprocess
+import sys
+import tempfile
+
+HERE = os.path.dirname(os.path.realpath(__file__))
+TOP = os.path.dirname(os.path.dirname(HERE))
+UNDER = os.path.join(HERE, "rng-under")
+RNG = os.environ.get("RNG", os.path.join(TOP, "rng"))
+ROOM = tempfile.mkdtemp(prefix="under-checks-")
+CALLER, STATIC, ZEROED = (os.path.join(ROOM, name) for name in ("caller", "caller_static", "zeroed"))
+FAILED = []
+
+
+def tell(name, problem=""):
+    if problem:
+        FAILED.append(name)
+    print(f"FAILED  {name}: {problem}" if problem else f"ok      {name}", flush=True)
+
+
+def skip(name, why):
+    print(f"skipped {name}: {why}", flush=True)
+
+
+def run(words, given=b"", **more):
+    ran = subprocess.run(words, input=given, stdout=subprocess.PIPE, stderr=subprocess.PIPE, timeout=120, check=False,
+                         **more)
+    return ran.returncode, ran.stdout.decode(errors="replace"), ran.stderr.decode(errors="replace")
+
+
+def under(*words, **more):
+    return run([UNDER, *words], **more)
+
+
+def prologue(*lines):
+    path = os.path.join(ROOM, "prologue")
+    with open(path, "w") as file:
+        file.write("".join(line + "\n" for line in lines))
+    return path
+
+
+def compile_one(name, source, *options):
+    compiler = os.environ.get("CC", "cc")
+    words = [compiler, "-Wall", "-Wextra", "-Werror", "-O2", "-pthread", *options, "-o", os.path.join(ROOM, name)]
+    return run([*words, *[os.path.join(HERE, it) for it in source.split()]])
+
+
+def check_sources():
+    for name, source, *options in (
+            ("shim.so", "shim.c draws.c", "-fPIC", "-shared", "-ldl"), ("supervisor", "supervisor.c draws.c"),
+            ("caller", "callers/caller.c"), ("zeroed", "callers/zeroed.c")):
+        status, out, err = compile_one(name, source, *options)
+        tell(f"{source} compiles without a warning", out + err if status else "")
+
+
+def ways():
+    """The ways to serve that this machine allows: a name, the words of rng-under, and the caller."""
+    found = [("preloaded", [], CALLER)]
+    status, _, err = under("--supervise", CALLER, "errnos")
+    if status == 125 and ("takes no filter" in err or "lets nobody write" in err):
+        skip("supervised", err.strip())
+        return found
+    found.append(("supervised", ["--supervise"], CALLER))
+    if compile_one("caller_static", "callers/caller.c", "-static")[0]:
+        skip("static", "no static program can be linked")
+    else:
+        found.append(("static", [], STATIC))
+    return found
+
+
+# ---- Records -----------------------------------------------------------------------------------------------------
+
+def record_of(path):
+    with open(path) as file:
+        script, _, transcript = file.read().partition("\nend\n")
+    return script + "\nend\n", transcript
+
+
+def problem_of_record(path):
+    """The record, confirmed by the program and by the second implementation."""
+    script, transcript = record_of(path)
+    status, out, err = run([RNG, "run"], script.encode())
+    if status or out != transcript:
+        return "rng run writes another transcript" + err
+    status, out, err = run([sys.executable, "-B", os.path.join(TOP, "tools/replay.py")], script.encode())
+    if out != transcript:
+        return "tools/replay.py writes another transcript" + err
+    status, out, err = run([RNG, "check"], (script + transcript).encode())
+    return "" if status == 2 or out == "yes\n" else "rng check says " + out + err
+
+
+def drawn(path):
+    """Of each request of a record its answer and its bytes, but for the eight bytes that malloc asks for itself."""
+    script, transcript = record_of(path)
+    pairs = zip(script.split("\n")[3:], [line.split(" ") for line in transcript.split("\n")[1:]])
+    return [(its[2], its[4]) for event, its in pairs
+            if event.split(" ")[0] in ("read", "dread", "uread") and event != "read 8 1"]
+
+
+# ---- Checks ------------------------------------------------------------------------------------------------------
+
+READY = ["16", "16", "16", "16", "EINVAL", "EINVAL", "16", "0", "16", "16", "16"]
+EMPTY = ["EINTR", "EAGAIN", "EINTR", "16", "EINVAL", "EINVAL", "EAGAIN", "EAGAIN", "EAGAIN", "EINTR", "16"]
+LATE = ["EINTR", "EAGAIN", "EINTR", "16", "EINVAL", "EINVAL", "16", "0", "16", "16", "16"]
+
+
+def shown(out):
+    """What the caller printed of each request: its errno or length, and its bytes."""
+    fields = [line.split(" ") for line in out.splitlines()]
+    return [(it[-1], "-") if "-1" in it else (next(f for f in it[1:] if f.isdecimal()), it[-1] if len(it[-1]) > 2 else "-")
+            for it in fields]
+
+
+def check_errnos(name, words, caller):
+    for state, wanted in (("ready", READY), ("empty", EMPTY), ("early", EMPTY), ("late", LATE)):
+        path = os.path.join(ROOM, "record")
+        # Behind a static or supervised program's own requests the late core would be ready too soon.
+        late = prologue("wait 3" if name == "preloaded" else "wait 4", "add 616263 256")
+        status, out, err = under(*words, "--prologue", late if state == "late" else state, "--record", path, caller,
+                                 "errnos")
+        got = shown(out)
+        problem = err or ("" if status == 0 else f"status {status}")
+        if not problem and [it[0] for it in got] != wanted and not (state == "late" and name != "preloaded"):
+            problem = f"the answers are {[it[0] for it in got]}"
+        served = [(answer, data) for answer, data in drawn(path)][-len(got):] if not problem else []
+        for (answer, data), (said, bytes_said) in zip(served, got):
+            if data != bytes_said or answer != ("ok" if said.isdecimal() else said):
+                problem = problem or f"printed {said} {bytes_said}, and the record has {answer} {data}"
+        tell(f"{name}: each errno and byte, {state}", problem or problem_of_record(path))
+
+
+def check_calls(name, words, caller):
+    for way in ("files", "library", "threads", "forks"):
+        path, asked = os.path.join(ROOM, "record"), os.path.join(ROOM, "asked")
+        first = under(*words, "--record", path, "--asked", asked, caller, way)
+        second = under(*words, caller, way)
+        other = under(*words, "--seed", "other", caller, way)
+        problem = "" if first[0] == 0 and not first[2] else f"status {first[0]}, {first[2]}"
+        if first != second:
+            problem = problem or "another output the second time"
+        if first[1] == other[1]:
+            problem = problem or "the same output for another seed"
+        with open(asked) as file:
+            who = {line.split(" ")[1] for line in file}
+        wanted = {"threads": {f"0.{it}" for it in range(8)}, "forks": {f"{it}.0" for it in range(5)}}.get(way, set())
+        if not wanted <= who:
+            problem = problem or f"those who asked were {sorted(who)}"
+        tell(f"{name}: {way}, twice the same", problem or problem_of_record(path))
+
+
+PROGRAMS = {
+    "mktemp": ["mktemp", "-u"],
+    "shuf": ["shuf", "-i", "1-1000"],
+    "sort": ["sort", "-R", os.path.join(HERE, "shim.c")],
+    "head": ["head", "-c", "100", "/dev/urandom"],
+    "od": ["od", "-An", "-tx1", "-N40", "/dev/random"],
+    "python3": ["python3", "-c", "import secrets, random, uuid; print(secrets.token_hex(), random.random(), "
+                "uuid.uuid4(), hash('text'), random.SystemRandom().random())"],
+    "perl": ["perl", "-e", "my %h = map { $_ => 1 } 1 .. 99; print join(' ', keys %h), ' ', rand, qq(\\n)"],
+    "bash": ["bash", "-c", "echo $SRANDOM; od -An -tu8 -N8 </dev/urandom"],
+}
+
+
+def check_programs(name, words):
+    count = 0
+    for program, its in PROGRAMS.items():
+        if not shutil.which(program):
+            skip(f"{name}: {program}", "it is not there")
+            continue
+        path = os.path.join(ROOM, "record")
+        first, second = under(*words, "--record", path, *its), under(*words, *its)
+        other = under(*words, "--seed", "other", *its)
+        problem = "" if first[0] == 0 else f"status {first[0]}, {first[2]}"
+        if first != second:
+            problem = problem or f"{first[1]!r} and then {second[1]!r}"
+        if first[1] == other[1]:
+            problem = problem or "the same output for another seed"
+        tell(f"{name}: {program}, twice the same", problem or problem_of_record(path))
+        count += 1
+    if shutil.which("ssh-keygen"):
+        keys = [os.path.join(ROOM, f"key{name}{at}") for at in range(2)]
+        ran = [under(*words, "ssh-keygen", "-q", "-t", "ed25519", "-N", "", "-C", "x", "-f", key) for key in keys]
+        texts = [open(key).read() for key in keys if os.path.exists(key)]
+        tell(f"{name}: ssh-keygen, the same key twice", "" if len(texts) == 2 and texts[0] == texts[1] else str(ran))
+
+
+def check_python():
+    """What Python makes of the errnos, and that it goes on when the core becomes ready."""
+    code = ("import os, errno\nagain = 0\n"
+            "try: os.getrandom(8, os.GRND_RANDOM | 4)\nexcept OSError as fault: print(fault.errno == errno.EINVAL)\n"
+            "while True:\n"
+            "    try: got = os.getrandom(8, os.GRND_NONBLOCK); break\n"
+            "    except BlockingIOError: again += 1\n"
+            "print(again > 0, len(got), again)\n")
+    path = os.path.join(ROOM, "record")
+    ran = under("--prologue", prologue("wait 30", "credit 256"), "--record", path, sys.executable, "-I", "-c", code)
+    is_well = ran[0] == 0 and ran[1].startswith("True\nTrue 8 ") and not ran[2]
+    tell("Python: EINVAL, EAGAIN and then bytes", problem_of_record(path) if is_well else str(ran))
+    blocked = "import os; print(len(os.getrandom(8)))"
+    ran = under("--prologue", prologue("wait 30", "credit 256"), "--record", path, sys.executable, "-I", "-c", blocked)
+    is_well = ran == (0, "8\n", "") and ("EINTR", "-") in drawn(path)
+    tell("Python: goes on behind EINTR", problem_of_record(path) if is_well else str(ran))
+
+
+def check_prologue():
+    path = os.path.join(ROOM, "record")
+    made = prologue("# cut short, and reseeded", "cpus 2", "add 616263 256", "short 5", "wait 1", "on 1", "reseed", "short 7")
+    ran = under("--prologue", made, "--record", path, "head", "-c", "16", "/dev/urandom")
+    lengths = [len(data) // 2 for _, data in drawn(path)]
+    problem = problem_of_record(path) if ran[0] == 0 and lengths[-4:-1] != [] and 5 in lengths and 7 in lengths else str(ran)
+    tell("short reads of a file, a reseed and another CPU between", problem)
+    for lines, where in ((["add 00 256", "", "nonsense"], "line 3"), (["wait"], "line 1"), (["fork 1"], "as a whole"),
+                         (["credit 07"], "line 1")):
+        status, out, err = under("--prologue", prologue(*lines), "true")
+        tell(f"a prologue is refused: {lines[-1]}", "" if (status, out) == (125, "") and where in err else err)
+    status, out, err = under("--prologue", "/nowhere", "true")
+    tell("a prologue that is not there", "" if (status, out) == (125, "") and "/nowhere" in err else err)
+
+
+def check_faulty():
+    """The worked example of docs/CALLERS.md: a caller that takes its zeros."""
+    outs = [under("--prologue", it, "--seed", seed, ZEROED)[1] for it in ("empty", "ready") for seed in "ab"]
+    is_caught = outs[0] == outs[1] == "0" * 32 + "\n" and len(set(outs)) == 3
+    tell("a caller that ignores EAGAIN is caught", "" if is_caught else str(outs))
+
+
+def check_statuses(name, words):
+    for its, wanted in ((["true"], 0), (["sh", "-c", "exit 7"], 7), (["sh", "-c", "kill -9 $$"], 137),
+                        (["/nowhere/nonesuch"], 127), ([HERE], 126)):
+        status = under(*words, *its)[0]
+        tell(f"{name}: status of {' '.join(its)[:20]}", "" if status == wanted else f"{status}")
+
+
+def check_limits(name, words, caller):
+    status, _, err = under(*words, "--prologue", "empty", "--most", "50", caller, "retry")
+    tell(f"{name}: ended behind 50 requests", "" if status == 125 and "behind 50 requests" in err else f"{status} {err}")
+    status, _, err = under(*words, caller, "many", "17", "1048576")
+    tell(f"{name}: ended where the script is full", "" if status == 125 and "is full" in err else f"{status} {err}")
+
+
+def check_growth(name, words, caller):
+    """How many runs it took is the same on each machine; what they took is only told."""
+    for count, most in ((1, 4), (100, 6), (1000, 7), (10000, 9)):
+        status, _, err = under(*words, "--stats", caller, "many", str(count), "100")
+        told = [line for line in err.splitlines() if "each" in line or "runs" in line]
+        runs = int(err.split(" runs of rng")[0].split(" ")[-1]) if status == 0 else 0
+        tell(f"{name}: {', '.join(told)}", "" if 0 < runs <= most else f"status {status}, {runs} runs")
+
+
+def check_windows():
+    """Lengths of all kinds, while the prologue goes on: no request is lost, and none is served twice."""
+    path = os.path.join(ROOM, "record")
+    steps = [f"wait {it}" for it in (1, 2, 3, 58, 64, 1, 200, 1)]
+    acts = ["credit 128", "short 7", "credit 128", "reseed", "add 00 8", "short 3000", "at 70000", "tick"]
+    made = prologue(*[line for pair in zip(steps, acts) for line in pair])
+    for name, words in (("preloaded", []), ("static", [STATIC] if os.path.exists(STATIC) else [])):
+        ran = under("--prologue", made, "--record", path, *(words or [CALLER]), "mixed")
+        tell(f"{name}: reads of all lengths over a long prologue", problem_of_record(path) if ran[0] == 0 else str(ran[2]))
+
+
+def check_unserved():
+    """A program that the library was not loaded into is no success."""
+    if os.path.exists(STATIC):
+        status, _, err = under("--preload", STATIC, "forks")
+        tell("a static program is not left unserved", "" if status == 125 and "--supervise" in err else f"{status} {err}")
+    spaced = os.path.join(ROOM, "a b")
+    shutil.copytree(HERE, os.path.join(spaced, "tools/under"), ignore=shutil.ignore_patterns("__pycache__"))
+    ran = run([os.path.join(spaced, "tools/under/rng-under"), CALLER, "retry"], env=dict(os.environ, RNG=RNG))
+    tell("from a folder with a space in its name", "" if ran[:2] == under(CALLER, "retry")[:2] else str(ran))
+
+
+def check_wrong_bytes():
+    """A program that tells other bytes when it is asked ahead is found out, by the record."""
+    fake = os.path.join(ROOM, "fake")
+    with open(fake, "w") as file:
+        line = r"s/^\(0[.][0-9]* uread ok [^ ]* \)"
+        file.write(f"""#!/bin/sh\n'{RNG}' "$@" | sed '{line}[0-7]/\\18/; t; {line}[89a-f]/\\10/'\n""")
+    os.chmod(fake, 0o755)
+    status, _, err = under(CALLER, "forks", env=dict(os.environ, RNG=fake))
+    is_well = status == 125 and "not what was served" in err
+    tell("wrong bytes are found out", "" if is_well else f"status {status}, {err}")
+
+
+def check_page():
+    """The commands of docs/CALLERS.md write what stands below them there."""
+    with open(os.path.join(TOP, "docs/CALLERS.md")) as file:
+        blocks = [it.split("\n```")[0] for it in file.read().split("```text\n")[1:]]
+    for block in blocks:
+        for its in ("\n" + block).split("\n$ ")[1:]:
+            command, _, wanted = its.partition("\n")
+            ran = run(["sh", "-c", command.replace("/tmp/", ROOM + "/").replace("./rng ", RNG + " ")], cwd=TOP)
+            tell(f"page: {command}", "" if (ran[1] + ran[2]).strip("\n") == wanted.strip("\n") else str(ran))
+
+
+def main():
+    check_sources()
+    if FAILED:
+        return 1
+    all_ways = ways()
+    for name, words, caller in all_ways:
+        check_errnos(name, words, caller)
+        check_calls(name, words, caller)
+        check_limits(name, words, caller)
+        check_growth(name, words, caller)
+    for name, words, _ in all_ways[:2]:
+        check_programs(name, words)
+        check_statuses(name, words)
+    check_python()
+    check_prologue()
+    check_faulty()
+    check_wrong_bytes()
+    check_windows()
+    check_unserved()
+    check_page()
+    if len(all_ways) > 1:
+        ran = under("--supervise", CALLER, "droppable")
+        tell("supervised: no memory for vgetrandom", "" if ran == (0, "not droppable\n", "") else str(ran))
+    print(f"programs on the core: {len(FAILED)} failed")
+    return 1 if FAILED else 0
+
+
+if __name__ == "__main__":
+    try:
+        sys.exit(main())
+    finally:
+        shutil.rmtree(ROOM, ignore_errors=True)
