@@ -8,4 +8,3 @@ pub mod BareMade
 pub mod Agreement
 pub mod RemadeLines
 pub mod OneCaller
-pub mod Replays

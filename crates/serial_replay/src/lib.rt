@@ -11,6 +11,5 @@
 #![tactic(auto)]
 
 mod looks;
-mod probe;
 pub mod remake;
 pub mod replay;

@@ -82,16 +82,14 @@ impl Carry for Looks<'_> {
 
     ghost MayFollow = { λ looks carried step. MayLook looks.reseeds carried step };
 
-    fn may_follow(&self, carried: Option<u64>, step: Step) -> bool
-    {
+    fn may_follow(&self, carried: Option<u64>, step: Step) -> bool {
         match step {
             Step::Look(found) => carried.unwrap_or(0) <= found && found <= self.reseeds,
             Step::Visit(_) => true,
         }
     }
 
-    fn after(&self, carried: Option<u64>, step: Step) -> Option<u64>
-    {
+    fn after(&self, carried: Option<u64>, step: Step) -> Option<u64> {
         match step {
             Step::Look(found) => seen_more(carried, Some(found)),
             Step::Visit(mark) => seen_more(carried, self.left_by(mark)),

@@ -1,1 +1,2 @@
+pub mod LinesAgree
 pub mod Sound

@@ -8,5 +8,3 @@
 
 pub mod check;
 mod compare;
-#[cfg(test)]
-mod tests;

@@ -48,7 +48,7 @@ returns-in_default-3 c =
     (tables_of c.in-Some.told) gathered c.in-Some-2.kept
     (λ lists fills lawful. rw c.in-Some-2.is at (c.in_ok-kept.ensures.only lists fills lawful))
     (λ lists keeps lanes means.
-        let never : false ≡ true = only c.args.script.now t lists there keeps lanes means in cc)
+    let never : false ≡ true = only c.args.script.now t lists there keeps lanes means in cc)
 
 pub all_may_follow-requires : goal.all_may_follow-requires
 all_may_follow-requires c =

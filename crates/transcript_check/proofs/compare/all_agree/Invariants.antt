@@ -1,0 +1,10 @@
+use Rattle.std.proofs.Common.{ℕ, ◌<◌}
+use Rattle.std.specs.List.{AllByRecursion}
+use Rattle.key_names.specs.Book.{list_at}
+use Rattle.serial_replay.specs.Agreement.{Agrees}
+use Rattle.serial_replay.specs.Remade.{said_lists}
+use Rattle.transcript_check.proofs.compare.all_agree.Given as goal
+
+abbrev pub invariant-loop-caller : goal.invariant-loop-caller
+invariant-loop-caller g l = (c : ℕ) → c < l.caller →
+    AllByRecursion (Agrees (g.P.Part.Same l.part) (list_at (said_lists l.said) c)) (list_at l.t c)

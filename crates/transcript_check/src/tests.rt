@@ -1,3 +1,0 @@
-use std::test::Fail;
-#[test]
-fn nothing(rt: HostRuntime) -> Result<(), Fail> { let _rt = rt; Ok(()) }
