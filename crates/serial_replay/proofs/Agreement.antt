@@ -73,7 +73,7 @@ module _ (Same : SeenLine → Said → Type 0) (Means : SeenLine → LineMeaning
       abbrev From : ℕ → List (List SeenLine) → Type 0
       From c t = (d : ℕ) → d < length t → AllByRecursion (Agrees Same (saids (c + d))) (list_at t d)
 
-      callers_both : (c : ℕ) (ess : List (List Event)) (t : List (List SeenLine)) (mss : List (List CallMeaning)) →
+      pub callers_both : (c : ℕ) (ess : List (List Event)) (t : List (List SeenLine)) (mss : List (List CallMeaning)) →
           EachCaller (λ c events lines. LinesFit c 0 events lines) c ess t → EachCaller Said_by c (all_calls ess t) mss →
           EachCaller Means_by c (all_calls ess t) mss ↔ From c t
       callers_both c [] [] [] fit says = ((λ h d low. absurd (omega arith)), (λ h. tt))
