@@ -1,6 +1,6 @@
 -- A number is shown by the line of bits alone, and bytes by other lines.
-use Rattle.std.proofs.Common.{◌≡◌, ℕ, suc, ◌+◌, ◌<◌, Bool, true, false, List, [], ◌∷◌, ◌++◌, length, refl, sym, subst, ap, ◌∙◌, arith}
-use Rattle.std.specs.Prelude.{◌≢◌, ◌↔◌, MatchBool, if◌then◌else◌}
+use Rattle.std.proofs.Common.{◌≡◌, ℕ, suc, Bool, true, false, List, [], ◌∷◌, ◌++◌, refl, sym, subst, ap, arith}
+use Rattle.std.specs.Prelude.{◌≢◌, MatchBool, if◌then◌else◌}
 use Rattle.std.specs.List.{AllByRecursion}
 use Rattle.key_names.specs.declared.events.Event.{Event}
 use Rattle.key_names.specs.declared.events.Event.TheVariants.{At, On, Hw, Device, Write, Add, Credit, Bits, Irq, Input}
@@ -11,7 +11,6 @@ use Rattle.key_names.specs.declared.events.InsideAct.{InsideAct}
 use Rattle.key_names.specs.declared.events.InsideAct.TheVariants.{Wipe as WipeAct, Vread as VreadAct, Reseed as ReseedAct}
 use Rattle.key_names.specs.declared.events.Word.{Word}
 use Rattle.key_names.specs.declared.events.Word.TheVariants.{Bits as BitsWord, Vread as VreadWord, Inside as InsideWord, End as EndWord}
-use Rattle.key_names.specs.declared.events.Answer.{Answer}
 use Rattle.key_names.specs.Answers.{shown_of, bits_read, served_bytes}
 use Rattle.key_names.specs.Book.{list_at}
 use Rattle.key_names.specs.Calls.{Setting, Call, alone, vread_call, unbound, ending, BoundAct, has_vread, calls_from, calls_of}
@@ -22,17 +21,17 @@ use Rattle.key_names.specs.Meaning.{LineMeaning, CallMeaning, ActMeans, ActsMean
 use Rattle.key_names.specs.Meaning.{tries_local, Means, VreadMeans, unused_line, current_state, CallerState}
 use Rattle.key_names.specs.BatchCopy.{serves_locally, copy_bytes}
 use Rattle.key_names.specs.ScriptGrammar.{Script, event_word}
-use Rattle.key_names.specs.SeenLine.{SeenLine, Shown, no_data, bytes, count, bytes_or_none}
+use Rattle.key_names.specs.SeenLine.{SeenLine, Shown, no_data, bytes_or_none}
 use Rattle.key_names.specs.Vgetrandom.{Ending, no_bytes, by_batch, by_system, read, failed}
-use Rattle.key_names.specs.VreadSteps.{published_by, is_reached, points_of, ending_shown, system_line_shown}
-use Rattle.key_names.specs.IsTranscript.{LinesFit, HasLines, EachCaller, EachAct, EachOfCall, EachLine, CallsMean, CallerMeans}
-use Rattle.key_names.specs.IsTranscript.{MadeBook, script_calls, start_setting}
+use Rattle.key_names.specs.VreadSteps.{published_by, is_reached, points_of, ending_shown}
+use Rattle.key_names.specs.IsTranscript.{LinesFit, EachCaller, EachAct, EachOfCall, EachLine, CallsMean, CallerMeans}
+use Rattle.key_names.specs.IsTranscript.{script_calls, start_setting}
 use Rattle.key_names.specs.Meaning.{caller_start}
 use Rattle.key_names.specs.Book.{lists_of}
 use Rattle.serial_replay.proofs.Callers.{each_caller}
 use Rattle.key_names.proofs.Each.{each_append}
 use Rattle.caller_answers.specs.declared.said.Said.{Said}
-use Rattle.caller_answers.specs.Said.{SaysIt, shown_by}
+use Rattle.caller_answers.specs.Said.{SaysIt}
 use Rattle.serial_replay.specs.declared.remake.Made.{Made}
 use Rattle.serial_replay.specs.Agreement.{Agrees, AllAgree}
 use Rattle.serial_replay.specs.Remade.{AllMade, made_by}

@@ -1,4 +1,4 @@
-use Rattle.std.proofs.Common.{◌≡◌, ℕ, ◌<◌, ◌≤◌, List, length, map, sym, subst, ap, ◌∙◌, arith}
+use Rattle.std.proofs.Common.{◌≡◌, ℕ, ◌<◌, ◌≤◌, List, length, sym, subst, ap, ◌∙◌, arith}
 use Rattle.std.specs.List.{AllByRecursion}
 use Rattle.std.proofs.lemmas.List.{length-map}
 use Rattle.key_names.specs.Book.{list_at}
@@ -8,7 +8,7 @@ use Rattle.transcript_text.specs.declared.gathered.CallerLines.{CallerLines}
 use Rattle.caller_answers.specs.declared.said.Said.{Said}
 use Rattle.serial_replay.specs.Agreement.{Agrees}
 use Rattle.serial_replay.specs.Remade.{said_lists}
-use Rattle.serial_replay.specs.Written.{said_into, MayShow}
+use Rattle.serial_replay.specs.Written.{MayShow}
 use Rattle.serial_replay.proofs.WrittenLines.{callers_end, last_lines, said_long, lines_at, said_at}
 use Rattle.serial_replay.proofs.replay.all_lines.Goals as goal
 
