@@ -1,5 +1,5 @@
 -- Answers and data stand exactly where they are those that were made.
-use Rattle.std.proofs.Common.{◌≡◌, ℕ, zero, suc, ◌+◌, ◌<◌, ◌≤◌, Option, Some, List, [], ◌∷◌, length, map, refl, sym, subst, ap, ◌∙◌, arith}
+use Rattle.std.proofs.Common.{◌≡◌, ℕ, zero, suc, ◌+◌, ◌<◌, Option, Some, List, [], ◌∷◌, length, sym, subst, ◌∙◌, arith}
 use Rattle.std.specs.Prelude.{◌↔◌, slice_get}
 use Rattle.std.specs.List.{AllByRecursion}
 use Rattle.key_names.specs.declared.events.Event.{Event}
@@ -13,7 +13,7 @@ use Rattle.key_names.specs.IsTranscript.{AnswersStand, DataStand}
 use Rattle.key_names.proofs.UniqueMeanings.{OfCall}
 use Rattle.key_names.proofs.UniqueLines.{Covers, calls_cover}
 use Rattle.caller_answers.specs.declared.said.Said.{Said}
-use Rattle.caller_answers.specs.Said.{shown_by, SaysIt}
+use Rattle.caller_answers.specs.Said.{SaysIt}
 use Rattle.serial_replay.specs.Agreement.{Agrees, AllAgree, SameAnswer, SameShown}
 
 some_one : (o : Option Said) (a b : Said) → o ≡ Some a → o ≡ Some b → a ≡ b
@@ -73,7 +73,7 @@ module _ (Same : SeenLine → Said → Type 0) (Means : SeenLine → LineMeaning
       abbrev From : ℕ → List (List SeenLine) → Type 0
       From c t = (d : ℕ) → d < length t → AllByRecursion (Agrees Same (saids (c + d))) (list_at t d)
 
-      callers_both : (c : ℕ) (ess : List (List Event)) (t : List (List SeenLine)) (mss : List (List CallMeaning)) →
+      pub callers_both : (c : ℕ) (ess : List (List Event)) (t : List (List SeenLine)) (mss : List (List CallMeaning)) →
           EachCaller (λ c events lines. LinesFit c 0 events lines) c ess t → EachCaller Said_by c (all_calls ess t) mss →
           EachCaller Means_by c (all_calls ess t) mss ↔ From c t
       callers_both c [] [] [] fit says = ((λ h d low. absurd (omega arith)), (λ h. tt))

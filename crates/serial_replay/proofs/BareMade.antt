@@ -1,6 +1,6 @@
 -- What is made of bare lines is made of the lines themselves.
-use Rattle.std.proofs.Common.{◌≡◌, ℕ, suc, List, [], ◌∷◌, length, map, refl, sym, subst, ap, ◌∙◌}
-use Rattle.std.specs.Prelude.{◌↔◌, IsTrue, Result, Ok, Err, IfOk}
+use Rattle.std.proofs.Common.{◌≡◌, ℕ, suc, List, [], ◌∷◌, map, sym, subst, ◌∙◌}
+use Rattle.std.specs.Prelude.{Result, Ok, Err, IfOk}
 use Rattle.key_names.specs.TranscriptGrammar.{StepFits, LineFits}
 use Rattle.std.specs.List.{AllByRecursion}
 use Rattle.std.proofs.lemmas.List.{length-map}
@@ -13,8 +13,8 @@ use Rattle.key_names.specs.History.{LooksStand}
 use Rattle.key_names.specs.Meaning.{LineMeaning, CallMeaning}
 use Rattle.key_names.specs.ScriptGrammar.{Script}
 use Rattle.key_names.specs.SeenLine.{SeenLine}
-use Rattle.key_names.specs.SameSteps.{bare, SameSteps}
-use Rattle.key_names.specs.IsTranscript.{MadeBook, EachCaller, EachAct, EachOfCall, EachLine, script_calls, SeenStands}
+use Rattle.key_names.specs.SameSteps.{bare}
+use Rattle.key_names.specs.IsTranscript.{EachCaller, EachAct, EachOfCall, EachLine, script_calls, SeenStands}
 use Rattle.key_names.specs.IsTranscript.{Clause, lines_clause, marks_clause, forms_clause, answers_clause, data_clause}
 use Rattle.key_names.specs.IsTranscript.{looks_clause, FirstFails}
 use Rattle.key_names.proofs.BareLines.{bare_act, bare_call, bare_all}
@@ -25,7 +25,7 @@ use Rattle.caller_answers.specs.Said.{SaysIt}
 use Rattle.serial_replay.specs.declared.remake.Made.{Made}
 use Rattle.serial_replay.specs.declared.remake.Remade.{Remade}
 use Rattle.serial_replay.specs.declared.remake.Remade.TheVariants.{Made as MadeAll, No}
-use Rattle.serial_replay.specs.Remade.{made_by, StepsFit, IsEarly, AllMade, FailsEarly, IsRemade}
+use Rattle.serial_replay.specs.Remade.{made_by, StepsFit, IsEarly, AllMade, IsRemade}
 
 module _ (said : List Said) where
   line_says : (line : SeenLine) (m : LineMeaning) → SaysIt said (bare line) m → SaysIt said line m

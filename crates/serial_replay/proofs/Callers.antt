@@ -1,6 +1,5 @@
 -- What holds of each caller, by the callers' numbers and one caller after the other.
-use Rattle.std.proofs.Common.{◌≡◌, ℕ, zero, suc, ◌+◌, ◌<◌, ◌≤◌, List, [], ◌∷◌, ◌++◌, length, map, refl, sym, subst, ap, ◌∙◌, arith}
-use Rattle.std.specs.Prelude.{slice_get, Some}
+use Rattle.std.proofs.Common.{ℕ, zero, suc, ◌+◌, ◌<◌, List, [], ◌∷◌, length, refl, subst, arith}
 use Rattle.std.specs.List.{AllByRecursion}
 use Rattle.key_names.specs.declared.events.Event.{Event}
 use Rattle.key_names.specs.Book.{Lists, list_at}

@@ -8,3 +8,6 @@ pub mod BareMade
 pub mod Agreement
 pub mod RemadeLines
 pub mod OneCaller
+pub mod ShownKinds
+pub mod WrittenLines
+pub mod Replays

@@ -1,6 +1,6 @@
 -- Looks stand by what is kept of the lanes exactly where they stand in the lists.
-use Rattle.std.proofs.Common.{◌≡◌, ℕ, zero, suc, ◌+◌, ◌<◌, ◌≤◌, Option, Some, None, List, [], ◌∷◌, ◌++◌, length, map, max, take, refl, sym, subst, ap, ◌∙◌, arith}
-use Rattle.std.specs.Prelude.{◌↔◌, ⊤, slice_get, unwrap_or, option_map}
+use Rattle.std.proofs.Common.{◌≡◌, ℕ, zero, suc, ◌<◌, Option, Some, None, List, [], ◌∷◌, length, map, max, take, refl, sym, subst, ap, ◌∙◌, arith}
+use Rattle.std.specs.Prelude.{◌↔◌, slice_get, unwrap_or, option_map}
 use Rattle.std.specs.List.{fold, AllByRecursion}
 use Rattle.std.specs.Global.{Vec}
 use Rattle.key_names.specs.declared.names.LaneId.{LaneId}
@@ -13,7 +13,7 @@ use Rattle.key_names.specs.declared.entries.CpuEntry.{CpuEntry}
 use Rattle.key_names.specs.BaseList.{BaseState, base_after, base_step, base_start}
 use Rattle.key_names.specs.Book.{Lists, list_at, cpu_list}
 use Rattle.key_names.specs.KeyInUse.{base_used_at, cpu_used_at}
-use Rattle.key_names.specs.Deeds.{Deed, looked, at_pool, at_base, at_cpu, nothing_there, deed_or, deed_at, deed_of, deeds_of}
+use Rattle.key_names.specs.Deeds.{Deed, at_pool, at_base, at_cpu, deed_or, deed_at, deed_of, deeds_of}
 use Rattle.key_names.specs.Deeds.{pool_visit, base_visit, cpu_visit}
 use Rattle.key_names.specs.History.{seen_after, LookStands, LooksStand}
 use Rattle.key_names.specs.CallerOrders.{LooksFrom}
@@ -24,8 +24,8 @@ use Rattle.list_replay.specs.declared.kept.KeptBase.{KeptBase}
 use Rattle.list_replay.specs.declared.kept.KeptCpu.{KeptCpu}
 use Rattle.list_replay.specs.declared.kept.Lists.{Lists as KeptLists}
 use Rattle.list_replay.specs.Places.{AllKept}
-use Rattle.list_replay.specs.Kept.{Keeps, KeepsBase, KeepsCpu, KeepsBaseLane, KeepsCpuLane}
-use Rattle.serial_replay.specs.Seen.{lane_of, left_at, found_by, seen_more, seen_behind, MayLook, reseeds_in}
+use Rattle.list_replay.specs.Kept.{Keeps, KeepsBase, KeepsCpu, KeepsCpuLane}
+use Rattle.serial_replay.specs.Seen.{lane_of, left_at, seen_more, seen_behind, MayLook, reseeds_in}
 
 -- what is kept of a place, if there is a visit
 pub record KeptAt {K E : Type 0} (S : ℕ → K → E → Type 0) (kept : List K) (i : ℕ) (e : E) : Type 0 where

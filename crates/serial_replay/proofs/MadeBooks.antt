@@ -1,6 +1,6 @@
 -- The book that a transcript's steps make, out of the lists that are as told; and that there is none where there are no
 -- such lists.
-use Rattle.std.proofs.Common.{◌≡◌, ℕ, Bool, ◌+◌, ◌<◌, ◌≤◌, List, [], length, map, refl, sym, subst, ap, ◌∙◌, arith}
+use Rattle.std.proofs.Common.{◌≡◌, ℕ, Bool, List, [], map, refl, sym, subst, ap, ◌∙◌}
 use Rattle.std.specs.Prelude.{◌↔◌, IsTrue}
 use Rattle.std.specs.List.{AllByRecursion}
 use Rattle.key_names.specs.declared.names.LaneId.{LaneId}
@@ -8,19 +8,17 @@ use Rattle.key_names.specs.declared.names.LaneId.TheVariants.{Pool as PoolLane, 
 use Rattle.key_names.specs.declared.names.Step.{Step}
 use Rattle.key_names.specs.declared.entries.VEntry.{VEntry}
 use Rattle.key_names.specs.BaseList.{base_after}
-use Rattle.key_names.specs.Book.{Book, Lists, LawfulLanes, lists_of, list_at}
-use Rattle.key_names.specs.Calls.{Setting, Call}
+use Rattle.key_names.specs.Book.{Book, Lists, lists_of}
+use Rattle.key_names.specs.Calls.{Call}
 use Rattle.key_names.specs.Deeds.{Deed, deeds_of}
 use Rattle.key_names.specs.History.{LooksStand, caller_orders}
-use Rattle.key_names.specs.Meaning.{CallMeaning}
 use Rattle.key_names.specs.ScriptGrammar.{Script}
 use Rattle.key_names.specs.SeenLine.{SeenLine}
 use Rattle.key_names.specs.IsTranscript.{MadeBook, MarkBy, all_marks, lane_marks, script_calls, start_setting, state_lists}
-use Rattle.key_names.specs.IsTranscript.{EachCaller, EachLine, CallerMeans, SeenStands, VisitsAre, forms_clause}
+use Rattle.key_names.specs.IsTranscript.{CallerMeans, SeenStands, forms_clause}
 use Rattle.key_names.specs.PlacesInOrder.{InOrder}
 use Rattle.key_names.proofs.PlacesInOrder.{places_count_up}
 use Rattle.line_orders.specs.declared.begin.Parts.{Parts}
-use Rattle.line_orders.specs.declared.marks.MarkOf.{MarkOf}
 use Rattle.line_orders.specs.Begun.{PartsStand}
 use Rattle.line_orders.specs.Marks.{seen_mark}
 use Rattle.line_orders.proofs.MarksMoved.{lane_moved, same_long}
@@ -32,7 +30,6 @@ use Rattle.told_entries.specs.Filled.{AllCallsFill}
 use Rattle.told_entries.specs.Gathered.{IsBookOf, AllMean, IsGathered}
 use Rattle.told_entries.proofs.MadeIsTold.{all_told}
 use Rattle.caller_answers.specs.declared.said.Said.{Said}
-use Rattle.caller_answers.specs.Said.{SaysIt}
 use Rattle.serial_replay.specs.Remade.{FailsEarly}
 use Rattle.serial_replay.proofs.Callers.{each_caller, SaidByAll}
 use Rattle.serial_replay.proofs.LaneVisits.{Laid, book_of, lists_back, as_many_cpus, visits_are}

@@ -1,5 +1,5 @@
 -- One caller's calls and settings, by its number.
-use Rattle.std.proofs.Common.{◌≡◌, ◌⊎◌, inl, inr, ℕ, zero, suc, ◌+◌, ◌<◌, ◌≤◌, Some, List, [], ◌∷◌, ◌++◌, length, get_or, map, refl, sym, subst, ap, ◌∙◌, arith}
+use Rattle.std.proofs.Common.{◌≡◌, ℕ, zero, suc, ◌+◌, ◌<◌, Some, List, [], ◌∷◌, ◌++◌, length, get_or, map, sym, subst, ap, ◌∙◌, arith}
 use Rattle.std.specs.Prelude.{slice_get}
 use Rattle.std.specs.List.{AllByRecursion}
 use Rattle.std.specs.Global.{Vec}
@@ -14,7 +14,7 @@ use Rattle.key_names.specs.SeenLine.{SeenLine}
 use Rattle.key_names.proofs.CallerOrders.{list_front, list_last}
 use Rattle.line_orders.specs.declared.called.Called.{Called}
 use Rattle.line_orders.specs.Called.{seen_call, seen_calls}
-use Rattle.line_orders.specs.Settings.{settings_from, AreSettings}
+use Rattle.line_orders.specs.Settings.{settings_from}
 use Rattle.line_orders.proofs.SettingsFound.{list_found}
 use Rattle.caller_answers.specs.declared.said.Said.{Said}
 use Rattle.caller_answers.specs.Said.{CallInRange, IsSaid}

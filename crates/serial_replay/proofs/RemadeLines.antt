@@ -1,18 +1,16 @@
 -- What is made of lines whose parts stand.
-use Rattle.std.proofs.Common.{◌≡◌, ℕ, ◌+◌, ◌<◌, ◌≤◌, Option, Some, None, List, length, map, refl, sym, subst, ap, ◌∙◌, arith}
+use Rattle.std.proofs.Common.{◌≡◌, ℕ, ◌<◌, ◌≤◌, None, List, length, map, sym, subst, ap, ◌∙◌, arith}
 use Rattle.std.specs.Prelude.{◌↔◌, IsTrue}
 use Rattle.std.specs.List.{AllByRecursion}
 use Rattle.std.specs.Global.{Vec}
 use Rattle.std.proofs.lemmas.List.{length-map}
 use Rattle.key_names.specs.declared.names.Step.{Step}
-use Rattle.key_names.specs.BaseList.{base_after}
 use Rattle.key_names.specs.Book.{Book, Lists, LawfulLanes, lists_of, list_at}
 use Rattle.key_names.specs.Calls.{Setting, Call}
-use Rattle.key_names.specs.Deeds.{deeds_of}
-use Rattle.key_names.specs.History.{LooksStand, caller_orders, calls_steps}
+use Rattle.key_names.specs.History.{caller_orders, calls_steps}
 use Rattle.key_names.specs.ScriptGrammar.{Script, WellFormed}
 use Rattle.key_names.specs.SeenLine.{SeenLine}
-use Rattle.key_names.specs.IsTranscript.{MadeBook, script_calls, start_setting, EachCaller, EachLine}
+use Rattle.key_names.specs.IsTranscript.{script_calls, start_setting, EachCaller, EachLine}
 use Rattle.line_orders.specs.declared.begin.Parts.{Parts}
 use Rattle.line_orders.specs.declared.called.Called.{Called}
 use Rattle.line_orders.specs.declared.order.Fork.{Fork}
@@ -35,12 +33,12 @@ use Rattle.caller_answers.specs.declared.said.Said.{Said}
 use Rattle.caller_answers.specs.Said.{CallInRange, IsSaid, SaysIt}
 use Rattle.caller_answers.proofs.CallsRange.{all_in_range}
 use Rattle.serial_replay.specs.declared.remake.Made.{Made}
-use Rattle.serial_replay.specs.Remade.{StepsFit, CallersStand, MeansSome, AllMeanSome, said_lists, AllSaid, made_by, AllMade}
+use Rattle.serial_replay.specs.Remade.{StepsFit, CallersStand, MeansSome, AllMeanSome, AllSaid, made_by, AllMade}
 use Rattle.serial_replay.specs.Remade.{FailsEarly}
 use Rattle.serial_replay.specs.Seen.{seen_behind, MayLook, reseeds_in}
 use Rattle.serial_replay.proofs.Callers.{caller_means, SaidByAll, said_by_all}
 use Rattle.serial_replay.proofs.LooksStand.{looks_stand}
-use Rattle.serial_replay.proofs.MadeBooks.{stops, made_fills, made_lawful, lines_fill, OfLists, of_lists}
+use Rattle.serial_replay.proofs.MadeBooks.{stops, made_fills, made_lawful, lines_fill, of_lists}
 
 module _ (script : Script) (t : List (List SeenLine)) (parts : Parts) (stand : PartsStand script t parts)
     (well : WellFormed script) where

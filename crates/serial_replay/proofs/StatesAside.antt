@@ -16,12 +16,12 @@ use Rattle.key_names.specs.KeyInUse.{zero_key, call_value_or, cpu_value_in_use, 
 use Rattle.key_names.specs.KeyInUse.{cpu_value_at, cpu_used_at}
 use Rattle.key_names.specs.Book.{Lists, LawfulLanes, cpu_list}
 use Rattle.key_names.specs.Calls.{Setting, Call}
-use Rattle.key_names.specs.Deeds.{Deed, CpuVisit, at_cpu, deed_or, deed_at, deed_of, deeds_of, cpu_visit, cpu_serves, int_of}
+use Rattle.key_names.specs.Deeds.{Deed, at_cpu, deed_or, deed_at, deed_of, deeds_of, cpu_visit, cpu_serves, int_of}
 use Rattle.key_names.specs.IsTranscript.{CallerMeans, EachLine}
 use Rattle.key_names.specs.Meaning.{CallMeaning}
 use Rattle.list_replay.specs.Tables.{Tables}
 use Rattle.list_replay.specs.Fills.{Fills}
-use Rattle.list_replay.specs.Lawful.{Lawful, DumpsAt}
+use Rattle.list_replay.specs.Lawful.{Lawful}
 use Rattle.line_forms.specs.Told.{FillsCpu}
 
 or_same : {E : Type 0} (f g : E → Deed) → ((e : E) → f e ≡ g e) → (o : Option E) → deed_or f o ≡ deed_or g o

@@ -1,11 +1,21 @@
 //! A transcript from its steps.
-ghost use Rattle.std.specs.Prelude.{IfOk};
+ghost use Rattle.std.specs.Prelude.{◌≡◌, ◌∷◌, [], ◌++◌, length, Some, IfOk, OnOk, slice_get};
+ghost use Rattle.std.specs.List.{AllByRecursion};
 ghost use Rattle.key_names.specs.ScriptGrammar.{WellFormed};
+ghost use Rattle.key_names.specs.TranscriptGrammar.{LineFits, ShownFits};
+ghost use Rattle.key_names.specs.declared.events.Word.{Word as EventWord};
+ghost use Rattle.transcript_text.specs.Views.{seen, seen_shown};
+ghost use Rattle.caller_answers.specs.Said.{shown_by};
+ghost use Rattle.serial_replay.specs.Agreement.{Agrees, AllAgree};
+ghost use Rattle.serial_replay.specs.Remade.{said_lists};
 ghost use Rattle.serial_replay.specs.Replayed.{IsReplay};
+ghost use Rattle.serial_replay.specs.Written.{bytes_said, said_of, lines_said, said_into, IsFor, MayShow};
 
+use crate::remake::{Remade, remake};
+use caller_answers::said::{Said, Shows};
 use event_script::Script;
 use std::alloc::{AllocError, Global};
-use transcript_text::Transcript;
+use transcript_text::{CallerLines, LineView, Shown, Transcript};
 
 /// A transcript that was made anew, or the first clause that fails.
 #[derive(Drop)]
@@ -13,6 +23,127 @@ pub enum Replayed {
     Made(Transcript),
     /// The first of the clauses 2, 3, 4 and 7 that fails.
     No(u8),
+}
+
+// One more line, with this in the place of what it shows. A line keeps fewer than 2^32 bytes.
+fn push_line(lines: &mut CallerLines, line: LineView<'_>) -> Result<(), AllocError>
+    requires { LineFits (seen line) }
+    ensures { OnOk result (lines.new.lines ≡ lines.old.lines ++ seen line.entry ∷ []) }
+{
+    if line.shown.bytes().len() > u32::MAX as usize {
+        return Err(AllocError);
+    }
+    lines.reserve(line)?;
+    lines.push(line);
+    Ok(())
+}
+
+// The bytes that a line shows, in the place of those in the buffer.
+fn put_bytes(buffer: &mut Vec<u8>, said: &Said) -> Result<(), AllocError>
+    ensures { OnOk result (buffer.new.items ≡ bytes_said said.now.shows) }
+{
+    buffer.clear();
+    match &said.shows {
+        Shows::Served(served) => served.put(buffer),
+        Shows::Nothing | Shows::Count(_) => Ok(()),
+    }
+}
+
+// What a line shows, its bytes being these.
+fn shown_as<'a>(said: &Said, bytes: &'a [u8]) -> Shown<'a>
+    requires { bytes.now ≡ bytes_said said.now.shows }
+    ensures shown { seen_shown result ≡ shown_by said.now.shows }
+    ensures fits { (word : EventWord) → IsFor word (seen_shown result) → ShownFits word (seen_shown result) }
+{
+    match &said.shows {
+        Shows::Nothing => Shown::None,
+        Shows::Count(number) => Shown::Count(*number),
+        Shows::Served(_) => Shown::Bytes(bytes),
+    }
+}
+
+// The line with the answer and the data that were made.
+fn told_line<'a>(line: LineView<'a>, said: &Said, bytes: &'a [u8]) -> LineView<'a>
+    requires fits { LineFits (seen line) }
+    requires kind { MayShow (seen line) said.now }
+    requires bytes { bytes.now ≡ bytes_said said.now.shows }
+    ensures told { seen result ≡ said_of (seen line.entry) (Some said.now) }
+    ensures fits { LineFits (seen result) }
+{
+    let shown = shown_as(said, bytes);
+    LineView {
+        caller: line.caller,
+        event: line.event,
+        word: line.word,
+        answer: said.answer,
+        steps: line.steps,
+        shown,
+    }
+}
+
+// One more line, with the answer and the data that were made. The buffer is for the bytes that it shows.
+fn push_said(
+    lines: &mut CallerLines,
+    line: LineView<'_>,
+    said: &Said,
+    buffer: &mut Vec<u8>,
+) -> Result<(), AllocError>
+    requires fits { LineFits (seen line) }
+    requires kind { MayShow (seen line) said.now }
+    ensures { OnOk result (lines.new.lines ≡ lines.old.lines ++ said_of (seen line.entry) (Some said.now) ∷ []) }
+{
+    put_bytes(buffer, said)?;
+    push_line(lines, told_line(line, said, buffer))
+}
+
+// One more line, with what is said at its number.
+fn push_made(
+    lines: &mut CallerLines,
+    line: LineView<'_>,
+    said: &[Said],
+    buffer: &mut Vec<u8>,
+) -> Result<(), AllocError>
+    requires fits { LineFits (seen line) }
+    requires kind { Agrees MayShow said.now (seen line) }
+    ensures { OnOk result (lines.new.lines
+        ≡ lines.old.lines ++ said_of (seen line.entry) (slice_get said.now line.entry.event) ∷ []) }
+{
+    match said.get(line.event as usize) {
+        Some(one) => push_said(lines, line, one, buffer),
+        None => push_line(lines, line),
+    }
+}
+
+fn caller_lines(
+    alloc: Global,
+    lines: &CallerLines,
+    said: &[Said],
+) -> Result<CallerLines, AllocError>
+    requires { AllByRecursion (Agrees MayShow said.now) lines.now.lines }
+    ensures { IfOk result (λ told. told.lines ≡ lines_said said.now lines.now.lines) }
+{
+    let mut told = CallerLines::with_room(alloc, lines.len(), 0, 0)?;
+    let mut buffer = Vec::new(alloc);
+    for number in 0..lines.len() {
+        push_made(&mut told, lines.line(number), said, &mut buffer)?;
+    }
+    Ok(told)
+}
+
+fn all_lines(
+    alloc: Global,
+    steps: &Transcript,
+    said: &[Vec<Said>],
+) -> Result<Transcript, AllocError>
+    requires long { length said.now ≡ length steps.now }
+    requires kinds { AllAgree MayShow (said_lists said.now) steps.now }
+    ensures { IfOk result (λ told. told ≡ said_into (said_lists said.now) steps.now) }
+{
+    let mut callers = Vec::new(alloc);
+    for caller in 0..steps.callers() {
+        callers.push(caller_lines(alloc, steps.caller(caller), &said[caller as usize])?)?;
+    }
+    Ok(Transcript::of(callers))
 }
 
 /// The transcript that has these words and steps, its answers and data made anew. Answers and data of the argument are
@@ -25,5 +156,12 @@ pub fn replay(alloc: Global, script: &Script, steps: &Transcript) -> Result<Repl
     requires { WellFormed script.now }
     ensures { IfOk result (λ replayed. IsReplay script.now steps.now replayed) }
 {
-    Err(AllocError)
+    let made = match remake(alloc, script, steps)? {
+        Remade::No(clause) => return Ok(Replayed::No(clause)),
+        Remade::Made(made) => made,
+    };
+    if !made.looks_stand {
+        return Ok(Replayed::No(7));
+    }
+    Ok(Replayed::Made(all_lines(alloc, steps, &made.callers)?))
 }

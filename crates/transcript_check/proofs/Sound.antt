@@ -1,15 +1,13 @@
 -- What a check tells, from what was made of the lines.
-use Rattle.std.proofs.Common.{◌≡◌, ℕ, ◌≤◌, List, [], ◌∷◌, max, refl, sym, subst, ap, ◌∙◌, arith}
+use Rattle.std.proofs.Common.{◌≡◌, ℕ, ◌≤◌, List, [], ◌∷◌, max, refl, subst, ap, ◌∙◌, arith}
 use Rattle.std.specs.Prelude.{◌↔◌, IsTrue}
-use Rattle.std.specs.List.{AllByRecursion}
-use Rattle.key_names.specs.declared.names.Step.{Step}
 use Rattle.key_names.specs.BaseList.{base_after}
 use Rattle.key_names.specs.Book.{lists_of}
 use Rattle.key_names.specs.Deeds.{Deed, looked, at_pool, at_base, at_cpu, nothing_there, deeds_of}
-use Rattle.key_names.specs.History.{LooksStand, seen_after, caller_orders}
+use Rattle.key_names.specs.History.{LooksStand, caller_orders}
 use Rattle.key_names.specs.CallerOrders.{LooksFrom}
 use Rattle.key_names.specs.IsTranscript.{IsTranscript, IsTranscriptBy, MadeBook, SeenStands, FirstFails, Clause, clause_number}
-use Rattle.key_names.specs.IsTranscript.{lines_clause, marks_clause, forms_clause, answers_clause, data_clause, looks_clause}
+use Rattle.key_names.specs.IsTranscript.{answers_clause, data_clause, looks_clause}
 use Rattle.key_names.specs.IsTranscript.{AnswersStand, DataStand, script_calls}
 use Rattle.key_names.specs.ScriptGrammar.{Script, WellFormed}
 use Rattle.key_names.specs.SeenLine.{SeenLine}

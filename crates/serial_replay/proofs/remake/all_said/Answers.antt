@@ -1,13 +1,11 @@
-use Rattle.std.proofs.Common.{◌≡◌, ℕ, ◌+◌, List, length, map, sym, subst, ap, ◌∙◌, arith}
+use Rattle.std.proofs.Common.{◌≡◌, ℕ, ◌+◌, List, length, map, sym, subst, ap, ◌∙◌}
 use Rattle.std.specs.List.{AllByRecursion}
-use Rattle.std.specs.Global.{Vec}
-use Rattle.std.proofs.lemmas.List.{length_push, length-map}
+use Rattle.std.proofs.lemmas.List.{length_push}
 use Rattle.key_names.specs.Book.{list_at}
 use Rattle.key_names.specs.Calls.{Setting, Call}
 use Rattle.key_names.specs.IsTranscript.{start_setting, CallerMeans}
 use Rattle.line_orders.specs.declared.called.Called.{Called}
 use Rattle.line_orders.specs.Called.{seen_call, seen_calls}
-use Rattle.line_orders.specs.Settings.{settings_from}
 use Rattle.told_entries.specs.Filled.{CallsFill}
 use Rattle.caller_answers.specs.Said.{CallInRange, IsSaid}
 use Rattle.serial_replay.proofs.OneCaller.{here, among, range_of, calls_of, settings_are, said_more}

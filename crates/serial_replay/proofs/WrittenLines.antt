@@ -1,0 +1,99 @@
+-- Lines that are written one after the other.
+use Rattle.std.proofs.Common.{◌≡◌, ℕ, zero, suc, ◌+◌, ◌<◌, ◌≤◌, Option, Some, List, [], ◌∷◌, ◌++◌, length, get_or, drop, refl, sym, subst, ap, ◌∙◌, arith, append_assoc}
+use Rattle.std.specs.Prelude.{slice_get, slice_index_or}
+use Rattle.std.specs.List.{AllByRecursion}
+use Rattle.std.specs.Global.{Vec}
+use Rattle.std.proofs.lemmas.List.{at_drop_all, append-nil}
+use Rattle.key_names.specs.Book.{list_at}
+use Rattle.key_names.specs.SeenLine.{SeenLine}
+use Rattle.key_names.specs.TranscriptGrammar.{LastHasLines}
+use Rattle.line_orders.proofs.Fronts.{found_dropped, dropped}
+use Rattle.caller_answers.specs.declared.said.Said.{Said}
+use Rattle.serial_replay.specs.Agreement.{Agrees}
+use Rattle.serial_replay.specs.Remade.{said_lists}
+use Rattle.serial_replay.specs.Written.{said_of, lines_said, said_into, MayShow}
+
+some_one : (o : Option Said) (a b : Said) → o ≡ Some a → o ≡ Some b → a ≡ b
+some_one o a b p q = cc
+
+pub may_show : (said : List Said) (line : SeenLine) (one : Said) → Agrees MayShow said line →
+    slice_get said line.event ≡ Some one → MayShow line one
+may_show said line one a is = subst (MayShow line) (some_one (slice_get said line.event) a.one one a.is is) a.same
+
+-- one line more of a caller
+module _ (said : List Said) (lines : List SeenLine) (n : ℕ) (line : SeenLine) (is : slice_get lines n ≡ Some line) where
+  rest_is : drop n lines ≡ line ∷ drop (n + 1) lines
+  rest_is = found_dropped lines n line is
+
+  pub line_more : (told : List SeenLine) → told ++ lines_said said (drop n lines) ≡ lines_said said lines →
+      (told ++ said_of line (slice_get said line.event) ∷ []) ++ lines_said said (drop (n + 1) lines) ≡ lines_said said lines
+  line_more told so_far =
+      append_assoc told (said_of line (slice_get said line.event) ∷ []) (lines_said said (drop (n + 1) lines))
+      ∙ sym (ap (λ (xs : List SeenLine). told ++ lines_said said xs) rest_is) ∙ so_far
+
+  pub agree_more : AllByRecursion (Agrees MayShow said) (drop n lines) →
+      Agrees MayShow said line × AllByRecursion (Agrees MayShow said) (drop (n + 1) lines)
+  agree_more all = subst (λ (xs : List SeenLine). AllByRecursion (Agrees MayShow said) xs) rest_is all
+
+pub lines_end : (said : List Said) (lines told : List SeenLine) (n : ℕ) → length lines ≤ n →
+    told ++ lines_said said (drop n lines) ≡ lines_said said lines → told ≡ lines_said said lines
+lines_end said lines told n high so_far =
+    sym (append-nil told) ∙ sym (ap (λ (xs : List SeenLine). told ++ lines_said said xs) (at_drop_all (λ x. x) lines n high))
+    ∙ so_far
+
+-- one caller more
+t_dropped : (t : List (List SeenLine)) (n : ℕ) (lines : List SeenLine) → n < length t → lines ≡ slice_index_or t n [] →
+    drop n t ≡ lines ∷ drop (n + 1) t
+t_dropped [] n lines low is = absurd (omega arith)
+t_dropped (ls ∷ t) zero lines low is = ap (λ (xs : List SeenLine). xs ∷ t) (sym is)
+t_dropped (ls ∷ t) (suc n) lines low is =
+    t_dropped t n lines (omega arith) is
+    ∙ ap (λ m. lines ∷ drop m (ls ∷ t)) (let e : suc (n + 1) ≡ suc n + 1 = omega arith in e)
+
+pub caller_more : (said : List (Vec Said)) (t told : List (List SeenLine)) (n : ℕ) (v : Vec Said) (lines : List SeenLine) →
+    n < length said → v ≡ get_or said n v → n < length t → lines ≡ slice_index_or t n [] →
+    told ++ said_into (said_lists (drop n said)) (drop n t) ≡ said_into (said_lists said) t →
+    (told ++ lines_said v.items lines ∷ []) ++ said_into (said_lists (drop (n + 1) said)) (drop (n + 1) t)
+    ≡ said_into (said_lists said) t
+caller_more said t told n v lines low is low' is' so_far =
+    append_assoc told (lines_said v.items lines ∷ []) (said_into (said_lists (drop (n + 1) said)) (drop (n + 1) t))
+    ∙ sym (ap (λ (u : List (List SeenLine)). told ++ u)
+    (λ i. said_into (said_lists (dropped said n v low is i)) (t_dropped t n lines low' is' i)))
+    ∙ so_far
+
+pub callers_end : (said : List (Vec Said)) (t told : List (List SeenLine)) (n : ℕ) → length t ≤ n →
+    told ++ said_into (said_lists (drop n said)) (drop n t) ≡ said_into (said_lists said) t → told ≡ said_into (said_lists said) t
+callers_end said t told n high so_far =
+    sym (append-nil told)
+    ∙ sym (ap (λ (u : List (List SeenLine)). told ++ said_into (said_lists (drop n said)) u) (at_drop_all (λ x. x) t n high))
+    ∙ so_far
+
+-- the last caller still has a line
+many_lines : (said : List Said) (lines : List SeenLine) → 0 < length lines → 0 < length (lines_said said lines)
+many_lines said [] some = some
+many_lines said (line ∷ lines) some = omega arith
+
+pub last_lines : (saids : List (List Said)) (t : List (List SeenLine)) → LastHasLines t → LastHasLines (said_into saids t)
+last_lines saids [] last = last
+last_lines [] (lines ∷ []) last = last
+last_lines (said ∷ saids) (lines ∷ []) last = many_lines said lines last
+last_lines [] (lines ∷ next ∷ t) last = last_lines [] (next ∷ t) last
+last_lines (said ∷ []) (lines ∷ next ∷ t) last = last_lines [] (next ∷ t) last
+last_lines (said ∷ s ∷ saids) (lines ∷ next ∷ t) last = last_lines (s ∷ saids) (next ∷ t) last
+
+pub said_long : (saids : List (List Said)) (t : List (List SeenLine)) → length (said_into saids t) ≡ length t
+said_long saids [] = refl
+said_long [] (lines ∷ t) = ap suc (said_long [] t)
+said_long (said ∷ saids) (lines ∷ t) = ap suc (said_long saids t)
+
+-- what is at a caller's number
+pub lines_at : (t : List (List SeenLine)) (c : ℕ) → slice_index_or t c [] ≡ list_at t c
+lines_at [] c = refl
+lines_at (lines ∷ t) zero = refl
+lines_at (lines ∷ t) (suc c) = lines_at t c
+
+pub said_at : (said : List (Vec Said)) (c : ℕ) (v : Vec Said) → c < length said → v ≡ get_or said c v →
+    v.items ≡ list_at (said_lists said) c
+said_at [] c v low is = absurd (omega arith)
+said_at (s ∷ said) zero v low is = ap (λ (x : Vec Said). x.items) is
+said_at (s ∷ said) (suc c) v low is = said_at said c v (omega arith) is

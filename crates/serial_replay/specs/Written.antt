@@ -1,0 +1,37 @@
+-- The lines of a transcript with the answers and the data that are said.
+use Rattle.std.specs.Prelude.{ℕ, ◌≡◌, ◌≢◌, ⊤, Option, Some, None, List, [], ◌∷◌, map, slice_get}
+use Rattle.key_names.specs.declared.events.Word.{Word}
+use Rattle.key_names.specs.declared.events.Word.TheVariants.{Bits}
+use Rattle.key_names.specs.SeenLine.{SeenLine, Shown, no_data, bytes, count}
+use Rattle.caller_answers.specs.declared.said.Said.{Said}
+use Rattle.caller_answers.specs.declared.said.Shows.{Shows}
+use Rattle.caller_answers.specs.declared.said.Shows.TheVariants.{Nothing, Count, Served}
+use Rattle.caller_answers.specs.Said.{shown_by}
+use Rattle.vread_course.specs.Recipe.{bytes_made}
+
+-- the bytes that are said
+abbrev pub bytes_said : Shows → List ℕ
+bytes_said Nothing = []
+bytes_said (Count n) = []
+bytes_said (Served recipe) = bytes_made recipe
+
+abbrev pub said_of : SeenLine → Option Said → SeenLine
+said_of line None = line
+said_of line (Some s) = record line { answer = s.answer; shown = shown_by s.shows }
+
+abbrev pub lines_said : List Said → List SeenLine → List SeenLine
+lines_said said lines = map (λ line. said_of line (slice_get said line.event)) lines
+
+abbrev pub said_into : List (List Said) → List (List SeenLine) → List (List SeenLine)
+said_into saids [] = []
+said_into [] (lines ∷ t) = lines ∷ said_into [] t
+said_into (said ∷ saids) (lines ∷ t) = lines_said said lines ∷ said_into saids t
+
+-- a number is shown by the line of bits alone, and bytes by the others
+abbrev pub IsFor : Word → Shown → Type 0
+IsFor word no_data = ⊤
+IsFor word (bytes shown) = word ≢ Bits
+IsFor word (count n) = word ≡ Bits
+
+abbrev pub MayShow : SeenLine → Said → Type 0
+MayShow line one = IsFor line.word (shown_by one.shows)
