@@ -5,6 +5,7 @@ use std::marker::Model;
 /// A caller's CPU, its moment in milliseconds and its hardware words.
 ///
 /// Contracts see it as the `Setting` of the calls.
+#[derive(Drop)]
 pub struct Setting {
     cpu: u32,
     moment: u64,
@@ -31,6 +32,17 @@ impl Setting {
             cpu: 0,
             moment: 0,
             hw: [0; 32],
+        }
+    }
+
+    /// The same once more.
+    pub fn again(&self) -> Setting
+        ensures { result ≡ self.now }
+    {
+        Setting {
+            cpu: self.cpu,
+            moment: self.moment,
+            hw: self.hw,
         }
     }
 

@@ -5,3 +5,4 @@ pub mod LoadOutcome
 pub mod DrawOutcome
 pub mod Commands
 pub mod Kept
+pub mod VforkOutcome

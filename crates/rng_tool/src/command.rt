@@ -1,15 +1,19 @@
 //! What the words of a command line ask for.
 ghost use Rattle.std.specs.Prelude.{◌≡◌, ◌↔◌, ℕ, Some, IsTrue, IfSome};
+ghost use Rattle.key_names.specs.declared.point.Point.{Point};
+ghost use Rattle.vdso_state.specs.declared.place.Turn.{Turn};
 ghost use Rattle.rng_tool.specs.Commands.{Asks};
 ghost use Rattle.rng_tool.specs.DrawOutcome.{IsDraw};
 ghost use Rattle.rng_tool.specs.LoadOutcome.{IsLoad};
 ghost use Rattle.rng_tool.specs.Outcome.{IsRun};
+ghost use Rattle.rng_tool.specs.VforkOutcome.{IsVfork};
 
 use crate::draw::{Draw, draw_of};
 use crate::load::{Load, load_of};
+use crate::vfork::{Vfork, vfork_of};
 
 /// The forms of the command line, as the line that answers any other words has them.
-pub(crate) const USAGE: &str = "usage: rng run | rng load START CALLERS EVENTS | rng draw C K";
+pub(crate) const USAGE: &str = "usage: rng run | rng load START CALLERS EVENTS | rng draw C K | rng vfork POINT ATTEMPT N";
 
 /// A command, with the numbers that its words give.
 #[derive(Clone, Copy, Debug, PartialEq, Eq)]
@@ -20,6 +24,8 @@ pub(crate) enum Command {
     Load(Load),
     /// `draw C K`
     Draw(Draw),
+    /// `vfork POINT ATTEMPT N`
+    Vfork(Vfork),
 }
 
 /// Whether the words are those of a run.
@@ -41,6 +47,8 @@ impl Command {
             → result ≡ Some (Command.Load (record { start = start; callers = callers; events = events })) }
         ensures draw { (bound count : ℕ) → IsDraw words.now bound count
             → result ≡ Some (Command.Draw (record { bound = bound; count = count })) }
+        ensures vfork { (point : Point) (attempt : Turn) (n : ℕ) → IsVfork words.now point attempt n
+            → result ≡ Some (Command.Vfork (record { point = point; attempt = attempt; len = n })) }
     {
         if is_run(words) {
             return Some(Command::Run);
@@ -50,6 +58,9 @@ impl Command {
         }
         if let Some(draw) = draw_of(words) {
             return Some(Command::Draw(draw));
+        }
+        if let Some(vfork) = vfork_of(words) {
+            return Some(Command::Vfork(vfork));
         }
         None
     }

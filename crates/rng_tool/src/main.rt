@@ -18,6 +18,7 @@ mod status;
 #[cfg(test)]
 mod tests;
 mod told;
+mod vfork;
 
 use crate::kept::KeptSource;
 use crate::run::run;

@@ -1,0 +1,4 @@
+pub mod Courses
+pub mod Ends
+pub mod Stretching
+pub mod TwoStops
