@@ -41,7 +41,7 @@ use Rattle.vdso_state.proofs.Leading.{climbs_append}
 use Rattle.vcall_fork.specs.declared.stage.Stage.{Stage}
 use Rattle.vcall_fork.specs.declared.stage.Stage.TheVariants.{At}
 use Rattle.vcall_fork.specs.Stops.{RestOfCall}
-use Rattle.vcall_fork.proofs.Forking.{child_takes_key}
+use Rattle.vcall_fork.specs.Forks.{ForksAreTold, ChildTakesKey}
 use Rattle.rng_core.specs.declared.setting.Setting.{Setting}
 use Rattle.rng_core.specs.Did.{Fulfils, setting_of}
 use Rattle.rng_core.proofs.Doing.{did_floor}
@@ -68,7 +68,7 @@ whole_again a b c d p q r s =
 child_at : (v : View) (lane : ℕ) → at lane (steps.child v) ≡ told (at lane v)
 child_at v lane = get_or-map told v.lanes lane blank
 
-floor_child : (v : View) → floor (steps.child v) ≡ floor v
+pub floor_child : (v : View) → floor (steps.child v) ≡ floor v
 floor_child v = ap (λ (a : LaneView). max v.seen (replay a.known).base.generation) (child_at v 1)
 
 -- The calls to the stop
@@ -118,7 +118,7 @@ module _ (lanes : ℕ) (visits : ℕ → List Visit) where
         shown_more = shown_in (first_setting 0) k.behind w k.more k.shown_more c;
       }
 
-  end_in : (caller n : ℕ) (place : Place) (left : Stage) (out held : List ℕ) (t s : VgetrandomState) (bytes : List ℕ)
+  abbrev end_in : (caller n : ℕ) (place : Place) (left : Stage) (out held : List ℕ) (t s : VgetrandomState) (bytes : List ℕ)
       (v w : View) (own : List Step) → left ≡ At place → out ≡ held → t ≡ s →
       FinishedOver (first_setting caller) n 0 left out t bytes (knowing v []) (knowing w own) →
       Continues lanes w visits → IsEnd book caller n place held s bytes
@@ -137,6 +137,7 @@ module _ (lanes : ℕ) (visits : ℕ → List Visit) where
 abbrev start : View
 start = newcomer (plan_of 3 0)
 
+-- caller 0 called on a new table behind a sample, and forked
 module _ (turn : Turn) (point : Point) (n : ℕ) (p q w x : View) (left : Stage) (out : List ℕ) (t : VgetrandomState)
     (parent child : List ℕ) (new : p ≡ start)
     (sampled : (own : List Step)
@@ -162,29 +163,29 @@ module _ (turn : Turn) (point : Point) (n : ℕ) (p q w x : View) (left : Stage)
   forking : Course w mid (marks_of 0 (over.forked ∷ []))
   forking = course_did 0 w mid over.forked over.forks
 
-  to_fork : Course start mid parents_marks
-  to_fork = subst (λ (z : View). Course z mid parents_marks) new
+  fork_course : Course start mid parents_marks
+  fork_course = subst (λ (z : View). Course z mid parents_marks) new
       (course_calls 0 p q mid (sampled.0 ∷ []) (reached.calls ++ over.forked ∷ []) (course_did 0 p q sampled.0 sampled.1)
       (course_calls 0 q w mid reached.calls (over.forked ∷ []) to_stop forking))
 
-  parents_rest : Course (halved mid) over.parent_end rest_marks
-  parents_rest = course_did 0 (halved mid) over.parent_end over.parents over.parent_ends.did
+  parent_course : Course (halved mid) over.parent_end rest_marks
+  parent_course = course_did 0 (halved mid) over.parent_end over.parents over.parent_ends.did
 
-  childs_rest : Course (steps.child mid) over.child_end child_marks
-  childs_rest = course_did 1 (steps.child mid) over.child_end over.childs over.child_ends.did
+  child_course : Course (steps.child mid) over.child_end child_marks
+  child_course = course_did 1 (steps.child mid) over.child_end over.childs over.child_ends.did
 
   pub share_is : x.share ≡ 2 ^ x.halvings
   share_is = subst (λ (z : View). z.share ≡ 2 ^ z.halvings) (sym over.joined)
       (whole_again over.parent_end.share over.child_end.share over.parent_end.halvings over.child_end.halvings
-      (parents_rest.same.share ∙ to_fork.same.share) (childs_rest.same.share ∙ to_fork.same.share)
-      (parents_rest.same.halvings ∙ ap (λ (k : ℕ). k + 1) to_fork.same.halvings)
-      (childs_rest.same.halvings ∙ ap (λ (k : ℕ). k + 1) to_fork.same.halvings))
+      (parent_course.same.share ∙ fork_course.same.share) (child_course.same.share ∙ fork_course.same.share)
+      (parent_course.same.halvings ∙ ap (λ (k : ℕ). k + 1) fork_course.same.halvings)
+      (child_course.same.halvings ∙ ap (λ (k : ℕ). k + 1) fork_course.same.halvings))
 
   parent_wide : length over.parent_end.lanes ≡ 3
-  parent_wide = parents_rest.same.sized ∙ to_fork.same.sized
+  parent_wide = parent_course.same.sized ∙ fork_course.same.sized
 
   child_wide : length over.child_end.lanes ≡ 3
-  child_wide = childs_rest.same.sized ∙ length-map mid.lanes told ∙ to_fork.same.sized
+  child_wide = child_course.same.sized ∙ length-map mid.lanes told ∙ fork_course.same.sized
 
   long : length over.parent_end.lanes ≡ length over.child_end.lanes
   long = parent_wide ∙ sym child_wide
@@ -196,7 +197,7 @@ module _ (turn : Turn) (point : Point) (n : ℕ) (p q w x : View) (left : Stage)
   both_at : (lane : ℕ) → at lane x ≡ merged (at lane over.parent_end) (at lane over.child_end)
   both_at lane = ap (at lane) over.joined ∙ merged_at over.parent_end.lanes over.child_end.lanes lane long
 
-  module _ (at_end : Ended 3 x) where
+  module _ (at_end : Ended 3 x) (fork_law : ForksAreTold) (key_law : ChildTakesKey) where
     ended : Ended (length x.lanes) x
     ended = subst (λ (k : ℕ). Ended k x) (sym wide) at_end
 
@@ -233,8 +234,8 @@ module _ (turn : Turn) (point : Point) (n : ℕ) (p q w x : View) (left : Stage)
         goes_on
 
     fork_goes : Continues (length x.lanes) mid (known_of x)
-    fork_goes = continues_before (length x.lanes) mid over.parent_end (known_of x) parents_rest.same.sized
-        parents_rest.grows parent_goes
+    fork_goes = continues_before (length x.lanes) mid over.parent_end (known_of x) parent_course.same.sized
+        parent_course.grows parent_goes
 
     stop_goes : Continues (length x.lanes) w (known_of x)
     stop_goes = continues_before (length x.lanes) w mid (known_of x) forking.same.sized forking.grows fork_goes
@@ -255,12 +256,12 @@ module _ (turn : Turn) (point : Point) (n : ℕ) (p q w x : View) (left : Stage)
     known : AllByRecursion (IsKnown x) marks
     known =
         let fork_known = each_weaker (IsKnown mid) (IsKnown over.parent_end) parents_marks
-        (λ by k. (k.0, mark_grown mid over.parent_end by.mark by.who k.0 parents_rest.same.sized parents_rest.grows k.1))
-        to_fork.known in
+        (λ by k. (k.0, mark_grown mid over.parent_end by.mark by.who k.0 parent_course.same.sized parent_course.grows k.1))
+        fork_course.known in
         each_append (IsKnown x) (parents_marks ++ rest_marks) child_marks
         (grown over.parent_end (parents_marks ++ rest_marks) (wide ∙ sym parent_wide) parent_grows
-        (each_append (IsKnown over.parent_end) parents_marks rest_marks fork_known parents_rest.known))
-        (grown over.child_end child_marks (wide ∙ sym child_wide) child_grows childs_rest.known)
+        (each_append (IsKnown over.parent_end) parents_marks rest_marks fork_known parent_course.known))
+        (grown over.child_end child_marks (wide ∙ sym child_wide) child_grows child_course.known)
 
     visit : AllByRecursion (MarksVisit (length x.lanes) (known_of x)) marks
     visit = each_weaker (IsKnown x) (MarksVisit (length x.lanes) (known_of x)) marks
@@ -274,10 +275,10 @@ module _ (turn : Turn) (point : Point) (n : ℕ) (p q w x : View) (left : Stage)
     made_at : (lane : ℕ) → lane < 3 → (at lane x).made ≡ marks_in lane marks
     made_at lane near =
         let all = ap (λ (a : LaneView). a.made) (both_at lane) in
-        let a = to_fork.made lane near in
+        let a = fork_course.made lane near in
         let start_made : (at lane start).made ≡ 0 = nothing_made lane near in
-        let b = parents_rest.made lane (let e = to_fork.same.sized in omega arith) in
-        let c = childs_rest.made lane (let e = to_fork.same.sized in let f = length-map mid.lanes told in omega arith) in
+        let b = parent_course.made lane (let e = fork_course.same.sized in omega arith) in
+        let c = child_course.made lane (let e = fork_course.same.sized in let f = length-map mid.lanes told in omega arith) in
         let d = ap (λ (z : LaneView). z.made) (child_at mid lane) in
         let e = marks_both lane (parents_marks ++ rest_marks) child_marks in
         let f = marks_both lane parents_marks rest_marks in
@@ -302,13 +303,13 @@ module _ (turn : Turn) (point : Point) (n : ℕ) (p q w x : View) (left : Stage)
 
     -- Both ends
 
-    parent_is : IsEnd (book_lists (length x.lanes) (known_of x) []) 0 n reached.stop.place reached.stop.held
+    abbrev parent_is : IsEnd (book_lists (length x.lanes) (known_of x) []) 0 n reached.stop.place reached.stop.held
         reached.stop.state parent
     parent_is = end_in (length x.lanes) (known_of x) 0 n reached.stop.place left out reached.stop.held t reached.stop.state
         parent (halved mid) over.parent_end over.parents reached.stage_is reached.held_is reached.state_is
         over.parent_ends parent_goes
 
-    child_is : IsEnd (book_lists (length x.lanes) (known_of x) []) 1 n reached.stop.place reached.stop.held wiped_state
+    abbrev child_is : IsEnd (book_lists (length x.lanes) (known_of x) []) 1 n reached.stop.place reached.stop.held wiped_state
         child
     child_is = end_in (length x.lanes) (known_of x) 1 n reached.stop.place left out reached.stop.held wiped_state
         wiped_state child (steps.child mid) over.child_end over.childs reached.stage_is reached.held_is refl
@@ -339,16 +340,44 @@ module _ (turn : Turn) (point : Point) (n : ℕ) (p q w x : View) (left : Stage)
       forks = shown_in (length x.lanes) (known_of x) (first_setting 0) w mid over.forked over.forks fork_goes;
       parent_end = parent_is;
       child_end = child_is;
-      parent_call = parents_call n 0 wiped_state turn point reached.stop parent_is.steps parent_is.outcome parent_is.rest;
-      child_call = childs_call n 0 wiped_state turn point reached.stop child_is.steps child_is.outcome child_is.rest;
-      child_keyed = λ bytes is. child_takes_key n 0 reached.stop.place reached.stop.held over.child_ends.steps
+      parent_call = parents_call fork_law n 0 wiped_state turn point reached.stop parent_is.steps parent_is.outcome parent_is.rest;
+      child_call = childs_call fork_law n 0 wiped_state turn point reached.stop child_is.steps child_is.outcome child_is.rest;
+      child_keyed = λ bytes is. key_law n 0 reached.stop.place reached.stop.held over.child_ends.steps
           over.child_ends.outcome (published_by (floor over.child_end)) bytes child_is.rest reached.stop.ready
           child_climbs is;
       visits = ended_visits x [] low ended marks visit many;
       at_fork = mid.stamp;
       parents_last = over.parent_end.stamp;
       childs_last = over.child_end.stamp;
-      to_fork = to_fork.climbs;
-      parents_rest = parents_rest.climbs;
-      childs_rest = childs_rest.climbs;
+      to_fork = fork_course.climbs;
+      parents_rest = parent_course.climbs;
+      childs_rest = child_course.climbs;
     }
+
+-- the same by what the calls were made with
+module _ (set : Setting) (n m k f g : ℕ) (s : VgetrandomState) (plain : set ≡ first_setting 0) (same : m ≡ n)
+    (again : k ≡ m) (none : f ≡ 0) (none_again : g ≡ f) (wiped : s ≡ wiped_state) where
+  pub plain_sample : (p q : View) → ((own : List Step)
+      × DidAll (Fulfils (setting_of set) (Add (range_with_len 0 32) 256) Done no_data) set p own q) →
+      (own : List Step)
+      × DidAll (Fulfils (setting_of (first_setting 0)) (Add (range_with_len 0 32) 256) Done no_data) (first_setting 0) p own
+      q
+  plain_sample p q d = subst (λ (z : Setting). (own : List Step)
+      × DidAll (Fulfils (setting_of z) (Add (range_with_len 0 32) 256) Done no_data) z p own q) plain d
+
+  pub plain_reached : (turn : Turn) (point : Point) (left : Stage) (out : List ℕ) (t : VgetrandomState) (q w : View) →
+      ReachedStop set m f s turn point left out t q w →
+      ReachedStop (first_setting 0) n 0 wiped_state turn point left out t q w
+  plain_reached turn point left out t q w d =
+      subst (λ (z : VgetrandomState). ReachedStop (first_setting 0) n 0 z turn point left out t q w) wiped
+      (subst (λ (z : ℕ). ReachedStop (first_setting 0) n z s turn point left out t q w) none
+      (subst (λ (z : ℕ). ReachedStop (first_setting 0) z f s turn point left out t q w) same
+      (subst (λ (z : Setting). ReachedStop z m f s turn point left out t q w) plain d)))
+
+  pub plain_over : (left : Stage) (out : List ℕ) (t : VgetrandomState) (parent child : List ℕ) (w x : View) →
+      ForkedOver set k g left out t parent child w x →
+      ForkedOver (first_setting 0) n 0 left out t parent child w x
+  plain_over left out t parent child w x d =
+      subst (λ (z : ℕ). ForkedOver (first_setting 0) n z left out t parent child w x) (none_again ∙ none)
+      (subst (λ (z : ℕ). ForkedOver (first_setting 0) z g left out t parent child w x) (again ∙ same)
+      (subst (λ (z : Setting). ForkedOver z k g left out t parent child w x) plain d))

@@ -102,22 +102,22 @@ module _ {R : Type 0} (h last : LaneHost R) (idle : length h.acts.now ≡ 0) (tw
 
   gives_bytes : (ending : Ending) (result : Result VEnd Errno) (out : List ℕ) → EndsAs ending result out →
       gives result ≡ true → GivesBytes ending out
-  gives_bytes no_bytes result out is yes = (let no : true ≡ false = sym yes ∙ ap gives is in absurd (cc no))
-  gives_bytes (by_batch bytes) result out is yes = is.1
-  gives_bytes (by_system (read bytes visit)) result out is yes = is.1
-  gives_bytes (by_system (failed errno)) result out is yes = (let no : true ≡ false = sym yes ∙ ap gives is in absurd (cc no))
+  gives_bytes no_bytes result out is met = (let no : true ≡ false = sym met ∙ ap gives is in absurd (cc no))
+  gives_bytes (by_batch bytes) result out is met = is.1
+  gives_bytes (by_system (read bytes visit)) result out is met = is.1
+  gives_bytes (by_system (failed errno)) result out is met = (let no : true ≡ false = sym met ∙ ap gives is in absurd (cc no))
 
   pub finished_over : (t : VgetrandomState) (result : Result VEnd Errno) (out : List ℕ) →
       Ends hosting floor_of (RestOfCall stage n flags held s) h last
       (record { state = t; result = result; buf = out }) → gives result ≡ true →
       FinishedOver h.set.now n flags stage held s out (moment h.pass.now h.trace.now)
       (moment last.pass.now last.trace.now)
-  finished_over t result out k yes = record {
+  finished_over t result out k met = record {
     steps = k.runs.steps;
     outcome = k.runs.outcome;
     rest = k.runs.relates;
     unwiped = stays_unwiped h last k.runs.steps k.runs.does idle two;
     climbs = k.climbs;
-    gives = gives_bytes k.runs.outcome.ending result out k.runs.ends yes;
+    gives = gives_bytes k.runs.outcome.ending result out k.runs.ends met;
     did = did_own h last k.runs.steps k.runs.does idle two;
   }

@@ -14,14 +14,13 @@ use Rattle.vdso_state.specs.declared.place.Turn.TheVariants.{First, Second}
 use Rattle.vdso_state.specs.Places.{BehindPlace}
 use Rattle.vdso_state.proofs.Leading.{points_append}
 use Rattle.vcall_fork.specs.declared.stage.Stage.TheVariants.{New}
-use Rattle.vcall_fork.specs.Forks.{ForkIsTold}
-use Rattle.vcall_fork.proofs.Forking.{forks_are_told}
+use Rattle.vcall_fork.specs.Forks.{ForkIsTold, ForksAreTold}
 use Rattle.fork_runs.specs.Stretches.{AreUnwiped, Stop}
 
-module _ (n flags : ℕ) (s : VgetrandomState) (turn : Turn) (point : Point)
+module _ (law : ForksAreTold) (n flags : ℕ) (s : VgetrandomState) (turn : Turn) (point : Point)
     (stop : Stop (IsCall n flags s) n flags turn point) where
   is_told : ForkIsTold New [] s n flags stop.place stop.held stop.state stop.before stop.entries
-  is_told = forks_are_told New [] s n flags stop.place stop.held stop.state stop.before stop.entries stop.leads
+  is_told = law New [] s n flags stop.place stop.held stop.state stop.before stop.entries stop.leads
 
   pub parents_call : (rest : List HostStep) (outcome : Outcome) →
       BehindPlace n flags stop.place stop.held stop.state rest outcome →
@@ -38,12 +37,12 @@ module _ (n flags : ℕ) (s : VgetrandomState) (turn : Turn) (point : Point)
       subst (λ (p : Point). IsCall n flags s (stop.before ++ at_point p true ∷ rest)
       (outcome_behind stop.entries (outcome_behind (Wipe ∷ []) outcome))) stop.point_is (is_told.child rest outcome r)
 
-module _ (n flags : ℕ) (s : VgetrandomState) (point : Point) (a : Stop (IsCall n flags s) n flags First Serve)
+module _ (law : ForksAreTold) (n flags : ℕ) (s : VgetrandomState) (point : Point) (a : Stop (IsCall n flags s) n flags First Serve)
     (b : Stop (BehindPlace n flags a.place a.held a.state) n flags Second point) where
-  abbrev both : List HostStep
+  abbrev pub both : List HostStep
   both = a.before ++ at_point Serve false ∷ b.before
 
-  leads_on : (rest : List HostStep) (outcome : Outcome) →
+  pub leads_on : (rest : List HostStep) (outcome : Outcome) →
       IsCall n flags s (a.before ++ at_point Serve false ∷ (b.before ++ rest))
       (outcome_behind a.entries (outcome_behind b.entries outcome)) →
       IsCall n flags s (both ++ rest) (outcome_behind (a.entries ++ b.entries) outcome)
@@ -53,7 +52,7 @@ module _ (n flags : ℕ) (s : VgetrandomState) (point : Point) (a : Stop (IsCall
       (subst (λ (es : List VEntry). IsCall n flags s (a.before ++ at_point Serve false ∷ (b.before ++ rest))
       (record outcome { entries = es })) (sym (append_assoc a.entries b.entries outcome.entries)) k)
 
-  pub stop_then : Stop (IsCall n flags s) n flags Second point
+  abbrev pub stop_then : Stop (IsCall n flags s) n flags Second point
   stop_then = record {
     place = b.place;
     turn_is = b.turn_is;
@@ -68,6 +67,6 @@ module _ (n flags : ℕ) (s : VgetrandomState) (point : Point) (a : Stop (IsCall
         (points_of (at_point Serve false ∷ b.before)) a.unwiped (refl, b.unwiped));
     entries = a.entries ++ b.entries;
     leads = λ rest outcome is. leads_on rest outcome
-        (parents_call n flags s First Serve a (b.before ++ rest) (outcome_behind b.entries outcome)
+        (parents_call law n flags s First Serve a (b.before ++ rest) (outcome_behind b.entries outcome)
         (b.leads rest outcome is));
   }

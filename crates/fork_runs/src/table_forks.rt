@@ -22,6 +22,7 @@ use lane_table::{Lanes, Pass};
 use rng_core::{Setting, add, fork, reseed};
 use std::alloc::{AllocError, Global};
 use std::sync::Wait;
+use vcall_fork::laws::{child_takes_key, forks_are_told};
 use vcall_fork::{Point, Turn, VCall};
 use vdso_state::VState;
 
@@ -119,6 +120,7 @@ fn reach_second<R: Wait>(
     if !reseed_once(rt, lanes, pass, set) {
         return false;
     }
+    forks_are_told();
     run_to(rt, lanes, pass, set, call, st, buf, Turn::Second, point)
 }
 
@@ -218,7 +220,30 @@ fn fork_once<R: Wait>(
         return Ok(false);
     }
     let _visits = lanes.close(pass);
+    forks_are_told();
+    child_takes_key();
     Ok(true)
+}
+
+// Runs until the call was stopped and both ends gave bytes: a run in which it was not is made anew.
+fn fork_until<R: Wait>(
+    rt: &R,
+    alloc: Global,
+    attempt: Turn,
+    point: Point,
+    parent: &mut [u8],
+    child: &mut [u8],
+) -> Result<(), AllocError>
+    requires length { length parent.old ≤ 2 ^ 20 }
+    requires child_length { length child.old ≡ length parent.old }
+    ensures { IfOk result (λ done. AreForkedBytes attempt point (length parent.old) parent.new child.new) }
+{
+    for _ in rt.forever() {
+        if fork_once(rt, alloc, attempt, point, parent, child)? {
+            return Ok(());
+        }
+    }
+    unreachable!()
 }
 
 /// Makes a table with one CPU and adds the bytes 0 to 31 with 256 bits, which make the core ready. Then caller 0 calls
@@ -244,10 +269,6 @@ pub fn fork_on_new_table<R: Wait>(
 {
     let mut parent = vec![in alloc; 0; len as usize]?;
     let mut child = vec![in alloc; 0; len as usize]?;
-    for _ in rt.forever() {
-        if fork_once(rt, alloc, attempt, point, &mut parent, &mut child)? {
-            return Ok(ForkedBytes { parent, child });
-        }
-    }
-    unreachable!()
+    fork_until(rt, alloc, attempt, point, &mut parent, &mut child)?;
+    Ok(ForkedBytes { parent, child })
 }
