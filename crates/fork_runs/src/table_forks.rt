@@ -264,8 +264,10 @@ pub fn fork_on_new_table<R: Wait>(
     len: u32,
 ) -> Result<ForkedBytes, AllocError>
     requires { len ≤ 2 ^ 20 }
-    ensures { IfOk result (λ forked.
+    ensures ends { IfOk result (λ forked.
         AreForkedBytes attempt point len forked.parent.items forked.child.items) }
+    ensures long { IfOk result (λ forked.
+        (length forked.parent.items ≡ len) × (length forked.child.items ≡ len)) }
 {
     let mut parent = vec![in alloc; 0; len as usize]?;
     let mut child = vec![in alloc; 0; len as usize]?;

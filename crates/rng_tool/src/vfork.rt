@@ -56,6 +56,7 @@ fn attempt_of(number: u32) -> Turn
 }
 
 /// The fork that four words ask for.
+#[tactic(auto, using(crate::proofs::VforkWords::point_range, crate::proofs::VforkWords::turn_range))]
 fn vfork_by(command: &str, point: &str, attempt: &str, len: &str) -> Option<Vfork>
     ensures found { IfSome result (λ vfork.
         AskVfork (command.now ∷ point.now ∷ attempt.now ∷ len.now ∷ []) vfork.point vfork.attempt vfork.len) }
@@ -108,8 +109,10 @@ fn write_end(out: &mut [u8], name: &[u8], bytes: &[u8])
     let (front, rest) = out.split_at_mut(name.len());
     front.copy_from_slice(name);
     let (digits, end) = rest.split_at_mut(2 * bytes.len());
-    let _encoded = encode_to_slice(bytes, digits);
-    end[0] = b'\n';
+    end.copy_from_slice(b"\n");
+    let Ok(()) = encode_to_slice(bytes, digits) else {
+        unreachable!()
+    };
 }
 
 // The lines of a fork that was made. The memory for them is had before.
