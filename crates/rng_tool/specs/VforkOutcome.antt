@@ -25,7 +25,7 @@ IsVfork words point attempt n = AskVfork (map string_bytes words) point attempt 
 
 -- the line of an end: its name, and its bytes in hex
 abbrev pub end_line : List ℕ → List ℕ → List ℕ
-end_line name bytes = name ++ encode_lower bytes ++ 10 ∷ []
+end_line name bytes = name ++ (encode_lower bytes ++ 10 ∷ [])
 
 abbrev pub vfork_text : List ℕ → List ℕ → List ℕ
 vfork_text parent child = end_line (codes "parent ") parent ++ end_line (codes "child ") child
