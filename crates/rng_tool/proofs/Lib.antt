@@ -4,3 +4,4 @@ pub mod ShownBytes
 pub mod NumberWords
 pub mod Endings
 pub mod Completes
+pub mod VforkWords

@@ -8,3 +8,4 @@ pub mod FeedOutcome
 pub mod JudgeOutcome
 pub mod Commands
 pub mod Kept
+pub mod VforkOutcome

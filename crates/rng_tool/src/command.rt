@@ -1,19 +1,23 @@
 //! What the words of a command line ask for.
 ghost use Rattle.std.specs.Prelude.{◌≡◌, ◌↔◌, ℕ, Some, IsTrue, IfSome};
+ghost use Rattle.key_names.specs.declared.point.Point.{Point};
+ghost use Rattle.vdso_state.specs.declared.place.Turn.{Turn};
 ghost use Rattle.rng_tool.specs.Commands.{Asks};
 ghost use Rattle.rng_tool.specs.DrawOutcome.{IsDraw};
 ghost use Rattle.rng_tool.specs.FeedOutcome.{IsFeed};
 ghost use Rattle.rng_tool.specs.JudgeOutcome.{IsJudge};
 ghost use Rattle.rng_tool.specs.LoadOutcome.{IsLoad};
 ghost use Rattle.rng_tool.specs.Outcome.{IsRun};
+ghost use Rattle.rng_tool.specs.VforkOutcome.{IsVfork};
 
 use crate::draw::{Draw, draw_of};
 use crate::feed::{Feed, feed_of};
 use crate::judge::{Judge, judge_of};
 use crate::load::{Load, load_of};
+use crate::vfork::{Vfork, vfork_of};
 
 /// The forms of the command line, as the line that answers any other words has them.
-pub(crate) const USAGE: &str = "usage: rng run | rng check | rng replay | rng load START CALLERS EVENTS | rng draw C K | rng feed START FEEDERS SAMPLES";
+pub(crate) const USAGE: &str = "usage: rng run | rng check | rng replay | rng load START CALLERS EVENTS | rng draw C K | rng vfork POINT ATTEMPT N | rng feed START FEEDERS SAMPLES";
 
 /// A command, with the numbers that its words give.
 #[derive(Clone, Copy, Debug, PartialEq, Eq)]
@@ -26,6 +30,8 @@ pub(crate) enum Command {
     Load(Load),
     /// `draw C K`
     Draw(Draw),
+    /// `vfork POINT ATTEMPT N`
+    Vfork(Vfork),
     /// `feed START FEEDERS SAMPLES`
     Feed(Feed),
 }
@@ -50,6 +56,8 @@ impl Command {
             → result ≡ Some (Command.Load (record { start = start; callers = callers; events = events })) }
         ensures draw { (bound count : ℕ) → IsDraw words.now bound count
             → result ≡ Some (Command.Draw (record { bound = bound; count = count })) }
+        ensures vfork { (point : Point) (attempt : Turn) (n : ℕ) → IsVfork words.now point attempt n
+            → result ≡ Some (Command.Vfork (record { point = point; attempt = attempt; len = n })) }
         ensures feed { (start feeders samples : ℕ) → IsFeed words.now start feeders samples
             → result ≡ Some (Command.Feed (record { start = start; feeders = feeders; samples = samples })) }
     {
@@ -67,6 +75,9 @@ impl Command {
         }
         if let Some(feed) = feed_of(words) {
             return Some(Command::Feed(feed));
+        }
+        if let Some(vfork) = vfork_of(words) {
+            return Some(Command::Vfork(vfork));
         }
         None
     }

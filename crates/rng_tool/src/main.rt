@@ -21,6 +21,7 @@ mod status;
 #[cfg(test)]
 mod tests;
 mod told;
+mod vfork;
 
 use crate::judge::judge_of;
 use crate::kept::KeptSource;

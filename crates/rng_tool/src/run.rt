@@ -1,6 +1,7 @@
 //! The top call: the words of a command line in, its answer out.
 ghost use Rattle.std.specs.Prelude.{◌≡◌, ◌≤◌, ◌↔◌, ◌⊎◌, [], ℕ, IfSome, length};
 ghost use Rattle.io_edges.specs.Faults.{Rose};
+ghost use Rattle.key_names.specs.declared.point.Point.{Point};
 ghost use Rattle.key_names.specs.ScriptFaults.{front};
 ghost use Rattle.key_names.specs.ScriptGrammar.{IsScript, Script};
 ghost use Rattle.rng_tool.specs.Commands.{IsNoForm, TakesInput};
@@ -9,6 +10,8 @@ ghost use Rattle.rng_tool.specs.FeedOutcome.{FeedEnds, IsFeed};
 ghost use Rattle.rng_tool.specs.JudgeOutcome.{IsJudge, JudgeEnds, most_judged};
 ghost use Rattle.rng_tool.specs.LoadOutcome.{IsLoad, LoadEnds};
 ghost use Rattle.rng_tool.specs.Outcome.{IsRun, RunEnds};
+ghost use Rattle.rng_tool.specs.VforkOutcome.{IsVfork, VforkEnds};
+ghost use Rattle.vdso_state.specs.declared.place.Turn.{Turn};
 
 use crate::command::Command;
 use crate::draw::run_draw;
@@ -18,6 +21,7 @@ use crate::judge::{Judge, judge_input};
 use crate::load::run_load;
 use crate::run_script::run_input;
 use crate::status::Status;
+use crate::vfork::run_vfork;
 use io_edges::{Gate, Sink, Source};
 use std::alloc::Global;
 use std::sync::Wait;
@@ -43,6 +47,11 @@ use std::thread::Threads;
 /// The words `draw C K` make K draws below C on a new table with one CPU, behind a sample of the bytes 0 to 31 with 256
 /// bits: C below 2^32, where 0 stands for 2^32, and K from 1 to 1,000. They read nothing. The output has the answer of each
 /// draw in decimal on a line of its own, or the line `spent` where 128 words were all rejected, which is then the last.
+///
+/// The words `vfork POINT ATTEMPT N` fork inside a vgetrandom call for N bytes, at a point of an attempt, on a new table
+/// with one CPU, behind the same sample: POINT from 1 to 4, ATTEMPT 1 or 2, and N from 1 to 1,048,576. They read nothing.
+/// The output is the line `parent HEX` with the bytes that the parent's call gives out, and the line `child HEX` with the
+/// child's.
 ///
 /// The words `feed START FEEDERS SAMPLES` hand so many interrupt samples of each of so many feeders to a CPU of a new table
 /// at moment 0, each feeder in a thread: START below 2^32, FEEDERS from 1 to 16 and SAMPLES from 1 to 10,000. They read
@@ -98,6 +107,10 @@ pub fn run<R: Threads + Wait + Sync, S: Source, K: Sink, G: Gate>(
         → DrawEnds bound count result (K.held sink.old) (K.held sink.new) }
     ensures draw_completes { (bound count : ℕ) → IsDraw words.now bound count
         → (Rose (K.faults sink.old) (K.faults sink.new) → ⊥) → (result ≡ Status.Done) ⊎ (result ≡ Status.NoMemory) }
+    ensures forked { (point : Point) (attempt : Turn) (n : ℕ) → IsVfork words.now point attempt n
+        → VforkEnds point attempt n result (K.held sink.old) (K.held sink.new) }
+    ensures vfork_completes { (point : Point) (attempt : Turn) (n : ℕ) → IsVfork words.now point attempt n
+        → (Rose (K.faults sink.old) (K.faults sink.new) → ⊥) → (result ≡ Status.Done) ⊎ (result ≡ Status.NoMemory) }
     ensures fed { (start feeders samples : ℕ) → IsFeed words.now start feeders samples
         → FeedEnds start feeders samples result (K.held sink.old) (K.held sink.new) }
     ensures feed_completes { (start feeders samples : ℕ) → IsFeed words.now start feeders samples
@@ -110,6 +123,7 @@ pub fn run<R: Threads + Wait + Sync, S: Source, K: Sink, G: Gate>(
         Some(Command::Judge(judge)) => end_output(judge_input(alloc, judge, source, sink), sink),
         Some(Command::Load(load)) => end_output(run_load(rt, alloc, load, sink, gate), sink),
         Some(Command::Draw(draw)) => end_output(run_draw(rt, alloc, draw, sink), sink),
+        Some(Command::Vfork(vfork)) => end_output(run_vfork(rt, alloc, vfork, sink), sink),
         Some(Command::Feed(feed)) => end_output(run_feed(rt, alloc, feed, sink, gate), sink),
     }
 }

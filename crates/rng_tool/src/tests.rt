@@ -248,6 +248,13 @@ fn other_words_read_and_write_nothing(rt: HostRuntime) -> Result<(), Fail> {
         &["feed", "1", "1", "10001"],
         &["feed", "4294967296", "1", "1"],
         &["feed", "1", "04", "1"],
+        &["vfork", "3", "1"],
+        &["vfork", "0", "1", "40"],
+        &["vfork", "5", "1", "40"],
+        &["vfork", "3", "3", "40"],
+        &["vfork", "3", "1", "0"],
+        &["vfork", "3", "1", "1048577"],
+        &["vfork", "03", "1", "40"],
     ];
     for (row, texts) in rows.iter().enumerate() {
         let (status, mut source, sink) = run_over(&rt, alloc, texts, FIRST_SCRIPT, WHOLE)?;
@@ -477,5 +484,35 @@ fn feeders_are_summed_up(rt: HostRuntime) -> Result<(), Fail> {
         sink.held(),
         b"feeders 16 samples 32000 dumps 31 bits 256\n".as_slice()
     );
+// The bytes are those that another implementation of the core gives for the same calls.
+#[test]
+fn forks_are_told(rt: HostRuntime) -> Result<(), Fail> {
+    let alloc = rt.alloc();
+    let rows: [(&[&str], &[u8]); 2] = [
+        (
+            &["vfork", "3", "1", "40"],
+            b"parent 3accf3fdd01cf3df1072692f43f9c73cc50311f58125957a620ae47b19f142c34d140e013e09434b\n\
+            child 3bdb3a458300809577cac095ee7d7b7e9c5e0774717ef19150549f16e551017bcebb28d0fc4fa8db\n",
+        ),
+        (
+            &["vfork", "2", "1", "100"],
+            b"parent 3accf3fdd01cf3df1072692f43f9c73cc50311f58125957a620ae47b19f142c34d140e013e09434bd13d81d2\
+82bb4abf55e168c6a96192803110f296220607a13f5938124e89268b6db621f2d4695380ef8754253add28aad14f7791db87e57c5ce2d0cb\n\
+            child 53b2616081133ad9924db3de9a225b646e01cbe0a3f1189a555c069fe777c8aaf8fbf0a53d96cc8535d94d4ffa87a0ff\
+408217d9ffd07570eb3eed0ede2e9ee7d07538cfea29b3255659e48e26ddf8047cb8da3ec1c13542ad68e7dd1abffabeab3428df\n",
+        ),
+    ];
+    for (words, text) in rows {
+        let (status, _, sink) = run_over(&rt, alloc, words, b"", WHOLE)?;
+        assert_eq!(rt; status, Status::Done);
+        assert_eq!(rt; sink.held(), text);
+    }
+    let edges = Edges {
+        failing_put: 1,
+        ..WHOLE
+    };
+    let (status, _, sink) = run_over(&rt, alloc, &["vfork", "3", "1", "40"], b"", edges)?;
+    assert_eq!(rt; status, Status::WriteFault);
+    assert_eq!(rt; sink.held(), b"".as_slice());
     Ok(())
 }

@@ -4,6 +4,7 @@ use Rattle.rng_tool.specs.FeedOutcome.{FeedEnds, FeedOf}
 use Rattle.rng_tool.specs.LoadOutcome.{LoadEnds, LoadOf}
 use Rattle.rng_tool.specs.JudgeOutcome.{JudgeCalls, JudgeEnds}
 use Rattle.rng_tool.specs.Outcome.{CallsFor}
+use Rattle.rng_tool.specs.VforkOutcome.{VforkEnds, VforkOf}
 use Rattle.rng_tool.proofs.Completes.{ends_completes, judge_completes, read_before, run_completes}
 use Rattle.rng_tool.proofs.Endings.{ends_after, reads_end_after, rose_at_end}
 use Rattle.rng_tool.proofs.run.run.Goals as goal
@@ -97,6 +98,29 @@ returns-in-Some-Draw-clause-draw_completes g c bound count is unwritten =
     c.end_output-in-Some-Draw.ensures.ended c.run_draw.ensures.ends)
     (λ fault. unwritten (rose_at_end _ _ _ _ c.run_draw.ensures.cut c.run_draw.ensures.never_falls
     (c.end_output-in-Some-Draw.ensures.cut fault) c.end_output-in-Some-Draw.ensures.never_falls))
+
+pub returns-in-Some-Vfork-clause-write_fault : goal.returns-in-Some-Vfork-clause-write_fault
+returns-in-Some-Vfork-clause-write_fault g c cut =
+    rose_at_end _ _ _ _ c.run_vfork.ensures.cut c.run_vfork.ensures.never_falls
+    (c.end_output-in-Some-Vfork.ensures.cut cut) c.end_output-in-Some-Vfork.ensures.never_falls
+
+pub returns-in-Some-Vfork-clause-forked : goal.returns-in-Some-Vfork-clause-forked
+returns-in-Some-Vfork-clause-forked g c point attempt n is =
+    let same : c.in-Some-Vfork.vfork ≡ record { point = point; attempt = attempt; len = n } =
+    cc (c.of.ensures.vfork point attempt n is, c.in-Some-Vfork.is) in
+    ends_after (VforkOf point attempt n) _ _ _ c.end_output-in-Some-Vfork.ensures.kept _ _
+    c.end_output-in-Some-Vfork.ensures.ended
+    (subst (λ vfork. VforkEnds vfork.point vfork.attempt vfork.len c.run_vfork.result (g.K.Sink.held c.args.sink.now)
+    (g.K.Sink.held c.run_vfork.new.sink)) same c.run_vfork.ensures.ends)
+
+pub returns-in-Some-Vfork-clause-vfork_completes : goal.returns-in-Some-Vfork-clause-vfork_completes
+returns-in-Some-Vfork-clause-vfork_completes g c point attempt n is unwritten =
+    let vfork = c.in-Some-Vfork.vfork in
+    ends_completes (VforkOf vfork.point vfork.attempt vfork.len) _ _ _
+    (ends_after (VforkOf vfork.point vfork.attempt vfork.len) _ _ _ c.end_output-in-Some-Vfork.ensures.kept _ _
+    c.end_output-in-Some-Vfork.ensures.ended c.run_vfork.ensures.ends)
+    (λ fault. unwritten (rose_at_end _ _ _ _ c.run_vfork.ensures.cut c.run_vfork.ensures.never_falls
+    (c.end_output-in-Some-Vfork.ensures.cut fault) c.end_output-in-Some-Vfork.ensures.never_falls))
 
 pub returns-in-Some-Feed-clause-write_fault : goal.returns-in-Some-Feed-clause-write_fault
 returns-in-Some-Feed-clause-write_fault g c cut =

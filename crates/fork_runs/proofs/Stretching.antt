@@ -1,0 +1,123 @@
+-- What a host over the lanes did in a stretch of a call, in the words of the caller.
+use Rattle.std.proofs.Common.{◌≡◌, ℕ, ◌<◌, ◌≤◌, Bool, true, false, List, [], ◌∷◌, length, refl, sym, ap, ◌∙◌, subst}
+use Rattle.std.specs.Prelude.{◌&&◌, Result, Ok, Err}
+use Rattle.key_names.specs.declared.errno.Errno.{Errno}
+use Rattle.key_names.specs.declared.point.Point.{Point}
+use Rattle.key_names.specs.Vgetrandom.{SystemAnswer, read, failed, HostStep, publishes, system_call, at_point, Ending, no_bytes, by_batch, by_system, Outcome}
+use Rattle.key_names.specs.VgetrandomState.{VgetrandomState}
+use Rattle.key_names.specs.VreadSteps.{Shows, published_by}
+use Rattle.lane_table.specs.Calls.{view}
+use Rattle.lane_table.specs.Hands.{Has}
+use Rattle.lane_table.specs.Went.{floor}
+use Rattle.vdso_state.specs.declared.outcome.VEnd.{VEnd}
+use Rattle.vdso_state.specs.declared.outcome.VEnd.TheVariants.{Zero, Batch, System}
+use Rattle.vdso_state.specs.declared.place.Turn.{Turn}
+use Rattle.vdso_state.specs.Call.{EndsAs}
+use Rattle.vdso_state.specs.Host.{DoesAll}
+use Rattle.vdso_state.specs.Places.{Ends}
+use Rattle.vcall_fork.specs.declared.stage.Stage.{Stage}
+use Rattle.vcall_fork.specs.Stages.{published_or}
+use Rattle.vcall_fork.specs.Stops.{RestOfCall, Stopped}
+use Rattle.rng_core.specs.declared.lane_host.LaneHost.{LaneHost}
+use Rattle.rng_core.specs.Told.{moment}
+use Rattle.rng_core.specs.Did.{Did, setting_of}
+use Rattle.rng_core.specs.Acts.{Ask, asks_of, wipes_at}
+use Rattle.rng_core.specs.Acting.{ActStand, acting, is_first}
+use Rattle.rng_core.specs.Hosting.{standing, SameLoans, hosting}
+use Rattle.rng_core.proofs.ActRuns.{Own}
+use Rattle.rng_core.proofs.Acting.{acted_set, acted_own, host_acts}
+use Rattle.rng_core.proofs.Hosting.{none_left, has_again}
+use Rattle.fork_runs.specs.Ending.{gives}
+use Rattle.fork_runs.specs.Stretches.{AreUnwiped, StoppedOver, GivesBytes, FinishedOver}
+
+never_both : (b : Bool) → (b && false) ≡ false
+never_both true = refl
+never_both false = refl
+
+-- without acts nothing is wiped
+unwiped : (steps : List HostStep) (s t : ActStand) → s.asks ≡ [] → DoesAll acting s steps t → AreUnwiped steps
+unwiped [] s t none does = tt
+unwiped (publishes g ∷ steps) s t none does = unwiped steps does.0 t (does.1.acts.asks ∙ none) does.2
+unwiped (system_call n flags answer ∷ steps) s t none does = unwiped steps does.0 t (does.1.acts.asks ∙ none) does.2
+unwiped (at_point point wiped ∷ steps) s t none does = (
+  does.1.wipes ∙ ap (λ (asks : List Ask). is_first does.0.attempt && wipes_at asks point) none
+      ∙ never_both (is_first does.0.attempt),
+  unwiped steps does.0 t (does.1.asks ∙ none) does.2,
+)
+
+module _ {R : Type 0} (h last : LaneHost R) (steps : List HostStep) (does : DoesAll hosting h steps last) where
+  acted : DoesAll acting (standing h) steps (standing last)
+  acted = (host_acts steps h last does).0
+
+  pub loans : SameLoans h last
+  loans = (host_acts steps h last does).1
+
+  pub has_still : Has h.lanes.now h.set.now.caller [] last.pass.now
+  has_still = has_again _ _ _ _ _ loans.lanes (acted_set steps (standing h) (standing last) acted) last.free
+
+  module _ (idle : length h.acts.now ≡ 0) (two : 1 < length (view h.pass.now).lanes) where
+    none : asks_of h.acts.now ≡ []
+    none = ap asks_of (none_left h.acts.now idle)
+
+    own : Own h.set.now (asks_of h.acts.now ≡ []) (Shows (setting_of h.set.now) steps)
+        (moment h.pass.now h.trace.now) (moment last.pass.now last.trace.now)
+    own = acted_own steps h.set.now (asks_of h.acts.now) (standing h) (standing last) refl refl two acted
+
+    pub did_own : Did (Shows (setting_of h.set.now) steps) h.set.now (moment h.pass.now h.trace.now)
+        (moment last.pass.now last.trace.now)
+    did_own = record { deals = own.deals; told = own.alone none; stands = own.stands }
+
+    pub stays_unwiped : AreUnwiped steps
+    stays_unwiped = unwiped steps (standing h) (standing last) none acted
+
+module _ {R : Type 0} (h last : LaneHost R) (idle : length h.acts.now ≡ 0) (two : 1 < length (view h.pass.now).lanes)
+    (n flags : ℕ) (stage : Stage) (held : List ℕ) (s : VgetrandomState) where
+  abbrev floor_of : LaneHost R → ℕ
+  floor_of k = published_by (floor (view k.pass.now))
+
+  pub stopped_over : (turn : Turn) (point : Point) (begun : ℕ) (left : Stage) (t : VgetrandomState) (out : List ℕ) →
+      Stopped hosting floor_of (RestOfCall stage n flags held s) n flags turn point begun left h last t out →
+      1 ≤ published_or 1 left →
+      StoppedOver h.set.now n flags stage held s turn point left out t (moment h.pass.now h.trace.now)
+      (moment last.pass.now last.trace.now)
+  stopped_over turn point begun left t out k ready = record {
+    stop = record {
+      place = k.place;
+      turn_is = k.turn_is;
+      point_is = k.point_is;
+      ready = subst (λ (x : Stage). 1 ≤ published_or 1 x) k.stage_is ready;
+      held = out;
+      state = t;
+      before = k.leads.steps;
+      unwiped = stays_unwiped h last k.leads.steps k.leads.does idle two;
+      entries = k.leads.entries;
+      leads = k.leads.leads;
+    };
+    stage_is = k.stage_is;
+    held_is = refl;
+    state_is = refl;
+    known = k.known;
+    did = did_own h last k.leads.steps k.leads.does idle two;
+  }
+
+  gives_bytes : (ending : Ending) (result : Result VEnd Errno) (out : List ℕ) → EndsAs ending result out →
+      gives result ≡ true → GivesBytes ending out
+  gives_bytes no_bytes result out is met = (let no : true ≡ false = sym met ∙ ap gives is in absurd (cc no))
+  gives_bytes (by_batch bytes) result out is met = is.1
+  gives_bytes (by_system (read bytes visit)) result out is met = is.1
+  gives_bytes (by_system (failed errno)) result out is met = (let no : true ≡ false = sym met ∙ ap gives is in absurd (cc no))
+
+  pub finished_over : (t : VgetrandomState) (result : Result VEnd Errno) (out : List ℕ) →
+      Ends hosting floor_of (RestOfCall stage n flags held s) h last
+      (record { state = t; result = result; buf = out }) → gives result ≡ true →
+      FinishedOver h.set.now n flags stage held s out (moment h.pass.now h.trace.now)
+      (moment last.pass.now last.trace.now)
+  finished_over t result out k met = record {
+    steps = k.runs.steps;
+    outcome = k.runs.outcome;
+    rest = k.runs.relates;
+    unwiped = stays_unwiped h last k.runs.steps k.runs.does idle two;
+    climbs = k.climbs;
+    gives = gives_bytes k.runs.outcome.ending result out k.runs.ends met;
+    did = did_own h last k.runs.steps k.runs.does idle two;
+  }

@@ -1,0 +1,14 @@
+use Rattle.std.proofs.Common.{sym, ◌∙◌, arith}
+use Rattle.fork_runs.proofs.Stretching.{loans, has_still, finished_over}
+use Rattle.fork_runs.proofs.stretches.finish_on_host.Goals as goal
+
+pub returns-clause-loans : goal.returns-clause-loans
+returns-clause-loans g c = loans _ _ _ c.finish-ended.ensures.runs.does
+
+pub returns-clause-has : goal.returns-clause-has
+returns-clause-has g c = has_still _ _ _ c.finish-ended.ensures.runs.does
+
+pub returns-clause-finished : goal.returns-clause-finished
+returns-clause-finished g c = λ met. finished_over c.args.host.now c.finish-ended.new.host c.requires.idle
+    (let a = c.args.host.now.free.pass.sized in let b = c.args.host.now.lanes.now.few in omega arith) _ _ _ _ _ _ _ _
+    c.finish-ended.ensures (sym c.gave_bytes.ensures ∙ met)

@@ -1,0 +1,4 @@
+pub mod Ending
+pub mod Runs
+pub mod Stretches
+pub mod TableForks

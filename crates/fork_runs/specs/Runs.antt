@@ -1,0 +1,84 @@
+-- What a caller did over the lanes on the way to a stop and behind the fork there.
+use Rattle.std.specs.Prelude.{ℕ, ◌≡◌, ◌≤◌, false, List, [], ◌∷◌, ◌++◌}
+use Rattle.key_names.specs.declared.entries.BaseEntry.TheVariants.{Fork}
+use Rattle.key_names.specs.declared.events.Answer.TheVariants.{Ok as Done}
+use Rattle.key_names.specs.declared.events.Event.TheVariants.{Reseed}
+use Rattle.key_names.specs.declared.names.Step.{Step}
+use Rattle.key_names.specs.declared.point.Point.{Point}
+use Rattle.key_names.specs.declared.point.Point.TheVariants.{Serve}
+use Rattle.key_names.specs.Deeds.{Deed}
+use Rattle.key_names.specs.Forms.{BaseOnly}
+use Rattle.key_names.specs.SeenLine.{no_data}
+use Rattle.key_names.specs.Vgetrandom.{at_point, HostStep, IsCall}
+use Rattle.key_names.specs.VgetrandomState.{VgetrandomState, wiped_state}
+use Rattle.key_names.specs.VreadSteps.{Shows, published_by}
+use Rattle.lane_table.specs.declared.view.View.{View}
+use Rattle.lane_table.specs.Steps.{halved, both_of}
+use Rattle.lane_table.specs.Steps as steps
+use Rattle.lane_table.specs.Went.{floor}
+use Rattle.vdso_state.specs.declared.place.Turn.{Turn}
+use Rattle.vdso_state.specs.declared.place.Turn.TheVariants.{First, Second}
+use Rattle.vdso_state.specs.Places.{BehindPlace}
+use Rattle.vcall_fork.specs.declared.stage.Stage.{Stage}
+use Rattle.vcall_fork.specs.declared.stage.Stage.TheVariants.{At}
+use Rattle.rng_core.specs.declared.setting.Setting.{Setting}
+use Rattle.rng_core.specs.Told.{Moment}
+use Rattle.rng_core.specs.Did.{Did, Fulfils, setting_of}
+use Rattle.fork_runs.specs.Stretches.{Stop, FinishedOver}
+use Rattle.fork_runs.specs.TableForks.{first_setting}
+
+-- a caller that knows this, with steps of a call that it made of its own
+abbrev pub knowing : View → List Step → Moment
+knowing v steps = record { view = v; steps = steps }
+
+-- one call, with steps of its own
+abbrev pub DidAll : (List Deed → Type 0) → Setting → View → List Step → View → Type 0
+DidAll P set v steps w = Did P set (knowing v []) (knowing w steps)
+
+pub record RanBySecond (set : Setting) (n flags : ℕ) (s : VgetrandomState) (point : Point) (before : List HostStep)
+    (v : View) (calls : List (List Step)) (w : View) : Type 0 where
+  pub earlier : Stop (IsCall n flags s) n flags First Serve
+  pub later : Stop (BehindPlace n flags earlier.place earlier.held earlier.state) n flags Second point
+  pub before_is : before ≡ earlier.before ++ at_point Serve false ∷ later.before
+  pub own : List Step
+  pub reseeded : List Step
+  pub more : List Step
+  pub calls_are : calls ≡ own ∷ reseeded ∷ more ∷ []
+  pub at_serve : View
+  pub behind : View
+  pub shown : DidAll (Shows (setting_of set) earlier.before) set v own at_serve
+  pub reseeds : DidAll (Fulfils (setting_of set) Reseed Done no_data) set at_serve reseeded behind
+  pub shown_more : DidAll (Shows (setting_of set) later.before) set behind more w
+
+abbrev pub RanBy : Setting → ℕ → ℕ → VgetrandomState → Turn → Point → List HostStep → View → List (List Step) → View →
+    Type 0
+RanBy set n flags s First point before v calls w =
+    (own : List Step) × (calls ≡ own ∷ []) × DidAll (Shows (setting_of set) before) set v own w
+RanBy set n flags s Second point before v calls w = RanBySecond set n flags s point before v calls w
+
+-- from v to w a caller ran a new call to a stop, and left this
+pub record ReachedStop (set : Setting) (n flags : ℕ) (s : VgetrandomState) (turn : Turn) (point : Point)
+    (left : Stage) (out : List ℕ) (t : VgetrandomState) (v w : View) : Type 0 where
+  pub stop : Stop (IsCall n flags s) n flags turn point
+  pub stage_is : left ≡ At stop.place
+  pub held_is : out ≡ stop.held
+  pub state_is : t ≡ stop.state
+  pub known : stop.place.published ≤ published_by (floor w)
+  pub calls : List (List Step)
+  pub ran : RanBy set n flags s turn point stop.before v calls w
+
+-- from v to w a caller forked caller 1 in a call that stood at a point, ended the call, and took in the child's pass,
+-- which had ended its own
+pub record ForkedOver (set : Setting) (n flags : ℕ) (stage : Stage) (held : List ℕ) (s : VgetrandomState)
+    (parent child : List ℕ) (v w : View) : Type 0 where
+  pub forked : List Step
+  pub at_fork : View
+  pub forks : DidAll (BaseOnly (Fork 1)) set v forked at_fork
+  pub parents : List Step
+  pub parent_end : View
+  pub parent_ends : FinishedOver set n flags stage held s parent (knowing (halved at_fork) []) (knowing parent_end parents)
+  pub childs : List Step
+  pub child_end : View
+  pub child_ends : FinishedOver (first_setting 1) n flags stage held wiped_state child
+      (knowing (steps.child at_fork) []) (knowing child_end childs)
+  pub joined : w ≡ both_of parent_end child_end

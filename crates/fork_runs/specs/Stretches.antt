@@ -1,0 +1,65 @@
+-- A vgetrandom call whose host is a caller over the lanes: to a point where it stops, and from there to its end.
+use Rattle.std.specs.Prelude.{ℕ, ◌≡◌, ◌≤◌, false, List, ◌++◌}
+use Rattle.std.specs.List.{AllByRecursion}
+use Rattle.key_names.specs.declared.entries.VEntry.{VEntry}
+use Rattle.key_names.specs.declared.point.Point.{Point}
+use Rattle.key_names.specs.Vgetrandom.{read, failed, HostStep, Ending, no_bytes, by_batch, by_system, Outcome, outcome_behind}
+use Rattle.key_names.specs.VgetrandomState.{VgetrandomState}
+use Rattle.key_names.specs.VreadSteps.{Shows, points_of, published_by}
+use Rattle.lane_table.specs.Went.{floor}
+use Rattle.vdso_state.specs.declared.place.Turn.{Turn}
+use Rattle.vdso_state.specs.declared.place.Place.{Place}
+use Rattle.vdso_state.specs.Places.{AtPlace, Climbs}
+use Rattle.vcall_fork.specs.declared.stage.Stage.{Stage}
+use Rattle.vcall_fork.specs.declared.stage.Stage.TheVariants.{At}
+use Rattle.vcall_fork.specs.Stops.{RestOfCall}
+use Rattle.rng_core.specs.declared.setting.Setting.{Setting}
+use Rattle.rng_core.specs.Told.{Moment}
+use Rattle.rng_core.specs.Did.{Did, setting_of}
+
+-- no point wiped the state
+abbrev pub AreUnwiped : List HostStep → Type 0
+AreUnwiped steps = AllByRecursion (λ reached. reached.wiped ≡ false) (points_of steps)
+
+-- what From relates, of a call for n bytes, came to a point of an attempt: the steps before it, and what the call had in
+-- its buffer and its state there
+pub record Stop (From : List HostStep → Outcome → Type 0) (n flags : ℕ) (turn : Turn) (point : Point) : Type 0 where
+  pub place : Place
+  pub turn_is : place.turn ≡ turn
+  pub point_is : place.point ≡ point
+  pub ready : 1 ≤ place.published
+  pub held : List ℕ
+  pub state : VgetrandomState
+  pub before : List HostStep
+  pub unwiped : AreUnwiped before
+  pub entries : List VEntry
+  pub leads : (rest : List HostStep) (outcome : Outcome) → AtPlace n flags place held state rest outcome →
+      From (before ++ rest) (outcome_behind entries outcome)
+
+-- from l to m a caller ran a call there, which was at this stage, with this in its buffer and this state, and left those
+pub record StoppedOver (set : Setting) (n flags : ℕ) (stage : Stage) (held : List ℕ) (s : VgetrandomState)
+    (turn : Turn) (point : Point) (left : Stage) (out : List ℕ) (t : VgetrandomState) (l m : Moment) : Type 0 where
+  pub stop : Stop (RestOfCall stage n flags held s) n flags turn point
+  pub stage_is : left ≡ At stop.place
+  pub held_is : out ≡ stop.held
+  pub state_is : t ≡ stop.state
+  pub known : stop.place.published ≤ published_by (floor m.view)
+  pub did : Did (Shows (setting_of set) stop.before) set l m
+
+-- a call that ended so gave these bytes
+abbrev pub GivesBytes : Ending → List ℕ → Type 0
+GivesBytes no_bytes out = ⊥
+GivesBytes (by_batch bytes) out = out ≡ bytes
+GivesBytes (by_system (read bytes visit)) out = out ≡ bytes
+GivesBytes (by_system (failed errno)) out = ⊥
+
+-- from l to m a caller ran what was left of a call to its end, which gave these bytes
+pub record FinishedOver (set : Setting) (n flags : ℕ) (stage : Stage) (held : List ℕ) (s : VgetrandomState)
+    (out : List ℕ) (l m : Moment) : Type 0 where
+  pub steps : List HostStep
+  pub outcome : Outcome
+  pub rest : RestOfCall stage n flags held s steps outcome
+  pub unwiped : AreUnwiped steps
+  pub climbs : Climbs (published_by (floor l.view)) (published_by (floor m.view)) steps
+  pub gives : GivesBytes outcome.ending out
+  pub did : Did (Shows (setting_of set) steps) set l m

@@ -1,0 +1,108 @@
+-- A vgetrandom call of caller 0 on a new table that forks at a point, and what it then is of parent and child.
+use Rattle.std.specs.Prelude.{ℕ, ◌≡◌, ◌≤◌, Bool, true, false, List, [], ◌∷◌, ◌++◌, map, replicate}
+use Rattle.std.specs.List.{flat_map, range_with_len}
+use Rattle.key_names.specs.declared.entries.BaseEntry.TheVariants.{Fork}
+use Rattle.key_names.specs.declared.entries.VEntry.TheVariants.{Wipe}
+use Rattle.key_names.specs.declared.events.Answer.TheVariants.{Ok as Done}
+use Rattle.key_names.specs.declared.events.Event.TheVariants.{Add, Reseed}
+use Rattle.key_names.specs.declared.names.Step.{Step}
+use Rattle.key_names.specs.declared.point.Point.{Point}
+use Rattle.key_names.specs.declared.point.Point.TheVariants.{Serve}
+use Rattle.key_names.specs.Book.{Book, Lists, LawfulLanes, lists_of}
+use Rattle.key_names.specs.Deeds.{deeds_of}
+use Rattle.key_names.specs.Forms.{BaseOnly}
+use Rattle.key_names.specs.IsTranscript.{MarkBy, VisitsAre, marks_from}
+use Rattle.key_names.specs.SeenLine.{no_data}
+use Rattle.key_names.specs.Vgetrandom.{HostStep, at_point, Outcome, outcome_behind, by_batch, IsCall}
+use Rattle.key_names.specs.VgetrandomState.{VgetrandomState, wiped_state}
+use Rattle.key_names.specs.VreadSteps.{Shows}
+use Rattle.lane_table.specs.Went.{Climbs}
+use Rattle.vdso_state.specs.declared.place.Turn.{Turn}
+use Rattle.vdso_state.specs.declared.place.Turn.TheVariants.{First, Second}
+use Rattle.vdso_state.specs.declared.place.Place.{Place}
+use Rattle.vdso_state.specs.Places.{BehindPlace}
+use Rattle.vcall_fork.specs.Forks.{takes_key}
+use Rattle.rng_core.specs.declared.setting.Setting.{Setting}
+use Rattle.rng_core.specs.Did.{Fulfils, setting_of}
+use Rattle.fork_runs.specs.Stretches.{AreUnwiped, Stop, GivesBytes}
+
+-- a caller in its first event, on CPU 0, at moment 0, with hardware words 0
+abbrev pub first_setting : ℕ → Setting
+first_setting caller = record { caller = caller; event = 0; cpu = 0; now = 0; hw = replicate 32 0 }
+
+-- the steps of the caller's calls are what its host did
+abbrev pub IsShown : Lists → ℕ → List HostStep → List Step → Type 0
+IsShown lists caller steps own = Shows (setting_of (first_setting caller)) steps (deeds_of lists own)
+
+-- a stop in the second attempt: the call was stopped at the point Serve of the first one too, the core was reseeded there,
+-- and the call went on
+pub record WayBySecond (lists : Lists) (n : ℕ) (point : Point) (before : List HostStep) (calls : List (List Step))
+    : Type 0 where
+  pub earlier : Stop (IsCall n 0 wiped_state) n 0 First Serve
+  pub later : Stop (BehindPlace n 0 earlier.place earlier.held earlier.state) n 0 Second point
+  pub before_is : before ≡ earlier.before ++ at_point Serve false ∷ later.before
+  pub own : List Step
+  pub reseeded : List Step
+  pub more : List Step
+  pub calls_are : calls ≡ own ∷ reseeded ∷ more ∷ []
+  pub shown : IsShown lists 0 earlier.before own
+  pub reseeds : Fulfils (setting_of (first_setting 0)) Reseed Done no_data (deeds_of lists reseeded)
+  pub shown_more : IsShown lists 0 later.before more
+
+-- how the steps before a stop show in the parent's calls
+abbrev pub Way : Lists → ℕ → Turn → Point → List HostStep → List (List Step) → Type 0
+Way lists n First point before calls = (own : List Step) × (calls ≡ own ∷ []) × IsShown lists 0 before own
+Way lists n Second point before calls = WayBySecond lists n point before calls
+
+-- an end of the call: from its point on, with this in the buffer and this state, a caller came to the call's end by these
+-- steps of its own, and it gave these bytes
+pub record IsEnd (lists : Lists) (caller n : ℕ) (place : Place) (held : List ℕ) (s : VgetrandomState) (out : List ℕ)
+    : Type 0 where
+  pub steps : List HostStep
+  pub outcome : Outcome
+  pub rest : BehindPlace n 0 place held s steps outcome
+  pub unwiped : AreUnwiped steps
+  pub gives : GivesBytes outcome.ending out
+  pub own : List Step
+  pub shown : IsShown lists caller steps own
+
+-- the visits that a caller's calls made, each call with steps of its own
+abbrev pub marks_of : ℕ → List (List Step) → List MarkBy
+marks_of caller calls = flat_map (marks_from caller 0 0) calls
+
+abbrev pub stamps_of : List MarkBy → List ℕ
+stamps_of marks = map (λ by. by.mark.stamp) marks
+
+-- a lawful book has the visits of a call that adds the bytes 0 to 31 with 256 bits, then those of the parent's
+-- vgetrandom call to the stop, the fork's, those of the parent's rest and those of the child's, and no others. Parent and
+-- child give the bytes of their ends
+pub record AreForkedBytes (turn : Turn) (point : Point) (n : ℕ) (parent child : List ℕ) : Type 0 where
+  pub book : Book
+  pub lawful : LawfulLanes (lists_of book)
+  pub added : List Step
+  pub adds : Fulfils (setting_of (first_setting 0)) (Add (range_with_len 0 32) 256) Done no_data
+      (deeds_of (lists_of book) added)
+  pub stop : Stop (IsCall n 0 wiped_state) n 0 turn point
+  pub calls : List (List Step)
+  pub way : Way (lists_of book) n turn point stop.before calls
+  pub forked : List Step
+  pub forks : BaseOnly (Fork 1) (deeds_of (lists_of book) forked)
+  pub parent_end : IsEnd (lists_of book) 0 n stop.place stop.held stop.state parent
+  pub child_end : IsEnd (lists_of book) 1 n stop.place stop.held wiped_state child
+  -- the parent's call is one that nobody stopped
+  pub parent_call : IsCall n 0 wiped_state (stop.before ++ at_point point false ∷ parent_end.steps)
+      (outcome_behind stop.entries parent_end.outcome)
+  -- the child's is one that was wiped at the point, with the parent's steps before it
+  pub child_call : IsCall n 0 wiped_state (stop.before ++ at_point point true ∷ child_end.steps)
+      (outcome_behind stop.entries (outcome_behind (Wipe ∷ []) child_end.outcome))
+  -- bytes of the child's state are those of a key that it read behind the fork, in the attempt that gave them
+  pub child_keyed : (bytes : List ℕ) → child_end.outcome.ending ≡ by_batch bytes →
+      takes_key false child_end.steps ≡ true
+  pub visits : VisitsAre book (marks_of 0 (added ∷ calls ++ forked ∷ []) ++ marks_of 0 (parent_end.own ∷ [])
+      ++ marks_of 1 (child_end.own ∷ []))
+  pub at_fork : ℕ
+  pub parents_last : ℕ
+  pub childs_last : ℕ
+  pub to_fork : Climbs 0 (stamps_of (marks_of 0 (added ∷ calls ++ forked ∷ []))) at_fork
+  pub parents_rest : Climbs at_fork (stamps_of (marks_of 0 (parent_end.own ∷ []))) parents_last
+  pub childs_rest : Climbs at_fork (stamps_of (marks_of 1 (child_end.own ∷ []))) childs_last

@@ -1,0 +1,14 @@
+//! A vgetrandom call that forks at one of its points, over the lanes of a new table: what parent and child then give out.
+//!
+//! The call is that of `vcall_fork`, and its host is the caller itself. [`fork_on_new_table`] runs one to a point of an
+//! attempt, splits off the child there, and lets both go on to the end, the child with a pass of its own.
+#![tactic(auto)]
+
+mod stretches;
+mod table_forks;
+
+pub use table_forks::{ForkedBytes, fork_on_new_table};
+pub use vcall_fork::{Point, Turn};
+
+#[cfg(test)]
+mod tests;

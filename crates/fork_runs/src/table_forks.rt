@@ -1,0 +1,276 @@
+//! A fork inside a call, on a new table.
+ghost use Rattle.std.specs.Prelude.{◌≡◌, ◌<◌, ◌≤◌, ◌^◌, true, [], List, IfOk, length};
+ghost use Rattle.std.specs.List.{range_with_len};
+ghost use Rattle.key_names.specs.declared.events.Event.TheVariants.{Add, Reseed};
+ghost use Rattle.key_names.specs.declared.events.Answer.TheVariants.{Ok as Done};
+ghost use Rattle.key_names.specs.declared.names.Step.{Step};
+ghost use Rattle.key_names.specs.SeenLine.{no_data};
+ghost use Rattle.key_names.specs.VreadSteps.{published_by};
+ghost use Rattle.lane_table.specs.Calls.{view};
+ghost use Rattle.lane_table.specs.Hands.{Has};
+ghost use Rattle.lane_table.specs.Went.{floor};
+ghost use Rattle.rng_core.specs.Told.{moment};
+ghost use Rattle.rng_core.specs.Did.{Did, Fulfils, setting_of};
+ghost use Rattle.vcall_fork.specs.declared.stage.Stage.TheVariants.{New};
+ghost use Rattle.vcall_fork.specs.Stages.{is_stopped, published_or};
+ghost use Rattle.fork_runs.specs.Runs.{ReachedStop, ForkedOver};
+ghost use Rattle.fork_runs.specs.TableForks.{AreForkedBytes, first_setting};
+
+use crate::stretches::{finish, run_to};
+use key_names::Trace;
+use lane_table::{Lanes, Pass};
+use rng_core::{Setting, add, fork, reseed};
+use std::alloc::{AllocError, Global};
+use std::sync::Wait;
+use vcall_fork::laws::{child_takes_key, forks_are_told};
+use vcall_fork::{Point, Turn, VCall};
+use vdso_state::VState;
+
+// The first sample: the bytes 0 to 31, with this many bits.
+const SAMPLE: [u8; 32] = [
+    0, 1, 2, 3, 4, 5, 6, 7, 8, 9, 10, 11, 12, 13, 14, 15, 16, 17, 18, 19, 20, 21, 22, 23, 24, 25,
+    26, 27, 28, 29, 30, 31,
+];
+
+const SAMPLE_BITS: u32 = 256;
+
+/// The bytes that the two ends of a forked call give out.
+#[derive(Drop)]
+pub struct ForkedBytes {
+    pub parent: Vec<u8>,
+    pub child: Vec<u8>,
+}
+
+// What a caller has set in its first event.
+fn first_setting(caller: u32) -> Setting
+    ensures { result ≡ first_setting caller }
+{
+    Setting {
+        caller,
+        event: 0,
+        cpu: 0,
+        now: 0,
+        hw: [0; 32],
+    }
+}
+
+// Adds the first sample, which makes the core ready.
+fn add_sample<R: Wait>(rt: &R, lanes: &Lanes, pass: &mut Pass, set: &Setting)
+    requires has { Has lanes.now set.now.caller [] pass.old }
+    requires moment { set.now.now < 2 ^ 40 }
+    ensures has { Has lanes.now set.entry.now.caller [] pass.new }
+    ensures did { (steps : List Step) × Did (Fulfils (setting_of set.entry.now) (Add (range_with_len 0 32) 256) Done no_data)
+        set.entry.now (moment pass.old []) (moment pass.new steps) }
+{
+    let mut trace = Trace::empty();
+    add(rt, lanes, pass, &mut trace, set, &SAMPLE, SAMPLE_BITS);
+}
+
+// Reseeds the core. The answer is whether it was ready.
+fn reseed_once<R: Wait>(rt: &R, lanes: &Lanes, pass: &mut Pass, set: &Setting) -> bool
+    requires has { Has lanes.now set.now.caller [] pass.old }
+    requires moment { set.now.now < 2 ^ 40 }
+    ensures has { Has lanes.now set.entry.now.caller [] pass.new }
+    ensures did { result ≡ true → (steps : List Step) × Did (Fulfils (setting_of set.entry.now) Reseed Done no_data)
+        set.entry.now (moment pass.old []) (moment pass.new steps) }
+{
+    let mut trace = Trace::empty();
+    match reseed(rt, lanes, pass, &mut trace, set) {
+        Ok(()) => true,
+        Err(_) => false,
+    }
+}
+
+// Runs a new call to a stop in its second attempt. The core is reseeded at the point Serve of the first one, so that there
+// is a second.
+fn reach_second<R: Wait>(
+    rt: &R,
+    lanes: &Lanes,
+    pass: &mut Pass,
+    set: &Setting,
+    call: &mut VCall,
+    st: &mut VState,
+    buf: &mut [u8],
+    point: Point,
+) -> bool
+    requires has { Has lanes.now set.now.caller [] pass.old }
+    requires cpu { set.now.cpu < lanes.now.cpus }
+    requires moment { set.now.now < 2 ^ 40 }
+    requires new { call.old.stage ≡ New }
+    requires length { length buf.old ≡ call.old.len }
+    ensures has { Has lanes.now set.entry.now.caller [] pass.new }
+    ensures len { call.new.len ≡ call.old.len }
+    ensures flags { call.new.flags ≡ call.old.flags }
+    ensures reached { result ≡ true → ReachedStop set.entry.now call.old.len call.old.flags st.old Turn.Second point
+        call.new.stage buf.new st.new (view pass.old) (view pass.new) }
+{
+    if !run_to(
+        rt,
+        lanes,
+        pass,
+        set,
+        call,
+        st,
+        buf,
+        Turn::First,
+        Point::Serve,
+    ) {
+        return false;
+    }
+    if !reseed_once(rt, lanes, pass, set) {
+        return false;
+    }
+    forks_are_told();
+    run_to(rt, lanes, pass, set, call, st, buf, Turn::Second, point)
+}
+
+// Runs a new call to a stop. The answer is whether it stands there.
+fn reach_stop<R: Wait>(
+    rt: &R,
+    lanes: &Lanes,
+    pass: &mut Pass,
+    set: &Setting,
+    call: &mut VCall,
+    st: &mut VState,
+    buf: &mut [u8],
+    attempt: Turn,
+    point: Point,
+) -> bool
+    requires has { Has lanes.now set.now.caller [] pass.old }
+    requires cpu { set.now.cpu < lanes.now.cpus }
+    requires moment { set.now.now < 2 ^ 40 }
+    requires new { call.old.stage ≡ New }
+    requires length { length buf.old ≡ call.old.len }
+    ensures has { Has lanes.now set.entry.now.caller [] pass.new }
+    ensures len { call.new.len ≡ call.old.len }
+    ensures flags { call.new.flags ≡ call.old.flags }
+    ensures reached { result ≡ true → ReachedStop set.entry.now call.old.len call.old.flags st.old attempt point
+        call.new.stage buf.new st.new (view pass.old) (view pass.new) }
+{
+    match attempt {
+        Turn::First => run_to(rt, lanes, pass, set, call, st, buf, Turn::First, point),
+        Turn::Second => reach_second(rt, lanes, pass, set, call, st, buf, point),
+    }
+}
+
+// Forks where the call stands, and ends it in the parent and then in the child. The answer is whether both gave bytes.
+fn fork_at_stop<R: Wait>(
+    rt: &R,
+    lanes: &Lanes,
+    pass: &mut Pass,
+    set: &Setting,
+    call: VCall,
+    st: &mut VState,
+    buf: &mut [u8],
+    child_buf: &mut [u8],
+) -> bool
+    requires has { Has lanes.now set.now.caller [] pass.old }
+    requires cpu { set.now.cpu < lanes.now.cpus }
+    requires stopped { is_stopped call.stage ≡ true }
+    requires length { length buf.old ≡ call.len }
+    requires child_length { length child_buf.old ≡ call.len }
+    requires known { published_or 0 call.stage ≤ published_by (floor (view pass.old)) }
+    ensures has { Has lanes.now set.entry.now.caller [] pass.new }
+    ensures forked { result ≡ true → ForkedOver set.entry.now call.len call.flags call.stage buf.old st.old buf.new
+        child_buf.new (view pass.old) (view pass.new) }
+{
+    let mut trace = Trace::empty();
+    let mut child_pass = fork(rt, lanes, pass, &mut trace, set, 1);
+    let (child_call, mut child_st) = call.fork_call(buf, child_buf);
+    let parent_gave = finish(rt, lanes, pass, set, call, st, buf);
+    let child_set = first_setting(1);
+    let child_gave = finish(
+        rt,
+        lanes,
+        &mut child_pass,
+        &child_set,
+        child_call,
+        &mut child_st,
+        child_buf,
+    );
+    lanes.join(pass, child_pass);
+    parent_gave && child_gave
+}
+
+// A run on a new table. The answer is whether the call was stopped and both ends gave bytes.
+fn fork_once<R: Wait>(
+    rt: &R,
+    alloc: Global,
+    attempt: Turn,
+    point: Point,
+    parent: &mut [u8],
+    child: &mut [u8],
+) -> Result<bool, AllocError>
+    requires length { length parent.old ≤ 2 ^ 20 }
+    requires child_length { length child.old ≡ length parent.old }
+    ensures { IfOk result (λ gave. gave ≡ true
+        → AreForkedBytes attempt point (length parent.old) parent.new child.new) }
+{
+    let (lanes, mut pass) = Lanes::start(alloc, 1, 0)?;
+    let set = first_setting(0);
+    add_sample(rt, &lanes, &mut pass, &set);
+    let mut call = VCall::begin(parent.len() as u32, 0);
+    let mut st = VState::wiped();
+    if !reach_stop(
+        rt, &lanes, &mut pass, &set, &mut call, &mut st, parent, attempt, point,
+    ) {
+        return Ok(false);
+    }
+    if !fork_at_stop(rt, &lanes, &mut pass, &set, call, &mut st, parent, child) {
+        return Ok(false);
+    }
+    let _visits = lanes.close(pass);
+    forks_are_told();
+    child_takes_key();
+    Ok(true)
+}
+
+// Runs until the call was stopped and both ends gave bytes: a run in which it was not is made anew.
+fn fork_until<R: Wait>(
+    rt: &R,
+    alloc: Global,
+    attempt: Turn,
+    point: Point,
+    parent: &mut [u8],
+    child: &mut [u8],
+) -> Result<(), AllocError>
+    requires length { length parent.old ≤ 2 ^ 20 }
+    requires child_length { length child.old ≡ length parent.old }
+    ensures { IfOk result (λ done. AreForkedBytes attempt point (length parent.old) parent.new child.new) }
+{
+    for _ in rt.forever() {
+        if fork_once(rt, alloc, attempt, point, parent, child)? {
+            return Ok(());
+        }
+    }
+    unreachable!()
+}
+
+/// Makes a table with one CPU and adds the bytes 0 to 31 with 256 bits, which make the core ready. Then caller 0 calls
+/// vgetrandom for so many bytes, from 1 to 2^20, without flags, on a wiped state, stops at a point of an attempt, and
+/// forks caller 1 there; for the second attempt the core is reseeded at the point Serve of the first. Caller 0 ends its
+/// call, and then caller 1 the child's, with its own pass. All calls have CPU 0, the moment 0 and hardware words 0.
+///
+/// A run whose call is over before the stop, or that gives no bytes, is made anew: none is known.
+///
+/// # Errors
+///
+/// There is no memory for the bytes or the table. Nothing else takes any.
+pub fn fork_on_new_table<R: Wait>(
+    rt: &R,
+    alloc: Global,
+    attempt: Turn,
+    point: Point,
+    len: u32,
+) -> Result<ForkedBytes, AllocError>
+    requires { len ≤ 2 ^ 20 }
+    ensures ends { IfOk result (λ forked.
+        AreForkedBytes attempt point len forked.parent.items forked.child.items) }
+    ensures long { IfOk result (λ forked.
+        (length forked.parent.items ≡ len) × (length forked.child.items ≡ len)) }
+{
+    let mut parent = vec![in alloc; 0; len as usize]?;
+    let mut child = vec![in alloc; 0; len as usize]?;
+    fork_until(rt, alloc, attempt, point, &mut parent, &mut child)?;
+    Ok(ForkedBytes { parent, child })
+}

@@ -1,0 +1,42 @@
+-- Points and attempts by their numbers.
+use Rattle.std.proofs.Common.{◌≡◌, ◌≤◌, ℕ, refl, arith}
+use Rattle.key_names.specs.declared.point.Point.{Point}
+use Rattle.key_names.specs.declared.point.Point.TheVariants.{Start, Written, Serve, End}
+use Rattle.key_names.specs.VreadSteps.{number_of}
+use Rattle.vdso_state.specs.declared.place.Turn.{Turn}
+use Rattle.vdso_state.specs.declared.place.Turn.TheVariants.{First, Second}
+use Rattle.vdso_state.specs.Turns.{turn_number}
+
+pub point_range : (p : Point) → (1 ≤ number_of p) × (number_of p ≤ 4)
+point_range Start = (omega arith, omega arith)
+point_range Written = (omega arith, omega arith)
+point_range Serve = (omega arith, omega arith)
+point_range End = (omega arith, omega arith)
+
+pub turn_range : (t : Turn) → (1 ≤ turn_number t) × (turn_number t ≤ 2)
+turn_range First = (omega arith, omega arith)
+turn_range Second = (omega arith, omega arith)
+
+pub point_is : (a b : Point) → number_of a ≡ number_of b → a ≡ b
+point_is Start Start e = refl
+point_is Start Written e = absurd (omega arith)
+point_is Start Serve e = absurd (omega arith)
+point_is Start End e = absurd (omega arith)
+point_is Written Start e = absurd (omega arith)
+point_is Written Written e = refl
+point_is Written Serve e = absurd (omega arith)
+point_is Written End e = absurd (omega arith)
+point_is Serve Start e = absurd (omega arith)
+point_is Serve Written e = absurd (omega arith)
+point_is Serve Serve e = refl
+point_is Serve End e = absurd (omega arith)
+point_is End Start e = absurd (omega arith)
+point_is End Written e = absurd (omega arith)
+point_is End Serve e = absurd (omega arith)
+point_is End End e = refl
+
+pub turn_is : (a b : Turn) → turn_number a ≡ turn_number b → a ≡ b
+turn_is First First e = refl
+turn_is First Second e = absurd (omega arith)
+turn_is Second First e = absurd (omega arith)
+turn_is Second Second e = refl

@@ -1,0 +1,42 @@
+-- What a fork inside a vgetrandom call promises.
+use Rattle.std.specs.Prelude.{ℕ, ◌≡◌, ◌≤◌, ◌^◌, ◌++◌, List, [], ◌∷◌, Option, String, string_bytes, codes, decimal, map}
+use Rattle.hex.specs.Hex.{encode_lower}
+use Rattle.key_names.specs.declared.point.Point.{Point}
+use Rattle.key_names.specs.VreadSteps.{number_of}
+use Rattle.vdso_state.specs.declared.place.Turn.{Turn}
+use Rattle.vdso_state.specs.Turns.{turn_number}
+use Rattle.fork_runs.specs.TableForks.{AreForkedBytes}
+use Rattle.rng_tool.specs.Ends.{EndsWith}
+use Rattle.rng_tool.specs.declared.status.Status.{Status}
+use Rattle.rng_tool.specs.declared.vfork.Vfork.{Vfork}
+
+-- the texts are `vfork POINT ATTEMPT N`, with numbers in their ranges
+pub record AskVfork (texts : List (List ℕ)) (point : Point) (attempt : Turn) (n : ℕ) : Type 0 where
+  pub spelt : texts ≡ codes "vfork" ∷ decimal (number_of point) ∷ decimal (turn_number attempt) ∷ decimal n ∷ []
+  pub fits : (1 ≤ n) × (n ≤ 2 ^ 20)
+
+-- a fork that may be made
+pub record IsSmallVfork (vfork : Vfork) : Type 0 where
+  pub fits : (1 ≤ vfork.len) × (vfork.len ≤ 2 ^ 20)
+
+-- the words of a fork
+abbrev pub IsVfork : {A : Type 0} → List (String A) → Point → Turn → ℕ → Type 0
+IsVfork words point attempt n = AskVfork (map string_bytes words) point attempt n
+
+-- the line of an end: its name, and its bytes in hex
+abbrev pub end_line : List ℕ → List ℕ → List ℕ
+end_line name bytes = name ++ (encode_lower bytes ++ 10 ∷ [])
+
+abbrev pub vfork_text : List ℕ → List ℕ → List ℕ
+vfork_text parent child = end_line (codes "parent ") parent ++ end_line (codes "child ") child
+
+-- the output tells the bytes that parent and child give out, by the one book of a new table
+pub record VforkOf (point : Point) (attempt : Turn) (n : ℕ) (output : List ℕ) : Type 0 where
+  pub parent : List ℕ
+  pub child : List ℕ
+  pub forked : AreForkedBytes attempt point n parent child
+  pub told : output ≡ vfork_text parent child
+
+-- how a fork ends, and what the sink then holds
+abbrev pub VforkEnds : Point → Turn → ℕ → Status → Option (List ℕ) → Option (List ℕ) → Type 0
+VforkEnds point attempt n = EndsWith (VforkOf point attempt n)

@@ -1,0 +1,153 @@
+//! A fork inside a vgetrandom call: its words, its run, and a line for each end.
+ghost use Rattle.std.specs.Prelude.{◌≡◌, ◌≤◌, ◌+◌, ◌*◌, ◌^◌, ◌++◌, ◌∷◌, [], ℕ, Some, IfOk, IfSome, length};
+ghost use Rattle.hex.specs.Hex.{encode_lower};
+ghost use Rattle.io_edges.specs.Faults.{Rose};
+ghost use Rattle.key_names.specs.declared.point.Point.{Point};
+ghost use Rattle.key_names.specs.VreadSteps.{number_of};
+ghost use Rattle.vdso_state.specs.declared.place.Turn.{Turn};
+ghost use Rattle.vdso_state.specs.Turns.{turn_number};
+ghost use Rattle.rng_tool.specs.VforkOutcome.{AskVfork, IsSmallVfork, IsVfork, VforkEnds, VforkOf, end_line, vfork_text};
+
+use crate::numbers::number_in;
+use crate::status::Status;
+use fork_runs::{Point, Turn, fork_on_new_table};
+use hex::encode_to_slice;
+use io_edges::{Failed, NoMemory, Sink, put_all};
+use std::alloc::Global;
+use std::sync::Wait;
+
+/// The most bytes that each end gives.
+const MOST_BYTES: u32 = 1 << 20;
+
+const PARENT: &[u8] = b"parent ";
+
+const CHILD: &[u8] = b"child ";
+
+/// What is forked: a call for so many bytes, at a point of an attempt.
+#[derive(Clone, Copy, Debug, PartialEq, Eq)]
+pub(crate) struct Vfork {
+    pub(crate) point: Point,
+    pub(crate) attempt: Turn,
+    pub(crate) len: u32,
+}
+
+/// The point of this number.
+fn point_of(number: u32) -> Point
+    requires { (1 ≤ number) × (number ≤ 4) }
+    ensures { number_of result ≡ number }
+{
+    match number {
+        1 => Point::Start,
+        2 => Point::Written,
+        3 => Point::Serve,
+        _ => Point::End,
+    }
+}
+
+/// The attempt of this number.
+fn attempt_of(number: u32) -> Turn
+    requires { (1 ≤ number) × (number ≤ 2) }
+    ensures { turn_number result ≡ number }
+{
+    match number {
+        1 => Turn::First,
+        _ => Turn::Second,
+    }
+}
+
+/// The fork that four words ask for.
+#[tactic(auto, using(crate::proofs::VforkWords::point_range, crate::proofs::VforkWords::turn_range))]
+fn vfork_by(command: &str, point: &str, attempt: &str, len: &str) -> Option<Vfork>
+    ensures found { IfSome result (λ vfork.
+        AskVfork (command.now ∷ point.now ∷ attempt.now ∷ len.now ∷ []) vfork.point vfork.attempt vfork.len) }
+    ensures only { (at : Point) (turn : Turn) (n : ℕ)
+        → AskVfork (command.now ∷ point.now ∷ attempt.now ∷ len.now ∷ []) at turn n
+        → result ≡ Some (record { point = at; attempt = turn; len = n }) }
+{
+    if command != "vfork" {
+        return None;
+    }
+    let Some(point) = number_in(1, 4, point) else {
+        return None;
+    };
+    let Some(attempt) = number_in(1, 2, attempt) else {
+        return None;
+    };
+    let Some(len) = number_in(1, MOST_BYTES, len) else {
+        return None;
+    };
+    Some(Vfork {
+        point: point_of(point),
+        attempt: attempt_of(attempt),
+        len,
+    })
+}
+
+/// The fork that the words ask for, if they ask for one.
+pub(crate) fn vfork_of(words: &[String]) -> Option<Vfork>
+    ensures found { IfSome result (λ vfork. IsVfork words.now vfork.point vfork.attempt vfork.len) }
+    ensures only { (point : Point) (attempt : Turn) (n : ℕ) → IsVfork words.now point attempt n
+        → result ≡ Some (record { point = point; attempt = attempt; len = n }) }
+{
+    match words {
+        [command, point, attempt, len] => vfork_by(
+            command.as_str(),
+            point.as_str(),
+            attempt.as_str(),
+            len.as_str(),
+        ),
+        _ => None,
+    }
+}
+
+// Writes the line of an end: its name, and its bytes in hex.
+fn write_end(out: &mut [u8], name: &[u8], bytes: &[u8])
+    requires fits { length out.old ≡ length name.now + 2 * length bytes.now + 1 }
+    requires short { length bytes.now ≤ 2 ^ 20 }
+    ensures { out.new ≡ end_line name.now bytes.now }
+{
+    let (front, rest) = out.split_at_mut(name.len());
+    front.copy_from_slice(name);
+    let (digits, end) = rest.split_at_mut(2 * bytes.len());
+    end.copy_from_slice(b"\n");
+    let Ok(()) = encode_to_slice(bytes, digits) else {
+        unreachable!()
+    };
+}
+
+// The lines of a fork that was made. The memory for them is had before.
+fn lines_of<R: Wait>(rt: &R, alloc: Global, vfork: Vfork) -> Result<Vec<u8>, NoMemory>
+    requires { IsSmallVfork vfork }
+    ensures { IfOk result (λ text. VforkOf vfork.point vfork.attempt vfork.len text.items) }
+{
+    let digits = 2 * vfork.len as usize;
+    let first = PARENT.len() + digits + 1;
+    let mut text = vec![in alloc; 0; first + CHILD.len() + digits + 1]?;
+    let forked = fork_on_new_table(rt, alloc, vfork.attempt, vfork.point, vfork.len)?;
+    let (parent, child) = text.split_at_mut(first);
+    write_end(parent, PARENT, &forked.parent);
+    write_end(child, CHILD, &forked.child);
+    Ok(text)
+}
+
+/// Forks inside a call on a new table, and writes a line for each end.
+pub(crate) fn run_vfork<R: Wait, K: Sink>(
+    rt: &R,
+    alloc: Global,
+    vfork: Vfork,
+    sink: &mut K,
+) -> Status
+    requires { IsSmallVfork vfork }
+    ensures ends { VforkEnds vfork.point vfork.attempt vfork.len result (K.held sink.old) (K.held sink.new) }
+    ensures cut { result ≡ Status.WriteFault → Rose (K.faults sink.old) (K.faults sink.new) }
+    ensures silent { result ≡ Status.NoMemory → sink.new ≡ sink.old }
+    ensures never_falls { K.faults sink.old ≤ K.faults sink.new }
+{
+    let Ok(text) = lines_of(rt, alloc, vfork) else {
+        return Status::NoMemory;
+    };
+    match put_all(sink, &text) {
+        Ok(()) => Status::Done,
+        Err(Failed) => Status::WriteFault,
+    }
+}
