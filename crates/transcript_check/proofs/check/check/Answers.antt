@@ -2,7 +2,7 @@ use Rattle.std.proofs.Common.{◌≡◌}
 use Rattle.key_names.specs.IsTranscript.{clause_number}
 use Rattle.transcript_check.specs.declared.check.Verdict.TheVariants.{Yes, No}
 use Rattle.transcript_check.specs.Judged.{IsJudged}
-use Rattle.transcript_check.proofs.LinesAgree.{if_ok}
+use Rattle.serial_replay.proofs.BareMade.{if_ok}
 use Rattle.transcript_check.proofs.Sound.{yes_of, no_of}
 use Rattle.transcript_check.proofs.check.check.Goals as goal
 

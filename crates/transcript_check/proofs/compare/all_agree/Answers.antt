@@ -7,7 +7,8 @@ use Rattle.key_names.specs.SeenLine.{SeenLine}
 use Rattle.caller_answers.specs.declared.said.Said.{Said}
 use Rattle.serial_replay.specs.Agreement.{Agrees}
 use Rattle.serial_replay.specs.Remade.{said_lists}
-use Rattle.transcript_check.proofs.LinesAgree.{lines_at, said_at, moved}
+use Rattle.serial_replay.proofs.WrittenLines.{lines_at, said_at}
+use Rattle.transcript_check.proofs.LinesAgree.{moved}
 use Rattle.transcript_check.proofs.compare.all_agree.Goals as goal
 
 pub returns-then-not-lines_agree : goal.returns-then-not-lines_agree
