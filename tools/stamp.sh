@@ -1,28 +1,55 @@
 # Which sources the built program stands for. Read by ./rng and .ci/run, which set top, the repository's folder.
 #
-# The stamp has two parts. `sum` is what it means: the hash of each source's bytes, and that of the program which was
-# proved and built from them. `seen` is a short cut, a file that is as old as the last look which found the sum right:
-# while no source, no folder of sources and no program was changed since, nothing is read. Every edit, checkout or copy
-# sets the time of a file's last change to the clock, whatever time the file itself is given. Once something is newer
-# the sum decides, so a file that was only touched costs one look.
+# The stamp has three parts. `sum` is what it means: the hash of each source's bytes, and that of the program which was
+# proved and built from them. `sources` names the folders that they are in, those of the crates that the program stands on.
+# `seen` is a short cut, a file that is as old as the last look which found the sum right: while no source, no folder of
+# sources and no program was changed since, nothing is read. Every edit, checkout or copy sets the time of a file's last
+# change to the clock, whatever time the file itself is given. Once something is newer the sum decides, so a file that was
+# only touched costs one look.
 # shellcheck shell=sh
 
-program=${top:?}/crates/rng_tool/out/rng_tool
+own=crates/rng_tool/out/rng_tool
+program=${top:?}/$own
 stamp=$program.stands_for
 
-# The code and the definitions, which say what the program is and what is proved of it. Proofs are left out: other
-# proofs of the same contracts make no other program.
+# The crates that the program stands on, each behind those that it needs itself, the program last.
+crates_in_order() {
+    awk -F: '
+        function visit(name,    i, n, deps) {
+            if (name in seen || !(name in needs)) return
+            seen[name]
+            n = split(needs[name], deps, " ")
+            for (i = 1; i <= n; i++) visit(deps[i])
+            print name
+        }
+        !/^#/ && NF > 1 { split($1, words, " "); needs[words[1]] = $2 }
+        END { visit("rng_tool") }' "$top/crates.txt"
+}
+
+# The code and the definitions, which say what the program is and what is proved of it, as folders on one line. Proofs are
+# left out: other proofs of the same contracts make no other program.
+folders_of_sources() {
+    for name in $(crates_in_order); do
+        for folder in "crates/$name/src" "crates/$name/specs"; do
+            [ ! -d "$top/$folder" ] || printf '%s ' "$folder"
+        done
+    done
+    echo
+}
+
 sum_of_sources() (
+    folders=$(folders_of_sources)
     cd "$top" || return
-    find crates.txt crates/*/src crates/*/specs -type f \( -name '*.rt' -o -name '*.antt' -o -name crates.txt \) \
+    # shellcheck disable=SC2086
+    find crates.txt $folders -type f \( -name '*.rt' -o -name '*.antt' -o -name crates.txt \) \
         -exec sha256sum {} + | LC_ALL=C sort | sha256sum
 )
 
 # The program stands for the sources, by a look at no more than the times of the files' last changes.
 seems_current() {
-    [ -x "$program" ] && [ -f "$stamp.seen" ] &&
-        [ -z "$(find "$program" "$top/crates.txt" "$top/crates" "$top"/crates/*/src "$top"/crates/*/specs \
-            -newercm "$stamp.seen" -print -quit -o -path "$top/crates" -prune 2>&1)" ]
+    [ -x "$program" ] && [ -f "$stamp.seen" ] && read -r folders 2>/dev/null <"$stamp.sources" || return 1
+    # shellcheck disable=SC2086
+    [ -z "$(cd "$top" && find "$own" crates.txt $folders -newercm "$own.stands_for.seen" -print -quit 2>&1)" ]
 }
 
 # The program stands for the sources, by all their bytes. What changes after the look began is newer than `seen`.
@@ -30,7 +57,7 @@ is_current() {
     [ -x "$program" ] && [ -f "$stamp" ] || return 1
     { : >"$stamp.$$" && { sleep 0.02 || sleep 1; }; } 2>/dev/null || :
     if [ "$(sum_of_sources) $(sha256sum <"$program")" = "$(cat "$stamp")" ]; then
-        mv "$stamp.$$" "$stamp.seen" 2>/dev/null || :
+        { folders_of_sources >"$stamp.sources" && mv "$stamp.$$" "$stamp.seen"; } 2>/dev/null || :
     else
         rm -f "$stamp.$$"
         return 1

@@ -220,6 +220,3 @@ fn reseed_interval(early_boot: &mut bool, now: u64) -> u64
         60_000
     }
 }
-
-#[cfg(test)]
-mod tests;

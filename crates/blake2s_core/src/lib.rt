@@ -5,6 +5,3 @@ mod compress;
 mod hasher;
 
 pub use hasher::{Blake2s, hash};
-
-#[cfg(test)]
-mod tests;

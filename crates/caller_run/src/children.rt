@@ -10,7 +10,7 @@ use std::thread::{Promise, PromisedHandle, Scope, SpawnError};
 
 /// Where children run.
 #[derive(Clone, Copy, Drop)]
-pub(crate) enum Children {
+pub enum Children {
     /// Each in a thread of its own, where one can be made.
     InThreads,
     /// Each in its parent's thread, as where no thread can be made.

@@ -17,8 +17,6 @@ mod caller;
 mod calls;
 mod children;
 mod here;
-#[cfg(test)]
-mod hold_tests;
 pub mod laws;
 mod lines;
 mod logs;
@@ -26,16 +24,15 @@ mod new_table;
 mod plans;
 mod rooms;
 mod run;
-#[cfg(test)]
-mod run_tests;
 mod said;
 mod settings;
 mod states;
 mod vreads;
 mod ways;
 
+pub use children::Children;
 pub use here::run_here;
-pub use new_table::run_on_new_table;
+pub use new_table::{run_new, run_on_new_table};
 pub use plans::Plan;
 pub use rooms::Room;
 pub use run::{run_all, run_caller};

@@ -34,7 +34,11 @@ pub fn run_on_new_table<R: Threads + Wait + Sync, G: Gate>(
 }
 
 /// The same, where the children run so.
-pub(crate) fn run_new<R: Threads + Wait + Sync, G: Gate>(
+///
+/// # Errors
+///
+/// Those of [`run_on_new_table`].
+pub fn run_new<R: Threads + Wait + Sync, G: Gate>(
     rt: &R,
     alloc: Global,
     script: &Script,

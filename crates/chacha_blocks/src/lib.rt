@@ -10,8 +10,6 @@ pub mod erasure;
 pub mod reader;
 pub mod reads;
 pub mod stream;
-#[cfg(test)]
-mod tests;
 
 pub use erasure::{Detached, derive_key, erase, erase_and_fill};
 pub use reader::Reader;

@@ -111,6 +111,3 @@ impl Cpu {
         self.generation = 0;
     }
 }
-
-#[cfg(test)]
-mod tests;

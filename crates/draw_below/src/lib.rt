@@ -23,6 +23,3 @@ pub use rejected::Rejected;
 pub use shuffles::shuffle;
 pub use table_draws::{Drawn, draw_each, draw_on_new_table};
 pub use words::{ListWords, Words};
-
-#[cfg(test)]
-mod tests;

@@ -18,8 +18,6 @@ mod reading;
 pub mod reads;
 pub mod script;
 pub mod script_error;
-#[cfg(test)]
-mod tests;
 mod words;
 
 pub use script::{Script, read, read_front};

@@ -8,6 +8,3 @@
 mod pool;
 
 pub use pool::{Crossing, Pool};
-
-#[cfg(test)]
-mod tests;

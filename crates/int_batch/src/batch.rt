@@ -98,6 +98,3 @@ impl<const W: usize> Batch<W> {
         self.generation = 0;
     }
 }
-
-#[cfg(test)]
-mod tests;

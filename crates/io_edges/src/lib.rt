@@ -19,6 +19,3 @@ pub use memory::{MemSink, MemSource};
 pub use standard::{StdSink, StdSource};
 pub use std::alloc::AllocError as NoMemory;
 pub use whole::{ReadError, put_all, read_to_limit};
-
-#[cfg(test)]
-mod tests;

@@ -10,8 +10,6 @@ pub mod laws;
 mod passes;
 mod plays;
 mod takes;
-#[cfg(test)]
-mod tests;
 mod tries;
 mod values;
 mod view;

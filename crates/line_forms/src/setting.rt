@@ -71,4 +71,11 @@ impl Setting {
     {
         self.moment
     }
+
+    /// The caller's hardware words.
+    pub fn hw(&self) -> [u8; 32]
+        ensures { result ≡ self.now.hw }
+    {
+        self.hw
+    }
 }

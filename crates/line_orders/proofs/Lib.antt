@@ -11,3 +11,4 @@ pub mod MarksMoved
 pub mod Carried
 pub mod OwnSteps
 pub mod AllCalls
+pub mod SettingsFound

@@ -70,7 +70,7 @@ module _ (lane : LaneId) where
     same_count p =
         count_here p ys ∙ sum_by-IsPermutation (λ by. cond (here by && p by.mark) 1 0) xs ys same ∙ sym (count_here p xs)
 
-    same_long : length (lane_marks lane ys) ≡ length (lane_marks lane xs)
+    pub same_long : length (lane_marks lane ys) ≡ length (lane_marks lane xs)
     same_long = long_here ys ∙ sum_by-IsPermutation (λ by. cond (here by) 1 0) xs ys same ∙ sym (long_here xs)
 
     pub lane_moved : PlacesStand (lane_marks lane xs) → PlacesStand (lane_marks lane ys)

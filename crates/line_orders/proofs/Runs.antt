@@ -103,7 +103,7 @@ none_left : (lane : LaneId) (marks : List MarkOf) →
 none_left lane [] none = refl
 none_left lane (m ∷ marks) none = left lane m marks none.0 ∙ none_left lane marks none.1
 
-lane_sorted : (lane : LaneId) (marks : List MarkOf) → IsSortedByLane marks → ByStamp (of_lane lane marks)
+pub lane_sorted : (lane : LaneId) (marks : List MarkOf) → IsSortedByLane marks → ByStamp (of_lane lane marks)
 lane_sorted lane [] sorted = tt
 lane_sorted lane (m ∷ marks) sorted =
     go (is_same_lane m.mark.lane lane) refl (lane_sorted lane marks (sorted_rest m marks sorted))

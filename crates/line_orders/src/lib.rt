@@ -21,5 +21,3 @@ pub mod order;
 pub mod seen;
 pub mod settings;
 mod stamps;
-#[cfg(test)]
-mod tests;

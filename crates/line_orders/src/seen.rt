@@ -35,10 +35,7 @@ fn bare_lines(alloc: Global, lines: &CallerLines) -> Result<Vec<BareLine<'_>>, A
 /// # Errors
 ///
 /// `AllocError` where there is no memory for them.
-pub fn bare_callers(
-    alloc: Global,
-    t: &Transcript,
-) -> Result<Vec<Vec<BareLine<'_>>>, AllocError>
+pub fn bare_callers(alloc: Global, t: &Transcript) -> Result<Vec<Vec<BareLine<'_>>>, AllocError>
     ensures { IfOk result (λ callers. seen_callers callers.items ≡ map (map bare) t.now) }
 {
     let mut callers = Vec::new(alloc);

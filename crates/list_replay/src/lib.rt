@@ -63,6 +63,3 @@ pub fn replay_lists(alloc: Global, told: &Told) -> Result<Option<Lists>, AllocEr
         Ok(None)
     }
 }
-
-#[cfg(test)]
-mod tests;

@@ -38,6 +38,3 @@ pub use samples::{add, bits, device, input, mix, vmfork};
 pub use setting::Setting;
 pub use system_call::{getrandom, random_file};
 pub use vreads::{vread, vread_local};
-
-#[cfg(test)]
-mod tests;

@@ -10,6 +10,3 @@ mod input_timer;
 
 pub use fast_pool::{Dump, FastPool};
 pub use input_timer::{InputTimer, input_number, input_sample};
-
-#[cfg(test)]
-mod tests;

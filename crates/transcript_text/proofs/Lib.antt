@@ -10,6 +10,7 @@ pub mod NameTexts
 pub mod NumberTexts
 pub mod PuttingOn
 pub mod ReadingOn
+pub mod CountingOn
 pub mod RisingLines
 pub mod ShownTexts
 pub mod StepLists

@@ -101,7 +101,7 @@ gives_current done (c ∷ current) lines g rising last begun = (
       }) g,
 )
 
-gives_so_far : (text rest : List ℕ) (done : List (List SeenLine)) (current : List SeenLine) (number : ℕ)
+pub gives_so_far : (text rest : List ℕ) (done : List (List SeenLine)) (current : List SeenLine) (number : ℕ)
     (r : ReadSoFar text done current rest number)
     → (callers : List (List SeenLine)) × Gives callers r.lines
 gives_so_far text rest done current number r = gives_current done current r.lines r.groups r.rising r.last r.begun

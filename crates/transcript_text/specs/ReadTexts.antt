@@ -1,7 +1,7 @@
 -- What reading a text answers.
 use Rattle.std.specs.Prelude.{ℕ, ◌≡◌, ◌<◌, ◌≤◌, ⊤, List, [], ◌∷◌, ◌++◌, length, Result, Ok, Err}
 use Rattle.key_names.specs.SeenLine.{SeenLine}
-use Rattle.key_names.specs.TranscriptGrammar.{line_text, LineFits, IsTranscriptText, IsFirstFault}
+use Rattle.key_names.specs.TranscriptGrammar.{all_lines, line_text, LineFits, IsTranscriptText, IsFirstFault}
 use Rattle.transcript_text.specs.declared.error.TextError.{TextError}
 use Rattle.transcript_text.specs.declared.error.TextError.TheVariants.{Fault, NoMemory}
 use Rattle.transcript_text.specs.Grouping.{Groups}
@@ -33,3 +33,18 @@ pub record AddsLine (text : List ℕ) (old new : List (List SeenLine)) (current 
 abbrev pub IsNoLine : List ℕ → ℕ → Type 0
 IsNoLine text least = (line : SeenLine) → LineFits line → least ≤ line.caller → line.caller < 64
     → text ≡ line_text line → ⊥
+
+-- the text is a line of this caller, and the caller's number is at least this
+pub record IsLineOf (text : List ℕ) (least caller : ℕ) : Type 0 where
+  pub line : SeenLine
+  pub fits : LineFits line
+  pub spelt : text ≡ line_text line
+  pub own : line.caller ≡ caller
+  pub later : least ≤ caller
+  pub below : caller < 64
+
+-- the text is that of a transcript with so many lines
+pub record HasCount (text : List ℕ) (count : ℕ) : Type 0 where
+  pub callers : List (List SeenLine)
+  pub is_text : IsTranscriptText text callers
+  pub many : length (all_lines callers) ≡ count

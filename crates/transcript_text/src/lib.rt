@@ -1,6 +1,7 @@
 //! The text of a transcript, written and read.
 #![tactic(auto)]
 
+mod counting;
 mod cuts;
 mod error;
 mod fields;
@@ -9,19 +10,16 @@ mod gathering;
 mod head;
 pub mod laws;
 mod line;
-#[cfg(test)]
-mod long_texts;
 mod names;
 mod piece;
 mod reading;
 mod shown;
 mod steps;
-#[cfg(test)]
-mod tests;
 mod transcript;
 mod view;
 mod writing;
 
+pub use counting::count_lines;
 pub use error::TextError;
 pub use gathered::CallerLines;
 pub use reading::read;

@@ -14,7 +14,7 @@ use crate::transcript::Transcript;
 use std::alloc::{AllocError, Global};
 
 /// A transcript has fewer callers than this number and one more.
-const MOST_CALLERS: u32 = 64;
+pub(crate) const MOST_CALLERS: u32 = 64;
 
 /// Adds the line that a text spells, and answers whether it is a line of the current caller or of a later one.
 fn take_line(

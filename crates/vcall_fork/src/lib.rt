@@ -13,8 +13,6 @@
 pub mod call;
 pub mod laws;
 pub mod stage;
-#[cfg(test)]
-mod tests;
 
 pub use call::VCall;
 pub use stage::{Progress, Stage};

@@ -14,5 +14,3 @@ pub mod laws;
 pub mod seen;
 pub mod served;
 pub mod system_call;
-#[cfg(test)]
-mod tests;

@@ -1,7 +1,0 @@
-use Rattle.lane_table.specs.Calls.{view}
-use Rattle.lane_table.proofs.HandLemmas.{has_child}
-use Rattle.lane_table.proofs.tests.forked.Goals as goal
-
-pub returns-clause-child : goal.returns-clause-child
-returns-clause-child c = has_child c.args.lanes.now 1 (view c.args.pass.now) c.split.result c.split.ensures.child.0
-    c.split.ensures.child.1 c.split.ensures.seat

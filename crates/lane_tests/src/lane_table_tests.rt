@@ -1,0 +1,238 @@
+//! Passes that meet at lanes.
+ghost use Rattle.std.specs.Prelude.{◌≡◌, ℕ, ◌<◌, ◌≤◌, []};
+ghost use Rattle.key_names.specs.declared.entries.CpuEntry.TheVariants.{Irq};
+ghost use Rattle.lane_table.specs.declared.view.Handed.{Handed};
+ghost use Rattle.lane_table.specs.declared.view.LaneEntry.TheVariants.{Cpu};
+ghost use Rattle.lane_table.specs.LaneNumbers.{index_of};
+ghost use Rattle.lane_table.specs.Meaning.{Model, ValueStands, made_of};
+ghost use Rattle.lane_table.specs.Calls.{view, count_of};
+ghost use Rattle.lane_table.specs.Hands.{Has};
+
+use crate::passes::{split_off, started};
+use crate::reseeds::{install, put_base, raise, rooted};
+use key_names::{CpuEntry, LaneId, Mark, Who};
+use lane_table::{Held, LaneState, Lanes, Pass, TakeFault};
+use std::alloc::{AllocError, Global};
+use std::sync::Wait;
+use std::test::Fail;
+use std::thread;
+use std::thread::Threads;
+
+const NEVER: u64 = 1 << 62;
+
+// Ends a table whose pass was split once.
+fn counted(lanes: Lanes, mut pass: Pass, other: Pass) -> u128
+    requires pass { Has lanes 0 [] pass × ((view pass).share ≡ 1) × ((view pass).halvings ≡ 1) }
+    requires other { Has lanes 1 [] other × ((view other).share ≡ 1) × ((view other).halvings ≡ 1) }
+{
+    lanes.join(&mut pass, other);
+    lanes.close(pass)
+}
+
+// Why caller 1 does not get the lane now, or its next place. A lane that is got is given back.
+fn place_of(lanes: &Lanes, pass: &mut Pass, lane: LaneId) -> Result<u64, TakeFault>
+    requires has { Has lanes.now 1 [] pass.old }
+    requires lane { index_of lane < count_of lanes.now }
+    ensures has { Has lanes.now 1 [] pass.new }
+    ensures share { ((view pass.new).share ≡ (view pass.old).share)
+        × ((view pass.new).halvings ≡ (view pass.old).halvings) }
+{
+    match lanes.try_take(pass, lane) {
+        Err(fault) => Err(fault),
+        Ok(held) => {
+            let place = held.place();
+            lanes.back(pass, held);
+            Ok(place)
+        }
+    }
+}
+
+// What caller 1 finds while caller 0 holds CPU 0: at that CPU, and at CPU 1.
+fn beside<R: Wait>(
+    rt: &R,
+    lanes: &Lanes,
+    pass: &mut Pass,
+    other: &mut Pass,
+) -> (Result<u64, TakeFault>, Result<u64, TakeFault>)
+    requires has { Has lanes.now 0 [] pass.old }
+    requires other { Has lanes.now 1 [] other.old }
+    requires cpus { lanes.now.cpus ≡ 2 }
+    ensures has { Has lanes.now 0 [] pass.new }
+    ensures other { Has lanes.now 1 [] other.new }
+    ensures share { ((view pass.new).share ≡ (view pass.old).share)
+        × ((view pass.new).halvings ≡ (view pass.old).halvings) }
+    ensures shares { ((view other.new).share ≡ (view other.old).share)
+        × ((view other.new).halvings ≡ (view other.old).halvings) }
+{
+    let held = lanes.take(rt, pass, LaneId::Cpu(0));
+    let same = place_of(lanes, other, LaneId::Cpu(0));
+    let another = place_of(lanes, other, LaneId::Cpu(1));
+    lanes.back(pass, held);
+    (same, another)
+}
+
+// Mixes an interrupt into the CPU that is held.
+fn mix(held: &mut Held)
+    requires { (i : ℕ) × (s : Model) × (2 ≤ i) × ValueStands i held.old.state s }
+    ensures turn { held.new.turn ≡ held.old.turn }
+    ensures made { (i : ℕ) (s : Model) (got : Handed) → 2 ≤ i → ValueStands i held.old.state s
+        → ValueStands i held.new.state (made_of s (Cpu (Irq 1 2 0)) got) }
+{
+    match held.state_mut() {
+        LaneState::Cpu(lane) => {
+            lane.fast.mix(1, 2, 0);
+        }
+        _ => unreachable!(),
+    }
+}
+
+// One visit of CPU 0.
+fn irq<R: Wait>(rt: &R, lanes: &Lanes, pass: &mut Pass, caller: u32, event: u32)
+    requires has { Has lanes.now caller [] pass.old }
+    ensures has { Has lanes.now caller [] pass.new }
+    ensures share { ((view pass.new).share ≡ (view pass.old).share)
+        × ((view pass.new).halvings ≡ (view pass.old).halvings) }
+{
+    let mut held = lanes.take(rt, pass, LaneId::Cpu(0));
+    mix(&mut held);
+    let who = Who {
+        caller,
+        event,
+        step: 0,
+    };
+    lanes.put(
+        pass,
+        held,
+        who,
+        CpuEntry::Irq {
+            v1: 1,
+            v2: 2,
+            now: 0,
+        },
+    );
+}
+
+fn irqs<R: Wait>(rt: &R, lanes: &Lanes, mut pass: Pass, caller: u32, times: u32) -> Pass
+    requires { Has lanes.now caller [] pass }
+    ensures has { Has lanes.now caller [] result }
+    ensures share { ((view result).share ≡ (view pass).share) × ((view result).halvings ≡ (view pass).halvings) }
+{
+    for event in 0..times {
+        irq(rt, lanes, &mut pass, caller, event);
+    }
+    pass
+}
+
+// The marks of a reseed, and the looks of another pass before and after the raise.
+#[derive(Drop)]
+struct Reseeded {
+    extracted: Mark,
+    reseeded: Mark,
+    before: u64,
+    after: u64,
+}
+
+// A root out of the pool becomes the base's key, and the generation is raised (`crng_reseed`). Before and after the
+// raise, while the base is held, the other pass looks.
+fn reseed<R: Wait>(rt: &R, lanes: &Lanes, pass: &mut Pass, other: &mut Pass) -> Reseeded
+    requires has { Has lanes.now 0 [] pass.old }
+    requires other { Has lanes.now 1 [] other.old }
+    ensures has { Has lanes.now 0 [] pass.new }
+    ensures other { Has lanes.now 1 [] other.new }
+    ensures share { ((view pass.new).share ≡ (view pass.old).share)
+        × ((view pass.new).halvings ≡ (view pass.old).halvings) }
+    ensures shares { ((view other.new).share ≡ (view other.old).share)
+        × ((view other.new).halvings ≡ (view other.old).halvings) }
+{
+    let mut base = lanes.take(rt, pass, LaneId::Base);
+    let (root, extracted) = rooted(rt, lanes, pass, &base);
+    let before = lanes.generation(other);
+    let generation = install(base.state_mut(), root);
+    raise(lanes, pass, &base, extracted.place, generation);
+    let after = lanes.generation(other);
+    let reseeded = put_base(lanes, pass, base, extracted.place);
+    Reseeded {
+        extracted,
+        reseeded,
+        before,
+        after,
+    }
+}
+
+// Two threads visit one CPU. The table counts their visits.
+fn two_threads<R: Threads + Wait + Sync>(
+    rt: &R,
+    alloc: Global,
+    times: u32,
+) -> Result<u128, AllocError> {
+    let (lanes, mut mine) = started(alloc, 1, 0)?;
+    let theirs = split_off(&lanes, &mut mine, 1);
+    let table = &lanes;
+    let (one, two) = thread::join(
+        rt,
+        move || -> Pass
+            requires { Has table.now 0 [] mine × ((view mine).share ≡ 1) × ((view mine).halvings ≡ 1) }
+            ensures { Has table.entry.now 0 [] result × ((view result).share ≡ 1) × ((view result).halvings ≡ 1) }
+        { irqs(rt, table, mine, 0, times) },
+        move || -> Pass
+            requires { Has table.now 1 [] theirs × ((view theirs).share ≡ 1) × ((view theirs).halvings ≡ 1) }
+            ensures { Has table.entry.now 1 [] result × ((view result).share ≡ 1) × ((view result).halvings ≡ 1) }
+        { irqs(rt, table, theirs, 1, times) },
+    );
+    Ok(counted(lanes, one, two))
+}
+
+#[test]
+fn held_cpu_is_busy_and_another_is_free(rt: HostRuntime) -> Result<(), Fail> {
+    let (lanes, mut a) = started(rt.alloc(), 2, 0)?;
+    let mut b = split_off(&lanes, &mut a, 1);
+    let (same, another) = beside(&rt, &lanes, &mut a, &mut b);
+    assert_eq!(rt;
+        same,
+        Err(TakeFault::Busy {
+            serving: 0,
+            ticket: 1
+        })
+    );
+    assert_eq!(rt; another, Ok(0));
+    assert_eq!(rt; place_of(&lanes, &mut b, LaneId::Cpu(0)), Ok(0));
+    assert_eq!(rt; counted(lanes, a, b), 0);
+    Ok(())
+}
+
+#[test]
+fn every_lane_is_spent_at_the_end_of_the_stamps(rt: HostRuntime) -> Result<(), Fail> {
+    let (lanes, mut a) = started(rt.alloc(), 1, NEVER)?;
+    let mut b = split_off(&lanes, &mut a, 1);
+    assert_eq!(rt;
+        place_of(&lanes, &mut b, LaneId::Pool),
+        Err(TakeFault::Spent)
+    );
+    assert_eq!(rt;
+        place_of(&lanes, &mut b, LaneId::Base),
+        Err(TakeFault::Spent)
+    );
+    assert_eq!(rt;
+        place_of(&lanes, &mut b, LaneId::Cpu(0)),
+        Err(TakeFault::Spent)
+    );
+    Ok(())
+}
+
+#[test]
+fn look_finds_a_raise_before_the_base_is_put(rt: HostRuntime) -> Result<(), Fail> {
+    let (lanes, mut a) = started(rt.alloc(), 1, 0)?;
+    let mut b = split_off(&lanes, &mut a, 1);
+    let done = reseed(&rt, &lanes, &mut a, &mut b);
+    assert_eq!(rt; (done.before, done.after), (0, 1));
+    assert_eq!(rt; (done.extracted.place, done.extracted.stamp), (0, 1));
+    assert_eq!(rt; (done.reseeded.place, done.reseeded.stamp), (0, 2));
+    assert_eq!(rt; counted(lanes, a, b), 2);
+    Ok(())
+}
+
+#[test]
+fn visits_of_two_threads_are_all_counted(rt: HostRuntime) -> Result<(), Fail> {
+    assert_eq!(rt; two_threads(&rt, rt.alloc(), 2000)?, 4000);
+    Ok(())
+}

@@ -1,0 +1,21 @@
+//! Tests of the lanes, the core's calls, draws, runs and feeders, over their crates' public calls.
+//!
+//! They stand apart because a crate with tests is proved twice, and these are the longest to prove.
+#![tactic(auto)]
+
+#[cfg(test)]
+mod draw_below_tests;
+#[cfg(test)]
+mod hold_tests;
+#[cfg(test)]
+mod irq_feed_tests;
+#[cfg(test)]
+mod lane_table_tests;
+#[cfg(test)]
+mod passes;
+#[cfg(test)]
+mod reseeds;
+#[cfg(test)]
+mod rng_core_tests;
+#[cfg(test)]
+mod run_tests;

@@ -1,0 +1,78 @@
+use crate::streams::{are_of_call_key, zero_stream};
+use cpu_gen::Cpu;
+
+// The bytes of the call key of the key that is the first half of block 0.
+const NEXT_CALL_KEY: &[u8] = b"\xaf\xbd\xad\x28\x45\xb9\x3c\xdb";
+
+fn zero_cpu() -> Cpu {
+    Cpu::with([0; 32], 1)
+}
+
+#[test]
+fn starts_at_generation_zero(rt: HostRuntime) {
+    let mut cpu = Cpu::start();
+    assert_eq!(rt; cpu.generation(), 0);
+    assert!(rt; cpu.needs(1));
+    assert_eq!(rt; Some(&cpu.call_key()[..]), zero_stream(32, 64));
+}
+
+#[test]
+fn kernel_read_of_96_goes_on_in_the_next_block(rt: HostRuntime) {
+    let mut cpu = zero_cpu();
+    let mut bytes = [1; 96];
+    cpu.kernel_read(&mut bytes);
+    assert_eq!(rt; Some(&bytes[..]), zero_stream(32, 128));
+    assert_eq!(rt; cpu.generation(), 1);
+    // The key is the first half of block 0 now.
+    assert!(rt; cpu.call_key().starts_with(NEXT_CALL_KEY));
+}
+
+#[test]
+fn kernel_read_of_nothing_keeps_the_key(rt: HostRuntime) {
+    let mut cpu = zero_cpu();
+    cpu.kernel_read(&mut []);
+    assert_eq!(rt; Some(&cpu.call_key()[..]), zero_stream(32, 64));
+}
+
+#[test]
+fn user_read_over_32_has_a_key_of_its_own(rt: HostRuntime) {
+    let mut short = [1; 32];
+    zero_cpu().user_read(&mut short);
+    assert_eq!(rt; Some(&short[..]), zero_stream(32, 64));
+    let mut cpu = zero_cpu();
+    let mut long = [1; 33];
+    cpu.user_read(&mut long);
+    assert!(rt; are_of_call_key(&long));
+    assert!(rt; cpu.call_key().starts_with(NEXT_CALL_KEY));
+}
+
+#[test]
+fn front_hands_out_the_second_half(rt: HostRuntime) {
+    let mut cpu = zero_cpu();
+    let mut out = [1; 32];
+    let rest = cpu.front(&mut out);
+    assert_eq!(rt; Some(&out[..]), zero_stream(32, 64));
+    assert_eq!(rt; rest.key, [0; 32]);
+    assert_eq!(rt; rest.next_block, 1);
+    assert!(rt; cpu.call_key().starts_with(NEXT_CALL_KEY));
+}
+
+#[test]
+fn refill_replaces_key_and_generation(rt: HostRuntime) {
+    let mut cpu = zero_cpu();
+    cpu.call_key();
+    cpu.refill([0; 32], 7);
+    assert_eq!(rt; cpu.generation(), 7);
+    assert!(rt; !cpu.needs(7));
+    assert!(rt; cpu.needs(8));
+    assert_eq!(rt; Some(&cpu.call_key()[..]), zero_stream(32, 64));
+}
+
+#[test]
+fn prepare_keeps_the_key(rt: HostRuntime) {
+    let mut cpu = zero_cpu();
+    cpu.prepare();
+    assert!(rt; cpu.needs(1));
+    assert!(rt; !cpu.needs(0));
+    assert_eq!(rt; Some(&cpu.call_key()[..]), zero_stream(32, 64));
+}

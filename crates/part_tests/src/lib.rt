@@ -1,0 +1,28 @@
+//! Tests of the parts, one module a crate, over the crates' public calls.
+//!
+//! They stand apart because a crate with tests is proved twice. Expected values come from outside: standards, other
+//! implementations, and in [`kernel_tables`] a C program that holds the kernel's rules.
+#![tactic(auto)]
+
+#[cfg(test)]
+mod base_gen_tests;
+#[cfg(test)]
+mod blake2s_core_tests;
+#[cfg(test)]
+mod chacha_blocks_tests;
+#[cfg(test)]
+mod cpu_gen_tests;
+#[cfg(test)]
+mod input_pool_tests;
+#[cfg(test)]
+mod int_batch_tests;
+#[cfg(test)]
+mod kernel_tables;
+#[cfg(test)]
+mod sample_credit_tests;
+#[cfg(test)]
+mod streams;
+#[cfg(test)]
+mod vcall_fork_tests;
+#[cfg(test)]
+mod vdso_state_tests;

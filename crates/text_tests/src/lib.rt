@@ -1,0 +1,13 @@
+//! Tests of what stands between the texts and the program: sources and sinks, scripts, transcripts.
+//!
+//! They stand apart because a crate with tests is proved twice.
+#![tactic(auto)]
+
+#[cfg(test)]
+mod event_script_tests;
+#[cfg(test)]
+mod io_edges_tests;
+#[cfg(test)]
+mod long_texts;
+#[cfg(test)]
+mod transcript_text_tests;

@@ -1,0 +1,436 @@
+//! Published texts, lines built by hand, sinks that take little at a time or fail, and each fault once.
+ghost use Rattle.std.specs.Prelude.{◌≡◌, ◌+◌, ◌-◌, ◌<◌, ◌≤◌, ◌^◌, [], length};
+ghost use Rattle.std.specs.List.{AllByRecursion};
+ghost use Rattle.key_names.specs.TranscriptGrammar.{ShownFits, StepFits};
+ghost use Rattle.transcript_text.specs.Views.{bytes_of, seen, seen_shown};
+
+use io_edges::{Failed, MemSink, Sink};
+use key_names::{Answer, Data, LaneId, Mark, Step, Word};
+use std::alloc::{AllocError, Global};
+use std::process::Abort;
+use std::test::Fail;
+use transcript_text::{CallerLines, LineView, Shown, TextError, Transcript, read, write_all};
+
+const BEFORE_READINESS: &[u8] = b"rngtranscript 1
+0.0 read EAGAIN ~0 -
+0.1 read EINVAL - -
+0.2 read EINVAL - -
+0.3 read EINTR ~0,b:0@1,b:1@2 -
+0.4 reseed ENODATA ~0 -
+0.5 bits ok p:0@3 0
+0.6 credit ok p:1@4 -
+0.7 bits ok p:2@5 100
+0.8 end ok b:2@6 -
+end
+";
+
+const FORK: &[u8] = b"rngtranscript 1
+0.0 credit ok p:0@1,p:1@2,b:0@3 -
+0.1 vread ok ~1,~1,~1,~1,b:1@4,c0:0@5,~1 e075b16b0c4452a518eca3ab47632384e594d8d16878e30fbdc2dd5f21bd4ce02c16be73d82f3107
+0.2 fork ok b:2@6 -
+0.3 vread ok ~1 88d46304e1bb3ad98e2f9e1c279b5a3f74567d0f498d570538395a332c27435cc73f7317729c1235
+0.4 end ok b:3@7 -
+1.0 vread ok ~1,~1,~1,~1,c0:1@7,~1 223f1a93c3ab801c80b3bd773ec991fe8e669d8a1a244d0e108dd1221c8b9c27088f786b2ea8fd14
+1.1 end ok b:4@8 -
+end
+";
+
+fn visit(lane: LaneId, place: u64, stamp: u64) -> Step
+    ensures { result ≡ Step.Visit (record { lane = lane; place = place; stamp = stamp }) }
+{
+    Step::Visit(Mark { lane, place, stamp })
+}
+
+/// One more line of caller 0, which shows no bytes.
+fn push(
+    lines: &mut CallerLines,
+    event: u32,
+    word: Word,
+    answer: Answer,
+    steps: &[Step],
+    shown: Shown<'_>,
+)
+    requires line_room { 0 < lines.old.line_room }
+    requires step_room { length steps.now ≤ lines.old.step_room }
+    requires few { length steps.now ≤ 20 }
+    requires steps { AllByRecursion StepFits steps.now }
+    requires shown { ShownFits word (seen_shown shown) }
+    requires no_bytes { bytes_of shown ≡ [] }
+    ensures line_room { lines.new.line_room + 1 ≡ lines.old.line_room }
+    ensures step_room { lines.old.step_room ≤ lines.new.step_room + length steps.now }
+    ensures count { length lines.new.lines ≡ length lines.old.lines + 1 }
+{
+    lines.push(LineView {
+        caller: 0,
+        event,
+        word,
+        answer,
+        steps,
+        shown,
+    });
+}
+
+/// The first four lines of the published text.
+fn first_lines(lines: &mut CallerLines)
+    requires line_room { 4 ≤ lines.old.line_room }
+    requires step_room { 4 ≤ lines.old.step_room }
+    ensures line_room { lines.new.line_room + 4 ≡ lines.old.line_room }
+    ensures step_room { lines.old.step_room ≤ lines.new.step_room + 4 }
+{
+    push(
+        lines,
+        0,
+        Word::Read,
+        Answer::Again,
+        &[Step::Look(0)],
+        Shown::None,
+    );
+    push(lines, 1, Word::Read, Answer::Invalid, &[], Shown::None);
+    push(lines, 2, Word::Read, Answer::Invalid, &[], Shown::None);
+    let waits = [
+        Step::Look(0),
+        visit(LaneId::Base, 0, 1),
+        visit(LaneId::Base, 1, 2),
+    ];
+    push(
+        lines,
+        3,
+        Word::Read,
+        Answer::Interrupted,
+        &waits,
+        Shown::None,
+    );
+}
+
+/// The other five.
+fn last_lines(lines: &mut CallerLines)
+    requires line_room { 5 ≤ lines.old.line_room }
+    requires step_room { 5 ≤ lines.old.step_room }
+    ensures some { 0 < length lines.new.lines }
+{
+    push(
+        lines,
+        4,
+        Word::Reseed,
+        Answer::NoData,
+        &[Step::Look(0)],
+        Shown::None,
+    );
+    push(
+        lines,
+        5,
+        Word::Bits,
+        Answer::Ok,
+        &[visit(LaneId::Pool, 0, 3)],
+        Shown::Count(0),
+    );
+    push(
+        lines,
+        6,
+        Word::Credit,
+        Answer::Ok,
+        &[visit(LaneId::Pool, 1, 4)],
+        Shown::None,
+    );
+    push(
+        lines,
+        7,
+        Word::Bits,
+        Answer::Ok,
+        &[visit(LaneId::Pool, 2, 5)],
+        Shown::Count(100),
+    );
+    push(
+        lines,
+        8,
+        Word::End,
+        Answer::Ok,
+        &[visit(LaneId::Base, 2, 6)],
+        Shown::None,
+    );
+}
+
+fn by_hand(alloc: Global) -> Result<Transcript, AllocError> {
+    let mut lines = CallerLines::with_room(alloc, 9, 9, 0)?;
+    first_lines(&mut lines);
+    last_lines(&mut lines);
+    let mut callers = Vec::new(alloc);
+    callers.push(lines)?;
+    Ok(Transcript::of(callers))
+}
+
+fn sink(alloc: Global, step: usize, failing: u64) -> Result<MemSink, AllocError>
+    requires { 0 < step }
+{
+    MemSink::of(alloc, step, [failing].to_vec(alloc)?, 1 << 16)
+}
+
+#[test]
+fn lines_built_by_hand_are_the_published_text(rt: HostRuntime) -> Result<(), Fail> {
+    let transcript = by_hand(rt.alloc())?;
+    for step in [1, 7, 4096] {
+        assert!(rt; step > 0);
+        let mut sink = sink(rt.alloc(), step, 0)?;
+        assert_eq!(rt; write_all(&mut sink, &transcript), Ok(()));
+        assert_eq!(rt; sink.held(), BEFORE_READINESS, "step {step}");
+    }
+    Ok(())
+}
+
+#[test]
+fn each_line_is_one_put_and_a_failed_put_leaves_the_lines_before(
+    rt: HostRuntime,
+) -> Result<(), Fail> {
+    let transcript = by_hand(rt.alloc())?;
+    let mut whole = 0;
+    for put in 1..12 {
+        assert!(rt; whole <= BEFORE_READINESS.len());
+        let mut sink = sink(rt.alloc(), 4096, put)?;
+        assert_eq!(rt; write_all(&mut sink, &transcript), Err(Failed), "put {put}");
+        assert_eq!(rt; sink.held(), &BEFORE_READINESS[..whole], "put {put}");
+        let rest = &BEFORE_READINESS[whole..];
+        whole += rest.iter().position(|byte| *byte == b'\n').ok_or("a line")? + 1;
+    }
+    assert_eq!(rt; whole, BEFORE_READINESS.len());
+    Ok(())
+}
+
+/// Counts the puts and the longest of them.
+#[derive(Drop)]
+struct Pieces {
+    puts: u32,
+    longest: usize,
+    bytes: usize,
+}
+
+impl Sink for Pieces {
+    ghost use Rattle.std.specs.Prelude.{[], None};
+
+    ghost held = { λ _. None };
+
+    ghost kept_back = { λ _. [] };
+
+    ghost faults = { λ _. 0 };
+
+    fn flush(&mut self) -> Result<(), Failed> {
+        Ok(())
+    }
+
+    fn put(&mut self, piece: &[u8]) -> Result<usize, Failed> {
+        self.puts = self.puts.saturating_add(1);
+        self.longest = self.longest.max(piece.len());
+        self.bytes = self.bytes.saturating_add(piece.len());
+        Ok(piece.len())
+    }
+}
+
+/// A line of caller 0 without steps.
+fn plain(event: u32, word: Word, answer: Answer, shown: Shown<'_>) -> LineView<'_>
+    ensures line { seen result ≡ record {
+      caller = 0;
+      event = event;
+      word = word;
+      answer = answer;
+      steps = [];
+      shown = seen_shown shown.entry;
+    } }
+    ensures bytes { bytes_of result.shown ≡ bytes_of shown.entry }
+{
+    LineView {
+        caller: 0,
+        event,
+        word,
+        answer,
+        steps: &[],
+        shown,
+    }
+}
+
+fn one_read(alloc: Global, bytes: &[u8]) -> Result<Transcript, AllocError>
+    requires { (0 < length bytes.now) × (length bytes.now < 2 ^ 32) }
+{
+    let mut lines = CallerLines::with_room(alloc, 1, 0, bytes.len())?;
+    lines.push(plain(0, Word::Read, Answer::Ok, Shown::Bytes(bytes)));
+    let mut callers = Vec::new(alloc);
+    callers.push(lines)?;
+    Ok(Transcript::of(callers))
+}
+
+#[test]
+fn a_long_line_is_put_in_pieces_of_at_most_4096_bytes(rt: HostRuntime) -> Result<(), Fail> {
+    // `0.0 read ok - ` has 14 bytes, and the line feed is one more.
+    for (len, puts) in [(2040, 1), (2041, 2), (4088, 2), (4089, 3), (1 << 20, 513)] {
+        let bytes = Vec::from_elem(rt.alloc(), 171u8, len)?;
+        assert!(rt; bytes.len() > 0 && bytes.len() < 1 << 21);
+        let transcript = one_read(rt.alloc(), &bytes)?;
+        let mut pieces = Pieces {
+            puts: 0,
+            longest: 0,
+            bytes: 0,
+        };
+        assert_eq!(rt; write_all(&mut pieces, &transcript), Ok(()));
+        assert!(rt; pieces.longest <= 4096, "{len} bytes");
+        assert_eq!(rt; pieces.puts, puts + 2, "{len} bytes");
+        assert!(rt; len < 1 << 21);
+        assert_eq!(rt; pieces.bytes, 16 + 4 + 15 + 2 * len, "{len} bytes");
+    }
+    Ok(())
+}
+
+#[test]
+fn a_line_is_filled_in_behind_a_later_one(rt: HostRuntime) -> Result<(), Fail> {
+    let mut lines = CallerLines::with_room(rt.alloc(), 3, 0, 7)?;
+    lines.push(plain(0, Word::Read, Answer::Ok, Shown::Bytes(&[1, 2])));
+    lines.push(plain(1, Word::Inside, Answer::Unused, Shown::None));
+    lines.push(plain(2, Word::Vread, Answer::Ok, Shown::Bytes(&[3])));
+    lines.replace(
+        1,
+        plain(1, Word::Inside, Answer::Ok, Shown::Bytes(&[4, 5, 6, 171])),
+    );
+    assert_eq!(rt; lines.bytes(), [1, 2, 3, 4, 5, 6, 171].as_slice());
+    for (number, (start, len)) in [(0, 2), (3, 4), (2, 1)].iter().enumerate() {
+        assert_eq!(rt;
+            lines.lines().get(number).map(|line| line.shown),
+            Some(Data::Bytes {
+                start: *start,
+                len: *len
+            }),
+            "line {number}"
+        );
+    }
+    let mut callers = Vec::new(rt.alloc());
+    callers.push(lines)?;
+    let mut sink = sink(rt.alloc(), 100, 0)?;
+    assert_eq!(rt; write_all(&mut sink, &Transcript::of(callers)), Ok(()));
+    assert_eq!(rt;
+        sink.held(),
+        b"rngtranscript 1\n\
+            0.0 read ok - 0102\n\
+            0.1 inside ok - 040506ab\n\
+            0.2 vread ok - 03\n\
+            end\n"
+            .as_slice()
+    );
+    Ok(())
+}
+
+/// What is read of a text, written again.
+fn again(rt: &impl Abort, alloc: Global, text: &[u8]) -> Result<Vec<u8>, AllocError> {
+    assert!(rt; text.len() < 1 << 20);
+    let Ok(transcript) = read(alloc, text) else {
+        return Err(AllocError);
+    };
+    let mut sink = sink(alloc, 100, 0)?;
+    assert_eq!(rt; write_all(&mut sink, &transcript), Ok(()));
+    sink.held().to_vec(alloc)
+}
+
+#[test]
+fn published_texts_are_read_and_written_again(rt: HostRuntime) -> Result<(), Fail> {
+    for text in [BEFORE_READINESS, FORK, b"rngtranscript 1\nend\n"] {
+        assert_eq!(rt; again(&rt, rt.alloc(), text)?.as_slice(), text);
+    }
+    Ok(())
+}
+
+#[test]
+fn the_number_of_bits_is_read(rt: HostRuntime) -> Result<(), Fail> {
+    let transcript = read(rt.alloc(), b"rngtranscript 1\n0.0 bits ok p:0@1 7\nend\n")
+        .ok()
+        .ok_or("a transcript")?;
+    assert_eq!(rt; transcript.callers(), 1);
+    let caller = transcript.caller(0);
+    assert_eq!(rt; caller.len(), 1);
+    let line = caller.line(0);
+    assert_eq!(rt; line.shown, Shown::Count(7));
+    assert_eq!(rt; line.word, Word::Bits);
+    assert_eq!(rt; line.steps, [visit(LaneId::Pool, 0, 1)].as_slice());
+    assert_eq!(rt; caller.bytes().len(), 0);
+    Ok(())
+}
+
+/// The number of the first faulty line of a text that begins with the head, and 0 where it has none.
+fn fault(rt: &impl Abort, alloc: Global, rest: &str) -> Result<u32, AllocError> {
+    let text = format!(in alloc; "rngtranscript 1\n{rest}")?;
+    assert!(rt; text.len() < 1 << 20);
+    match read(alloc, text.as_bytes()) {
+        Ok(_) => Ok(0),
+        Err(TextError::Fault { line }) => Ok(line),
+        Err(TextError::NoMemory) => Err(AllocError),
+    }
+}
+
+#[test]
+fn the_first_faulty_line_is_named(rt: HostRuntime) -> Result<(), Fail> {
+    for (rest, line) in [
+        ("", 2),
+        ("end", 2),
+        ("end\n", 0),
+        ("end\n\n", 3),
+        ("end\n0.0 end ok b:0@1 -\n", 3),
+        ("end\nx", 3),
+        ("\nend\n", 2),
+        ("0.0 bits ok p:0@1 07\nend\n", 2),
+        ("0.0 bits ok p:0@1 -\nend\n", 0),
+        ("0.0 bits ok p:0@1 0a\nend\n", 2),
+        ("0.0 bits ok p:0@1 4294967295\nend\n", 0),
+        ("0.0 bits ok p:0@1 4294967296\nend\n", 2),
+        ("0.0 read ok - 0a\nend\n", 0),
+        ("0.0 read ok - 0A\nend\n", 2),
+        ("0.0 read ok - 0\nend\n", 2),
+        ("0.0 read ok - \nend\n", 2),
+        ("0.0 read ok -\nend\n", 2),
+        ("0.0 read ok  -\nend\n", 2),
+        ("0.0 Read ok - -\nend\n", 2),
+        ("0.0 state ok - -\nend\n", 0),
+        ("0.0 read EPERM - -\nend\n", 2),
+        ("00.0 read ok - -\nend\n", 2),
+        ("0.4294967295 read ok - -\nend\n", 0),
+        ("0.4294967296 read ok - -\nend\n", 2),
+        ("63.0 read ok - -\nend\n", 0),
+        ("64.0 read ok - -\nend\n", 2),
+        ("1.0 read ok - -\n0.0 read ok - -\nend\n", 3),
+        ("1.0 read ok - -\n1.0 read ok - -\nend\n", 0),
+        ("0.0 read ok ~1,c4294967295:0@1 -\nend\n", 0),
+        ("0.0 read ok ~1,c4294967296:0@1 -\nend\n", 2),
+        ("0.0 read ok ~9223372036854775807 -\nend\n", 0),
+        ("0.0 read ok ~9223372036854775808 -\nend\n", 2),
+        ("0.0 read ok ~1c0:0@1 -\nend\n", 2),
+        ("0.0 read ok ~1, -\nend\n", 2),
+        ("0.0 read ok ~1,,~1 -\nend\n", 2),
+        ("0.0 read ok p0@1 -\nend\n", 2),
+        (
+            "0.0 read ok ~0,~1,~2,~3,~4,~5,~6,~7,~8,~9,~10,~11,~12,~13,~14,~15,~16,~17,~18,~19 -\nend\n",
+            0,
+        ),
+        (
+            "0.0 read ok ~0,~1,~2,~3,~4,~5,~6,~7,~8,~9,~10,~11,~12,~13,~14,~15,~16,~17,~18,~19,~20 -\nend\n",
+            2,
+        ),
+        ("0.0 read ok - -\r\nend\n", 2),
+        ("0.0 read ok - -\nend", 3),
+    ] {
+        assert_eq!(rt; fault(&rt, rt.alloc(), rest)?, line, "{rest}");
+    }
+    Ok(())
+}
+
+#[test]
+fn a_text_without_its_head_is_faulty_in_line_1(rt: HostRuntime) {
+    for text in [
+        "",
+        "end\n",
+        "rngtranscript 1",
+        "rngtranscript 2\nend\n",
+        "rngtranscript 1 \nend\n",
+    ] {
+        assert!(rt; text.len() < 100);
+        assert!(rt;
+            matches!(
+                read(rt.alloc(), text.as_bytes()),
+                Err(TextError::Fault { line: 1 })
+            ),
+            "{text}"
+        );
+    }
+}
