@@ -3,7 +3,8 @@
 #   same    `rng feed 0 16 10000` 200 times, beside BENCH_LOOPS busy loops, or twice as many as there are processors: it ends
 #           non-zero where a run writes another line, fails, or has 20 MB resident
 #   speed   160,000 samples of 16 feeders through the queue, and the same by one caller without it, in turn
-# Other builds of the programs are run where BENCH_RNG and BENCH_FEEDS name them, and BENCH_TIMES says how often.
+# Other builds of the programs are run where BENCH_RNG and BENCH_FEEDS name them, and BENCH_TIMES says how often. What
+# BENCH_UNDER says stands before each measured program: `chrt --rr 1`, as root, keeps the machine's other work away.
 set -eu
 cd "$(dirname "$0")/.."
 room=$(mktemp -d)
@@ -45,25 +46,36 @@ same() {
         }' "$room/all"
 }
 
+# once WORD NUMBER: a run of a loop, in nanoseconds, with the processors' seconds in $room/said.
+once() {
+    begun=$(date +%s%N)
+    # shellcheck disable=SC2086
+    command time -f '%U %S' -o "$room/said" ${BENCH_UNDER:-} "$program" "$1" "$2" >"$room/out"
+    echo $(($(date +%s%N) - begun))
+}
+
+# What it takes to start and to end a program is taken off.
 speed() {
     program=${BENCH_FEEDS:-$(built bench_feeds)}
     times=${BENCH_TIMES:-15}
     for _ in $(seq "$times"); do
-        for word in feeds irqs; do
-            command time -f "$word %e %U %S" -o "$room/said" "$program" "$word" 10000 >"$room/out"
-            cat "$room/said" >>"$room/times"
+        for run in 'feeds 10000' 'irqs 10000' 'irqs 1'; do
+            # shellcheck disable=SC2086
+            echo "$run $(once $run) $(cat "$room/said")" >>"$room/times"
         done
     done
     echo "160,000 samples of 16 feeders, $times runs of each in turn on $(nproc) processors, load $(cut -d' ' -f1 /proc/loadavg)"
-    for word in feeds irqs; do
-        awk -v word="$word" '$1 == word {
-            n++; all += $2; worked += $3 + $4
-            if (n == 1 || $2 < least) least = $2
-        } END {
-            printf "%-6s least %6.3f s, %9.0f samples a second; mean %6.3f s, of processors %6.3f s\n",
-                word, least, 160000 / least, all / n, worked / n
-        }' "$room/times"
-    done
+    sort -k 3n "$room/times" | awk '
+        $2 == 1 && !start { start = $3 }
+        $2 > 1 { n[$1]++; ns[$1, n[$1]] = $3; user[$1] += $4; system_s[$1] += $5 }
+        END {
+            for (word in n) {
+                least = (ns[word, 1] - start) / 1e9; middle = (ns[word, int((n[word] + 1) / 2)] - start) / 1e9
+                printf "%-6s least %7.1f ms, %9.0f samples a second; median %7.1f ms, %9.0f; processors %5.1f ms, system %5.1f\n",
+                    word, 1e3 * least, 160000 / least, 1e3 * middle, 160000 / middle,
+                    1e3 * user[word] / n[word], 1e3 * system_s[word] / n[word]
+            }
+        }'
 }
 
 [ $# -gt 0 ] || set -- same speed

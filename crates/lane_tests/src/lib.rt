@@ -1,4 +1,4 @@
-//! Tests of the lanes, the core's calls, draws and runs, over their crates' public calls.
+//! Tests of the lanes, the core's calls, draws, runs and feeders, over their crates' public calls.
 //!
 //! They stand apart because a crate with tests is proved twice, and these are the longest to prove.
 #![tactic(auto)]
@@ -7,6 +7,8 @@
 mod draw_below_tests;
 #[cfg(test)]
 mod hold_tests;
+#[cfg(test)]
+mod irq_feed_tests;
 #[cfg(test)]
 mod lane_table_tests;
 #[cfg(test)]
