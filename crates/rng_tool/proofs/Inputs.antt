@@ -136,7 +136,7 @@ run_is_limited = record {
 
 -- ---- checks and replays
 
-judged_too_long : (text : List ℕ) → 100663296 < length text →
+pub judged_too_long : (text : List ℕ) → 100663296 < length text →
     judged_fault text ≡ Some (record { line = 0; kind = TooLong })
 judged_too_long text long = let is : ltb 100663296 (length text) ≡ true = lt-ltb _ _ long in rw is refl
 

@@ -1,4 +1,5 @@
 pub mod Inputs
+pub mod Judging
 pub mod Runs
 pub mod ShownBytes
 pub mod NumberWords

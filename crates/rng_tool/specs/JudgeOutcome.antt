@@ -1,5 +1,5 @@
 -- What `check` and `replay` promise: a script, and a transcript behind it.
-use Rattle.std.specs.Prelude.{ℕ, ◌≡◌, ◌⊎◌, ◌<◌, ◌≤◌, ⊥, List, [], ◌∷◌, ◌++◌, Option, Some, String, string_bytes, codes, map}
+use Rattle.std.specs.Prelude.{ℕ, ◌≡◌, ◌⊎◌, ◌<◌, ◌≤◌, List, [], ◌∷◌, ◌++◌, Option, Some, String, string_bytes, codes, map}
 use Rattle.std.specs.Prelude.{drop, length, nat_lt, if◌then◌else◌}
 use Rattle.std.specs.Fmt.{decimal}
 use Rattle.key_names.specs.declared.faults.FaultKind.TheVariants.{TooLong}

@@ -1,5 +1,5 @@
 -- What a run of the program promises for each way to end.
-use Rattle.std.specs.Prelude.{ℕ, ◌≡◌, ⊥, List, [], ◌∷◌, Option, Some, String, string_bytes, codes, map}
+use Rattle.std.specs.Prelude.{ℕ, ◌≡◌, List, [], ◌∷◌, Option, Some, String, string_bytes, codes, map}
 use Rattle.key_names.specs.Book.{Book, lists_of}
 use Rattle.key_names.specs.IsTranscript.{IsTranscriptBy}
 use Rattle.key_names.specs.Uses.{IsDisjoint}

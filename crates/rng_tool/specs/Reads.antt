@@ -1,5 +1,5 @@
 -- How a command that reads its input ends, what the source then has left and what the sink holds.
-use Rattle.std.specs.Prelude.{ℕ, ⊥, List, Option, IfSome}
+use Rattle.std.specs.Prelude.{ℕ, List, Option, IfSome}
 use Rattle.std.specs.Io.KnownBytes.{Appends, Consumes, IsAtEnd, Keeps}
 use Rattle.io_edges.specs.Pieces.{AppendsPrefix}
 use Rattle.rng_tool.specs.Ends.{IsAnswered}
