@@ -15,7 +15,12 @@ use std::thread::Threads;
 
 const FEW: u32 = 100;
 
-fn result_of<R: Threads + Wait + Sync>(rt: &R, alloc: Global, word: &str, each: u32) -> Result<u32> {
+fn result_of<R: Threads + Wait + Sync>(
+    rt: &R,
+    alloc: Global,
+    word: &str,
+    each: u32,
+) -> Result<u32> {
     if each == 0 || each > 10_000 {
         bail!("{each} samples of each feeder");
     }
