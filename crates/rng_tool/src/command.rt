@@ -17,7 +17,8 @@ use crate::load::{Load, load_of};
 use crate::vfork::{Vfork, vfork_of};
 
 /// The forms of the command line, as the line that answers any other words has them.
-pub(crate) const USAGE: &str = "usage: rng run | rng check | rng replay | rng load START CALLERS EVENTS | rng draw C K | rng vfork POINT ATTEMPT N | rng feed START FEEDERS SAMPLES";
+pub(crate) const USAGE: &str =
+    "usage: rng run | rng check | rng replay | rng load START CALLERS EVENTS | rng draw C K | rng vfork POINT ATTEMPT N | rng feed START FEEDERS SAMPLES";
 
 /// A command, with the numbers that its words give.
 #[derive(Clone, Copy, Debug, PartialEq, Eq)]

@@ -126,7 +126,13 @@ fn has_too_many_lines(alloc: Global, text: &[u8]) -> Result<bool, AllocError>
 }
 
 // What is said of the text behind a script.
-fn say_of<K: Sink>(alloc: Global, judge: Judge, script: &Script, text: &[u8], sink: &mut K) -> Status
+fn say_of<K: Sink>(
+    alloc: Global,
+    judge: Judge,
+    script: &Script,
+    text: &[u8],
+    sink: &mut K,
+) -> Status
     requires well { WellFormed script.now }
     requires short { length text.now ≤ 2 ^ 31 }
     ensures ends { WritesEnds (TextSaidOf judge script.now text.now) result (K.held sink.old) (K.held sink.new) }
@@ -158,7 +164,10 @@ fn answer<K: Sink>(alloc: Global, judge: Judge, input: &[u8], sink: &mut K) -> S
     ensures never_falls { K.faults sink.old ≤ K.faults sink.new }
 {
     if input.len() > MOST_INPUT {
-        let fault = ScriptFault { line: 0, kind: FaultKind::TooLong };
+        let fault = ScriptFault {
+            line: 0,
+            kind: FaultKind::TooLong,
+        };
         return put_answer(Status::Refused, &refusal_line(fault), sink);
     }
     match read_front(alloc, input) {

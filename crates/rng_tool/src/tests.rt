@@ -282,7 +282,10 @@ fn loads_are_summed_up(rt: HostRuntime) -> Result<(), Fail> {
             &["load", "0", "64", "1"],
             b"callers 64 events 192 bytes 96 check yes\n",
         ),
-        (&["load", "0", "1", "1"], b"callers 1 events 3 bytes 1 check yes\n"),
+        (
+            &["load", "0", "1", "1"],
+            b"callers 1 events 3 bytes 1 check yes\n",
+        ),
         (
             &["load", "4294967295", "1", "9"],
             b"callers 1 events 11 bytes 113 check yes\n",
@@ -484,6 +487,9 @@ fn feeders_are_summed_up(rt: HostRuntime) -> Result<(), Fail> {
         sink.held(),
         b"feeders 16 samples 32000 dumps 31 bits 256\n".as_slice()
     );
+    Ok(())
+}
+
 // The bytes are those that another implementation of the core gives for the same calls.
 #[test]
 fn forks_are_told(rt: HostRuntime) -> Result<(), Fail> {
@@ -514,5 +520,55 @@ fn forks_are_told(rt: HostRuntime) -> Result<(), Fail> {
     let (status, _, sink) = run_over(&rt, alloc, &["vfork", "3", "1", "40"], b"", edges)?;
     assert_eq!(rt; status, Status::WriteFault);
     assert_eq!(rt; sink.held(), b"".as_slice());
+    Ok(())
+}
+
+// The first transcript with another answer, and without its bytes.
+const BLANKED_TRANSCRIPT: &[u8] = b"rngtranscript 1\n\
+    0.0 write ok p:0@1 -\n\
+    0.1 read EINVAL ~0,p:1@2,b:0@3 -\n\
+    0.2 end ok b:1@4 -\n\
+    end\n";
+
+fn joined(alloc: Global, script: &[u8], transcript: &[u8]) -> Result<Vec<u8>, AllocError> {
+    let mut input = Vec::new(alloc);
+    input.extend_from_slice(script)?;
+    input.extend_from_slice(transcript)?;
+    Ok(input)
+}
+
+// Each verdict is the first clause that fails, worked out by hand.
+#[test]
+fn transcripts_are_judged(rt: HostRuntime) -> Result<(), Fail> {
+    let alloc = rt.alloc();
+    let rows: [(&str, &[u8], Status, &[u8]); 6] = [
+        ("check", FIRST_TRANSCRIPT, Status::Done, b"yes\n"),
+        ("check", b"", Status::No, b"no 1\n"),
+        ("check", b"rngtranscript 1\nend\n", Status::No, b"no 2\n"),
+        ("check", BLANKED_TRANSCRIPT, Status::No, b"no 5\n"),
+        ("replay", BLANKED_TRANSCRIPT, Status::Done, FIRST_TRANSCRIPT),
+        ("replay", b"rngtranscript 1\nend\n", Status::No, b"no 2\n"),
+    ];
+    for (word, transcript, wanted, output) in rows {
+        let input = joined(alloc, FIRST_SCRIPT, transcript)?;
+        let (status, _, sink) = run_over(&rt, alloc, &[word], &input, WHOLE)?;
+        assert_eq!(rt; status, wanted);
+        assert_eq!(rt; sink.held(), output);
+        let unread = Edges {
+            step: 7,
+            failing_take: 3,
+            ..WHOLE
+        };
+        let (status, _, sink) = run_over(&rt, alloc, &[word], &input, unread)?;
+        assert_eq!(rt; status, Status::ReadFault);
+        assert_eq!(rt; sink.held(), b"".as_slice());
+        let unwritten = Edges {
+            failing_put: 1,
+            ..WHOLE
+        };
+        let (status, _, sink) = run_over(&rt, alloc, &[word], &input, unwritten)?;
+        assert_eq!(rt; status, Status::WriteFault);
+        assert_eq!(rt; sink.held(), b"".as_slice());
+    }
     Ok(())
 }

@@ -11,8 +11,7 @@ returns-in-Ok-clause-ends g c =
 
 pub returns-in-Ok-Made-clause-ends : goal.returns-in-Ok-Made-clause-ends
 returns-in-Ok-Made-clause-ends g c =
-    let fits = subst TranscriptFits (sym c.made.view_is) c.made.invariant in
-    (
+    let fits = subst TranscriptFits (sym c.made.view_is) c.made.invariant in (
       _,
       (Done, tt, gives_back c.args.script.now c.args.t.now c.in-Ok-Made.made fits c.in-Ok-Made.ensures),
       c.in-Err-write_all.ensures.prefix,
