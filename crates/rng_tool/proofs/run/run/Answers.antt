@@ -1,10 +1,12 @@
-use Rattle.std.proofs.Common.{◌≡◌, subst}
+use Rattle.std.proofs.Common.{◌≡◌, subst, rules}
+use Rattle.rng_tool.specs.Commands.{Asks}
 use Rattle.rng_tool.specs.DrawOutcome.{DrawEnds, DrawOf}
 use Rattle.rng_tool.specs.FeedOutcome.{FeedEnds, FeedOf}
 use Rattle.rng_tool.specs.LoadOutcome.{LoadEnds, LoadOf}
 use Rattle.rng_tool.specs.JudgeOutcome.{JudgeCalls, JudgeEnds}
 use Rattle.rng_tool.specs.Outcome.{CallsFor}
 use Rattle.rng_tool.specs.VforkOutcome.{VforkEnds, VforkOf}
+use Rattle.rng_tool.specs.declared.command.Command.TheVariants.{Vfork as VforkCommand}
 use Rattle.rng_tool.proofs.Completes.{ends_completes, judge_completes, read_before, run_completes}
 use Rattle.rng_tool.proofs.Endings.{ends_after, reads_end_after, rose_at_end}
 use Rattle.rng_tool.proofs.run.run.Goals as goal
@@ -121,6 +123,18 @@ returns-in-Some-Vfork-clause-vfork_completes g c point attempt n is unwritten =
     c.end_output-in-Some-Vfork.ensures.ended c.run_vfork.ensures.ends)
     (λ fault. unwritten (rose_at_end _ _ _ _ c.run_vfork.ensures.cut c.run_vfork.ensures.never_falls
     (c.end_output-in-Some-Vfork.ensures.cut fault) c.end_output-in-Some-Vfork.ensures.never_falls))
+
+pub returns-in-Some-Vfork-clause-usage : goal.returns-in-Some-Vfork-clause-usage
+returns-in-Some-Vfork-clause-usage g c =
+    let vfork = c.in-Some-Vfork.vfork in
+    let is_vfork : c.in-Some-Vfork.field-0 ≡ VforkCommand vfork = search rules in (
+      λ is. absurd (subst (λ status. VforkEnds vfork.point vfork.attempt vfork.len status
+          (g.K.Sink.held c.args.sink.now) (g.K.Sink.held c.end_output-in-Some-Vfork.new.sink)) is
+          (ends_after (VforkOf vfork.point vfork.attempt vfork.len) _ _ _ c.end_output-in-Some-Vfork.ensures.kept _ _
+          c.end_output-in-Some-Vfork.ensures.ended c.run_vfork.ensures.ends)),
+      λ no. absurd (no.no_vfork vfork.point vfork.attempt vfork.len
+          (subst (Asks c.args.words.now) is_vfork c.in-Some-Vfork.ensures.found)),
+    )
 
 pub returns-in-Some-Feed-clause-write_fault : goal.returns-in-Some-Feed-clause-write_fault
 returns-in-Some-Feed-clause-write_fault g c cut =
