@@ -26,7 +26,7 @@ gives_back script t made fits is = record {
   is = is;
   written = record {
     fits = fits;
-    own = under_own_number 0 script.callers made is.lawful.1.1.lines;
+    own = under_own_number 0 script.callers made is.lawful.2.lines;
     spelled = refl;
   };
 }

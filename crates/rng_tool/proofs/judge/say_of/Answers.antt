@@ -1,4 +1,3 @@
-use Rattle.std.proofs.Common.{refl}
 use Rattle.rng_tool.specs.JudgeOutcome.{SaidOf, TextSaidOf}
 use Rattle.rng_tool.specs.declared.judge.Judge.TheVariants.{Check, Replay}
 use Rattle.rng_tool.specs.declared.status.Status.TheVariants.{No}
@@ -11,7 +10,7 @@ returns-in-Ok-true-clause-ends g c =
     let Of = TextSaidOf c.args.judge c.args.script.now c.args.text.now in
     wider _ Of (the_answer Of No c.no_line.result.bytes
     (too_many_said c.args.judge c.args.script.now c.args.text.now c.no_line.result.bytes c.requires.well
-    (c.in-Ok-true.ensures refl) c.no_line.ensures)) _ _ _ c.put_answer.ensures.ends
+    (c.in-Ok-true.ensures c.in-Ok-true.field-0-test) c.no_line.ensures)) _ _ _ c.put_answer.ensures.ends
 
 pub returns-in-Check-clause-ends : goal.returns-in-Check-clause-ends
 returns-in-Check-clause-ends g c =

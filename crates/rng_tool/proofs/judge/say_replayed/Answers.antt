@@ -1,4 +1,4 @@
-use Rattle.std.proofs.Common.{sym, subst}
+use Rattle.std.proofs.Common.{subst}
 use Rattle.key_names.specs.TranscriptGrammar.{TranscriptFits}
 use Rattle.rng_tool.specs.declared.status.Status.TheVariants.{Done}
 use Rattle.rng_tool.proofs.Judging.{gives_back}
@@ -6,13 +6,15 @@ use Rattle.rng_tool.proofs.judge.say_replayed.Goals as goal
 
 pub returns-in-Ok-clause-ends : goal.returns-in-Ok-clause-ends
 returns-in-Ok-clause-ends g c =
-    let fits = subst TranscriptFits (sym c.made.view_is) c.made.invariant in
-    (_, gives_back c.args.script.now c.args.t.now c.in-Ok-Made.made fits c.in-Ok-Made.ensures, c.in-Ok.ensures.whole)
+    let is = rw c.in-Ok-Made.field-0-is at c.in-Ok-Made.ensures in
+    let fits = subst TranscriptFits c.made.view_is c.made.invariant in
+    (_, gives_back c.args.script.now c.args.t.now c.in-Ok-Made.made fits is, c.in-Ok.ensures.whole)
 
 pub returns-in-Ok-Made-clause-ends : goal.returns-in-Ok-Made-clause-ends
 returns-in-Ok-Made-clause-ends g c =
-    let fits = subst TranscriptFits (sym c.made.view_is) c.made.invariant in (
+    let is = rw c.in-Ok-Made.field-0-is at c.in-Ok-Made.ensures in
+    let fits = subst TranscriptFits c.made.view_is c.made.invariant in (
       _,
-      (Done, tt, gives_back c.args.script.now c.args.t.now c.in-Ok-Made.made fits c.in-Ok-Made.ensures),
+      (Done, tt, gives_back c.args.script.now c.args.t.now c.in-Ok-Made.made fits is),
       c.in-Err-write_all.ensures.prefix,
     )
