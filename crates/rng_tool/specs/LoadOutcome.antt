@@ -1,9 +1,8 @@
 -- What a load promises.
-use Rattle.std.specs.Prelude.{ℕ, ◌≡◌, ◌<◌, ◌≤◌, ◌^◌, List, [], ◌∷◌, Option, String, string_bytes, codes, decimal, length, map, sum_by}
+use Rattle.std.specs.Prelude.{ℕ, ◌≡◌, ◌<◌, ◌≤◌, ◌^◌, List, [], ◌∷◌, Option, ◌++◌, String, string_bytes, codes, decimal, length, map, sum_by}
 use Rattle.key_names.specs.declared.lines.Data.{Data}
 use Rattle.key_names.specs.declared.lines.Data.TheVariants.{Bytes}
 use Rattle.key_names.specs.SeenLine.{SeenLine, bytes_shown}
-use Rattle.key_names.specs.Spelling.{lined, spaced}
 use Rattle.key_names.specs.TranscriptGrammar.{all_lines}
 use Rattle.event_script.specs.LoadScript.{load_script}
 use Rattle.rng_tool.specs.Ends.{EndsWith}
@@ -29,8 +28,8 @@ IsLoad words start callers events = AskLoad (map string_bytes words) start calle
 
 abbrev pub load_line : ℕ → ℕ → ℕ → List ℕ
 load_line callers events bytes =
-    lined (spaced (codes "callers" ∷ decimal callers ∷ codes "events" ∷ decimal events ∷ codes "bytes"
-    ∷ decimal bytes ∷ codes "check" ∷ codes "yes" ∷ []) ∷ [])
+    codes "callers " ++ decimal callers ++ codes " events " ++ decimal events ++ codes " bytes " ++ decimal bytes
+    ++ codes " check yes\n"
 
 -- how many bytes the data of a line are
 abbrev pub data_len : Data → ℕ
