@@ -8,8 +8,8 @@ ghost use Rattle.rng_tool.specs.Kept.{given_by, source_of};
 use io_edges::{Failed, Source};
 use std::alloc::Global;
 
-/// The most bytes that are remembered, 16 MiB: no script is longer.
-const MOST_KEPT: usize = 16_777_216;
+/// The most bytes that are remembered: one more than the 16 MiB of a script, so that one which is too long is told.
+const MOST_KEPT: usize = 16_777_217;
 
 /// A source that remembers the bytes which it gave, while they are no more than a script can have and there is memory for
 /// them.
