@@ -218,7 +218,7 @@ fn faults_are_told(rt: HostRuntime) -> Result<(), Fail> {
 #[test]
 fn other_words_read_and_write_nothing(rt: HostRuntime) -> Result<(), Fail> {
     let alloc = rt.alloc();
-    let rows: [&[&str]; 29] = [
+    let rows: [&[&str]; 36] = [
         &[],
         &["check"],
         &["run", "run"],
