@@ -220,7 +220,7 @@ fn other_words_read_and_write_nothing(rt: HostRuntime) -> Result<(), Fail> {
     let alloc = rt.alloc();
     let rows: [&[&str]; 36] = [
         &[],
-        &["check"],
+        &["check", "check"],
         &["run", "run"],
         &["Run"],
         &["run "],
