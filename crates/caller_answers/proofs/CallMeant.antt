@@ -17,7 +17,7 @@ use Rattle.key_names.specs.IsTranscript.{EachAct, EachOfCall}
 use Rattle.key_names.specs.Meaning.{CallerState, caller_after, LineMeaning, CallMeaning, Means, ActMeans, ActsMean}
 use Rattle.key_names.specs.Meaning.{event_entries, unused_line}
 use Rattle.key_names.specs.SeenLine.{SeenLine, no_data}
-use Rattle.key_names.specs.TranscriptGrammar.{StepFits}
+use Rattle.key_names.specs.Texts.TranscriptGrammar.{StepFits}
 use Rattle.line_forms.specs.Kinds.{kinds_of}
 use Rattle.line_forms.specs.LaneFacts.{facts_of, AllFit}
 use Rattle.line_forms.specs.Laws.{ActForm}
@@ -32,7 +32,7 @@ use Rattle.vread_course.specs.declared.inside.Reached.{Reached}
 use Rattle.vread_course.specs.Inside.{includes}
 use Rattle.vread_course.specs.Laws.{meaning_of}
 use Rattle.vread_course.proofs.Vreads.{vread_of_followed}
-use Rattle.key_names.proofs.Each.{each_parts}
+use Rattle.key_names.proofs.Lists.Each.{each_parts}
 use Rattle.caller_answers.specs.declared.met.Met.{Met}
 use Rattle.caller_answers.specs.declared.said.Said.{Said}
 use Rattle.caller_answers.specs.declared.said.Shows.TheVariants.{Nothing as ShowsNothing, Served}

@@ -12,8 +12,8 @@ use Rattle.key_names.specs.Calls.{setting_after_call}
 use Rattle.key_names.specs.IsTranscript.{CallerMeans, CallsMean, EachLine, LinesFit}
 use Rattle.key_names.specs.Meaning.{CallerState, CallMeaning}
 use Rattle.key_names.specs.SeenLine.{SeenLine}
-use Rattle.key_names.specs.TranscriptGrammar.{StepFits}
-use Rattle.key_names.proofs.Each.{each_parts}
+use Rattle.key_names.specs.Texts.TranscriptGrammar.{StepFits}
+use Rattle.key_names.proofs.Lists.Each.{each_parts}
 use Rattle.line_orders.specs.Settings.{settings_from}
 use Rattle.list_replay.specs.declared.kept.Lists.{Lists as KeptLists}
 use Rattle.list_replay.specs.Kept.{Keeps}

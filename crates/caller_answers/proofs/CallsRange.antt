@@ -5,7 +5,7 @@ use Rattle.std.specs.List.{AllByRecursion}
 use Rattle.key_names.specs.declared.events.Event.{Event}
 use Rattle.key_names.specs.declared.events.Event.TheVariants.{Vread, Inside, State}
 use Rattle.key_names.specs.Calls.{BoundAct, unbound, has_vread, calls_from, all_calls}
-use Rattle.key_names.specs.ScriptGrammar.{InRange}
+use Rattle.key_names.specs.Texts.ScriptGrammar.{InRange}
 use Rattle.key_names.specs.SeenLine.{SeenLine}
 use Rattle.caller_answers.specs.Said.{StateInRange, CallInRange}
 

@@ -13,7 +13,7 @@ use Rattle.key_names.specs.IsTranscript.{EachAct, EachOfCall}
 use Rattle.key_names.specs.Meaning.{CallerState, caller_after, LineMeaning, CallMeaning, Means, ActMeans, ActsMean}
 use Rattle.key_names.specs.Meaning.{unused_line, current_state, AloneMeans, EndingMeans, UnboundMeans, VreadMeans, with_state as meant_with_state}
 use Rattle.key_names.specs.SeenLine.{SeenLine}
-use Rattle.key_names.specs.TranscriptGrammar.{StepFits}
+use Rattle.key_names.specs.Texts.TranscriptGrammar.{StepFits}
 use Rattle.line_forms.specs.Kinds.{kinds_of}
 use Rattle.line_forms.specs.LaneFacts.{facts_of, AllFit}
 use Rattle.line_forms.specs.Laws.{ActForm}

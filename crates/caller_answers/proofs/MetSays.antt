@@ -17,7 +17,7 @@ use Rattle.key_names.specs.Deeds.{Deed, looked, at_pool, at_base, at_cpu, nothin
 use Rattle.key_names.specs.Deeds.{base_serves}
 use Rattle.key_names.specs.KeyInUse.{zero_key}
 use Rattle.key_names.specs.SeenLine.{count, bytes_or_none}
-use Rattle.key_names.specs.TranscriptGrammar.{StepFits}
+use Rattle.key_names.specs.Texts.TranscriptGrammar.{StepFits}
 use Rattle.input_pool.specs.PoolStands.{crossing_of}
 use Rattle.line_forms.specs.Kinds.{base_kind, is_resume, kinds_of}
 use Rattle.line_forms.specs.LaneFacts as facts

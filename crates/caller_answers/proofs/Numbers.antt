@@ -8,7 +8,7 @@ use Rattle.key_names.specs.declared.events.Event.TheVariants.{Vread, Inside}
 use Rattle.key_names.specs.Calls.{Call, alone, vread_call, unbound, ending, BoundAct, has_vread, calls_from}
 use Rattle.key_names.specs.IsTranscript.{LinesFit}
 use Rattle.key_names.specs.SeenLine.{SeenLine}
-use Rattle.key_names.proofs.Each.{each_append, each_weaker}
+use Rattle.key_names.proofs.Lists.Each.{each_append, each_weaker}
 use Rattle.caller_answers.specs.declared.said.Said.{Said}
 use Rattle.caller_answers.specs.Writes.{Write, Written}
 use Rattle.caller_answers.proofs.CallMeant.{IsSaidIn}

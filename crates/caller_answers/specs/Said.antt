@@ -8,7 +8,7 @@ use Rattle.key_names.specs.Calls.{Setting, Call, alone, vread_call, unbound, end
 use Rattle.key_names.specs.IsTranscript.{CallerMeans, EachLine, LinesFit}
 use Rattle.key_names.specs.Meaning.{LineMeaning, CallMeaning}
 use Rattle.key_names.specs.SeenLine.{SeenLine, Shown, no_data, count, bytes_or_none}
-use Rattle.key_names.specs.TranscriptGrammar.{StepFits}
+use Rattle.key_names.specs.Texts.TranscriptGrammar.{StepFits}
 use Rattle.vread_course.specs.Recipe.{bytes_made}
 use Rattle.caller_answers.specs.declared.said.Said.{Said}
 use Rattle.caller_answers.specs.declared.said.Shows.{Shows}

@@ -7,9 +7,9 @@ use Rattle.key_names.specs.declared.events.Word.TheVariants.{Vread as VreadWord}
 use Rattle.key_names.specs.declared.names.Step.{Step}
 use Rattle.key_names.specs.Calls.{Setting as Told, vread_call}
 use Rattle.key_names.specs.Meaning.{CallerState, with_state}
-use Rattle.key_names.specs.ScriptGrammar.{event_word}
+use Rattle.key_names.specs.Texts.ScriptGrammar.{event_word}
 use Rattle.key_names.specs.SeenLine.{Shown}
-use Rattle.key_names.specs.TranscriptGrammar.{StepFits}
+use Rattle.key_names.specs.Texts.TranscriptGrammar.{StepFits}
 use Rattle.key_names.specs.VgetrandomState.{VgetrandomState}
 use Rattle.key_names.specs.VreadSteps.{published_by}
 use Rattle.lane_table.specs.declared.lanes.Lanes.{Lanes}

@@ -8,7 +8,7 @@ use Rattle.key_names.specs.Calls.{Call, alone, Setting as Told, setting_after_ca
 use Rattle.key_names.specs.History.{calls_steps, through_visit}
 use Rattle.key_names.specs.IsTranscript.{LineIs, LinesFit}
 use Rattle.key_names.specs.Meaning.{CallerState, caller_start}
-use Rattle.key_names.specs.ScriptGrammar.{InRange, FewActs}
+use Rattle.key_names.specs.Texts.ScriptGrammar.{InRange, FewActs}
 use Rattle.key_names.specs.SeenLine.{SeenLine}
 use Rattle.lane_table.specs.declared.lanes.Lanes.{Lanes}
 use Rattle.lane_table.specs.declared.view.View.{View}

@@ -8,9 +8,9 @@ use Rattle.key_names.specs.declared.names.Step.{Step}
 use Rattle.key_names.specs.declared.entries.BaseEntry.TheVariants.{Stall, Unstall}
 use Rattle.key_names.specs.Book.{list_at}
 use Rattle.key_names.specs.Forms.{BaseOnly}
-use Rattle.key_names.specs.ScriptGrammar.{Script, WellFormed, IsForkAbove}
+use Rattle.key_names.specs.Texts.ScriptGrammar.{Script, WellFormed, IsForkAbove}
 use Rattle.key_names.specs.SeenLine.{SeenLine}
-use Rattle.key_names.specs.TranscriptGrammar.{StepFits}
+use Rattle.key_names.specs.Texts.TranscriptGrammar.{StepFits}
 use Rattle.lane_table.specs.declared.lanes.Lanes.{Lanes}
 use Rattle.lane_table.specs.declared.lanes.Pass.{Pass}
 use Rattle.lane_table.specs.declared.view.View.{View}

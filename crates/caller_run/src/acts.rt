@@ -1,7 +1,7 @@
 //! Acts that wait for a caller's next `vread`.
 ghost use Rattle.std.specs.Prelude.{◌≡◌, ◌+◌, ◌*◌, ◌<◌, ◌≤◌, ◌^◌, ◌∷◌, ℕ, List, [], length, slice_set};
 ghost use Rattle.std.specs.List.{AllByRecursion};
-ghost use Rattle.key_names.specs.TranscriptGrammar.{StepFits};
+ghost use Rattle.key_names.specs.Texts.TranscriptGrammar.{StepFits};
 ghost use Rattle.key_names.specs.VreadSteps.{number_of};
 ghost use Rattle.key_names.specs.declared.events.Event.{Event};
 ghost use Rattle.key_names.specs.declared.events.Event.TheVariants.{Inside};

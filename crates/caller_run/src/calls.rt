@@ -1,6 +1,6 @@
 //! The calls of the core that a caller's events ask for, each on a line of its own.
 ghost use Rattle.std.specs.Prelude.{◌≡◌, ℕ, List, [], length};
-ghost use Rattle.key_names.specs.ScriptGrammar.{InRange};
+ghost use Rattle.key_names.specs.Texts.ScriptGrammar.{InRange};
 ghost use Rattle.caller_run.specs.Calling.{IsReady, Called};
 ghost use Rattle.caller_run.specs.Kinds.{IsCall, IsSetting, IsSample, IsReseed, IsOfCpu, IsRead, IsInteger};
 ghost use Rattle.caller_run.specs.Says.{most_shown};

@@ -1,8 +1,8 @@
 //! The lines that tell of a caller's events.
 ghost use Rattle.std.specs.Prelude.{◌≡◌, ◌+◌, ◌<◌, ◌≤◌, ◌^◌, ◌∷◌, ◌++◌, [], length};
 ghost use Rattle.std.specs.List.{AllByRecursion};
-ghost use Rattle.key_names.specs.ScriptGrammar.{event_word};
-ghost use Rattle.key_names.specs.TranscriptGrammar.{StepFits};
+ghost use Rattle.key_names.specs.Texts.ScriptGrammar.{event_word};
+ghost use Rattle.key_names.specs.Texts.TranscriptGrammar.{StepFits};
 ghost use Rattle.transcript_text.specs.Views.{bytes_of, seen, seen_shown};
 ghost use Rattle.caller_run.specs.Says.{line_of, ShowsFit};
 

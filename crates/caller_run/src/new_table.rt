@@ -1,6 +1,6 @@
 //! A whole run, from a new table to its transcript.
 ghost use Rattle.std.specs.Prelude.{IfOk};
-ghost use Rattle.key_names.specs.ScriptGrammar.{WellFormed};
+ghost use Rattle.key_names.specs.Texts.ScriptGrammar.{WellFormed};
 ghost use Rattle.lane_table.specs.declared.view.View.{View};
 ghost use Rattle.caller_run.specs.Laws.{LawfulRuns};
 

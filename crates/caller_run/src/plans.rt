@@ -1,6 +1,6 @@
 //! Plans: all memory of a run, taken before it, and the lines of all callers behind it.
 ghost use Rattle.std.specs.Prelude.{◌≡◌, ◌<◌, ◌≤◌, length, IfOk};
-ghost use Rattle.key_names.specs.ScriptGrammar.{Script, WellFormed};
+ghost use Rattle.key_names.specs.Texts.ScriptGrammar.{Script, WellFormed};
 ghost use Rattle.caller_run.specs.Grove.{told_by};
 ghost use Rattle.caller_run.specs.Plans.{HaveSlots, IsPlanFor, IsReady, lines_in, put_in};
 ghost use Rattle.caller_run.specs.Plots.{plot};

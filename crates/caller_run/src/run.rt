@@ -1,7 +1,7 @@
 //! The run of callers: each to its end, beside those that it forks, and all callers of a script.
 ghost use Rattle.std.specs.Prelude.{◌≡◌, ◌<◌, ◌^◌, []};
 ghost use Rattle.std.specs.Thread.{IsSync};
-ghost use Rattle.key_names.specs.ScriptGrammar.{WellFormed};
+ghost use Rattle.key_names.specs.Texts.ScriptGrammar.{WellFormed};
 ghost use Rattle.lane_table.specs.Calls.{view};
 ghost use Rattle.lane_table.specs.Hands.{Has};
 ghost use Rattle.caller_run.specs.Families.{SameShare};

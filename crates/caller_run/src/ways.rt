@@ -3,8 +3,8 @@ ghost use Rattle.std.specs.Prelude.{◌≡◌, ℕ, ◌+◌, ◌<◌, ◌≤◌,
 ghost use Rattle.std.specs.List.{AllByRecursion};
 ghost use Rattle.key_names.specs.declared.events.Event.{Event};
 ghost use Rattle.key_names.specs.declared.events.Event.TheVariants.{Fork};
-ghost use Rattle.key_names.specs.ScriptGrammar.{WellFormed};
-ghost use Rattle.key_names.specs.TranscriptGrammar.{StepFits};
+ghost use Rattle.key_names.specs.Texts.ScriptGrammar.{WellFormed};
+ghost use Rattle.key_names.specs.Texts.TranscriptGrammar.{StepFits};
 ghost use Rattle.key_names.specs.VgetrandomState.{wiped_state};
 ghost use Rattle.lane_table.specs.declared.lanes.Lanes.{Lanes};
 ghost use Rattle.lane_table.specs.declared.view.View.{View};

@@ -2,7 +2,7 @@
 use Rattle.std.proofs.Common.{◌≡◌, ℕ, ◌+◌, ◌-◌, ◌≤◌, List, ap, ap₂, ◌∙◌, arith}
 use Rattle.std.specs.Prelude.{slice_range}
 use Rattle.key_names.specs.Keystream.{keystream}
-use Rattle.key_names.proofs.Keystreams.{slice_range-keystream}
+use Rattle.key_names.proofs.Standards.Keystreams.{slice_range-keystream}
 
 -- n bytes of a piece, from byte i of it on
 pub part_of : (key piece part : List ℕ) (at len i n from : ℕ) → piece ≡ keystream key at len

@@ -1,7 +1,7 @@
 -- For callers: which run of the old key's keystream an erasure and what follows it hand out.
 use Rattle.std.proofs.Common.{◌≡◌, ℕ, ◌+◌, ◌*◌, ◌<◌, List, ◌++◌, length, arith}
 use Rattle.key_names.specs.Keystream.{keystream}
-use Rattle.key_names.proofs.Keystreams.{keystream-append, length-keystream}
+use Rattle.key_names.proofs.Standards.Keystreams.{keystream-append, length-keystream}
 
 -- the front from `erase`, and the rest from `more` on what it gave, are the bytes of `erase_and_fill`
 pub erased_in_two : (key : List ℕ) (front rest len : ℕ) → front + rest ≡ len → (0 < rest → front ≡ 32) →

@@ -11,7 +11,7 @@ use Rattle.std.specs.Simd.Lanes.{zip2}
 use Rattle.rand_chacha.specs.Block.{add32, initial_state, double_rounds, block_word}
 use Rattle.rand_chacha.specs.ChaCha.{ChaCha, word_at, key_of, next_word}
 use Rattle.key_names.specs.Keystream.{keystream, keystream_byte}
-use Rattle.key_names.proofs.Keystreams.{keystream-add, take-keystream}
+use Rattle.key_names.proofs.Standards.Keystreams.{keystream-add, take-keystream}
 use Rattle.chacha_blocks.specs.Place.{generator_at}
 use Rattle.chacha_blocks.specs.Rows.{state_of}
 

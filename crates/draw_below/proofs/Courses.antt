@@ -10,7 +10,7 @@ use Rattle.key_names.specs.declared.names.Step.{Step}
 use Rattle.key_names.specs.Deeds.{deeds_of}
 use Rattle.key_names.specs.IsTranscript.{MarkBy, marks_from}
 use Rattle.key_names.specs.SeenLine.{bytes_or_none, no_data}
-use Rattle.key_names.proofs.Each.{each_append, each_weaker}
+use Rattle.key_names.proofs.Lists.Each.{each_append, each_weaker}
 use Rattle.lane_table.specs.declared.view.LaneEntry.{LaneEntry}
 use Rattle.lane_table.specs.declared.view.LaneView.{LaneView}
 use Rattle.lane_table.specs.declared.view.View.{View}
@@ -22,11 +22,11 @@ use Rattle.lane_table.specs.LaneNumbers.{index_of}
 use Rattle.lane_table.specs.Steps.{Grows, newcomer}
 use Rattle.lane_table.specs.Went.{AllStand, Climbs, Deal, IsMarkOf, looked, maker, places_in, stamps_in, step_of, visited}
 use Rattle.lane_table.specs.WorldRule.{at, blank, known_of}
-use Rattle.lane_table.proofs.BookEnds.{continues_before, ended_lanes, ended_lawful, ended_visits}
-use Rattle.lane_table.proofs.BookMarks.{MarksVisit}
-use Rattle.lane_table.proofs.Places.{stands_at}
-use Rattle.lane_table.proofs.VisitLists.{begins_refl, begins_trans}
-use Rattle.lane_table.proofs.WentLemmas.{climbs_append, mark_grown}
+use Rattle.lane_table.proofs.Book.BookEnds.{continues_before, ended_lanes, ended_lawful, ended_visits}
+use Rattle.lane_table.proofs.Book.BookMarks.{MarksVisit}
+use Rattle.lane_table.proofs.Lists.Places.{stands_at}
+use Rattle.lane_table.proofs.Lists.VisitLists.{begins_refl, begins_trans}
+use Rattle.lane_table.proofs.Calls.WentLemmas.{climbs_append, mark_grown}
 use Rattle.rng_core.specs.declared.setting.Setting.{Setting}
 use Rattle.rng_core.specs.Did.{Did, Fulfils, setting_of}
 use Rattle.rng_core.specs.Told.{Moment}

@@ -4,11 +4,11 @@ use Rattle.std.proofs.lemmas.Bool.{false_from_ne_true, eqb-true}
 use Rattle.std.proofs.lemmas.List.{take-append-drop, get_or-take, get_or_default, length-take}
 use Rattle.std.proofs.lemmas.Grind.{common_steps}
 use Rattle.memchr.specs.Find.{IsFirstByte, is_byte}
-use Rattle.key_names.specs.ScriptFaults.{parts}
+use Rattle.key_names.specs.Texts.ScriptFaults.{parts}
 use Rattle.key_names.specs.declared.faults.FaultKind.{FaultKind}
-use Rattle.key_names.specs.ScriptFaults.{inside_of, no_field, one_field, two_fields}
+use Rattle.key_names.specs.Texts.ScriptFaults.{inside_of, no_field, one_field, two_fields}
 use Rattle.key_names.specs.declared.faults.FaultKind.TheVariants.{UnknownWord}
-use Rattle.key_names.proofs.Parts.{Lacks, first_part, parts_at, parts_whole}
+use Rattle.key_names.proofs.Script.Parts.{Lacks, first_part, parts_at, parts_whole}
 
 pub nowhere : (byte : ℕ) (text : List ℕ) → IsFirstByte (is_byte byte) text None → parts byte text ≡ text ∷ []
 nowhere byte text h =

@@ -5,8 +5,8 @@ use Rattle.std.specs.Str.Parse.{AllDigits, digits_value}
 use Rattle.std.proofs.lemmas.Int.Digits.{digits_value_more}
 use Rattle.std.proofs.lemmas.List.{get_or-drop, length-take}
 use Rattle.std.proofs.lemmas.Str.Parse.{digits_value-take-le, digits_value_short, numerals_by_value, tells_digits}
-use Rattle.key_names.specs.ScriptFaults.{number_below}
-use Rattle.key_names.proofs.Numbers.{number_none}
+use Rattle.key_names.specs.Texts.ScriptFaults.{number_below}
+use Rattle.key_names.proofs.Script.Numbers.{number_none}
 
 pub digit_of : (field : List ℕ) (i : ℕ) → AllDigits 10 field → i < length field → digit_value (get_or field i 0) < 10
 digit_of [] i digits in_field = absurd (omega arith)

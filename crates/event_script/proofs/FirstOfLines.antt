@@ -5,8 +5,8 @@ use Rattle.std.proofs.lemmas.List.Splits.{join_with_byte-slice_split}
 use Rattle.key_names.specs.declared.faults.FaultKind.{FaultKind}
 use Rattle.key_names.specs.declared.faults.FaultKind.TheVariants.{BadByte, UnknownWord}
 use Rattle.key_names.specs.declared.faults.ScriptFault.{ScriptFault}
-use Rattle.key_names.specs.ScriptFaults.{◌>>=◌, Draft, GoesOn, Ends, at_line, behind, behind_first, behind_line, by_next, is_unprintable, line_of, nothing_behind, parts, script_from, script_of_draft}
-use Rattle.key_names.proofs.Parts.{HasFirst, first_part}
+use Rattle.key_names.specs.Texts.ScriptFaults.{◌>>=◌, Draft, GoesOn, Ends, at_line, behind, behind_first, behind_line, by_next, is_unprintable, line_of, nothing_behind, parts, script_from, script_of_draft}
+use Rattle.key_names.proofs.Script.Parts.{HasFirst, first_part}
 use Rattle.event_script.specs.declared.error.LineError.{LineError}
 use Rattle.event_script.specs.declared.error.LineError.TheVariants.{Memory, Kind}
 use Rattle.event_script.specs.ScriptViews.{FailsAt, script_error}

@@ -5,8 +5,8 @@ use Rattle.std.specs.Prelude.{codes}
 use Rattle.std.specs.Str.{bytes_eq}
 use Rattle.std.proofs.lemmas.List.{length-append, take_at}
 use Rattle.std.proofs.lemmas.List.Splits.{join_with_byte-slice_split}
-use Rattle.key_names.specs.ScriptFaults.{front, front_lines, parts}
-use Rattle.key_names.proofs.Parts.{HasFirst, first_part}
+use Rattle.key_names.specs.Texts.ScriptFaults.{front, front_lines, parts}
+use Rattle.key_names.proofs.Script.Parts.{HasFirst, first_part}
 
 -- the text is some bytes and what is left, and so is its front
 pub record HasFront (text left : List ℕ) : Type 0 where

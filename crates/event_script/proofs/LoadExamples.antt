@@ -3,8 +3,8 @@ use Rattle.std.proofs.Common.{◌≡◌, ℕ, List, [], ◌∷◌, refl}
 use Rattle.std.specs.Prelude.{codes}
 use Rattle.std.specs.Fmt.{digits}
 use Rattle.hex.specs.Hex.{encode_with}
-use Rattle.key_names.specs.Spelling.{lined}
-use Rattle.key_names.specs.ScriptGrammar.{script_text}
+use Rattle.key_names.specs.Texts.Spelling.{lined}
+use Rattle.key_names.specs.Texts.ScriptGrammar.{script_text}
 use Rattle.event_script.specs.LoadScript.{load_script}
 
 abbrev one_caller : List (List ℕ)

@@ -7,9 +7,9 @@ use Rattle.std.proofs.lemmas.List.{length-append}
 use Rattle.std.proofs.lemmas.List.Concat.{flat_map-cons}
 use Rattle.std.proofs.lemmas.List.Sums.{sum_by-cons}
 use Rattle.key_names.specs.declared.events.Event.{Event}
-use Rattle.key_names.specs.ScriptGrammar.{Script, block_lines, event_fields, script_lines, script_text}
-use Rattle.key_names.specs.Spelling.{lined, spaced}
-use Rattle.key_names.proofs.Each.{each_append}
+use Rattle.key_names.specs.Texts.ScriptGrammar.{Script, block_lines, event_fields, script_lines, script_text}
+use Rattle.key_names.specs.Texts.Spelling.{lined, spaced}
+use Rattle.key_names.proofs.Lists.Each.{each_append}
 
 -- what fields take on a line, each with one byte behind it
 abbrev pub fields_len : List (List ℕ) → ℕ

@@ -13,9 +13,9 @@ use Rattle.hex.proofs.HexLemmas.{length-encode_with}
 use Rattle.hex.specs.Hex.{lower_digits}
 use Rattle.key_names.specs.declared.events.Event.{Event}
 use Rattle.key_names.specs.declared.events.Event.TheVariants.{Add, Fork, On, Reseed}
-use Rattle.key_names.specs.ScriptGrammar.{InRange, IsForkAbove, FewActs, ForksAbove, WellFormed, acts_after, bytes_read, event_fields, is_fork_of, times_forked}
-use Rattle.key_names.proofs.Drafts.{forked_high, forked_low}
-use Rattle.key_names.proofs.Each.{each_append, each_weaker}
+use Rattle.key_names.specs.Texts.ScriptGrammar.{InRange, IsForkAbove, FewActs, ForksAbove, WellFormed, acts_after, bytes_read, event_fields, is_fork_of, times_forked}
+use Rattle.key_names.proofs.Script.Drafts.{forked_high, forked_low}
+use Rattle.key_names.proofs.Lists.Each.{each_append, each_weaker}
 use Rattle.event_script.specs.LoadScript.{call, calls, load_events, load_script, opening, read_len, turn}
 use Rattle.event_script.proofs.LoadTexts.{IsShort, text_len}
 

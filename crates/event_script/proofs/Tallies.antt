@@ -9,9 +9,9 @@ use Rattle.std.proofs.lemmas.List.Folds.{list_any_at, list_any_none}
 use Rattle.std.proofs.lemmas.List.Sums.{fold-append}
 use Rattle.key_names.specs.declared.events.Event.{Event}
 use Rattle.key_names.specs.declared.events.Event.TheVariants.{Fork}
-use Rattle.key_names.specs.ScriptGrammar.{InRange, acts_after, bytes_read, is_fork_of, times_forked}
-use Rattle.key_names.specs.ScriptFaults.{Draft, blocks_of, has_orphan, is_past_limits, with_event}
-use Rattle.key_names.proofs.Drafts.{forks_of, lengths, no_orphan, orphanless, reads, times_with, total_block, total_split}
+use Rattle.key_names.specs.Texts.ScriptGrammar.{InRange, acts_after, bytes_read, is_fork_of, times_forked}
+use Rattle.key_names.specs.Texts.ScriptFaults.{Draft, blocks_of, has_orphan, is_past_limits, with_event}
+use Rattle.key_names.proofs.Script.Drafts.{forks_of, lengths, no_orphan, orphanless, reads, times_with, total_block, total_split}
 use Rattle.event_script.specs.Tally.{Tallied, fork_in}
 
 -- the flags behind an event

@@ -1,6 +1,6 @@
 -- A draft as the definitions see it.
 use Rattle.std.specs.Prelude.{map}
-use Rattle.key_names.specs.ScriptFaults as faults
+use Rattle.key_names.specs.Texts.ScriptFaults as faults
 use Rattle.event_script.specs.declared.draft.Draft.{Draft}
 
 abbrev pub draft_as : Draft → faults.Draft

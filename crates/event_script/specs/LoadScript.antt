@@ -4,7 +4,7 @@ use Rattle.std.specs.Int.{w64, to_le_bytes}
 use Rattle.std.specs.List.{range_with_len}
 use Rattle.key_names.specs.declared.events.Event.{Event}
 use Rattle.key_names.specs.declared.events.Event.TheVariants.{On, Write, Add, Irq, Read, Vread, Kread, Uread, Int64, Reseed, Fork}
-use Rattle.key_names.specs.ScriptGrammar.{Script}
+use Rattle.key_names.specs.Texts.ScriptGrammar.{Script}
 
 -- the eight calls, for reads of so many bytes
 abbrev pub calls : ℕ → ℕ → ℕ → List Event

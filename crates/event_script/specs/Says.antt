@@ -1,5 +1,5 @@
 -- What a line says, as the definitions see it.
-use Rattle.key_names.specs.ScriptFaults as faults
+use Rattle.key_names.specs.Texts.ScriptFaults as faults
 use Rattle.event_script.specs.declared.line.Said.{Said}
 use Rattle.event_script.specs.declared.line.Said.TheVariants.{Event, Caller, End}
 

@@ -1,7 +1,7 @@
 -- What a reader of lines answered, beside what the definitions give.
 use Rattle.std.specs.Prelude.{◌≡◌, ℕ, Bool, true, false, ⊤, List, Some, Result, Ok, Err}
 use Rattle.key_names.specs.declared.faults.ScriptFault.{ScriptFault}
-use Rattle.key_names.specs.ScriptFaults.{first_fault, Draft, Next, GoesOn, Ends}
+use Rattle.key_names.specs.Texts.ScriptFaults.{first_fault, Draft, Next, GoesOn, Ends}
 use Rattle.event_script.specs.declared.error.LineError.{LineError}
 use Rattle.event_script.specs.declared.error.LineError.TheVariants.{Memory, Kind}
 use Rattle.event_script.specs.declared.script_error.ScriptError.{ScriptError}

@@ -3,7 +3,7 @@ use Rattle.std.specs.Prelude.{◌≡◌, ℕ, ◌<◌, ◌≤◌, Bool, false, n
 use Rattle.std.specs.Global.{Vec}
 use Rattle.key_names.specs.declared.events.Event.{Event}
 use Rattle.key_names.specs.declared.events.Event.TheVariants.{Fork}
-use Rattle.key_names.specs.ScriptGrammar.{acts_after, bytes_read, times_forked}
+use Rattle.key_names.specs.Texts.ScriptGrammar.{acts_after, bytes_read, times_forked}
 
 -- the blocks that are done, and the last one
 abbrev pub blocks_in : List (Vec Event) → List Event → List (List Event)

@@ -2,7 +2,7 @@
 use Rattle.std.specs.Prelude.{◌≡◌, ℕ, ⊤, List, [], Option, Some, None, Result, Ok, Err}
 use Rattle.std.specs.Borrow.{Bor}
 use Rattle.key_names.specs.declared.faults.FaultKind.{FaultKind}
-use Rattle.key_names.specs.ScriptFaults.{parts}
+use Rattle.key_names.specs.Texts.ScriptFaults.{parts}
 use Rattle.event_script.specs.declared.error.LineError.{LineError}
 use Rattle.event_script.specs.declared.error.LineError.TheVariants.{Memory, Kind}
 

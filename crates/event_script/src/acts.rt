@@ -2,7 +2,7 @@
 
 ghost use Rattle.std.specs.Prelude.{◌≡◌};
 ghost use Rattle.event_script.specs.Views.{Tells, fields_of};
-ghost use Rattle.key_names.specs.ScriptFaults.{act_at, inside_of, vread_at};
+ghost use Rattle.key_names.specs.Texts.ScriptFaults.{act_at, inside_of, vread_at};
 
 use crate::amounts::read_len;
 use crate::fields::{cut, one, spells};

@@ -2,7 +2,7 @@
 
 ghost use Rattle.std.specs.Prelude.{◌≡◌, ◌^◌};
 ghost use Rattle.event_script.specs.Views.{Gives, Tells};
-ghost use Rattle.key_names.specs.ScriptFaults.{bytes, number};
+ghost use Rattle.key_names.specs.Texts.ScriptFaults.{bytes, number};
 
 use crate::error::LineError;
 use crate::hexes::bytes;

@@ -4,8 +4,8 @@ ghost use Rattle.std.specs.Prelude.{◌≡◌, ◌<◌, ◌≤◌, ◌+◌, [], 
 ghost use Rattle.std.specs.List.{list_any};
 ghost use Rattle.event_script.specs.Tally.{Tallied, blocks_in, fork_in};
 ghost use Rattle.event_script.specs.Views.{Gives};
-ghost use Rattle.key_names.specs.ScriptFaults.{SaysEvent, SaysCaller, GoesOn, after, blocks_of, has_orphan, is_bad_fork, is_past_limits};
-ghost use Rattle.key_names.specs.ScriptGrammar.{InRange, acts_after};
+ghost use Rattle.key_names.specs.Texts.ScriptFaults.{SaysEvent, SaysCaller, GoesOn, after, blocks_of, has_orphan, is_bad_fork, is_past_limits};
+ghost use Rattle.key_names.specs.Texts.ScriptGrammar.{InRange, acts_after};
 
 use crate::error::LineError;
 use crate::reads::bytes_read;

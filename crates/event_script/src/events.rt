@@ -2,8 +2,8 @@
 
 ghost use Rattle.std.specs.Prelude.{◌<◌, ◌≤◌, ◌^◌, ◌≡◌, MatchResult};
 ghost use Rattle.event_script.specs.Views.{Gives, Tells, fields_of};
-ghost use Rattle.key_names.specs.ScriptFaults.{binary, bytes, event_of, hardware_words, input_of};
-ghost use Rattle.key_names.specs.ScriptFaults.{number, number_in, plain, since, unary};
+ghost use Rattle.key_names.specs.Texts.ScriptFaults.{binary, bytes, event_of, hardware_words, input_of};
+ghost use Rattle.key_names.specs.Texts.ScriptFaults.{number, number_in, plain, since, unary};
 
 use crate::acts::inside;
 use crate::amounts::{bits, read_flags, read_len, text};

@@ -3,7 +3,7 @@
 ghost use Rattle.std.specs.Prelude.{◌≡◌, MatchOption, IfSome, Some, ◌+◌, ◌∷◌, [], length};
 ghost use Rattle.std.specs.Str.{bytes_eq};
 ghost use Rattle.event_script.specs.Views.{Tells, fields_of};
-ghost use Rattle.key_names.specs.ScriptFaults.{parts, no_field, one_field, two_fields, four_fields};
+ghost use Rattle.key_names.specs.Texts.ScriptFaults.{parts, no_field, one_field, two_fields, four_fields};
 
 use key_names::FaultKind;
 use memchr::memchr;

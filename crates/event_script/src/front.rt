@@ -1,7 +1,7 @@
 //! A script that stands in front of something else.
 
 ghost use Rattle.std.specs.Prelude.{◌≡◌, ◌≤◌, length, take};
-ghost use Rattle.key_names.specs.ScriptFaults.{front};
+ghost use Rattle.key_names.specs.Texts.ScriptFaults.{front};
 
 use crate::fields::{cut, spells};
 

@@ -2,7 +2,7 @@
 
 ghost use Rattle.std.specs.Prelude.{◌≡◌};
 ghost use Rattle.event_script.specs.Views.{Gives};
-ghost use Rattle.key_names.specs.ScriptFaults.{bytes, hardware_words};
+ghost use Rattle.key_names.specs.Texts.ScriptFaults.{bytes, hardware_words};
 
 use crate::error::LineError;
 use key_names::FaultKind;

@@ -4,7 +4,7 @@ ghost use Rattle.std.specs.Prelude.{◌≡◌, ◌<◌, ◌≤◌, IfOk};
 ghost use Rattle.std.specs.List.{list_any};
 ghost use Rattle.event_script.specs.Views.{Gives, fields_of};
 ghost use Rattle.event_script.specs.Says.{said_as};
-ghost use Rattle.key_names.specs.ScriptFaults.{said, said_by_word, SaidInRange, is_unprintable};
+ghost use Rattle.key_names.specs.Texts.ScriptFaults.{said, said_by_word, SaidInRange, is_unprintable};
 
 use crate::error::LineError;
 use crate::events::event_of;

@@ -3,7 +3,7 @@
 ghost use Rattle.std.specs.Prelude.{◌≡◌, ◌+◌, ◌<◌, ◌≤◌, IfOk, IfNone, IfSome, OnSome, length};
 ghost use Rattle.std.specs.Str.Parse.{AllDigits, digits_value};
 ghost use Rattle.event_script.specs.Views.{Tells};
-ghost use Rattle.key_names.specs.ScriptFaults.{number_below, number, number_in};
+ghost use Rattle.key_names.specs.Texts.ScriptFaults.{number_below, number, number_in};
 
 use key_names::FaultKind;
 

@@ -2,8 +2,8 @@
 
 ghost use Rattle.std.specs.Prelude.{◌≡◌, ℕ, ◌<◌, ◌≤◌, ◌+◌, ◌∷◌, [], IfOk, MatchResult, length};
 ghost use Rattle.std.specs.Bool.{OnFalse};
-ghost use Rattle.key_names.specs.ScriptFaults.{at_line, behind, behind_first, behind_line, cpus_by, cpus_in, line_of, nothing_behind, parts, script_from, script_of, script_of_draft, start_in, version_in, version_of};
-ghost use Rattle.key_names.specs.ScriptGrammar.{most_cpus};
+ghost use Rattle.key_names.specs.Texts.ScriptFaults.{at_line, behind, behind_first, behind_line, cpus_by, cpus_in, line_of, nothing_behind, parts, script_from, script_of, script_of_draft, start_in, version_in, version_of};
+ghost use Rattle.key_names.specs.Texts.ScriptGrammar.{most_cpus};
 ghost use Rattle.event_script.specs.Drafts.{draft_as};
 ghost use Rattle.event_script.specs.ScriptViews.{GivesScript, next_as, script_error};
 ghost use Rattle.event_script.specs.Views.{Gives, Tells};

@@ -1,7 +1,7 @@
 //! How many bytes events read.
 
 ghost use Rattle.std.specs.Prelude.{◌≡◌};
-ghost use Rattle.key_names.specs.ScriptGrammar.{bytes_read};
+ghost use Rattle.key_names.specs.Texts.ScriptGrammar.{bytes_read};
 
 use key_names::{Event, InsideAct};
 

@@ -1,8 +1,8 @@
 //! Scripts.
 ghost use Rattle.std.specs.Prelude.{◌≡◌, ◌<◌, ◌≤◌, IfErr, IfOk, IsErr, length, take};
 ghost use Rattle.key_names.specs.declared.faults.ScriptFault.{ScriptFault};
-ghost use Rattle.key_names.specs.ScriptGrammar.{IsScript, Script as Spelt};
-ghost use Rattle.key_names.specs.ScriptFaults.{first_fault, front};
+ghost use Rattle.key_names.specs.Texts.ScriptGrammar.{IsScript, Script as Spelt};
+ghost use Rattle.key_names.specs.Texts.ScriptFaults.{first_fault, front};
 ghost use Rattle.event_script.specs.ScriptViews.{GivesScript, IsFirstFault};
 
 use crate::front::front_len;
@@ -25,7 +25,7 @@ pub struct Script {
 
 impl Model for Script {
     ghost use Rattle.std.specs.Prelude.{map};
-    ghost use Rattle.key_names.specs.ScriptGrammar.{Script as Spelt, WellFormed};
+    ghost use Rattle.key_names.specs.Texts.ScriptGrammar.{Script as Spelt, WellFormed};
 
     ghost Value = { Spelt };
 

@@ -2,8 +2,8 @@
 
 ghost use Rattle.std.specs.Prelude.{◌≡◌, find};
 ghost use Rattle.std.specs.Str.{bytes_eq};
-ghost use Rattle.key_names.specs.Spelling.{word_text};
-ghost use Rattle.key_names.specs.ScriptFaults.{word_of};
+ghost use Rattle.key_names.specs.Texts.Spelling.{word_text};
+ghost use Rattle.key_names.specs.Texts.ScriptFaults.{word_of};
 
 use crate::fields::spells;
 use key_names::Word;

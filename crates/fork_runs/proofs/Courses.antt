@@ -8,7 +8,7 @@ use Rattle.std.proofs.lemmas.List.Sums.{sum_by-cons, sum_by-append}
 use Rattle.key_names.specs.declared.names.Step.{Step}
 use Rattle.key_names.specs.Deeds.{Deed}
 use Rattle.key_names.specs.IsTranscript.{MarkBy, marks_from}
-use Rattle.key_names.proofs.Each.{each_append, each_weaker}
+use Rattle.key_names.proofs.Lists.Each.{each_append, each_weaker}
 use Rattle.lane_table.specs.declared.view.LaneEntry.{LaneEntry}
 use Rattle.lane_table.specs.declared.view.LaneView.{LaneView}
 use Rattle.lane_table.specs.declared.view.View.{View}
@@ -17,8 +17,8 @@ use Rattle.lane_table.specs.LaneNumbers.{index_of}
 use Rattle.lane_table.specs.Steps.{Grows}
 use Rattle.lane_table.specs.Went.{AllStand, Climbs, Deal, IsMarkOf, looked, maker, places_in, stamps_in, step_of, visited}
 use Rattle.lane_table.specs.WorldRule.{at, blank, known_of}
-use Rattle.lane_table.proofs.VisitLists.{begins_refl, begins_trans}
-use Rattle.lane_table.proofs.WentLemmas.{climbs_append, mark_grown}
+use Rattle.lane_table.proofs.Lists.VisitLists.{begins_refl, begins_trans}
+use Rattle.lane_table.proofs.Calls.WentLemmas.{climbs_append, mark_grown}
 use Rattle.rng_core.specs.declared.setting.Setting.{Setting}
 use Rattle.rng_core.specs.Told as told
 use Rattle.fork_runs.specs.Runs.{knowing, DidAll}

@@ -14,7 +14,7 @@ use Rattle.key_names.specs.SeenLine.{no_data}
 use Rattle.key_names.specs.Vgetrandom.{HostStep, Outcome}
 use Rattle.key_names.specs.VgetrandomState.{VgetrandomState, wiped_state}
 use Rattle.key_names.specs.VreadSteps.{published_by}
-use Rattle.key_names.proofs.Each.{each_append, each_weaker}
+use Rattle.key_names.proofs.Lists.Each.{each_append, each_weaker}
 use Rattle.lane_table.specs.declared.view.LaneView.{LaneView}
 use Rattle.lane_table.specs.declared.view.View.{View}
 use Rattle.lane_table.specs.declared.view.Visit.{Visit}
@@ -27,12 +27,12 @@ use Rattle.lane_table.specs.Steps.{Grows, newcomer, halved, both_of, merged, wit
 use Rattle.lane_table.specs.Steps as steps
 use Rattle.lane_table.specs.Went.{floor}
 use Rattle.lane_table.specs.WorldRule.{AllBegin, Begins, at, blank, known_of}
-use Rattle.lane_table.proofs.BookEnds.{continues_before, ended_lanes, ended_lawful, ended_visits}
-use Rattle.lane_table.proofs.BookMarks.{MarksVisit}
-use Rattle.lane_table.proofs.Places.{stands_at}
-use Rattle.lane_table.proofs.Shares.{merged_at, length_merged}
-use Rattle.lane_table.proofs.VisitLists.{begins_refl, begins_nil}
-use Rattle.lane_table.proofs.WentLemmas.{mark_grown}
+use Rattle.lane_table.proofs.Book.BookEnds.{continues_before, ended_lanes, ended_lawful, ended_visits}
+use Rattle.lane_table.proofs.Book.BookMarks.{MarksVisit}
+use Rattle.lane_table.proofs.Lists.Places.{stands_at}
+use Rattle.lane_table.proofs.Rule.Shares.{merged_at, length_merged}
+use Rattle.lane_table.proofs.Lists.VisitLists.{begins_refl, begins_nil}
+use Rattle.lane_table.proofs.Calls.WentLemmas.{mark_grown}
 use Rattle.vdso_state.specs.declared.place.Place.{Place}
 use Rattle.vdso_state.specs.declared.place.Turn.{Turn}
 use Rattle.vdso_state.specs.declared.place.Turn.TheVariants.{First, Second}

@@ -8,7 +8,7 @@ use Rattle.key_names.specs.declared.point.Point.TheVariants.{Serve}
 use Rattle.key_names.specs.Vgetrandom.{HostStep, at_point, Outcome, outcome_behind, IsCall}
 use Rattle.key_names.specs.VgetrandomState.{VgetrandomState, wiped_state}
 use Rattle.key_names.specs.VreadSteps.{PointReached, points_of}
-use Rattle.key_names.proofs.Each.{each_append}
+use Rattle.key_names.proofs.Lists.Each.{each_append}
 use Rattle.vdso_state.specs.declared.place.Turn.{Turn}
 use Rattle.vdso_state.specs.declared.place.Turn.TheVariants.{First, Second}
 use Rattle.vdso_state.specs.Places.{BehindPlace}

@@ -6,7 +6,7 @@ use Rattle.std.proofs.lemmas.List.{drop_at, length-take-le, length-replicate}
 use Rattle.key_names.specs.declared.entries.CpuEntry.TheVariants.{Int, Prepare}
 use Rattle.key_names.specs.Keystream.{keystream}
 use Rattle.key_names.specs.Batches.{Fill, must_fill, batched_int, batch_step, with_zeros}
-use Rattle.key_names.proofs.Keystreams.{length-keystream, slice_range-keystream}
+use Rattle.key_names.proofs.Standards.Keystreams.{length-keystream, slice_range-keystream}
 use Rattle.int_batch.specs.BatchValue.{BatchValue, start, wants, filled, next_bytes, after_serving, IsBatchOf}
 
 -- a batch wants to be filled exactly where its list says so

@@ -9,8 +9,8 @@ use Rattle.key_names.specs.declared.names.Mark.{Mark}
 use Rattle.key_names.specs.declared.names.Step.{Step}
 use Rattle.key_names.specs.IsTranscript.{MarkBy, PlacesStand, VisitsAre, marks_from}
 use Rattle.key_names.specs.PlacesInOrder.{ByStamp, InOrder}
-use Rattle.key_names.proofs.Each.{each_append, each_weaker}
-use Rattle.key_names.proofs.PlacesInOrder.{places_count_up}
+use Rattle.key_names.proofs.Lists.Each.{each_append, each_weaker}
+use Rattle.key_names.proofs.Transcripts.PlacesInOrder.{places_count_up}
 use Rattle.lane_table.specs.declared.view.LaneEntry.{LaneEntry}
 use Rattle.lane_table.specs.declared.view.LaneView.{LaneView}
 use Rattle.lane_table.specs.declared.view.View.{View}
@@ -19,11 +19,11 @@ use Rattle.lane_table.specs.LaneNumbers.{index_of}
 use Rattle.lane_table.specs.Steps.{Grows, newcomer}
 use Rattle.lane_table.specs.Went.{AllStand, Climbs, Deal, IsMarkOf, looked, places_in, stamps_in, step_of, visited}
 use Rattle.lane_table.specs.WorldRule.{at, blank, known_of, times}
-use Rattle.lane_table.proofs.BookEnds.{ended_places, ended_visits}
-use Rattle.lane_table.proofs.BookMarks.{MarksPlace, MarksVisit}
-use Rattle.lane_table.proofs.Places.{stands_at}
-use Rattle.lane_table.proofs.VisitLists.{begins_refl, begins_trans}
-use Rattle.lane_table.proofs.WentLemmas.{climbs_append, mark_grown}
+use Rattle.lane_table.proofs.Book.BookEnds.{ended_places, ended_visits}
+use Rattle.lane_table.proofs.Book.BookMarks.{MarksPlace, MarksVisit}
+use Rattle.lane_table.proofs.Lists.Places.{stands_at}
+use Rattle.lane_table.proofs.Lists.VisitLists.{begins_refl, begins_trans}
+use Rattle.lane_table.proofs.Calls.WentLemmas.{climbs_append, mark_grown}
 use Rattle.rng_core.specs.Told as told
 use Rattle.lane_table.specs.BookLists.{book_of}
 use Rattle.irq_feed.specs.declared.samples.Sample.{Sample}

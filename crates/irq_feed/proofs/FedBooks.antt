@@ -29,11 +29,11 @@ use Rattle.lane_table.specs.BookLaws.{ClosedLanes, Continues}
 use Rattle.lane_table.specs.BookLists.{book_lists, book_of, entries, cpu_entry, pool_entry}
 use Rattle.lane_table.specs.Calls.{Ended}
 use Rattle.lane_table.specs.WorldRule.{known_of}
-use Rattle.lane_table.proofs.BookEnds.{continues_before, ended_lanes, ended_lawful}
-use Rattle.lane_table.proofs.BookEntries.{cpu_kind, pool_kind, entries_length, one_kind}
-use Rattle.lane_table.proofs.BookSamples.{fast_met}
-use Rattle.lane_table.proofs.BookWhole.{cpu_listed}
-use Rattle.lane_table.proofs.VisitLists.{begins_refl}
+use Rattle.lane_table.proofs.Book.BookEnds.{continues_before, ended_lanes, ended_lawful}
+use Rattle.lane_table.proofs.Book.BookEntries.{cpu_kind, pool_kind, entries_length, one_kind}
+use Rattle.lane_table.proofs.Book.BookSamples.{fast_met}
+use Rattle.lane_table.proofs.Book.BookWhole.{cpu_listed}
+use Rattle.lane_table.proofs.Lists.VisitLists.{begins_refl}
 use Rattle.rng_core.specs.Did.{Fulfils, setting_of}
 use Rattle.rng_core.specs.SampleDeeds.{Sampled, fast_in}
 use Rattle.irq_feed.specs.declared.samples.Sample.{Sample}

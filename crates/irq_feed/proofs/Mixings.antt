@@ -18,8 +18,8 @@ use Rattle.lane_table.specs.WorldRule.{at, known_of}
 use Rattle.lane_table.specs.Went.{Deal, looked as did_look, visited, step_of, places_in}
 use Rattle.lane_table.specs.Steps.{Grows}
 use Rattle.lane_table.specs.BookLists.{book_lists}
-use Rattle.lane_table.proofs.VisitLists.{begins_trans, begins_refl}
-use Rattle.lane_table.proofs.BookEnds.{continues_before}
+use Rattle.lane_table.proofs.Lists.VisitLists.{begins_trans, begins_refl}
+use Rattle.lane_table.proofs.Book.BookEnds.{continues_before}
 use Rattle.rng_core.specs.declared.setting.Setting.{Setting as Called}
 use Rattle.rng_core.specs.Did.{setting_of}
 use Rattle.irq_feed.specs.declared.samples.Sample.{Sample}

@@ -7,7 +7,7 @@ use Rattle.key_names.specs.declared.names.Who.{Who}
 use Rattle.key_names.specs.declared.entries.CpuEntry.{CpuEntry}
 use Rattle.key_names.specs.Book.{Book, Visit, list_at}
 use Rattle.key_names.specs.SeenLine.{SeenLine}
-use Rattle.key_names.specs.ScriptGrammar.{Script}
+use Rattle.key_names.specs.Texts.ScriptGrammar.{Script}
 use Rattle.key_names.specs.IsTranscript.{is_same_lane, all_marks, MarksStand, VisitsAre}
 
 -- a visit with its lane, and its place there

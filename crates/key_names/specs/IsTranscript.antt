@@ -15,7 +15,7 @@ use Rattle.key_names.specs.declared.events.Word.TheVariants.{End as EndWord}
 use Rattle.key_names.specs.BaseList.{base_after}
 use Rattle.key_names.specs.Book.{Book, Lists, Visit, lists_of, list_at, LawfulLanes}
 use Rattle.key_names.specs.Samples.{LawfulSamples}
-use Rattle.key_names.specs.ScriptGrammar.{Script, event_word}
+use Rattle.key_names.specs.Texts.ScriptGrammar.{Script, event_word}
 use Rattle.key_names.specs.Calls.{Setting, Call, alone, vread_call, unbound, ending, BoundAct, all_calls, setting_of}
 use Rattle.key_names.specs.Calls.{first_settings}
 use Rattle.key_names.specs.Deeds.{deeds_of}

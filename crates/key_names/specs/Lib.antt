@@ -36,9 +36,5 @@ pub mod PlacesInOrder
 pub mod BookHistory
 pub mod Uses
 pub mod LiveMaterial
-pub mod ScriptFaults
-pub mod ScriptOrFault
-pub mod ScriptGrammar
-pub mod Spelling
+pub mod Texts
 pub mod SeenLine
-pub mod TranscriptGrammar

@@ -7,7 +7,7 @@ use Rattle.key_names.specs.declared.names.Step.TheVariants.{Look, Visit as Marke
 use Rattle.key_names.specs.Book.{Book, Lists, lists_of, state_list}
 use Rattle.key_names.specs.Calls.{Call, alone, vread_call, unbound, ending, BoundAct}
 use Rattle.key_names.specs.SeenLine.{SeenLine, bytes_in}
-use Rattle.key_names.specs.ScriptGrammar.{Script, WellFormed}
+use Rattle.key_names.specs.Texts.ScriptGrammar.{Script, WellFormed}
 use Rattle.key_names.specs.ServedNamed.{served_in, uses_or, place_uses}
 use Rattle.key_names.specs.StateList.{state_after}
 use Rattle.key_names.specs.Uses.{Use, Disjoint, state_uses_at}

@@ -9,7 +9,7 @@ use Rattle.key_names.specs.KeyInUse.{state_value_after}
 use Rattle.key_names.specs.LiveMaterial.{state_bytes_start, state_bytes_step}
 use Rattle.key_names.specs.StateList.{NamedState, state_after}
 use Rattle.key_names.specs.SeenLine.{SeenLine}
-use Rattle.key_names.specs.ScriptGrammar.{Script}
+use Rattle.key_names.specs.Texts.ScriptGrammar.{Script}
 use Rattle.key_names.specs.VgetrandomState.{VgetrandomState, wiped_state}
 use Rattle.key_names.specs.Meaning.{CallerState, caller_start, CallMeaning}
 use Rattle.key_names.specs.IsTranscript.{EachCaller, IsTranscriptBy, entries_of_state, script_calls, start_setting}

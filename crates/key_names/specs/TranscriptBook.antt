@@ -3,7 +3,7 @@ use Rattle.std.specs.Prelude.{◌≡◌, List}
 use Rattle.key_names.specs.Book.{Book, lists_of, LawfulBook}
 use Rattle.key_names.specs.SeenLine.{SeenLine}
 use Rattle.key_names.specs.Meaning.{CallMeaning}
-use Rattle.key_names.specs.ScriptGrammar.{Script}
+use Rattle.key_names.specs.Texts.ScriptGrammar.{Script}
 use Rattle.key_names.specs.IsTranscript.{IsTranscriptBy, IsTranscript, MadeBook, Clause, FirstFails}
 
 -- the book of a lawful transcript is lawful, its vgetrandom states included; so the laws of lawful books hold of it

@@ -32,7 +32,7 @@ pub enum FaultKind {
 }
 
 impl FaultKind {
-    ghost use Rattle.key_names.specs.ScriptFaults.{kind_number};
+    ghost use Rattle.key_names.specs.Texts.ScriptFaults.{kind_number};
 
     /// The number of the kind, from 1 to 12, as a refusal shows it.
     pub fn number(self) -> u8

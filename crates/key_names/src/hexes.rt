@@ -3,8 +3,8 @@ ghost use Rattle.std.specs.Prelude.{◌≡◌, ◌*◌, ◌<◌, ◌↔◌, [], 
 ghost use Rattle.std.specs.Option.{option_map};
 ghost use Rattle.std.specs.Str.{bytes_eq};
 ghost use Rattle.hex.specs.Hex.{encode_lower, lower_digits};
-ghost use Rattle.key_names.specs.ScriptFaults.{bytes_of};
-ghost use Rattle.key_names.specs.Spelling.{AllLower, hex, is_lower_digit};
+ghost use Rattle.key_names.specs.Texts.ScriptFaults.{bytes_of};
+ghost use Rattle.key_names.specs.Texts.Spelling.{AllLower, hex, is_lower_digit};
 
 use std::alloc::{AllocError, Global};
 

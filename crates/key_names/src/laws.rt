@@ -4,7 +4,7 @@ ghost use Rattle.key_names.specs.StateCalls.{UsesLeaveLawfulLists};
 ghost use Rattle.key_names.specs.ServedNamed.{LawfulServesNamed};
 ghost use Rattle.key_names.specs.StatesReplayed.{StatesAreReplayed};
 ghost use Rattle.key_names.specs.PrintedBytes.{TranscriptPrintsNamed};
-ghost use Rattle.key_names.specs.ScriptOrFault.{TextIsScriptOrFaulty};
+ghost use Rattle.key_names.specs.Texts.ScriptOrFault.{TextIsScriptOrFaulty};
 ghost use Rattle.key_names.specs.BookHistory.{HistoryKeepsLanes};
 ghost use Rattle.key_names.specs.TranscriptBook.{TranscriptIsLawful, BookIsUnique, FirstFailIsUnique};
 ghost use Rattle.key_names.specs.SameSteps.{StepsMakeTheBook};

@@ -1,6 +1,6 @@
 //! A caller that waits for a CPU which a pass outside of the run holds.
 ghost use Rattle.std.specs.Prelude.{◌≡◌, ◌*◌, ◌^◌, []};
-ghost use Rattle.key_names.specs.ScriptGrammar.{WellFormed};
+ghost use Rattle.key_names.specs.Texts.ScriptGrammar.{WellFormed};
 ghost use Rattle.lane_table.specs.declared.view.View.{View};
 ghost use Rattle.lane_table.specs.Steps.{halved, child};
 ghost use Rattle.lane_table.specs.Calls.{view};

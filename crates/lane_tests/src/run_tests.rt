@@ -1,6 +1,6 @@
 //! Runs with forks, in threads and without. Their bytes are another implementation's, and so are those of a first read
 //! behind 256 bits credited for nothing.
-ghost use Rattle.key_names.specs.ScriptGrammar.{WellFormed};
+ghost use Rattle.key_names.specs.Texts.ScriptGrammar.{WellFormed};
 
 use caller_run::{Children, run_new, run_on_new_table};
 use event_script::{Script, read};

@@ -15,7 +15,7 @@ use Rattle.key_names.specs.CpuList.{CpuMayCome, cpu_step, cpu_start}
 use Rattle.key_names.specs.Book.{cpu_list}
 use Rattle.key_names.specs.Deeds.{looked, at_pool, at_base, at_cpu, nothing_there, pool_visit, base_visit, cpu_visit}
 use Rattle.key_names.specs.Deeds.{deed_or, deed_at, deed_of}
-use Rattle.key_names.proofs.Growing.{may_at}
+use Rattle.key_names.proofs.Lists.Growing.{may_at}
 use Rattle.line_forms.specs.Kinds.{base_kind, resumed_kind, is_resume}
 use Rattle.line_forms.specs.LaneFacts.{DeedFits, facts_of, crossed_by}
 use Rattle.line_forms.specs.Laws.{LawfulListsFit, SignsGiveKinds, ActHasForm, ActIsTold, ActRowIsForm}

@@ -12,7 +12,7 @@ use Rattle.key_names.specs.Book.{list_at}
 use Rattle.key_names.specs.Calls.{Call, Parent, parent_from}
 use Rattle.key_names.specs.History.{ancestors_steps, inherited_steps, orders_from, caller_orders, calls_steps, through_visit}
 use Rattle.key_names.specs.CallerOrders.{start_of}
-use Rattle.key_names.proofs.CallerOrders.{order_is_start_and_own, start_is_a_front}
+use Rattle.key_names.proofs.History.CallerOrders.{order_is_start_and_own, start_is_a_front}
 use Rattle.line_orders.specs.declared.order.Fork.{Fork}
 use Rattle.line_orders.specs.Orders.{all_forks, front_in}
 use Rattle.line_orders.specs.Along.{Along, AreAlong, begin_in, kept_at}

@@ -7,13 +7,13 @@ use Rattle.key_names.specs.declared.names.Step.{Step}
 use Rattle.key_names.specs.declared.events.Event.{Event}
 use Rattle.key_names.specs.declared.events.Word.{Word}
 use Rattle.key_names.specs.declared.events.Word.TheVariants.{End as EndWord}
-use Rattle.key_names.specs.ScriptGrammar.{Script, event_word}
+use Rattle.key_names.specs.Texts.ScriptGrammar.{Script, event_word}
 use Rattle.key_names.specs.SeenLine.{SeenLine}
 use Rattle.key_names.specs.SameSteps.{bare, SameSteps}
 use Rattle.key_names.specs.History.{stamps_of, caller_orders}
 use Rattle.key_names.specs.IsTranscript.{LineIs, LinesFit, EachCaller, HasLines, MarkBy, all_marks, lane_marks, Rises}
 use Rattle.key_names.specs.IsTranscript.{PlacesStand, MarksStand, script_calls}
-use Rattle.key_names.proofs.BareLines.{bare_all, bare_marks, bare_orders}
+use Rattle.key_names.proofs.Unique.BareLines.{bare_all, bare_marks, bare_orders}
 use Rattle.line_orders.specs.Begun.{IsEarlyFault}
 
 to_bare : (c n : ℕ) (word : Word) (l : SeenLine) → LineIs c n word l → LineIs c n word (bare l)

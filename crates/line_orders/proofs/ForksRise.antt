@@ -4,11 +4,11 @@ use Rattle.std.specs.Prelude.{⊤, if◌then◌else◌}
 use Rattle.std.specs.List.{AllByRecursion}
 use Rattle.key_names.specs.declared.events.Event.{Event}
 use Rattle.key_names.specs.declared.events.Event.TheVariants.{Vread, Inside, Fork as ForkEvent}
-use Rattle.key_names.specs.ScriptGrammar.{IsForkAbove, ForksAbove}
+use Rattle.key_names.specs.Texts.ScriptGrammar.{IsForkAbove, ForksAbove}
 use Rattle.key_names.specs.SeenLine.{SeenLine}
 use Rattle.key_names.specs.Calls.{Call, alone, unbound, BoundAct, has_vread, calls_from, calls_of, all_calls}
 use Rattle.key_names.specs.History.{call_steps}
-use Rattle.key_names.proofs.Each.{each_append}
+use Rattle.key_names.proofs.Lists.Each.{each_append}
 use Rattle.line_orders.specs.declared.order.Fork.{Fork}
 use Rattle.line_orders.specs.Orders.{forks_in, all_forks}
 

@@ -5,7 +5,7 @@ use Rattle.std.proofs.lemmas.List.{at_drop_all}
 use Rattle.std.specs.Global.{Vec}
 use Rattle.key_names.specs.declared.events.Event.{Event}
 use Rattle.key_names.specs.declared.events.Word.TheVariants.{End as EndWord}
-use Rattle.key_names.specs.ScriptGrammar.{event_word}
+use Rattle.key_names.specs.Texts.ScriptGrammar.{event_word}
 use Rattle.key_names.specs.SeenLine.{SeenLine}
 use Rattle.key_names.specs.IsTranscript.{LineIs, LinesFit, EachCaller}
 use Rattle.line_orders.specs.declared.bare.BareLine.{BareLine}

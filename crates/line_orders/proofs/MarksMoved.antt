@@ -8,8 +8,8 @@ use Rattle.std.proofs.lemmas.List.Sorted.{All-permutation, sum_by-IsPermutation,
 use Rattle.key_names.specs.declared.names.LaneId.{LaneId}
 use Rattle.key_names.specs.declared.names.Mark.{Mark}
 use Rattle.key_names.specs.IsTranscript.{MarkBy, is_same_lane, lane_marks, PlacesStand}
-use Rattle.key_names.proofs.MarkLists.{Above}
-use Rattle.key_names.proofs.Each.{each_weaker}
+use Rattle.key_names.proofs.Lists.MarkLists.{Above}
+use Rattle.key_names.proofs.Lists.Each.{each_weaker}
 
 module _ (lane : LaneId) where
   abbrev here : MarkBy → Bool

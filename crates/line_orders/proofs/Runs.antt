@@ -13,8 +13,8 @@ use Rattle.key_names.specs.declared.names.LaneId.TheVariants.{Pool as PoolLane, 
 use Rattle.key_names.specs.declared.names.Mark.{Mark}
 use Rattle.key_names.specs.IsTranscript.{is_same_lane, lane_marks, PlacesStand}
 use Rattle.key_names.specs.PlacesInOrder.{InOrder, ByStamp}
-use Rattle.key_names.proofs.PlacesInOrder.{places_count_up}
-use Rattle.key_names.proofs.Each.{each_weaker}
+use Rattle.key_names.proofs.Transcripts.PlacesInOrder.{places_count_up}
+use Rattle.key_names.proofs.Lists.Each.{each_weaker}
 use Rattle.line_orders.specs.declared.marks.MarkOf.{MarkOf}
 use Rattle.line_orders.specs.Marks.{seen_mark, lane_rank, NotBehind, IsSortedByLane, Follows, RunsCount}
 

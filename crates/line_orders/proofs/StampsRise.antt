@@ -6,7 +6,7 @@ use Rattle.key_names.specs.declared.names.Step.{Step}
 use Rattle.key_names.specs.declared.names.Step.TheVariants.{Look, Visit as Marked}
 use Rattle.key_names.specs.History.{stamps_of}
 use Rattle.key_names.specs.IsTranscript.{Rises}
-use Rattle.key_names.proofs.Each.{each_weaker}
+use Rattle.key_names.proofs.Lists.Each.{each_weaker}
 use Rattle.line_orders.specs.Along.{Along}
 use Rattle.line_orders.specs.Stamps.{stamp_after, IsAbove}
 

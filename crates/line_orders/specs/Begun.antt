@@ -1,6 +1,6 @@
 -- What is judged of lines and marks.
 use Rattle.std.specs.Prelude.{ℕ, ◌≡◌, ◌⊎◌, List, map, IsPermutation}
-use Rattle.key_names.specs.ScriptGrammar.{Script}
+use Rattle.key_names.specs.Texts.ScriptGrammar.{Script}
 use Rattle.key_names.specs.SeenLine.{SeenLine}
 use Rattle.key_names.specs.History.{calls_steps}
 use Rattle.key_names.specs.IsTranscript.{HasLines, MarksStand, script_calls, all_marks, clause_number, FirstFails}

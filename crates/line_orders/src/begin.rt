@@ -1,6 +1,6 @@
 //! The clauses on lines and marks: what the steps of a transcript are judged by before any list is made.
 ghost use Rattle.std.specs.Prelude.{◌≡◌, ◌≤◌, length, IfOk, MatchOption};
-ghost use Rattle.key_names.specs.ScriptGrammar.{WellFormed};
+ghost use Rattle.key_names.specs.Texts.ScriptGrammar.{WellFormed};
 ghost use Rattle.key_names.specs.IsTranscript.{HasLines, script_calls};
 ghost use Rattle.line_orders.specs.Seen.{seen_callers};
 ghost use Rattle.line_orders.specs.Called.{seen_calls};

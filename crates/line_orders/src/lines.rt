@@ -1,6 +1,6 @@
 //! Whether each caller has its lines.
 ghost use Rattle.std.specs.Prelude.{◌≡◌, ◌↔◌, IsTrue, map, length};
-ghost use Rattle.key_names.specs.ScriptGrammar.{event_word};
+ghost use Rattle.key_names.specs.Texts.ScriptGrammar.{event_word};
 ghost use Rattle.key_names.specs.IsTranscript.{LineIs, LinesFit, HasLines};
 ghost use Rattle.line_orders.specs.Seen.{seen_bare, seen_callers};
 

@@ -5,7 +5,7 @@ use Rattle.key_names.specs.PoolList.{extraction_at}
 use Rattle.key_names.specs.BaseList.{BaseMayCome, base_start, base_step, root_of, root_at, refill_of, refill_at}
 use Rattle.key_names.specs.CpuList.{CpuMayCome, cpu_start, cpu_step, base_refill_of, base_refill_at}
 use Rattle.key_names.specs.Book.{Lists, LawfulLanes, list_at, cpu_list}
-use Rattle.key_names.proofs.Growing.{may_at}
+use Rattle.key_names.proofs.Lists.Growing.{may_at}
 use Rattle.list_replay.specs.declared.kept.Root.{Root}
 use Rattle.list_replay.specs.declared.kept.KeptPool.{KeptPool}
 use Rattle.list_replay.specs.declared.kept.KeptBase.{KeptBase}

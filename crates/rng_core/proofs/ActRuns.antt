@@ -6,7 +6,7 @@ use Rattle.key_names.specs.declared.names.Step.{Step}
 use Rattle.key_names.specs.declared.point.Point.{Point}
 use Rattle.key_names.specs.Deeds.{Deed, deeds_of}
 use Rattle.key_names.specs.Meaning.{ActMeans}
-use Rattle.key_names.specs.TranscriptGrammar.{StepFits}
+use Rattle.key_names.specs.Texts.TranscriptGrammar.{StepFits}
 use Rattle.key_names.specs.VreadSteps.{PointReached, number_of}
 use Rattle.lane_table.specs.declared.view.View.{View}
 use Rattle.lane_table.specs.declared.view.Visit.{Visit}
@@ -15,7 +15,7 @@ use Rattle.lane_table.specs.BookLaws.{Continues}
 use Rattle.lane_table.specs.Steps.{Grows}
 use Rattle.lane_table.specs.WorldRule.{known_of}
 use Rattle.lane_table.specs.Went.{Deal, looked, visited, step_of, looks_in, Sees, floor}
-use Rattle.lane_table.proofs.BookEnds.{continues_before}
+use Rattle.lane_table.proofs.Book.BookEnds.{continues_before}
 use Rattle.rng_core.specs.declared.setting.Setting.{Setting}
 use Rattle.rng_core.specs.Told.{Moment, Told}
 use Rattle.rng_core.specs.Did.{DidIn, Did, setting_of}

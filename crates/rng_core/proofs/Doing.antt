@@ -27,9 +27,9 @@ use Rattle.lane_table.specs.VisitsMet.{IsIntOfBatch}
 use Rattle.lane_table.specs.Went.{Deal, visited, step_of, floor}
 use Rattle.lane_table.specs.Went as went
 use Rattle.lane_table.specs.WorldRule.{known_of}
-use Rattle.lane_table.proofs.BookEnds.{continues_before}
-use Rattle.lane_table.proofs.Sights.{sees_up}
-use Rattle.lane_table.proofs.WentLemmas.{went_idly}
+use Rattle.lane_table.proofs.Book.BookEnds.{continues_before}
+use Rattle.lane_table.proofs.Rule.Sights.{sees_up}
+use Rattle.lane_table.proofs.Calls.WentLemmas.{went_idly}
 use Rattle.rng_core.specs.declared.setting.Setting.{Setting}
 use Rattle.rng_core.specs.Told.{Moment, Told, Visited}
 use Rattle.rng_core.specs.Did.{DidIn, Did, Serving, Served, Fulfils, setting_of, serving}

@@ -25,9 +25,9 @@ use Rattle.lane_table.specs.WorldRule.{known_of}
 use Rattle.lane_table.specs.BookLists.{book_lists}
 use Rattle.lane_table.specs.BookLaws.{Continues}
 use Rattle.lane_table.specs.VisitsMet.{IsIntOfBatch, base_serving, cpu_serving}
-use Rattle.lane_table.proofs.Lists.{at_below}
-use Rattle.lane_table.proofs.Places.{stands_at}
-use Rattle.lane_table.proofs.BookDeeds.{pool_deed, base_deed, cpu_deed}
+use Rattle.lane_table.proofs.Lists.Lists.{at_below}
+use Rattle.lane_table.proofs.Lists.Places.{stands_at}
+use Rattle.lane_table.proofs.Book.BookDeeds.{pool_deed, base_deed, cpu_deed}
 use Rattle.rng_core.specs.declared.setting.Setting.{Setting}
 use Rattle.rng_core.specs.Told.{Moment, Met, Visited}
 use Rattle.rng_core.specs.SampleDeeds.{fast_in}

@@ -29,10 +29,10 @@ use Rattle.lane_table.specs.Calls.{slots, view}
 use Rattle.lane_table.specs.Hands.{Has}
 use Rattle.lane_table.specs.BookLists.{book_lists}
 use Rattle.lane_table.specs.Went.{Deal, looked, visited, step_of, AllStand}
-use Rattle.lane_table.proofs.Places.{stands_at}
-use Rattle.lane_table.proofs.BookEntries.{lane_at, cpu_kind}
-use Rattle.lane_table.proofs.BookWhole.{cpu_lane_of}
-use Rattle.lane_table.proofs.BookCpus.{CpuLane}
+use Rattle.lane_table.proofs.Lists.Places.{stands_at}
+use Rattle.lane_table.proofs.Book.BookEntries.{lane_at, cpu_kind}
+use Rattle.lane_table.proofs.Book.BookWhole.{cpu_lane_of}
+use Rattle.lane_table.proofs.Book.BookCpus.{CpuLane}
 use Rattle.vdso_state.specs.Host.{IsAnswer}
 use Rattle.rng_core.specs.declared.setting.Setting.{Setting}
 use Rattle.rng_core.specs.Told.{Moment}

@@ -11,12 +11,12 @@ use Rattle.key_names.specs.Deeds.{Deed, deeds_of}
 use Rattle.key_names.specs.Meaning.{CallerState, CallMeaning, ActMeans, ActsMean, VreadMeans, ByVgetrandom, current_state, with_state, tries_local, unused_line}
 use Rattle.key_names.specs.Flags.{is_bad}
 use Rattle.key_names.specs.SeenLine.{Shown, bytes_or_none}
-use Rattle.key_names.specs.TranscriptGrammar.{StepFits}
+use Rattle.key_names.specs.Texts.TranscriptGrammar.{StepFits}
 use Rattle.key_names.specs.Vgetrandom.{IsCall}
 use Rattle.key_names.specs.VgetrandomState.{VgetrandomState}
 use Rattle.key_names.specs.VreadSteps.{published_by, Shows, WipesStand, PointReached, points_of, first_points, is_wiped, is_reached, is_wipe, number_of, ending_answer, ending_shown, NeverFall}
-use Rattle.key_names.proofs.Attempts.{match_false}
-use Rattle.key_names.proofs.Each.{each_weaker}
+use Rattle.key_names.proofs.Vgetrandom.Attempts.{match_false}
+use Rattle.key_names.proofs.Lists.Each.{each_weaker}
 use Rattle.lane_table.specs.declared.view.View.{View}
 use Rattle.lane_table.specs.declared.view.Visit.{Visit}
 use Rattle.lane_table.specs.BookLists.{StateLists, book_lists}

@@ -21,7 +21,7 @@ use Rattle.key_names.specs.SeenLine.{Shown, bytes_or_none}
 use Rattle.key_names.specs.Vgetrandom.{read, failed, HostStep, Ending, no_bytes, by_batch, by_system, FromLook, BySystem, IsCall}
 use Rattle.key_names.specs.VgetrandomState.{VgetrandomState}
 use Rattle.key_names.specs.VreadSteps.{Shows, answer_of_errno, ending_answer, ending_shown, published_by, looks_of, NeverFall}
-use Rattle.key_names.proofs.Attempts.{match_true, match_false}
+use Rattle.key_names.proofs.Vgetrandom.Attempts.{match_true, match_false}
 use Rattle.lane_table.specs.declared.view.View.{View}
 use Rattle.lane_table.specs.BookLists.{book_lists}
 use Rattle.lane_table.specs.Calls.{SameView}

@@ -25,7 +25,7 @@ use Rattle.lane_table.specs.Meaning.{Model}
 use Rattle.lane_table.specs.VisitsMet.{IsIntOfBatch}
 use Rattle.lane_table.specs.Went.{visited}
 use Rattle.lane_table.specs.WorldRule.{known_of}
-use Rattle.lane_table.proofs.Lists.{at_below}
+use Rattle.lane_table.proofs.Lists.Lists.{at_below}
 use Rattle.rng_core.specs.declared.setting.Setting.{Setting}
 use Rattle.rng_core.specs.Told.{Moment, Visited}
 use Rattle.rng_core.specs.Did.{DidIn, Fulfils}

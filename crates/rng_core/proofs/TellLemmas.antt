@@ -11,8 +11,8 @@ use Rattle.key_names.specs.declared.names.Mark.{Mark}
 use Rattle.key_names.specs.declared.names.Who.{Who}
 use Rattle.key_names.specs.declared.names.LaneId.{LaneId}
 use Rattle.key_names.specs.declared.names.LaneId.TheVariants.{Pool as PoolLane, Base as BaseLane, Cpu as CpuLane}
-use Rattle.key_names.specs.TranscriptGrammar.{StepFits, LaneFits, MarkFits}
-use Rattle.key_names.proofs.Each.{each_append}
+use Rattle.key_names.specs.Texts.TranscriptGrammar.{StepFits, LaneFits, MarkFits}
+use Rattle.key_names.proofs.Lists.Each.{each_append}
 use Rattle.lane_table.specs.declared.view.LaneEntry.{LaneEntry}
 use Rattle.lane_table.specs.declared.view.LaneView.{LaneView}
 use Rattle.lane_table.specs.LaneNumbers.{index_of}
@@ -22,7 +22,7 @@ use Rattle.lane_table.specs.WorldRule.{known_of}
 use Rattle.lane_table.specs.Steps.{Seated, filled, handed}
 use Rattle.lane_table.specs.Calls.{Added, visit_by}
 use Rattle.lane_table.specs.Went.{Deal, visited, maker, step_of, Went}
-use Rattle.lane_table.proofs.WentLemmas.{went_then, went_put}
+use Rattle.lane_table.proofs.Calls.WentLemmas.{went_then, went_put}
 use Rattle.rng_core.specs.declared.setting.Setting.{Setting}
 use Rattle.rng_core.specs.Told.{Moment, Told, Visited}
 

@@ -11,7 +11,7 @@ use Rattle.key_names.specs.Deeds.{Deed, deeds_of}
 use Rattle.key_names.specs.Meaning.{CallerState, CallMeaning, LineMeaning, VreadMeans, current_state, with_state}
 use Rattle.key_names.specs.Meaning.{unused_line}
 use Rattle.key_names.specs.SeenLine.{Shown, SeenLine, bytes_or_none, no_data}
-use Rattle.key_names.specs.TranscriptGrammar.{StepFits}
+use Rattle.key_names.specs.Texts.TranscriptGrammar.{StepFits}
 use Rattle.key_names.specs.VgetrandomState.{VgetrandomState}
 use Rattle.key_names.specs.VreadSteps.{number_of}
 use Rattle.lane_table.specs.declared.view.Visit.{Visit}

@@ -2,9 +2,9 @@
 use Rattle.std.proofs.Common.{ℕ, ◌≡◌, ◌≤◌, ◌⊎◌, ltb, false, length, List, Option, None, Some, ap, sym, ◌∙◌, refl, inl, inr}
 use Rattle.std.specs.Prelude.{IfSome}
 use Rattle.std.proofs.lemmas.Bool.{le-ltb}
-use Rattle.key_names.specs.ScriptFaults.{fault_in, first_fault, front}
-use Rattle.key_names.specs.ScriptGrammar.{Script, IsScript}
-use Rattle.key_names.proofs.ScriptTexts.{script_again}
+use Rattle.key_names.specs.Texts.ScriptFaults.{fault_in, first_fault, front}
+use Rattle.key_names.specs.Texts.ScriptGrammar.{Script, IsScript}
+use Rattle.key_names.proofs.Script.ScriptTexts.{script_again}
 use Rattle.rng_tool.specs.Ends.{AtOutputEnd, EndsWith}
 use Rattle.rng_tool.specs.JudgeOutcome.{IsJudgeRefusal, JudgeEnds, judged_fault, most_judged}
 use Rattle.rng_tool.specs.Outcome.{IsRefusal, RunEnds}

@@ -5,8 +5,8 @@ use Rattle.std.specs.Io.KnownBytes.{Appends, Consumes, IsAtEnd, Keeps}
 use Rattle.std.proofs.lemmas.Bool.{cases_lt, lt-ltb}
 use Rattle.std.proofs.lemmas.List.{take_all, length-take}
 use Rattle.key_names.specs.declared.faults.FaultKind.TheVariants.{TooLong}
-use Rattle.key_names.specs.ScriptFaults.{first_fault, script_of}
-use Rattle.key_names.specs.ScriptGrammar.{Script, IsScript}
+use Rattle.key_names.specs.Texts.ScriptFaults.{first_fault, script_of}
+use Rattle.key_names.specs.Texts.ScriptGrammar.{Script, IsScript}
 use Rattle.io_edges.specs.Pieces.{AppendsPrefix}
 use Rattle.rng_tool.specs.Ends.{IsAnswered}
 use Rattle.rng_tool.specs.JudgeOutcome.{IsJudgeRefusal, JudgeCalls, judged_fault}

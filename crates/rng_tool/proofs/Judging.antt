@@ -2,9 +2,9 @@
 use Rattle.std.proofs.Common.{ℕ, ◌≡◌, ◌<◌, List, length, sym, subst, refl, arith, inr}
 use Rattle.std.proofs.lemmas.List.Concat.{length-flat_map}
 use Rattle.key_names.specs.IsTranscript.{lines_clause}
-use Rattle.key_names.specs.ScriptGrammar.{Script, WellFormed}
+use Rattle.key_names.specs.Texts.ScriptGrammar.{Script, WellFormed}
 use Rattle.key_names.specs.SeenLine.{SeenLine}
-use Rattle.key_names.specs.TranscriptGrammar.{IsTranscriptText, TranscriptFits, all_lines, transcript_text}
+use Rattle.key_names.specs.Texts.TranscriptGrammar.{IsTranscriptText, TranscriptFits, all_lines, transcript_text}
 use Rattle.serial_replay.specs.Replayed.{IsTheTranscript}
 use Rattle.rng_tool.specs.JudgeOutcome.{Fails, GivesBack, HasTooManyLines, SaidOf, TextSaidOf, no_line}
 use Rattle.rng_tool.specs.declared.judge.Judge.{Judge}

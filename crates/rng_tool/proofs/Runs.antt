@@ -4,12 +4,12 @@ use Rattle.std.specs.List.{AllByRecursion, sum_by}
 use Rattle.std.proofs.lemmas.List.Sums.{sum_by-cons}
 use Rattle.key_names.specs.declared.events.Event.{Event}
 use Rattle.key_names.specs.IsTranscript.{EachCaller, HasLines, LinesFit}
-use Rattle.key_names.specs.ScriptGrammar.{Script, WellFormed}
+use Rattle.key_names.specs.Texts.ScriptGrammar.{Script, WellFormed}
 use Rattle.key_names.specs.SeenLine.{SeenLine}
-use Rattle.key_names.specs.TranscriptGrammar.{UnderOwnNumber}
-use Rattle.key_names.proofs.BookUses.{lawful_is_disjoint}
-use Rattle.key_names.proofs.PrintedNamed.{transcript_prints_named}
-use Rattle.key_names.proofs.TranscriptLaws.{transcript_is_lawful}
+use Rattle.key_names.specs.Texts.TranscriptGrammar.{UnderOwnNumber}
+use Rattle.key_names.proofs.Uses.BookUses.{lawful_is_disjoint}
+use Rattle.key_names.proofs.Values.PrintedNamed.{transcript_prints_named}
+use Rattle.key_names.proofs.Transcripts.TranscriptLaws.{transcript_is_lawful}
 use Rattle.lane_table.specs.declared.view.View.{View}
 use Rattle.caller_run.specs.Laws.{LawfulRuns}
 use Rattle.rng_tool.specs.Outcome.{IsRunOf}

@@ -11,7 +11,7 @@ use Rattle.key_names.specs.declared.lines.Data.TheVariants.{None as NoData, Byte
 use Rattle.key_names.specs.declared.lines.Line.{Line}
 use Rattle.key_names.specs.declared.names.Step.{Step}
 use Rattle.key_names.specs.SeenLine.{SeenLine, bytes_in, bytes_shown, shown_in, seen_lines}
-use Rattle.key_names.specs.TranscriptGrammar.{all_lines}
+use Rattle.key_names.specs.Texts.TranscriptGrammar.{all_lines}
 use Rattle.transcript_text.specs.Gathered.{IsWithin, LineWithin}
 use Rattle.rng_tool.specs.LoadOutcome.{data_len}
 

@@ -4,11 +4,11 @@ use Rattle.std.specs.Prelude.{drop, length, nat_lt, if◌then◌else◌}
 use Rattle.std.specs.Fmt.{decimal}
 use Rattle.key_names.specs.declared.faults.FaultKind.TheVariants.{TooLong}
 use Rattle.key_names.specs.declared.faults.ScriptFault.{ScriptFault}
-use Rattle.key_names.specs.ScriptFaults.{first_fault, front}
-use Rattle.key_names.specs.ScriptGrammar.{Script, IsScript}
+use Rattle.key_names.specs.Texts.ScriptFaults.{first_fault, front}
+use Rattle.key_names.specs.Texts.ScriptGrammar.{Script, IsScript}
 use Rattle.key_names.specs.SeenLine.{SeenLine}
-use Rattle.key_names.specs.Spelling.{lined, spaced}
-use Rattle.key_names.specs.TranscriptGrammar.{IsTranscriptText, all_lines}
+use Rattle.key_names.specs.Texts.Spelling.{lined, spaced}
+use Rattle.key_names.specs.Texts.TranscriptGrammar.{IsTranscriptText, all_lines}
 use Rattle.transcript_check.specs.Judged.{IsSound, FailsFirst}
 use Rattle.serial_replay.specs.Replayed.{IsTheTranscript, StopsAt}
 use Rattle.rng_tool.specs.Reads.{ReadsEnds}

@@ -3,7 +3,7 @@ use Rattle.std.specs.Prelude.{ℕ, ◌≡◌, ◌<◌, ◌≤◌, ◌^◌, List,
 use Rattle.key_names.specs.declared.lines.Data.{Data}
 use Rattle.key_names.specs.declared.lines.Data.TheVariants.{Bytes}
 use Rattle.key_names.specs.SeenLine.{SeenLine, bytes_shown}
-use Rattle.key_names.specs.TranscriptGrammar.{all_lines}
+use Rattle.key_names.specs.Texts.TranscriptGrammar.{all_lines}
 use Rattle.event_script.specs.LoadScript.{load_script}
 use Rattle.rng_tool.specs.Ends.{EndsWith}
 use Rattle.rng_tool.specs.Outcome.{IsRunOf}

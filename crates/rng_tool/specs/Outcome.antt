@@ -6,9 +6,9 @@ use Rattle.key_names.specs.Uses.{IsDisjoint}
 use Rattle.key_names.specs.Meaning.{CallMeaning}
 use Rattle.key_names.specs.PrintedBytes.{PrintsNamed}
 use Rattle.key_names.specs.SeenLine.{SeenLine}
-use Rattle.key_names.specs.ScriptFaults.{first_fault}
-use Rattle.key_names.specs.ScriptGrammar.{Script, IsScript}
-use Rattle.key_names.specs.TranscriptGrammar.{IsTranscriptText}
+use Rattle.key_names.specs.Texts.ScriptFaults.{first_fault}
+use Rattle.key_names.specs.Texts.ScriptGrammar.{Script, IsScript}
+use Rattle.key_names.specs.Texts.TranscriptGrammar.{IsTranscriptText}
 use Rattle.key_names.specs.declared.faults.ScriptFault.{ScriptFault}
 use Rattle.rng_tool.specs.Reads.{ReadsEnds}
 use Rattle.rng_tool.specs.Refusal.{refusal_line}

@@ -2,8 +2,8 @@
 use Rattle.std.specs.Prelude.{ℕ, List, [], ◌∷◌, codes}
 use Rattle.std.specs.Fmt.{decimal}
 use Rattle.key_names.specs.declared.faults.ScriptFault.{ScriptFault}
-use Rattle.key_names.specs.ScriptFaults.{kind_number}
-use Rattle.key_names.specs.Spelling.{lined, spaced}
+use Rattle.key_names.specs.Texts.ScriptFaults.{kind_number}
+use Rattle.key_names.specs.Texts.Spelling.{lined, spaced}
 
 -- it tells the line and the kind of a fault
 abbrev pub refusal_line : ScriptFault → List ℕ

@@ -1,7 +1,7 @@
 //! The run of a script's callers.
 ghost use Rattle.std.specs.Prelude.{IfOk};
-ghost use Rattle.key_names.specs.ScriptGrammar.{WellFormed};
-ghost use Rattle.key_names.specs.TranscriptGrammar.{IsTranscriptText, transcript_text};
+ghost use Rattle.key_names.specs.Texts.ScriptGrammar.{WellFormed};
+ghost use Rattle.key_names.specs.Texts.TranscriptGrammar.{IsTranscriptText, transcript_text};
 ghost use Rattle.rng_tool.specs.Outcome.{IsRunOf};
 
 use caller_run::run_on_new_table;

@@ -1,7 +1,7 @@
 //! The commands `check` and `replay`: a script with a transcript behind it in, what is said of it out.
 ghost use Rattle.std.specs.Prelude.{◌≡◌, ◌⊎◌, ◌≤◌, ◌^◌, IfOk, IfSome, IsTrue, Some, length};
 ghost use Rattle.io_edges.specs.Faults.{Rose};
-ghost use Rattle.key_names.specs.ScriptGrammar.{WellFormed, IsScript};
+ghost use Rattle.key_names.specs.Texts.ScriptGrammar.{WellFormed, IsScript};
 ghost use Rattle.rng_tool.specs.JudgeOutcome.{HasTooManyLines, IsJudge, JudgeCalls, JudgeEnds, SaidOf, TextSaidOf, no_line, word_of, yes_line};
 ghost use Rattle.rng_tool.specs.Reads.{WritesEnds};
 

@@ -1,9 +1,9 @@
 //! A load: its words, its run, and the line that sums it up.
 ghost use Rattle.std.specs.Prelude.{◌≡◌, ◌<◌, ◌≤◌, ◌*◌, ◌^◌, ◌∷◌, [], ℕ, Some, IfOk, IfSome, decimal, length, sum_by};
 ghost use Rattle.io_edges.specs.Faults.{Rose};
-ghost use Rattle.key_names.specs.ScriptGrammar.{WellFormed};
+ghost use Rattle.key_names.specs.Texts.ScriptGrammar.{WellFormed};
 ghost use Rattle.key_names.specs.SeenLine.{bytes_shown};
-ghost use Rattle.key_names.specs.TranscriptGrammar.{all_lines};
+ghost use Rattle.key_names.specs.Texts.TranscriptGrammar.{all_lines};
 ghost use Rattle.rng_tool.specs.LoadOutcome.{AskLoad, IsLoad, IsSmall, LoadEnds, LoadOf, data_len, load_line};
 
 use crate::callers::transcript_of;

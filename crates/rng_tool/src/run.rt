@@ -2,8 +2,8 @@
 ghost use Rattle.std.specs.Prelude.{◌≡◌, ◌≤◌, ◌↔◌, ◌⊎◌, [], ℕ, IfSome, length};
 ghost use Rattle.io_edges.specs.Faults.{Rose};
 ghost use Rattle.key_names.specs.declared.point.Point.{Point};
-ghost use Rattle.key_names.specs.ScriptFaults.{front};
-ghost use Rattle.key_names.specs.ScriptGrammar.{IsScript, Script};
+ghost use Rattle.key_names.specs.Texts.ScriptFaults.{front};
+ghost use Rattle.key_names.specs.Texts.ScriptGrammar.{IsScript, Script};
 ghost use Rattle.rng_tool.specs.Commands.{IsNoForm, TakesInput};
 ghost use Rattle.rng_tool.specs.DrawOutcome.{DrawEnds, IsDraw};
 ghost use Rattle.rng_tool.specs.FeedOutcome.{FeedEnds, IsFeed};

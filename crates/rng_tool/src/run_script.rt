@@ -1,7 +1,7 @@
 //! The command `run`: a script in, a transcript out.
 ghost use Rattle.std.specs.Prelude.{◌≡◌, ◌⊎◌, ◌≤◌};
 ghost use Rattle.io_edges.specs.Faults.{Rose};
-ghost use Rattle.key_names.specs.ScriptGrammar.{WellFormed};
+ghost use Rattle.key_names.specs.Texts.ScriptGrammar.{WellFormed};
 ghost use Rattle.rng_tool.specs.Outcome.{CallsFor, RunEnds, RunOf};
 ghost use Rattle.rng_tool.specs.Reads.{OnlyDone, WritesEnds};
 

@@ -6,12 +6,12 @@ use Rattle.key_names.specs.declared.events.Event.{Event}
 use Rattle.key_names.specs.Book.{list_at}
 use Rattle.key_names.specs.Calls.{Call, alone, vread_call, unbound, ending, BoundAct, calls_of, all_calls}
 use Rattle.key_names.specs.Meaning.{LineMeaning, CallMeaning}
-use Rattle.key_names.specs.ScriptGrammar.{Script}
+use Rattle.key_names.specs.Texts.ScriptGrammar.{Script}
 use Rattle.key_names.specs.SeenLine.{SeenLine}
 use Rattle.key_names.specs.IsTranscript.{LinesFit, HasLines, EachCaller, EachAct, EachOfCall, EachLine, script_calls}
 use Rattle.key_names.specs.IsTranscript.{AnswersStand, DataStand}
-use Rattle.key_names.proofs.UniqueMeanings.{OfCall}
-use Rattle.key_names.proofs.UniqueLines.{Covers, calls_cover}
+use Rattle.key_names.proofs.Unique.UniqueMeanings.{OfCall}
+use Rattle.key_names.proofs.Unique.UniqueLines.{Covers, calls_cover}
 use Rattle.caller_answers.specs.declared.said.Said.{Said}
 use Rattle.caller_answers.specs.Said.{SaysIt}
 use Rattle.serial_replay.specs.Agreement.{Agrees, AllAgree, SameAnswer, SameShown}

@@ -1,7 +1,7 @@
 -- What is made of bare lines is made of the lines themselves.
 use Rattle.std.proofs.Common.{◌≡◌, ℕ, suc, List, [], ◌∷◌, map, sym, subst, ◌∙◌}
 use Rattle.std.specs.Prelude.{Result, Ok, Err, IfOk}
-use Rattle.key_names.specs.TranscriptGrammar.{StepFits, LineFits}
+use Rattle.key_names.specs.Texts.TranscriptGrammar.{StepFits, LineFits}
 use Rattle.std.specs.List.{AllByRecursion}
 use Rattle.std.proofs.lemmas.List.{length-map}
 use Rattle.key_names.specs.declared.names.Step.{Step}
@@ -11,14 +11,14 @@ use Rattle.key_names.specs.Calls.{Call, alone, vread_call, unbound, ending, Boun
 use Rattle.key_names.specs.Deeds.{deeds_of}
 use Rattle.key_names.specs.History.{LooksStand}
 use Rattle.key_names.specs.Meaning.{LineMeaning, CallMeaning}
-use Rattle.key_names.specs.ScriptGrammar.{Script}
+use Rattle.key_names.specs.Texts.ScriptGrammar.{Script}
 use Rattle.key_names.specs.SeenLine.{SeenLine}
 use Rattle.key_names.specs.SameSteps.{bare}
 use Rattle.key_names.specs.IsTranscript.{EachCaller, EachAct, EachOfCall, EachLine, script_calls, SeenStands}
 use Rattle.key_names.specs.IsTranscript.{Clause, lines_clause, marks_clause, forms_clause, answers_clause, data_clause}
 use Rattle.key_names.specs.IsTranscript.{looks_clause, FirstFails}
-use Rattle.key_names.proofs.BareLines.{bare_act, bare_call, bare_all}
-use Rattle.key_names.proofs.BareMeanings.{steps_make_the_book}
+use Rattle.key_names.proofs.Unique.BareLines.{bare_act, bare_call, bare_all}
+use Rattle.key_names.proofs.Unique.BareMeanings.{steps_make_the_book}
 use Rattle.line_orders.proofs.BareStands.{lines_both, marks_both, orders_both, same_bare}
 use Rattle.caller_answers.specs.declared.said.Said.{Said}
 use Rattle.caller_answers.specs.Said.{SaysIt}

@@ -5,7 +5,7 @@ use Rattle.key_names.specs.declared.events.Event.{Event}
 use Rattle.key_names.specs.Book.{Lists, list_at}
 use Rattle.key_names.specs.Calls.{Setting, Call, all_calls}
 use Rattle.key_names.specs.SeenLine.{SeenLine}
-use Rattle.key_names.specs.TranscriptGrammar.{StepFits}
+use Rattle.key_names.specs.Texts.TranscriptGrammar.{StepFits}
 use Rattle.key_names.specs.Meaning.{CallMeaning}
 use Rattle.key_names.specs.IsTranscript.{LinesFit, EachCaller, EachLine, CallerMeans}
 use Rattle.caller_answers.specs.declared.said.Said.{Said}

@@ -13,8 +13,8 @@ use Rattle.key_names.specs.declared.entries.VEntry.{VEntry}
 use Rattle.key_names.specs.Book.{Book, Visit, Lists, lists_of, entries_of, list_at, cpu_list}
 use Rattle.key_names.specs.IsTranscript.{MarkBy, is_same_lane, lane_marks, stamped, stamped_at, VisitsAre}
 use Rattle.key_names.specs.PlacesInOrder.{InOrder}
-use Rattle.key_names.proofs.Each.{each_both, each_weaker}
-use Rattle.key_names.proofs.LaneCounts.{same_lane}
+use Rattle.key_names.proofs.Lists.Each.{each_both, each_weaker}
+use Rattle.key_names.proofs.Transcripts.LaneCounts.{same_lane}
 use Rattle.serial_replay.proofs.MarksCounted.{marks_counted}
 
 itself : (lane : LaneId) → is_same_lane lane lane ≡ true

@@ -17,8 +17,8 @@ use Rattle.key_names.specs.Deeds.{Deed, at_pool, at_base, at_cpu, deed_or, deed_
 use Rattle.key_names.specs.Deeds.{pool_visit, base_visit, cpu_visit}
 use Rattle.key_names.specs.History.{seen_after, LookStands, LooksStand}
 use Rattle.key_names.specs.CallerOrders.{LooksFrom}
-use Rattle.key_names.proofs.CallerOrders.{looks_are_counted}
-use Rattle.key_names.proofs.Each.{each_weaker}
+use Rattle.key_names.proofs.History.CallerOrders.{looks_are_counted}
+use Rattle.key_names.proofs.Lists.Each.{each_weaker}
 use Rattle.line_orders.specs.Along.{Along}
 use Rattle.list_replay.specs.declared.kept.KeptBase.{KeptBase}
 use Rattle.list_replay.specs.declared.kept.KeptCpu.{KeptCpu}

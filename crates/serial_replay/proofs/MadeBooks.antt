@@ -12,12 +12,12 @@ use Rattle.key_names.specs.Book.{Book, Lists, lists_of}
 use Rattle.key_names.specs.Calls.{Call}
 use Rattle.key_names.specs.Deeds.{Deed, deeds_of}
 use Rattle.key_names.specs.History.{LooksStand, caller_orders}
-use Rattle.key_names.specs.ScriptGrammar.{Script}
+use Rattle.key_names.specs.Texts.ScriptGrammar.{Script}
 use Rattle.key_names.specs.SeenLine.{SeenLine}
 use Rattle.key_names.specs.IsTranscript.{MadeBook, MarkBy, all_marks, lane_marks, script_calls, start_setting, state_lists}
 use Rattle.key_names.specs.IsTranscript.{CallerMeans, SeenStands, forms_clause}
 use Rattle.key_names.specs.PlacesInOrder.{InOrder}
-use Rattle.key_names.proofs.PlacesInOrder.{places_count_up}
+use Rattle.key_names.proofs.Transcripts.PlacesInOrder.{places_count_up}
 use Rattle.line_orders.specs.declared.begin.Parts.{Parts}
 use Rattle.line_orders.specs.Begun.{PartsStand}
 use Rattle.line_orders.specs.Marks.{seen_mark}

@@ -8,7 +8,7 @@ use Rattle.key_names.specs.declared.names.LaneId.{LaneId}
 use Rattle.key_names.specs.declared.names.LaneId.TheVariants.{Pool as PoolLane, Base as BaseLane, Cpu as CpuLane}
 use Rattle.key_names.specs.Book.{list_at}
 use Rattle.key_names.specs.IsTranscript.{MarkBy, is_same_lane, lane_marks}
-use Rattle.key_names.proofs.SortedVisits.{one_if}
+use Rattle.key_names.proofs.History.SortedVisits.{one_if}
 
 -- how many marks are of CPUs from c on, n CPUs
 abbrev on_cpus : ℕ → ℕ → List MarkBy → ℕ

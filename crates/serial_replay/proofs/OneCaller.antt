@@ -9,9 +9,9 @@ use native.Mathlib.Decide.{ℕ_discrete}
 use Rattle.key_names.specs.Book.{Lists, list_at}
 use Rattle.key_names.specs.Calls.{Setting, Call}
 use Rattle.key_names.specs.IsTranscript.{start_setting, script_calls}
-use Rattle.key_names.specs.ScriptGrammar.{Script}
+use Rattle.key_names.specs.Texts.ScriptGrammar.{Script}
 use Rattle.key_names.specs.SeenLine.{SeenLine}
-use Rattle.key_names.proofs.CallerOrders.{list_front, list_last}
+use Rattle.key_names.proofs.History.CallerOrders.{list_front, list_last}
 use Rattle.line_orders.specs.declared.called.Called.{Called}
 use Rattle.line_orders.specs.Called.{seen_call, seen_calls}
 use Rattle.line_orders.specs.Settings.{settings_from}

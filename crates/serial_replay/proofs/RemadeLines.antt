@@ -8,7 +8,7 @@ use Rattle.key_names.specs.declared.names.Step.{Step}
 use Rattle.key_names.specs.Book.{Book, Lists, LawfulLanes, lists_of, list_at}
 use Rattle.key_names.specs.Calls.{Setting, Call}
 use Rattle.key_names.specs.History.{caller_orders, calls_steps}
-use Rattle.key_names.specs.ScriptGrammar.{Script, WellFormed}
+use Rattle.key_names.specs.Texts.ScriptGrammar.{Script, WellFormed}
 use Rattle.key_names.specs.SeenLine.{SeenLine}
 use Rattle.key_names.specs.IsTranscript.{script_calls, start_setting, EachCaller, EachLine}
 use Rattle.line_orders.specs.declared.begin.Parts.{Parts}

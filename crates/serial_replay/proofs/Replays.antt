@@ -3,12 +3,12 @@ use Rattle.std.proofs.Common.{◌≡◌, ℕ, zero, suc, ◌<◌, Option, Some, 
 use Rattle.std.specs.Prelude.{slice_get, IsTrue}
 use Rattle.std.specs.List.{AllByRecursion}
 use Rattle.key_names.specs.Book.{list_at}
-use Rattle.key_names.specs.ScriptGrammar.{Script}
+use Rattle.key_names.specs.Texts.ScriptGrammar.{Script}
 use Rattle.key_names.specs.SeenLine.{SeenLine}
 use Rattle.key_names.specs.SameSteps.{bare, SameSteps}
 use Rattle.key_names.specs.IsTranscript.{MadeBook, AnswersStand, DataStand, IsTranscript, FirstFails, Clause}
 use Rattle.key_names.specs.IsTranscript.{lines_clause, marks_clause, forms_clause, answers_clause, data_clause, looks_clause}
-use Rattle.key_names.proofs.UniqueBook.{book_is_unique}
+use Rattle.key_names.proofs.Unique.UniqueBook.{book_is_unique}
 use Rattle.caller_answers.specs.declared.said.Said.{Said}
 use Rattle.caller_answers.specs.Said.{shown_by}
 use Rattle.serial_replay.specs.declared.remake.Made.{Made}

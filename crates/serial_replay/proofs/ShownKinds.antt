@@ -20,7 +20,7 @@ use Rattle.key_names.specs.Forms.{Looked}
 use Rattle.key_names.specs.Meaning.{LineMeaning, CallMeaning, ActMeans, ActsMean, ByLocalCopy, ByVgetrandom, LocalOrCall}
 use Rattle.key_names.specs.Meaning.{tries_local, Means, VreadMeans, unused_line, current_state, CallerState}
 use Rattle.key_names.specs.BatchCopy.{serves_locally, copy_bytes}
-use Rattle.key_names.specs.ScriptGrammar.{Script, event_word}
+use Rattle.key_names.specs.Texts.ScriptGrammar.{Script, event_word}
 use Rattle.key_names.specs.SeenLine.{SeenLine, Shown, no_data, bytes_or_none}
 use Rattle.key_names.specs.Vgetrandom.{Ending, no_bytes, by_batch, by_system, read, failed}
 use Rattle.key_names.specs.VreadSteps.{published_by, is_reached, points_of, ending_shown}
@@ -29,7 +29,7 @@ use Rattle.key_names.specs.IsTranscript.{script_calls, start_setting}
 use Rattle.key_names.specs.Meaning.{caller_start}
 use Rattle.key_names.specs.Book.{lists_of}
 use Rattle.serial_replay.proofs.Callers.{each_caller}
-use Rattle.key_names.proofs.Each.{each_append}
+use Rattle.key_names.proofs.Lists.Each.{each_append}
 use Rattle.caller_answers.specs.declared.said.Said.{Said}
 use Rattle.caller_answers.specs.Said.{SaysIt}
 use Rattle.serial_replay.specs.declared.remake.Made.{Made}

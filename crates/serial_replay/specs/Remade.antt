@@ -5,8 +5,8 @@ use Rattle.std.specs.Global.{Vec}
 use Rattle.key_names.specs.Book.{Lists, lists_of, list_at}
 use Rattle.key_names.specs.Calls.{Setting, Call}
 use Rattle.key_names.specs.Meaning.{CallMeaning}
-use Rattle.key_names.specs.TranscriptGrammar.{StepFits}
-use Rattle.key_names.specs.ScriptGrammar.{Script}
+use Rattle.key_names.specs.Texts.TranscriptGrammar.{StepFits}
+use Rattle.key_names.specs.Texts.ScriptGrammar.{Script}
 use Rattle.key_names.specs.SeenLine.{SeenLine}
 use Rattle.key_names.specs.IsTranscript.{MadeBook, SeenStands, FirstFails, Clause, clause_number, EachCaller}
 use Rattle.key_names.specs.IsTranscript.{EachLine, script_calls, HasLines, CallerMeans, start_setting}

@@ -1,7 +1,7 @@
 -- What a replay answers.
 use Rattle.std.specs.Prelude.{ℕ, ◌≡◌, List}
 use Rattle.key_names.specs.Book.{lists_of}
-use Rattle.key_names.specs.ScriptGrammar.{Script}
+use Rattle.key_names.specs.Texts.ScriptGrammar.{Script}
 use Rattle.key_names.specs.SeenLine.{SeenLine}
 use Rattle.key_names.specs.SameSteps.{SameSteps}
 use Rattle.key_names.specs.IsTranscript.{IsTranscript, MadeBook, SeenStands, FirstFails, Clause, clause_number}

@@ -4,7 +4,7 @@ ghost use Rattle.std.specs.List.{AllByRecursion};
 ghost use Rattle.key_names.specs.Book.{Lists as BookLists, LawfulLanes, list_at};
 ghost use Rattle.key_names.specs.IsTranscript.{start_setting};
 ghost use Rattle.key_names.specs.SameSteps.{bare};
-ghost use Rattle.key_names.specs.ScriptGrammar.{Script as ScriptLines, WellFormed};
+ghost use Rattle.key_names.specs.Texts.ScriptGrammar.{Script as ScriptLines, WellFormed};
 ghost use Rattle.key_names.specs.SeenLine.{SeenLine};
 ghost use Rattle.line_orders.specs.Called.{seen_calls};
 ghost use Rattle.line_orders.specs.Seen.{seen_callers};

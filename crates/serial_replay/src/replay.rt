@@ -1,8 +1,8 @@
 //! A transcript from its steps.
 ghost use Rattle.std.specs.Prelude.{◌≡◌, ◌∷◌, [], ◌++◌, length, Some, IfOk, OnOk, slice_get};
 ghost use Rattle.std.specs.List.{AllByRecursion};
-ghost use Rattle.key_names.specs.ScriptGrammar.{WellFormed};
-ghost use Rattle.key_names.specs.TranscriptGrammar.{LineFits, ShownFits};
+ghost use Rattle.key_names.specs.Texts.ScriptGrammar.{WellFormed};
+ghost use Rattle.key_names.specs.Texts.TranscriptGrammar.{LineFits, ShownFits};
 ghost use Rattle.key_names.specs.declared.events.Word.{Word as EventWord};
 ghost use Rattle.transcript_text.specs.Views.{seen, seen_shown};
 ghost use Rattle.caller_answers.specs.Said.{shown_by};

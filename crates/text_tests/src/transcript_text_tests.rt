@@ -1,7 +1,7 @@
 //! Published texts, lines built by hand, sinks that take little at a time or fail, and each fault once.
 ghost use Rattle.std.specs.Prelude.{◌≡◌, ◌+◌, ◌-◌, ◌<◌, ◌≤◌, ◌^◌, [], length};
 ghost use Rattle.std.specs.List.{AllByRecursion};
-ghost use Rattle.key_names.specs.TranscriptGrammar.{ShownFits, StepFits};
+ghost use Rattle.key_names.specs.Texts.TranscriptGrammar.{ShownFits, StepFits};
 ghost use Rattle.transcript_text.specs.Views.{bytes_of, seen, seen_shown};
 
 use io_edges::{Failed, MemSink, Sink};

@@ -14,7 +14,7 @@ use Rattle.told_entries.proofs.OneRow.{PutAt, cpu_put}
 use Rattle.std.specs.Prelude.{slice_get, Some, None, ◌==◌, if◌then◌else◌}
 use Rattle.std.proofs.lemmas.Option.{slice_get-get_or}
 use Rattle.key_names.specs.declared.entries.CpuEntry.TheVariants.{Prepare}
-use Rattle.key_names.proofs.TranscriptBooks.{lt_or_le}
+use Rattle.key_names.proofs.Transcripts.TranscriptBooks.{lt_or_le}
 use Rattle.line_forms.specs.declared.told.CpuTold.TheVariants.{Is as cpu_is}
 use Rattle.std.proofs.lemmas.Bool.{eq-eqb, eqb-true}
 use Rattle.key_names.specs.declared.names.LaneId.{LaneId}

@@ -10,7 +10,7 @@ use Rattle.key_names.specs.Deeds.{Deed, deeds_of}
 use Rattle.key_names.specs.Forms.{Form, EndForm, Looked}
 use Rattle.key_names.specs.BatchCopy.{serves_locally}
 use Rattle.key_names.specs.VreadSteps.{published_by, is_reached, points_of}
-use Rattle.key_names.specs.ScriptGrammar.{Script}
+use Rattle.key_names.specs.Texts.ScriptGrammar.{Script}
 use Rattle.key_names.specs.SeenLine.{SeenLine}
 use Rattle.key_names.specs.Meaning.{CallerState, caller_start, caller_after, current_state, LineMeaning, CallMeaning}
 use Rattle.key_names.specs.Meaning.{unused_line, ActMeans, ActsMean, Means, AloneMeans, VreadMeans}

@@ -6,8 +6,8 @@ use Rattle.key_names.specs.Book.{list_at}
 use Rattle.key_names.specs.Calls.{all_calls, calls_of}
 use Rattle.key_names.specs.SeenLine.{SeenLine}
 use Rattle.key_names.specs.IsTranscript.{EachCaller, LinesFit}
-use Rattle.key_names.proofs.UniqueMeanings.{OfCall}
-use Rattle.key_names.proofs.UniqueLines.{Covers, calls_cover}
+use Rattle.key_names.proofs.Unique.UniqueMeanings.{OfCall}
+use Rattle.key_names.proofs.Unique.UniqueLines.{Covers, calls_cover}
 
 module _ (P : SeenLine → Type 0) where
   to_calls_from : (c : ℕ) (callers : List (List Event)) (t : List (List SeenLine)) →

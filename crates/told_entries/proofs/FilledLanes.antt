@@ -14,12 +14,12 @@ use Rattle.key_names.specs.declared.names.Step.TheVariants.{Look, Visit as Marke
 use Rattle.key_names.specs.Book.{Book, Visit, Lists, lists_of, entries_of, list_at, cpu_list}
 use Rattle.key_names.specs.Calls.{Call}
 use Rattle.key_names.specs.Deeds.{Deed, at_pool, at_base, at_cpu, deed_or, deed_at, deed_of, deeds_of, pool_visit, base_visit, cpu_visit}
-use Rattle.key_names.specs.ScriptGrammar.{Script}
+use Rattle.key_names.specs.Texts.ScriptGrammar.{Script}
 use Rattle.key_names.specs.SeenLine.{SeenLine}
 use Rattle.key_names.specs.IsTranscript.{HasLines, MarksStand, MarkBy, all_marks, stamped_at, script_calls, start_setting}
-use Rattle.key_names.proofs.Each.{each_weaker}
-use Rattle.key_names.proofs.LaneCounts.{every_place, lane_counts, lane_length, within_lane}
-use Rattle.key_names.proofs.UniqueMeanings.{OfCall}
+use Rattle.key_names.proofs.Lists.Each.{each_weaker}
+use Rattle.key_names.proofs.Transcripts.LaneCounts.{every_place, lane_counts, lane_length, within_lane}
+use Rattle.key_names.proofs.Unique.UniqueMeanings.{OfCall}
 use Rattle.line_forms.specs.Told.{AllThere, IsThere}
 use Rattle.list_replay.specs.Fills.{Fills}
 use Rattle.list_replay.specs.Tables.{Tables}

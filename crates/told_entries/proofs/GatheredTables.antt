@@ -10,7 +10,7 @@ use Rattle.key_names.specs.declared.names.LaneId.TheVariants.{Pool as PoolLane, 
 use Rattle.key_names.specs.declared.names.Who.{Who}
 use Rattle.key_names.specs.Book.{Book, Visit, list_at}
 use Rattle.key_names.specs.Calls.{Setting as CallSetting}
-use Rattle.key_names.specs.ScriptGrammar.{Script, WellFormed}
+use Rattle.key_names.specs.Texts.ScriptGrammar.{Script, WellFormed}
 use Rattle.key_names.specs.SeenLine.{SeenLine}
 use Rattle.key_names.specs.IsTranscript.{MarkBy, all_marks, stamped, stamped_at}
 use Rattle.line_orders.specs.declared.begin.Parts.{Parts}

@@ -6,13 +6,13 @@ use Rattle.std.specs.Global.{Vec}
 use Rattle.key_names.specs.declared.names.LaneId.{LaneId}
 use Rattle.key_names.specs.Book.{list_at}
 use Rattle.key_names.specs.Calls.{Setting as CallSetting, Call}
-use Rattle.key_names.specs.ScriptGrammar.{Script}
+use Rattle.key_names.specs.Texts.ScriptGrammar.{Script}
 use Rattle.key_names.specs.SeenLine.{SeenLine}
 use Rattle.key_names.specs.IsTranscript.{all_marks, lane_marks, script_calls, start_setting}
-use Rattle.key_names.proofs.CallTakes.{all_calls_marks, all_marks_within}
-use Rattle.key_names.proofs.Each.{each_weaker}
-use Rattle.key_names.proofs.TakenMarks.{one_mark}
-use Rattle.key_names.proofs.UniqueMeanings.{OfCall}
+use Rattle.key_names.proofs.Transcripts.CallTakes.{all_calls_marks, all_marks_within}
+use Rattle.key_names.proofs.Lists.Each.{each_weaker}
+use Rattle.key_names.proofs.Transcripts.TakenMarks.{one_mark}
+use Rattle.key_names.proofs.Unique.UniqueMeanings.{OfCall}
 use Rattle.line_orders.specs.declared.begin.Parts.{Parts}
 use Rattle.line_orders.specs.Begun.{PartsStand}
 use Rattle.line_orders.specs.Called.{seen_calls}

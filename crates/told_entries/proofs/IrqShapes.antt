@@ -21,7 +21,7 @@ use Rattle.key_names.specs.Forms.{Form, Rooted, Cross, DumpForm, IrqForm}
 use Rattle.key_names.specs.LineSamples.{EntryIsQuiet, IsQuiet, IsCrossing, IsMix, SamplesStand}
 use Rattle.key_names.specs.Samples.{MakesDue}
 use Rattle.key_names.specs.SeenLine.{SeenLine}
-use Rattle.key_names.proofs.UniqueMeanings.{OfCall}
+use Rattle.key_names.proofs.Unique.UniqueMeanings.{OfCall}
 use Rattle.line_forms.specs.LaneFacts.{LaneFacts, facts_of}
 use Rattle.line_forms.specs.Laws.{ActForm}
 use Rattle.line_forms.specs.Told.{AllFill, FillsPart, FillsCpu, cpu_read_told, taken_by, first_sign}

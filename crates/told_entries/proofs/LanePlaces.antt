@@ -9,8 +9,8 @@ use Rattle.key_names.specs.declared.names.LaneId.{LaneId}
 use Rattle.key_names.specs.declared.names.LaneId.TheVariants.{Pool as PoolLane, Base as BaseLane, Cpu as CpuLane}
 use Rattle.key_names.specs.declared.names.Mark.{Mark}
 use Rattle.key_names.specs.IsTranscript.{MarkBy, is_same_lane, lane_marks, PlacesStand}
-use Rattle.key_names.proofs.TakenMarks.{from_range}
-use Rattle.key_names.proofs.TranscriptBooks.{lt_or_le}
+use Rattle.key_names.proofs.Transcripts.TakenMarks.{from_range}
+use Rattle.key_names.proofs.Transcripts.TranscriptBooks.{lt_or_le}
 
 -- ---- places below their number
 

@@ -18,10 +18,10 @@ use Rattle.key_names.specs.Deeds.{deed_or, deed_at, deed_of, deeds_of, pool_visi
 use Rattle.key_names.specs.Samples.{visits_of}
 use Rattle.key_names.specs.SeenLine.{SeenLine}
 use Rattle.key_names.specs.IsTranscript.{MarkBy, all_marks, lane_marks, stamped, stamped_at, PlacesStand, VisitsAre}
-use Rattle.key_names.proofs.LaneCounts.{every_place, lane_length, lane_counts}
-use Rattle.key_names.proofs.SortedVisits.{IsIn}
-use Rattle.key_names.proofs.UniqueEvents.{entries_at}
-use Rattle.key_names.proofs.UniqueMarks.{Found, found}
+use Rattle.key_names.proofs.Transcripts.LaneCounts.{every_place, lane_length, lane_counts}
+use Rattle.key_names.proofs.History.SortedVisits.{IsIn}
+use Rattle.key_names.proofs.Unique.UniqueEvents.{entries_at}
+use Rattle.key_names.proofs.Unique.UniqueMarks.{Found, found}
 use Rattle.line_forms.specs.Told.{IsThere, AllThere}
 use Rattle.told_entries.proofs.DeedPlaces.{CpuAt, PoolAt, cpu_at, pool_at}
 use Rattle.told_entries.proofs.Lines.{each_in, each_of, deed_in, step_of_deed, Among, LineOf, line_of, MarkOf, mark_of}

@@ -9,7 +9,7 @@ use Rattle.key_names.specs.Book.{Lists}
 use Rattle.key_names.specs.Deeds.{Deed, deed_of, deeds_of}
 use Rattle.key_names.specs.SeenLine.{SeenLine}
 use Rattle.key_names.specs.IsTranscript.{LinesFit, EachCaller, MarkBy, marks_from, line_marks, all_marks}
-use Rattle.key_names.proofs.SortedVisits.{IsIn}
+use Rattle.key_names.proofs.History.SortedVisits.{IsIn}
 
 pub each_in : {X : Type 0} (P : X → Type 0) (x : X) (xs : List X) → AllByRecursion P xs → IsIn x xs → P x
 each_in P x [] all here = absurd here

@@ -4,7 +4,7 @@ use Rattle.std.specs.List.{AllByRecursion}
 use Rattle.key_names.specs.Book.{lists_of}
 use Rattle.key_names.specs.Deeds.{deeds_of}
 use Rattle.key_names.specs.LineSamples.{SamplesStand}
-use Rattle.key_names.specs.ScriptGrammar.{Script}
+use Rattle.key_names.specs.Texts.ScriptGrammar.{Script}
 use Rattle.key_names.specs.SeenLine.{SeenLine}
 use Rattle.key_names.specs.IsTranscript.{MadeBook, script_calls}
 use Rattle.line_forms.specs.LaneFacts.{facts_of}

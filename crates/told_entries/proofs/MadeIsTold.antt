@@ -6,12 +6,12 @@ use Rattle.key_names.specs.Book.{Book, Lists, LawfulLanes, lists_of, list_at}
 use Rattle.key_names.specs.Calls.{Setting, Call, alone, vread_call, unbound, ending, BoundAct, calls_of, setting_after_call}
 use Rattle.key_names.specs.Deeds.{Deed, deeds_of}
 use Rattle.key_names.specs.LineSamples.{SamplesStand}
-use Rattle.key_names.specs.ScriptGrammar.{Script}
+use Rattle.key_names.specs.Texts.ScriptGrammar.{Script}
 use Rattle.key_names.specs.SeenLine.{SeenLine}
 use Rattle.key_names.specs.Meaning.{CallMeaning}
 use Rattle.key_names.specs.IsTranscript.{CallerMeans, LinesFit, HasLines, script_calls, start_setting}
-use Rattle.key_names.proofs.UniqueMeanings.{OfCall}
-use Rattle.key_names.proofs.UniqueLines.{Covers, calls_cover}
+use Rattle.key_names.proofs.Unique.UniqueMeanings.{OfCall}
+use Rattle.key_names.proofs.Unique.UniqueLines.{Covers, calls_cover}
 use Rattle.line_forms.specs.LaneFacts.{LaneFacts, AllFit, facts_of}
 use Rattle.line_forms.specs.Told.{Telling, LineFills, act_telling, silent}
 use Rattle.line_forms.proofs.ActLines.{lists_fit, act_told}

@@ -10,9 +10,9 @@ use Rattle.key_names.specs.Book.{list_at}
 use Rattle.key_names.specs.Calls.{all_calls}
 use Rattle.key_names.specs.SeenLine.{SeenLine}
 use Rattle.key_names.specs.IsTranscript.{LinesFit, EachCaller, MarkBy, marks_from, line_marks, all_marks}
-use Rattle.key_names.proofs.Each.{each_append, each_parts}
-use Rattle.key_names.proofs.UniqueLines.{calls_cover}
-use Rattle.key_names.proofs.UniqueMeanings.{OfCall}
+use Rattle.key_names.proofs.Lists.Each.{each_append, each_parts}
+use Rattle.key_names.proofs.Unique.UniqueLines.{calls_cover}
+use Rattle.key_names.proofs.Unique.UniqueMeanings.{OfCall}
 
 -- of each list what holds of the list with its number, and back
 pub each_list : {X : Type 0} (P : List X → Type 0) (xss : List (List X)) →

@@ -16,8 +16,8 @@ use Rattle.key_names.specs.Deeds.{Deed, PoolVisit, at_pool, at_base, at_cpu, dee
 use Rattle.key_names.specs.Deeds.{pool_visit, base_visit, cpu_visit}
 use Rattle.key_names.specs.FastPool.{dump_bytes, dump_bits}
 use Rattle.key_names.specs.SeenLine.{SeenLine}
-use Rattle.key_names.proofs.UniqueMarks.{one_entry}
-use Rattle.key_names.proofs.UniqueMeanings.{OfCall}
+use Rattle.key_names.proofs.Unique.UniqueMarks.{one_entry}
+use Rattle.key_names.proofs.Unique.UniqueMeanings.{OfCall}
 use Rattle.line_forms.specs.declared.told.Around.{Around}
 use Rattle.line_forms.specs.declared.told.BaseTold.{BaseTold}
 use Rattle.line_forms.specs.declared.told.PoolTold.{PoolTold}

@@ -14,13 +14,13 @@ use Rattle.key_names.specs.Calls.{Call, alone, vread_call, unbound, ending}
 use Rattle.key_names.specs.CallerOrders.{start_of}
 use Rattle.key_names.specs.Deeds.{Deed, CpuVisit, at_cpu, deed_of, deeds_of}
 use Rattle.key_names.specs.History.{stamps_of, call_steps, calls_steps, caller_orders}
-use Rattle.key_names.specs.ScriptGrammar.{Script}
+use Rattle.key_names.specs.Texts.ScriptGrammar.{Script}
 use Rattle.key_names.specs.SeenLine.{SeenLine}
 use Rattle.key_names.specs.IsTranscript.{MarkBy, Rises, MarksStand, PlacesStand, VisitsAre, is_same_lane, lane_marks, all_marks}
 use Rattle.key_names.specs.IsTranscript.{stamped_at, script_calls}
-use Rattle.key_names.proofs.CallerOrders.{order_is_start_and_own}
-use Rattle.key_names.proofs.SortedVisits.{IsIn}
-use Rattle.key_names.proofs.TranscriptBooks.{lt_or_le}
+use Rattle.key_names.proofs.History.CallerOrders.{order_is_start_and_own}
+use Rattle.key_names.proofs.History.SortedVisits.{IsIn}
+use Rattle.key_names.proofs.Transcripts.TranscriptBooks.{lt_or_le}
 use Rattle.told_entries.proofs.DeedPlaces.{CpuStep, cpu_step}
 use Rattle.told_entries.proofs.Lines.{each_in, Among, MarkOf, mark_of}
 use Rattle.told_entries.proofs.LineVisits.{stamp_at}

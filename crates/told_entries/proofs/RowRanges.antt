@@ -21,12 +21,12 @@ use Rattle.key_names.specs.Calls.{Setting, Call, alone, vread_call, unbound, end
 use Rattle.key_names.specs.Calls.{setting_of, ForkPoint, with_call_before, fork_point, Parent, parent_here, parent_from, inherited_setting, first_settings, calls_from, all_calls}
 use Rattle.key_names.specs.IsTranscript.{start_setting}
 use Rattle.key_names.specs.PoolNotes.{entry_of}
-use Rattle.key_names.specs.ScriptGrammar.{InRange as EventInRange}
+use Rattle.key_names.specs.Texts.ScriptGrammar.{InRange as EventInRange}
 use Rattle.key_names.specs.SeenLine.{SeenLine}
-use Rattle.key_names.proofs.CallLists.{OfCalls, of_calls}
-use Rattle.key_names.proofs.Each.{each_append, each_weaker}
-use Rattle.key_names.proofs.UniqueMarks.{one_entry}
-use Rattle.key_names.proofs.UniqueMeanings.{OfCall}
+use Rattle.key_names.proofs.Transcripts.CallLists.{OfCalls, of_calls}
+use Rattle.key_names.proofs.Lists.Each.{each_append, each_weaker}
+use Rattle.key_names.proofs.Unique.UniqueMarks.{one_entry}
+use Rattle.key_names.proofs.Unique.UniqueMeanings.{OfCall}
 use Rattle.line_forms.specs.declared.told.Around.{Around}
 use Rattle.line_forms.specs.declared.told.BaseTold.{BaseTold}
 use Rattle.line_forms.specs.declared.told.PoolTold.{PoolTold}

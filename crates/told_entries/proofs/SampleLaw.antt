@@ -15,8 +15,8 @@ use Rattle.key_names.specs.LineSamples.{EntryIsQuiet, IsQuiet, Dumps, IsMix, IsC
 use Rattle.key_names.specs.Samples.{SameEvent, fast_before, MakesDue, IsDump, DueAt, DumpAt, MixAt, visits_of, LawfulSamples}
 use Rattle.key_names.specs.SeenLine.{SeenLine}
 use Rattle.key_names.specs.IsTranscript.{all_marks, lane_marks, PlacesStand, VisitsAre}
-use Rattle.key_names.proofs.SortedVisits.{IsIn}
-use Rattle.key_names.proofs.UniqueEvents.{entries_at}
+use Rattle.key_names.proofs.History.SortedVisits.{IsIn}
+use Rattle.key_names.proofs.Unique.UniqueEvents.{entries_at}
 use Rattle.line_forms.specs.LaneFacts.{facts_of}
 use Rattle.told_entries.proofs.Lines.{each_in, Among, Apart}
 use Rattle.told_entries.proofs.LineVisits.{InLine, Behind, cpu_in_line, pool_in_line, cpu_behind, pool_behind}

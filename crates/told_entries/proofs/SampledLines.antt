@@ -13,13 +13,13 @@ use Rattle.key_names.specs.FastPool.{FastPool, makes_due, dump_bytes, dump_bits}
 use Rattle.key_names.specs.Forms.{IrqForm}
 use Rattle.key_names.specs.LineSamples.{IsQuiet, IsCrossing, SamplesStand}
 use Rattle.key_names.specs.Samples.{MakesDue, IsDump, DueAt, DumpAt, visits_of, fast_before, LawfulSamples}
-use Rattle.key_names.specs.ScriptGrammar.{Script}
+use Rattle.key_names.specs.Texts.ScriptGrammar.{Script}
 use Rattle.key_names.specs.SeenLine.{SeenLine}
 use Rattle.key_names.specs.Meaning.{CallMeaning}
 use Rattle.key_names.specs.IsTranscript.{HasLines, MarksStand, script_calls, start_setting, all_marks, lane_marks}
 use Rattle.key_names.specs.IsTranscript.{PlacesStand, VisitsAre}
-use Rattle.key_names.proofs.SortedVisits.{IsIn}
-use Rattle.key_names.proofs.UniqueMeanings.{OfCall}
+use Rattle.key_names.proofs.History.SortedVisits.{IsIn}
+use Rattle.key_names.proofs.Unique.UniqueMeanings.{OfCall}
 use Rattle.line_forms.specs.LaneFacts.{facts_of}
 use Rattle.told_entries.specs.Gathered.{IsBookOf, AllMean}
 use Rattle.told_entries.proofs.CallForms.{CallsForm, all_forms}

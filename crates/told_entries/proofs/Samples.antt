@@ -21,16 +21,16 @@ use Rattle.key_names.specs.Deeds.{Deed, at_pool, at_cpu, deed_or, deed_at, deeds
 use Rattle.key_names.specs.Forms.{Form, IrqForm}
 use Rattle.key_names.specs.LineSamples.{IsQuiet, SamplesStand}
 use Rattle.key_names.specs.Samples.{LawfulSamples}
-use Rattle.key_names.specs.ScriptGrammar.{Script}
+use Rattle.key_names.specs.Texts.ScriptGrammar.{Script}
 use Rattle.key_names.specs.SeenLine.{SeenLine}
 use Rattle.key_names.specs.History.{stamps_of}
 use Rattle.key_names.specs.Meaning.{CallMeaning}
 use Rattle.key_names.specs.IsTranscript.{HasLines, MarksStand, Rises, script_calls, start_setting, all_marks, lane_marks}
 use Rattle.key_names.specs.IsTranscript.{MarkBy, PlacesStand, VisitsAre}
-use Rattle.key_names.proofs.LaneCounts.{every_place, lane_length, lane_counts}
-use Rattle.key_names.proofs.SortedVisits.{IsIn}
-use Rattle.key_names.proofs.UniqueEvents.{entries_at}
-use Rattle.key_names.proofs.UniqueMeanings.{OfCall}
+use Rattle.key_names.proofs.Transcripts.LaneCounts.{every_place, lane_length, lane_counts}
+use Rattle.key_names.proofs.History.SortedVisits.{IsIn}
+use Rattle.key_names.proofs.Unique.UniqueEvents.{entries_at}
+use Rattle.key_names.proofs.Unique.UniqueMeanings.{OfCall}
 use Rattle.line_forms.specs.LaneFacts.{facts_of}
 use Rattle.line_forms.specs.declared.told.Around.{Around}
 use Rattle.line_forms.specs.declared.told.Sign.{Sign}

@@ -9,10 +9,10 @@ use Rattle.key_names.specs.declared.names.Step.TheVariants.{Look, Visit as Marke
 use Rattle.key_names.specs.Book.{list_at}
 use Rattle.key_names.specs.Calls.{Setting as CallSetting, Call, alone, vread_call, unbound, ending, BoundAct, setting_after_call}
 use Rattle.key_names.specs.IsTranscript.{is_same_lane}
-use Rattle.key_names.proofs.CallTakes.{acts_marks, call_marks, calls_marks, all_calls_marks}
-use Rattle.key_names.proofs.Each.{each_append, each_parts}
-use Rattle.key_names.proofs.TakenMarks.{mark_takes, lane_takes}
-use Rattle.key_names.proofs.UniqueMeanings.{OfCall}
+use Rattle.key_names.proofs.Transcripts.CallTakes.{acts_marks, call_marks, calls_marks, all_calls_marks}
+use Rattle.key_names.proofs.Lists.Each.{each_append, each_parts}
+use Rattle.key_names.proofs.Transcripts.TakenMarks.{mark_takes, lane_takes}
+use Rattle.key_names.proofs.Unique.UniqueMeanings.{OfCall}
 use Rattle.line_forms.specs.declared.told.Around.{Around}
 use Rattle.line_forms.specs.declared.told.Sign.{Sign}
 use Rattle.line_forms.specs.declared.told.Sign.TheVariants.{Nowhere as nowhere}

@@ -14,11 +14,11 @@ use Rattle.key_names.specs.declared.names.Step.{Step}
 use Rattle.key_names.specs.declared.names.Step.TheVariants.{Look, Visit as Marked}
 use Rattle.key_names.specs.Book.{list_at}
 use Rattle.key_names.specs.Calls.{Call}
-use Rattle.key_names.specs.ScriptGrammar.{Script, WellFormed, most_cpus}
+use Rattle.key_names.specs.Texts.ScriptGrammar.{Script, WellFormed, most_cpus}
 use Rattle.key_names.specs.SeenLine.{SeenLine}
 use Rattle.key_names.specs.IsTranscript.{LinesFit, EachCaller, MarkBy, marks_from, line_marks, all_marks, lane_marks, is_same_lane, script_calls}
-use Rattle.key_names.proofs.LaneCounts.{every_place}
-use Rattle.key_names.proofs.UniqueMeanings.{OfCall}
+use Rattle.key_names.proofs.Transcripts.LaneCounts.{every_place}
+use Rattle.key_names.proofs.Unique.UniqueMeanings.{OfCall}
 use Rattle.line_orders.specs.declared.begin.Parts.{Parts}
 use Rattle.line_orders.specs.declared.called.ActLine.{ActLine}
 use Rattle.line_orders.specs.declared.called.Called.{Called}

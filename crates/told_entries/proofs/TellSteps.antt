@@ -5,7 +5,7 @@ use Rattle.std.specs.Global.{Vec}
 use Rattle.std.proofs.lemmas.List.{at_drop_all, drop_more}
 use Rattle.key_names.specs.declared.names.Step.{Step}
 use Rattle.key_names.specs.Calls.{Setting as CallSetting, Call}
-use Rattle.key_names.proofs.TranscriptBooks.{lt_or_le}
+use Rattle.key_names.proofs.Transcripts.TranscriptBooks.{lt_or_le}
 use Rattle.line_forms.specs.declared.told.Around.{Around}
 use Rattle.line_forms.specs.declared.told.Sign.{Sign}
 use Rattle.line_forms.specs.Told.{Telling, act_telling}

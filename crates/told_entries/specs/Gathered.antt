@@ -5,7 +5,7 @@ use Rattle.key_names.specs.declared.names.LaneId.TheVariants.{Pool as PoolLane, 
 use Rattle.key_names.specs.Book.{Book, lists_of, list_at, LawfulLanes}
 use Rattle.key_names.specs.Samples.{LawfulSamples}
 use Rattle.key_names.specs.LineSamples.{SamplesStand}
-use Rattle.key_names.specs.ScriptGrammar.{Script}
+use Rattle.key_names.specs.Texts.ScriptGrammar.{Script}
 use Rattle.key_names.specs.SeenLine.{SeenLine}
 use Rattle.key_names.specs.Deeds.{deeds_of}
 use Rattle.key_names.specs.Meaning.{CallMeaning}

@@ -4,7 +4,7 @@ ghost use Rattle.std.specs.Prelude.{◌≡◌, ◌≢◌, ◌<◌, ℕ, ⊤, Som
 ghost use Rattle.key_names.specs.declared.entries.Taken.TheVariants.{User};
 ghost use Rattle.key_names.specs.Book.{Book, list_at};
 ghost use Rattle.key_names.specs.PoolNotes.{entry_of};
-ghost use Rattle.key_names.specs.ScriptGrammar.{WellFormed};
+ghost use Rattle.key_names.specs.Texts.ScriptGrammar.{WellFormed};
 ghost use Rattle.key_names.specs.SeenLine.{SeenLine};
 ghost use Rattle.line_forms.specs.declared.told.PoolTold.TheVariants.{Extracted};
 ghost use Rattle.line_forms.specs.Told as forms;

@@ -9,15 +9,15 @@ use Rattle.key_names.specs.CallerOrders.{LooksFrom}
 use Rattle.key_names.specs.IsTranscript.{IsTranscript, IsTranscriptBy, MadeBook, SeenStands, FirstFails, Clause, clause_number}
 use Rattle.key_names.specs.IsTranscript.{answers_clause, data_clause, looks_clause}
 use Rattle.key_names.specs.IsTranscript.{AnswersStand, DataStand, script_calls}
-use Rattle.key_names.specs.ScriptGrammar.{Script, WellFormed}
+use Rattle.key_names.specs.Texts.ScriptGrammar.{Script, WellFormed}
 use Rattle.key_names.specs.SeenLine.{SeenLine}
 use Rattle.key_names.specs.VreadSteps.{NeverFall, looks_of}
-use Rattle.key_names.proofs.Each.{each_weaker}
-use Rattle.key_names.proofs.BookUses.{lawful_is_disjoint}
-use Rattle.key_names.proofs.CallerOrders.{looks_are_counted}
-use Rattle.key_names.proofs.PrintedNamed.{transcript_prints_named}
-use Rattle.key_names.proofs.TranscriptLaws.{transcript_is_lawful}
-use Rattle.key_names.proofs.UniqueBook.{first_fail_is_unique}
+use Rattle.key_names.proofs.Lists.Each.{each_weaker}
+use Rattle.key_names.proofs.Uses.BookUses.{lawful_is_disjoint}
+use Rattle.key_names.proofs.History.CallerOrders.{looks_are_counted}
+use Rattle.key_names.proofs.Values.PrintedNamed.{transcript_prints_named}
+use Rattle.key_names.proofs.Transcripts.TranscriptLaws.{transcript_is_lawful}
+use Rattle.key_names.proofs.Unique.UniqueBook.{first_fail_is_unique}
 use Rattle.serial_replay.specs.declared.remake.Made.{Made}
 use Rattle.serial_replay.specs.Agreement.{SameAnswer, SameShown, AllAgree}
 use Rattle.serial_replay.specs.Remade.{AllMade, FailsEarly, made_by}

@@ -7,7 +7,7 @@ use Rattle.key_names.specs.History.{caller_orders}
 use Rattle.key_names.specs.IsTranscript.{IsTranscriptBy, FirstFails, Clause, clause_number, script_calls}
 use Rattle.key_names.specs.Meaning.{CallMeaning}
 use Rattle.key_names.specs.PrintedBytes.{PrintsNamed}
-use Rattle.key_names.specs.ScriptGrammar.{Script}
+use Rattle.key_names.specs.Texts.ScriptGrammar.{Script}
 use Rattle.key_names.specs.SeenLine.{SeenLine}
 use Rattle.key_names.specs.Uses.{IsDisjoint}
 use Rattle.key_names.specs.VreadSteps.{NeverFall, looks_of}

@@ -1,6 +1,6 @@
 //! The check of a transcript.
 ghost use Rattle.std.specs.Prelude.{◌≡◌, IfOk};
-ghost use Rattle.key_names.specs.ScriptGrammar.{WellFormed};
+ghost use Rattle.key_names.specs.Texts.ScriptGrammar.{WellFormed};
 ghost use Rattle.key_names.specs.IsTranscript.{IsTranscript, FirstFails, Clause, clause_number};
 ghost use Rattle.transcript_check.specs.Judged.{IsJudged};
 

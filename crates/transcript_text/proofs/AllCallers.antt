@@ -3,7 +3,7 @@ use Rattle.std.proofs.Common.{◌≤◌, List, length, map, All, arith}
 use Rattle.std.specs.List.{AllByRecursion}
 use Rattle.std.proofs.lemmas.List.{length-map}
 use Rattle.std.proofs.lemmas.List.Elements.{recursion_from_All, All-map}
-use Rattle.key_names.specs.TranscriptGrammar.{LineFits, LastHasLines, TranscriptFits}
+use Rattle.key_names.specs.Texts.TranscriptGrammar.{LineFits, LastHasLines, TranscriptFits}
 use Rattle.transcript_text.specs.declared.gathered.CallerLines.{CallerLines}
 
 pub callers_fit : (callers : List CallerLines) → length callers ≤ 64 → LastHasLines (map (λ c. c.lines) callers)

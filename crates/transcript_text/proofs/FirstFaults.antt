@@ -5,8 +5,8 @@ use Rattle.std.specs.List.{AllByRecursion}
 use Rattle.std.proofs.lemmas.Bool.{cases_lt}
 use Rattle.std.proofs.lemmas.List.{length-append, length-map}
 use Rattle.key_names.specs.SeenLine.{SeenLine}
-use Rattle.key_names.specs.Spelling.{lined}
-use Rattle.key_names.specs.TranscriptGrammar.{line_text, all_lines, transcript_lines, transcript_text, LineFits, TranscriptFits, UnderOwnNumber, IsTranscriptText, BeginsTranscript, IsFirstFault}
+use Rattle.key_names.specs.Texts.Spelling.{lined}
+use Rattle.key_names.specs.Texts.TranscriptGrammar.{line_text, all_lines, transcript_lines, transcript_text, LineFits, TranscriptFits, UnderOwnNumber, IsTranscriptText, BeginsTranscript, IsFirstFault}
 use Rattle.transcript_text.specs.Grouping.{Gives}
 use Rattle.transcript_text.specs.Reading.{lacks}
 use Rattle.transcript_text.proofs.Cutting.{same_cut}

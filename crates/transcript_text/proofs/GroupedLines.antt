@@ -2,8 +2,8 @@
 use Rattle.std.proofs.Common.{◌≡◌, ℕ, suc, ◌+◌, ◌<◌, List, [], ◌∷◌, ◌++◌, length, refl, sym, ap, subst, ◌∙◌, append_assoc, append-nil, arith}
 use Rattle.std.proofs.lemmas.List.{flat_map_more, map_push}
 use Rattle.key_names.specs.SeenLine.{SeenLine}
-use Rattle.key_names.specs.TranscriptGrammar.{all_lines, LastHasLines, TranscriptFits, UnderOwnNumber}
-use Rattle.key_names.proofs.Each.{each_more}
+use Rattle.key_names.specs.Texts.TranscriptGrammar.{all_lines, LastHasLines, TranscriptFits, UnderOwnNumber}
+use Rattle.key_names.proofs.Lists.Each.{each_more}
 use Rattle.transcript_text.specs.Grouping.{OfCaller, Groups, Gives, seen_callers}
 use Rattle.transcript_text.specs.declared.gathered.CallerLines.{CallerLines}
 

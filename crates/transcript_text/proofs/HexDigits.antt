@@ -4,7 +4,7 @@ use Rattle.std.specs.Prelude.{slice_index}
 use Rattle.std.proofs.lemmas.List.{take_more, take_more_set}
 use Rattle.std.proofs.Math.ListN.{set, length-set}
 use Rattle.hex.specs.Hex.{encode_lower, encode_with, lower_digits}
-use Rattle.key_names.proofs.HexBytes.{encode_with-append}
+use Rattle.key_names.proofs.Script.HexBytes.{encode_with-append}
 
 pub low_digit : (n : ℕ) → n < 10 → 48 + n ≡ slice_index lower_digits n
 low_digit zero lt = refl

@@ -2,7 +2,7 @@
 use Rattle.std.proofs.Common.{◌≡◌, ℕ, List, [], ◌++◌, take, drop, refl, ap, sym, ◌∙◌, append_assoc}
 use Rattle.std.proofs.lemmas.List.{take-append-drop}
 use Rattle.hex.specs.Hex.{encode_with, encode_lower, lower_digits}
-use Rattle.key_names.proofs.HexBytes.{encode_with-append}
+use Rattle.key_names.proofs.Script.HexBytes.{encode_with-append}
 
 -- the next bytes go into the piece, and the others are still to come
 pub next_hex : (piece new rest front behind : List ℕ) (n : ℕ) → new ≡ piece ++ encode_lower front

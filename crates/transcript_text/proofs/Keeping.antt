@@ -3,13 +3,13 @@ use Rattle.std.proofs.Common.{◌≡◌, ℕ, zero, suc, ◌+◌, ◌<◌, ◌�
 use Rattle.std.specs.List.{AllByRecursion}
 use Rattle.std.proofs.lemmas.List.{length-append, length-drop, take-append-le, drop-append-le, take_all, drop_at, map_push, map-set}
 use Rattle.std.proofs.lemmas.List.Elements.{All-from_recursion}
-use Rattle.key_names.proofs.Each.{each_more, each_set}
+use Rattle.key_names.proofs.Lists.Each.{each_more, each_set}
 use Rattle.key_names.specs.declared.lines.Data.{Data}
 use Rattle.key_names.specs.declared.lines.Data.TheVariants.{None as NoData, Bytes, Count}
 use Rattle.key_names.specs.declared.lines.Line.{Line}
 use Rattle.key_names.specs.declared.names.Step.{Step}
 use Rattle.key_names.specs.SeenLine.{SeenLine, bytes, shown_in, steps_in, seen_line, seen_lines, bytes_or_none}
-use Rattle.key_names.specs.TranscriptGrammar.{LineFits}
+use Rattle.key_names.specs.Texts.TranscriptGrammar.{LineFits}
 use Rattle.transcript_text.specs.declared.view.LineView.{LineView}
 use Rattle.transcript_text.specs.declared.view.Shown.{Shown}
 use Rattle.transcript_text.specs.declared.view.Shown.TheVariants.{None as ShowsNone, Bytes as ShowsBytes, Count as ShowsCount}

@@ -6,18 +6,18 @@ use Rattle.std.proofs.lemmas.Bool.{eqb-true, false_from_ne_true}
 use Rattle.std.proofs.lemmas.List.{length-append}
 use Rattle.hex.specs.Hex.{encode_lower, lower_digits, decode_of, IsBytes}
 use Rattle.hex.proofs.HexLemmas.{length-encode_with, decode_of-encode_lower, decode_of-same}
-use Rattle.key_names.proofs.HexFields.{lower_encoded}
+use Rattle.key_names.proofs.Script.HexFields.{lower_encoded}
 use Rattle.std.proofs.lemmas.Fmt.{decimal_injective}
 use Rattle.key_names.specs.declared.events.Answer.{Answer}
 use Rattle.key_names.specs.declared.events.Word.{Word}
 use Rattle.key_names.specs.declared.names.Step.{Step}
 use Rattle.key_names.specs.SeenLine.{Shown, no_data, bytes, count, SeenLine}
-use Rattle.key_names.specs.Spelling.{AllLower, is_lower_digit, word_text, spaced, hex}
+use Rattle.key_names.specs.Texts.Spelling.{AllLower, is_lower_digit, word_text, spaced, hex}
 use Rattle.transcript_text.specs.Shows.{seen_shows, IsShort}
 use Rattle.transcript_text.specs.declared.shown.Shows.{Shows}
 use Rattle.transcript_text.specs.declared.shown.Shows.TheVariants.{Bytes, Count}
 use Rattle.transcript_text.proofs.ShownTexts.{shown_text-bytes}
-use Rattle.key_names.specs.TranscriptGrammar.{answer_text, steps_text, step_text, shown_text, line_text, StepFits, ShownFits, LineFits}
+use Rattle.key_names.specs.Texts.TranscriptGrammar.{answer_text, steps_text, step_text, shown_text, line_text, StepFits, ShownFits, LineFits}
 use Rattle.transcript_text.specs.declared.line.Numbers.{Numbers}
 use Rattle.transcript_text.specs.Reading.{lacks, StepsFit}
 use Rattle.transcript_text.specs.ReadLines.{numbers_text, NumbersFit, IsSplit}

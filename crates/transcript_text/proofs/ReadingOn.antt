@@ -4,8 +4,8 @@ use Rattle.std.specs.Prelude.{codes, Result, Ok, Err}
 use Rattle.std.specs.List.{AllByRecursion}
 use Rattle.std.proofs.lemmas.List.{length_push, map_push, flat_map_more}
 use Rattle.key_names.specs.SeenLine.{SeenLine}
-use Rattle.key_names.specs.Spelling.{lined}
-use Rattle.key_names.specs.TranscriptGrammar.{line_text, all_lines, transcript_lines, transcript_text, LineFits, IsTranscriptText, IsFirstFault}
+use Rattle.key_names.specs.Texts.Spelling.{lined}
+use Rattle.key_names.specs.Texts.TranscriptGrammar.{line_text, all_lines, transcript_lines, transcript_text, LineFits, IsTranscriptText, IsFirstFault}
 use Rattle.transcript_text.specs.Grouping.{Groups, Gives}
 use Rattle.transcript_text.specs.Reading.{lacks}
 use Rattle.transcript_text.specs.ReadTexts.{AddsLine, Answers, IsNoLine, IsReadAs}

@@ -4,7 +4,7 @@ use Rattle.std.specs.Prelude.{⊤}
 use Rattle.std.specs.List.{AllByRecursion}
 use Rattle.std.proofs.lemmas.List.{length-append, nil_from_length}
 use Rattle.key_names.specs.SeenLine.{SeenLine}
-use Rattle.key_names.specs.TranscriptGrammar.{all_lines, LineFits, LastHasLines, UnderOwnNumber}
+use Rattle.key_names.specs.Texts.TranscriptGrammar.{all_lines, LineFits, LastHasLines, UnderOwnNumber}
 use Rattle.transcript_text.specs.Grouping.{OfCaller}
 
 -- lines that fit, of callers from a number on and below 64, whose numbers never fall

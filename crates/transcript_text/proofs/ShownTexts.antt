@@ -5,10 +5,10 @@ use Rattle.hex.specs.Hex.{IsBytes}
 use Rattle.key_names.specs.declared.events.Word.{Word}
 use Rattle.key_names.specs.declared.events.Word.TheVariants.{Bits}
 use Rattle.key_names.specs.SeenLine.{Shown, no_data, bytes, count, bytes_or_none}
-use Rattle.key_names.specs.ScriptFaults.{bytes_of}
-use Rattle.key_names.specs.Spelling.{hex}
-use Rattle.key_names.specs.TranscriptGrammar.{shown_text, ShownFits}
-use Rattle.key_names.proofs.HexFields.{bytes_takes, bytes_again}
+use Rattle.key_names.specs.Texts.ScriptFaults.{bytes_of}
+use Rattle.key_names.specs.Texts.Spelling.{hex}
+use Rattle.key_names.specs.Texts.TranscriptGrammar.{shown_text, ShownFits}
+use Rattle.key_names.proofs.Script.HexFields.{bytes_takes, bytes_again}
 
 pub shown_text-bytes : (shown : List ℕ) → shown_text (bytes_or_none shown) ≡ hex shown
 unfolding shown_text

@@ -3,7 +3,7 @@ use Rattle.std.proofs.Common.{◌≡◌, ℕ, zero, suc, ◌+◌, List, [], ◌�
 use Rattle.std.specs.Prelude.{codes, slice_get}
 use Rattle.std.specs.List.{flat_map}
 use Rattle.key_names.specs.declared.names.Step.{Step}
-use Rattle.key_names.specs.TranscriptGrammar.{step_text, steps_text}
+use Rattle.key_names.specs.Texts.TranscriptGrammar.{step_text, steps_text}
 
 -- a step behind another one
 abbrev pub next_text : Step → List ℕ

@@ -4,14 +4,14 @@ use Rattle.std.specs.Prelude.{codes, decimal}
 use Rattle.std.specs.List.{flat_map, AllByRecursion}
 use Rattle.std.proofs.lemmas.Bool.{eqb-true, false_from_ne_true}
 use Rattle.std.proofs.lemmas.List.{take_all, length_push, length-append}
-use Rattle.key_names.proofs.Each.{each_more}
+use Rattle.key_names.proofs.Lists.Each.{each_more}
 use Rattle.std.proofs.lemmas.Fmt.{decimal_injective}
 use Rattle.key_names.specs.declared.names.LaneId.{LaneId}
 use Rattle.key_names.specs.declared.names.LaneId.TheVariants.{Pool, Base, Cpu}
 use Rattle.key_names.specs.declared.names.Mark.{Mark}
 use Rattle.key_names.specs.declared.names.Step.{Step}
 use Rattle.key_names.specs.declared.names.Step.TheVariants.{Look, Visit}
-use Rattle.key_names.specs.TranscriptGrammar.{lane_text, mark_text, step_text, steps_text, LaneFits, MarkFits, StepFits}
+use Rattle.key_names.specs.Texts.TranscriptGrammar.{lane_text, mark_text, step_text, steps_text, LaneFits, MarkFits, StepFits}
 use Rattle.transcript_text.specs.Reading.{lacks, StepsFit}
 use Rattle.transcript_text.proofs.Cutting.{lacks-append, lacks-decimal, not_lacking, same_cut, IsNoDigit}
 

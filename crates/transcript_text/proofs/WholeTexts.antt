@@ -6,8 +6,8 @@ use Rattle.std.proofs.lemmas.List.{drop_more, drop_all}
 use Rattle.std.specs.Io.KnownBytes.{Appends}
 use Rattle.std.proofs.lemmas.List.Concat.{flat_map-append}
 use Rattle.key_names.specs.SeenLine.{SeenLine}
-use Rattle.key_names.specs.Spelling.{lined}
-use Rattle.key_names.specs.TranscriptGrammar.{shown_text, line_text, all_lines, transcript_text}
+use Rattle.key_names.specs.Texts.Spelling.{lined}
+use Rattle.key_names.specs.Texts.TranscriptGrammar.{shown_text, line_text, all_lines, transcript_text}
 use Rattle.transcript_text.specs.Heads.{head_text}
 use Rattle.transcript_text.specs.Lines.{whole_line, text_of}
 use Rattle.transcript_text.specs.Putting.{PutSoFar}

@@ -7,7 +7,7 @@ use Rattle.key_names.specs.declared.lines.Line.{Line}
 use Rattle.key_names.specs.declared.lines.StepSpan.{StepSpan}
 use Rattle.key_names.specs.declared.names.Step.{Step}
 use Rattle.key_names.specs.SeenLine.{SeenLine, seen_lines}
-use Rattle.key_names.specs.TranscriptGrammar.{LineFits}
+use Rattle.key_names.specs.Texts.TranscriptGrammar.{LineFits}
 use Rattle.transcript_text.specs.declared.view.Shown.{Shown}
 use Rattle.transcript_text.specs.declared.view.Shown.TheVariants.{None as ShowsNone, Bytes as ShowsBytes, Count as ShowsCount}
 use Rattle.transcript_text.specs.declared.view.LineView.{LineView}

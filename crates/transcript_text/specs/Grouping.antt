@@ -2,7 +2,7 @@
 use Rattle.std.specs.Prelude.{ℕ, ◌≡◌, List, ◌++◌, length, map}
 use Rattle.std.specs.List.{AllByRecursion}
 use Rattle.key_names.specs.SeenLine.{SeenLine}
-use Rattle.key_names.specs.TranscriptGrammar.{all_lines, TranscriptFits, UnderOwnNumber}
+use Rattle.key_names.specs.Texts.TranscriptGrammar.{all_lines, TranscriptFits, UnderOwnNumber}
 use Rattle.transcript_text.specs.declared.gathered.CallerLines.{CallerLines}
 
 abbrev pub OfCaller : ℕ → List SeenLine → Type 0

@@ -3,8 +3,8 @@ use Rattle.std.specs.Prelude.{ℕ, List, ◌++◌, codes, decimal}
 use Rattle.key_names.specs.declared.events.Answer.{Answer}
 use Rattle.key_names.specs.declared.events.Word.{Word}
 use Rattle.key_names.specs.declared.names.Step.{Step}
-use Rattle.key_names.specs.Spelling.{word_text}
-use Rattle.key_names.specs.TranscriptGrammar.{answer_text, steps_text}
+use Rattle.key_names.specs.Texts.Spelling.{word_text}
+use Rattle.key_names.specs.Texts.TranscriptGrammar.{answer_text, steps_text}
 
 -- a line up to the space before its data
 unfoldable pub head_text : ℕ → ℕ → Word → Answer → List Step → List ℕ

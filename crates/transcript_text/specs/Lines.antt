@@ -2,7 +2,7 @@
 use Rattle.std.specs.Prelude.{ℕ, List, ◌++◌, codes}
 use Rattle.std.specs.List.{flat_map}
 use Rattle.key_names.specs.SeenLine.{SeenLine}
-use Rattle.key_names.specs.TranscriptGrammar.{line_text}
+use Rattle.key_names.specs.Texts.TranscriptGrammar.{line_text}
 
 abbrev pub whole_line : SeenLine → List ℕ
 whole_line line = line_text line ++ codes "\n"

@@ -1,7 +1,7 @@
 -- A line and its fields, read.
 use Rattle.std.specs.Prelude.{ℕ, ◌≡◌, ◌<◌, ◌^◌, true, List, [], ◌∷◌, ◌++◌, codes, decimal}
 use Rattle.key_names.specs.SeenLine.{SeenLine}
-use Rattle.key_names.specs.Spelling.{spaced}
+use Rattle.key_names.specs.Texts.Spelling.{spaced}
 use Rattle.transcript_text.specs.declared.line.Numbers.{Numbers}
 use Rattle.transcript_text.specs.declared.line.ReadLine.{ReadLine}
 use Rattle.transcript_text.specs.Reading.{lacks}

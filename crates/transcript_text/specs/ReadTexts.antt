@@ -1,7 +1,7 @@
 -- What reading a text answers.
 use Rattle.std.specs.Prelude.{ℕ, ◌≡◌, ◌<◌, ◌≤◌, ⊤, List, [], ◌∷◌, ◌++◌, length, Result, Ok, Err}
 use Rattle.key_names.specs.SeenLine.{SeenLine}
-use Rattle.key_names.specs.TranscriptGrammar.{all_lines, line_text, LineFits, IsTranscriptText, IsFirstFault}
+use Rattle.key_names.specs.Texts.TranscriptGrammar.{all_lines, line_text, LineFits, IsTranscriptText, IsFirstFault}
 use Rattle.transcript_text.specs.declared.error.TextError.{TextError}
 use Rattle.transcript_text.specs.declared.error.TextError.TheVariants.{Fault, NoMemory}
 use Rattle.transcript_text.specs.Grouping.{Groups}

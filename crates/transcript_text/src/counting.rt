@@ -1,7 +1,7 @@
 //! How many lines the text of a transcript has. None of them is kept.
 ghost use Rattle.std.specs.Prelude.{◌<◌, ◌≤◌, ◌^◌, List, length, MatchOption, IfOk};
 ghost use Rattle.key_names.specs.SeenLine.{SeenLine};
-ghost use Rattle.key_names.specs.TranscriptGrammar.{IsTranscriptText};
+ghost use Rattle.key_names.specs.Texts.TranscriptGrammar.{IsTranscriptText};
 ghost use Rattle.transcript_text.specs.ReadTexts.{HasCount, IsLineOf, IsNoLine};
 
 use crate::cuts::{cut, spells};

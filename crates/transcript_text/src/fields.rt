@@ -1,7 +1,7 @@
 //! The words of a line.
 ghost use Rattle.std.specs.Prelude.{◌≡◌, ◌≤◌, length};
-ghost use Rattle.key_names.specs.Spelling.{word_text};
-ghost use Rattle.key_names.specs.TranscriptGrammar.{answer_text};
+ghost use Rattle.key_names.specs.Texts.Spelling.{word_text};
+ghost use Rattle.key_names.specs.Texts.TranscriptGrammar.{answer_text};
 
 use key_names::{Answer, Word};
 

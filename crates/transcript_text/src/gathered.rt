@@ -2,7 +2,7 @@
 ghost use Rattle.std.specs.Prelude.{◌≡◌, ◌==◌, ◌+◌, ◌<◌, ◌≤◌, ◌^◌, ◌∷◌, ◌++◌, [], Some, length, All, vec_len, vec_capacity, slice_get, slice_set, IfOk, OnOk};
 ghost use Rattle.std.specs.List.{AllByRecursion};
 ghost use Rattle.key_names.specs.SeenLine.{seen_lines, shown_in};
-ghost use Rattle.key_names.specs.TranscriptGrammar.{LineFits};
+ghost use Rattle.key_names.specs.Texts.TranscriptGrammar.{LineFits};
 ghost use Rattle.transcript_text.specs.Gathered.{bytes_from, data_from, kept_line, IsWithin, LineWithin};
 ghost use Rattle.transcript_text.specs.Views.{bytes_of, seen, seen_shown};
 

@@ -1,7 +1,7 @@
 //! Lines that are read one after the other, gathered by their callers.
 ghost use Rattle.std.specs.Prelude.{◌≡◌, ◌<◌, ◌≤◌, ◌^◌, ◌++◌, ◌∷◌, [], List, length, vec_len, OnOk, IfOk};
 ghost use Rattle.key_names.specs.SeenLine.{SeenLine};
-ghost use Rattle.key_names.specs.TranscriptGrammar.{LineFits};
+ghost use Rattle.key_names.specs.Texts.TranscriptGrammar.{LineFits};
 ghost use Rattle.transcript_text.specs.Grouping.{Groups, Gives, seen_callers};
 ghost use Rattle.transcript_text.specs.ReadLines.{seen_read};
 ghost use Rattle.transcript_text.specs.Shows.{IsShort};

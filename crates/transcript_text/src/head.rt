@@ -1,6 +1,6 @@
 //! A line up to its data.
 ghost use Rattle.std.specs.Prelude.{◌≡◌, ◌+◌, ◌≤◌, ◌++◌, [], length};
-ghost use Rattle.key_names.specs.TranscriptGrammar.{lane_text, step_text, steps_text};
+ghost use Rattle.key_names.specs.Texts.TranscriptGrammar.{lane_text, step_text, steps_text};
 ghost use Rattle.transcript_text.specs.Heads.{head_text};
 
 use crate::fields::{answer_name, word_name};

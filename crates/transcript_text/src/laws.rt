@@ -1,7 +1,7 @@
 //! What the definitions of a transcript's text promise.
 ghost use Rattle.std.specs.Prelude.{◌≡◌, ℕ, List};
 ghost use Rattle.key_names.specs.SeenLine.{SeenLine};
-ghost use Rattle.key_names.specs.TranscriptGrammar.{transcript_text, TranscriptFits, UnderOwnNumber, IsTranscriptText, IsFirstFault};
+ghost use Rattle.key_names.specs.Texts.TranscriptGrammar.{transcript_text, TranscriptFits, UnderOwnNumber, IsTranscriptText, IsFirstFault};
 
 /// A text is that of one transcript at most.
 pub fn one_transcript()

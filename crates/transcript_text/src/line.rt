@@ -1,7 +1,7 @@
 //! One line, read.
 ghost use Rattle.std.specs.Prelude.{◌≡◌, List, ℕ, MatchOption, IfOk};
 ghost use Rattle.std.specs.Option.{option_map};
-ghost use Rattle.key_names.specs.TranscriptGrammar.{line_text, LineFits};
+ghost use Rattle.key_names.specs.Texts.TranscriptGrammar.{line_text, LineFits};
 ghost use Rattle.transcript_text.specs.ReadLines.{IsSplit, numbers_text, NumbersFit, seen_read};
 ghost use Rattle.transcript_text.specs.Reading.{Reads};
 ghost use Rattle.transcript_text.specs.Shows.{bytes_read};

@@ -1,7 +1,7 @@
 //! Words and answers, read.
 ghost use Rattle.std.specs.Prelude.{◌≡◌, ⊤};
-ghost use Rattle.key_names.specs.Spelling.{word_text};
-ghost use Rattle.key_names.specs.TranscriptGrammar.{answer_text};
+ghost use Rattle.key_names.specs.Texts.Spelling.{word_text};
+ghost use Rattle.key_names.specs.Texts.TranscriptGrammar.{answer_text};
 ghost use Rattle.transcript_text.specs.Reading.{Reads};
 
 use crate::cuts::spells;

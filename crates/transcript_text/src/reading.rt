@@ -1,7 +1,7 @@
 //! Reading the text of a transcript.
 ghost use Rattle.std.specs.Prelude.{◌≡◌, ◌<◌, ◌≤◌, ◌^◌, ℕ, List, length, vec_len, MatchBool, IfOk};
 ghost use Rattle.key_names.specs.SeenLine.{SeenLine};
-ghost use Rattle.key_names.specs.TranscriptGrammar.{IsTranscriptText, IsFirstFault};
+ghost use Rattle.key_names.specs.Texts.TranscriptGrammar.{IsTranscriptText, IsFirstFault};
 ghost use Rattle.transcript_text.specs.Grouping.{seen_callers};
 ghost use Rattle.transcript_text.specs.ReadTexts.{AddsLine, Answers, IsNoLine, IsReadAs};
 

@@ -2,7 +2,7 @@
 ghost use Rattle.std.specs.Prelude.{◌≡◌, ◌↔◌, IsTrue, IfOk};
 ghost use Rattle.std.specs.Option.{option_map};
 ghost use Rattle.key_names.specs.declared.events.Word.TheVariants.{Bits};
-ghost use Rattle.key_names.specs.TranscriptGrammar.{shown_text, ShownFits};
+ghost use Rattle.key_names.specs.Texts.TranscriptGrammar.{shown_text, ShownFits};
 ghost use Rattle.transcript_text.specs.Reading.{Reads};
 ghost use Rattle.transcript_text.specs.Shows.{bytes_read, seen_shows};
 ghost use Rattle.transcript_text.specs.Views.{bytes_of, seen_shown};

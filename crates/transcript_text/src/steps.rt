@@ -1,7 +1,7 @@
 //! Steps, read.
 ghost use Rattle.std.specs.Prelude.{◌≡◌, ◌<◌, ◌≤◌, ◌^◌, length};
 ghost use Rattle.std.specs.List.{AllByRecursion};
-ghost use Rattle.key_names.specs.TranscriptGrammar.{lane_text, mark_text, step_text, steps_text, LaneFits, MarkFits, StepFits};
+ghost use Rattle.key_names.specs.Texts.TranscriptGrammar.{lane_text, mark_text, step_text, steps_text, LaneFits, MarkFits, StepFits};
 ghost use Rattle.transcript_text.specs.Reading.{Reads, StepsFit};
 
 use crate::cuts::{cut, number_below, spells};

@@ -1,6 +1,6 @@
 //! A whole transcript.
 ghost use Rattle.std.specs.Prelude.{◌≡◌, ◌<◌, ◌≤◌, [], map, length, vec_len, slice_index_or};
-ghost use Rattle.key_names.specs.TranscriptGrammar.{LastHasLines, TranscriptFits};
+ghost use Rattle.key_names.specs.Texts.TranscriptGrammar.{LastHasLines, TranscriptFits};
 
 use crate::gathered::CallerLines;
 use std::marker::Model;
@@ -14,7 +14,7 @@ pub struct Transcript {
 impl Model for Transcript {
     ghost use Rattle.std.specs.Prelude.{List, map};
     ghost use Rattle.key_names.specs.SeenLine.{SeenLine};
-    ghost use Rattle.key_names.specs.TranscriptGrammar.{TranscriptFits};
+    ghost use Rattle.key_names.specs.Texts.TranscriptGrammar.{TranscriptFits};
 
     ghost Value = { List (List SeenLine) };
 

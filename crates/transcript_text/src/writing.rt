@@ -4,7 +4,7 @@ ghost use Rattle.std.specs.Io.KnownBytes.{Appends};
 ghost use Rattle.hex.specs.Hex.{encode_lower};
 ghost use Rattle.io_edges.specs.Faults.{Rose};
 ghost use Rattle.io_edges.specs.Pieces.{AppendsPrefix};
-ghost use Rattle.key_names.specs.TranscriptGrammar.{shown_text, line_text, transcript_text};
+ghost use Rattle.key_names.specs.Texts.TranscriptGrammar.{shown_text, line_text, transcript_text};
 ghost use Rattle.transcript_text.specs.Lines.{text_of};
 ghost use Rattle.transcript_text.specs.Putting.{PutSoFar};
 ghost use Rattle.transcript_text.specs.Views.{seen, seen_shown};

@@ -3,9 +3,9 @@ use Rattle.std.proofs.Common.{◌≡◌, ◌≢◌, ℕ, ◌+◌, ◌≤◌, Boo
 use Rattle.std.specs.Prelude.{◌==◌, ◌&&◌}
 use Rattle.std.proofs.lemmas.Bool.Decides.{eqb_tells}
 use Rattle.key_names.specs.PrintedBytes.{Origin, at_lane, at_state, origin_uses, origins_uses}
-use Rattle.key_names.proofs.PrintedOnce.{times, once_disjoint}
-use Rattle.key_names.proofs.TakenMarks.{hit}
-use Rattle.key_names.proofs.UseLists.{used_first, disjoint_parts}
+use Rattle.key_names.proofs.Values.PrintedOnce.{times, once_disjoint}
+use Rattle.key_names.proofs.Transcripts.TakenMarks.{hit}
+use Rattle.key_names.proofs.Uses.UseLists.{used_first, disjoint_parts}
 use Rattle.vcall_fork.specs.Forks.{ForksShareNothing}
 
 hit_below : (b : Bool) → hit b ≤ 1

@@ -6,7 +6,7 @@ use Rattle.key_names.specs.declared.point.Point.TheVariants.{Start}
 use Rattle.key_names.specs.Flags.{is_bad}
 use Rattle.key_names.specs.VgetrandomState.{VgetrandomState}
 use Rattle.key_names.specs.Vgetrandom.{HostStep, publishes, Outcome, no_bytes, AtPoint, FromStart, IsAttempt, BySystem, ByNothing, FirstAttempt, FromPublished, IsCall}
-use Rattle.key_names.proofs.Attempts.{match_true, match_false}
+use Rattle.key_names.proofs.Vgetrandom.Attempts.{match_true, match_false}
 use Rattle.vdso_state.specs.declared.outcome.VEnd.TheVariants.{Zero}
 use Rattle.vdso_state.specs.declared.place.Turn.TheVariants.{First}
 use Rattle.vdso_state.specs.declared.place.Came.{Came}

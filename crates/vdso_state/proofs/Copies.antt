@@ -3,7 +3,7 @@ use Rattle.std.proofs.Common.{◌≡◌, ℕ, ◌+◌, ◌*◌, ◌/◌, ◌%◌
 use Rattle.key_names.specs.Keystream.{keystream}
 use Rattle.key_names.specs.VgetrandomState.{VgetrandomState}
 use Rattle.key_names.specs.BatchCopy.{state_of_same_batch, state_of_new_batch}
-use Rattle.key_names.proofs.Keystreams.{keystream-append, take-keystream}
+use Rattle.key_names.proofs.Standards.Keystreams.{keystream-append, take-keystream}
 
 -- a state with a new batch and the next key, of which nothing is served yet
 abbrev pub refilled : VgetrandomState → ℕ → VgetrandomState

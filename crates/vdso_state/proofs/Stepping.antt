@@ -10,7 +10,7 @@ use Rattle.key_names.specs.VgetrandomState.{VgetrandomState}
 use Rattle.key_names.specs.BatchCopy.{copy_bytes, state_after_copy, block_after_copy, copy_entries}
 use Rattle.key_names.specs.Vgetrandom.{SystemAnswer, read, failed, HostStep, publishes, system_call, Attempt, holds, outdated, not_keyed, Outcome, outcome_behind, by_batch, by_system, rekey_entry, AtPoint, FromEnd, FromServe, FromWritten, FromStart, AfterAttempt, BySystem, ByBatch, state_after_call}
 use Rattle.key_names.specs.VreadSteps.{points_of}
-use Rattle.key_names.proofs.Attempts.{match_true, match_false}
+use Rattle.key_names.proofs.Vgetrandom.Attempts.{match_true, match_false}
 use Rattle.vdso_state.specs.declared.outcome.VEnd.{VEnd}
 use Rattle.vdso_state.specs.declared.outcome.VEnd.TheVariants.{Batch, System}
 use Rattle.vdso_state.specs.declared.place.Turn.{Turn}

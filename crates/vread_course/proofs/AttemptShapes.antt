@@ -18,7 +18,7 @@ use Rattle.key_names.specs.BatchCopy.{state_after_copy, copy_entries}
 use Rattle.key_names.specs.Vgetrandom.{CpuPlace, SystemAnswer, read, HostStep, publishes, system_call, at_point, Attempt, holds, outdated, attempt_behind, wipe_entry}
 use Rattle.key_names.specs.Vgetrandom.{rekey_entry, AtPoint, FromServe, Keyed, AfterKeyRead, FromWritten, FromStart, IsAttempt}
 use Rattle.key_names.specs.VreadSteps.{PointReached, points_of, published_by, Shows, answer_behind, answer_with, errno_of, last_place}
-use Rattle.key_names.proofs.Attempts.{copy_attempt}
+use Rattle.key_names.proofs.Vgetrandom.Attempts.{copy_attempt}
 use Rattle.line_forms.proofs.RowShapes.{is_some}
 use Rattle.line_forms.specs.Kinds.{base_kind}
 use Rattle.vread_course.specs.declared.seen.Seen.{Seen}

@@ -12,7 +12,7 @@ use Rattle.key_names.specs.VgetrandomState.{VgetrandomState, state_left}
 use Rattle.key_names.specs.BatchCopy.{state_after_copy}
 use Rattle.key_names.specs.Vgetrandom.{read, HostStep, Attempt, IsAttempt}
 use Rattle.key_names.specs.VreadSteps.{points_of, Shows, answer_behind, answer_with, errno_of, last_place}
-use Rattle.key_names.proofs.Attempts.{current_attempt, current_steps, keyed_attempt, keyed_steps}
+use Rattle.key_names.proofs.Vgetrandom.Attempts.{current_attempt, current_steps, keyed_attempt, keyed_steps}
 use Rattle.line_forms.specs.LaneFacts.{LaneFacts}
 use Rattle.line_forms.specs.declared.kind.Kind.{Kind}
 use Rattle.line_forms.specs.Kinds.{kinds_of}

@@ -15,7 +15,7 @@ use Rattle.key_names.specs.VreadSteps.{PointReached, points_of, published_by, Sh
 use Rattle.line_forms.specs.LaneFacts.{LaneFacts}
 use Rattle.line_forms.specs.declared.told.Sign.{Sign}
 use Rattle.line_forms.proofs.RowReads.{last_row}
-use Rattle.key_names.proofs.Attempts.{match_false}
+use Rattle.key_names.proofs.Vgetrandom.Attempts.{match_false}
 use Rattle.vread_course.specs.declared.seen.Seen.{Seen}
 use Rattle.vread_course.specs.declared.seen.Seen.TheVariants.{Unready, Ready}
 use Rattle.vread_course.specs.declared.inside.Inside.{Inside}

@@ -4,7 +4,7 @@ use Rattle.std.specs.Prelude.{slice_range}
 use Rattle.std.proofs.Math.Seq.{take-add, take-append_seam, drop-append_seam}
 use Rattle.std.proofs.lemmas.List.{length-append, length-take-le, take-append-drop}
 use Rattle.key_names.specs.Keystream.{keystream}
-use Rattle.key_names.proofs.Keystreams.{length-keystream, keystream-append, slice_range-keystream}
+use Rattle.key_names.proofs.Standards.Keystreams.{length-keystream, keystream-append, slice_range-keystream}
 
 pub length_made : (front key : List ℕ) (k from len : ℕ) → k ≤ length front →
     k + len ≡ length (take k front ++ keystream key from len)

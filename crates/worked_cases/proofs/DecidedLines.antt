@@ -4,9 +4,9 @@ use Rattle.key_names.specs.declared.events.Event.{Event}
 use Rattle.key_names.specs.declared.events.Word.{Word}
 use Rattle.key_names.specs.declared.events.Word.TheVariants.{End as EndWord}
 use Rattle.key_names.specs.declared.events.Answer.{Answer}
-use Rattle.key_names.specs.Spelling.{word_text}
-use Rattle.key_names.specs.TranscriptGrammar.{answer_text}
-use Rattle.key_names.specs.ScriptGrammar.{Script, event_word}
+use Rattle.key_names.specs.Texts.Spelling.{word_text}
+use Rattle.key_names.specs.Texts.TranscriptGrammar.{answer_text}
+use Rattle.key_names.specs.Texts.ScriptGrammar.{Script, event_word}
 use Rattle.key_names.specs.SeenLine.{SeenLine, Shown, no_data, bytes, count}
 use Rattle.key_names.specs.Calls.{Call, alone, vread_call, unbound, ending, BoundAct}
 use Rattle.key_names.specs.Meaning.{LineMeaning, CallMeaning}

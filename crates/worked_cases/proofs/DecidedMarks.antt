@@ -12,7 +12,7 @@ use Rattle.key_names.specs.BaseList.{base_after}
 use Rattle.key_names.specs.Book.{Lists}
 use Rattle.key_names.specs.Deeds.{Deed, looked, at_pool, at_base, at_cpu, nothing_there, deeds_of}
 use Rattle.key_names.specs.History.{caller_orders, stamps_of, LookStands, LooksStand, seen}
-use Rattle.key_names.specs.ScriptGrammar.{Script}
+use Rattle.key_names.specs.Texts.ScriptGrammar.{Script}
 use Rattle.key_names.specs.SeenLine.{SeenLine}
 use Rattle.key_names.specs.IsTranscript.{MarkBy, PlacesStand, MarksStand, SeenStands, Rises, all_marks, lane_marks}
 use Rattle.key_names.specs.IsTranscript.{is_same_lane, script_calls}

@@ -14,7 +14,7 @@ use Rattle.key_names.specs.Vgetrandom.{by_system, by_batch, no_bytes, state_afte
 use Rattle.key_names.specs.Vgetrandom.{AfterAttempt, AttemptAndRest, SecondAttempt, FirstAttempt, AfterBoth, FromLook}
 use Rattle.key_names.specs.Vgetrandom.{FromPublished, IsCall}
 use Rattle.key_names.specs.VreadSteps.{Shows, published_by, answer_behind}
-use Rattle.key_names.proofs.Attempts.{current_attempt, current_steps, keyed_attempt, keyed_steps}
+use Rattle.key_names.proofs.Vgetrandom.Attempts.{current_attempt, current_steps, keyed_attempt, keyed_steps}
 use Rattle.worked_cases.proofs.Decided.{found_by, found_both}
 use Rattle.worked_cases.proofs.FoundForms.{no_steps, system_call_found}
 

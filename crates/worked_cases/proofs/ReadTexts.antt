@@ -12,9 +12,9 @@ use Rattle.key_names.specs.declared.events.Answer.TheVariants.{Ok as Done, Again
 use Rattle.key_names.specs.declared.events.Answer.TheVariants.{Idle, Unused}
 use Rattle.key_names.specs.declared.events.Word.{Word}
 use Rattle.key_names.specs.declared.events.Word.TheVariants.{Bits, End}
-use Rattle.key_names.specs.ScriptFaults.{parts, word_of, bytes_of}
+use Rattle.key_names.specs.Texts.ScriptFaults.{parts, word_of, bytes_of}
 use Rattle.key_names.specs.SeenLine.{SeenLine, Shown, no_data, bytes, count}
-use Rattle.key_names.specs.TranscriptGrammar.{answer_text}
+use Rattle.key_names.specs.Texts.TranscriptGrammar.{answer_text}
 
 -- two numbers with a byte between them
 abbrev two_numbers : ℕ → List ℕ → ℕ × ℕ

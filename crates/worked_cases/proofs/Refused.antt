@@ -1,12 +1,12 @@
 -- Where a clause fails first, the texts are those of no lawful transcript.
 use Rattle.std.proofs.Common.{◌≡◌, List, Result, Ok, subst}
 use Rattle.key_names.specs.SeenLine.{SeenLine}
-use Rattle.key_names.specs.ScriptGrammar.{Script}
+use Rattle.key_names.specs.Texts.ScriptGrammar.{Script}
 use Rattle.key_names.specs.declared.faults.ScriptFault.{ScriptFault}
 use Rattle.key_names.specs.IsTranscript.{IsTranscript}
-use Rattle.key_names.specs.ScriptFaults.{script_of}
-use Rattle.key_names.proofs.ScriptTexts.{script_again}
-use Rattle.key_names.proofs.UniqueBook.{first_fail_is_unique}
+use Rattle.key_names.specs.Texts.ScriptFaults.{script_of}
+use Rattle.key_names.proofs.Script.ScriptTexts.{script_again}
+use Rattle.key_names.proofs.Unique.UniqueBook.{first_fail_is_unique}
 use Rattle.transcript_text.proofs.FirstFaults.{one_transcript}
 use Rattle.worked_cases.specs.Refusal.{FailsIsRefused}
 

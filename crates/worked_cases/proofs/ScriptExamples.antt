@@ -4,11 +4,11 @@ use Rattle.std.specs.Prelude.{codes}
 use Rattle.std.specs.Fmt.{digits}
 use Rattle.hex.specs.Hex.{decode_pairs, encode_with}
 use Rattle.key_names.specs.declared.faults.FaultKind.TheVariants.{UnknownWord, BadHex, BadFork, BadCpus, Unfinished}
-use Rattle.key_names.specs.Spelling.{lined}
-use Rattle.key_names.specs.ScriptGrammar.{script_text}
+use Rattle.key_names.specs.Texts.Spelling.{lined}
+use Rattle.key_names.specs.Texts.ScriptGrammar.{script_text}
 use Rattle.worked_cases.specs.Runs.{one_cpu}
 use Rattle.worked_cases.specs.ShortScripts.{short, fault_at}
-use Rattle.key_names.specs.ScriptFaults.{script_of, script_from, first_fault}
+use Rattle.key_names.specs.Texts.ScriptFaults.{script_of, script_from, first_fault}
 
 pub is_read : script_of (one_cpu (codes "write 616263" ∷ codes "read 16 4" ∷ [])) ≡ Ok short
 unfolding script_of script_from digits decode_pairs encode_with

@@ -15,14 +15,14 @@ use Rattle.key_names.specs.Blake2s.{blake2s, compressed, folded, start_vector, r
 use Rattle.key_names.specs.Keystream.{keystream_byte}
 use Rattle.key_names.specs.FastPool.{sip_round, word_mixed}
 use Rattle.key_names.specs.SeenLine.{SeenLine, Shown, no_data, bytes, count}
-use Rattle.key_names.specs.ScriptGrammar.{Script, IsScript}
-use Rattle.key_names.specs.ScriptFaults.{script_of, script_from}
-use Rattle.key_names.specs.TranscriptGrammar.{IsTranscriptText, LineFits, LastHasLines, StepFits, LaneFits, ShownFits}
-use Rattle.key_names.specs.TranscriptGrammar.{UnderOwnNumber, transcript_text, line_text, steps_text, step_text}
-use Rattle.key_names.specs.TranscriptGrammar.{lane_text, shown_text, answer_text}
+use Rattle.key_names.specs.Texts.ScriptGrammar.{Script, IsScript}
+use Rattle.key_names.specs.Texts.ScriptFaults.{script_of, script_from}
+use Rattle.key_names.specs.Texts.TranscriptGrammar.{IsTranscriptText, LineFits, LastHasLines, StepFits, LaneFits, ShownFits}
+use Rattle.key_names.specs.Texts.TranscriptGrammar.{UnderOwnNumber, transcript_text, line_text, steps_text, step_text}
+use Rattle.key_names.specs.Texts.TranscriptGrammar.{lane_text, shown_text, answer_text}
 use Rattle.key_names.specs.IsTranscript.{HasLines, MarksStand, MadeBook, FirstFails, Clause, lines_clause, marks_clause}
 use Rattle.key_names.specs.IsTranscript.{forms_clause, answers_clause, data_clause, looks_clause, clause_number}
-use Rattle.key_names.proofs.ScriptTexts.{script_takes}
+use Rattle.key_names.proofs.Script.ScriptTexts.{script_takes}
 use Rattle.rand_core.specs.Steps.{u32_at}
 use Rattle.rand_chacha.specs.Block.{block_word, double_rounds, column_round, diagonal_round, quarter_round}
 use Rattle.worked_cases.proofs.Decided.{Decided, yes, no, both, found, found_both, found_three, found_pair, each}

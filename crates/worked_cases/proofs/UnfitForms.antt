@@ -18,7 +18,7 @@ use Rattle.key_names.specs.VgetrandomState.{VgetrandomState, wiped_state}
 use Rattle.key_names.specs.VreadSteps.{Shows, published_by}
 use Rattle.key_names.specs.IsTranscript.{EachLine, EachCaller, CallsMean, CallerMeans, script_calls}
 use Rattle.key_names.specs.IsTranscript.{EachOfCall, forms_clause, stamped, start_setting}
-use Rattle.key_names.proofs.VreadRefused.{looks_do_not_fall}
+use Rattle.key_names.proofs.Vgetrandom.VreadRefused.{looks_do_not_fall}
 use Rattle.worked_cases.specs.Runs.{Case, FailsFirst, transcript_with}
 use Rattle.worked_cases.specs.UnfitSteps.{read_without_a_look, fork_without_a_visit, visit_of_no_cpu, looks_that_fall}
 use Rattle.worked_cases.specs.UnfitSteps.{batch_of_the_parent}

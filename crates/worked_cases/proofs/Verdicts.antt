@@ -11,7 +11,7 @@ use Rattle.key_names.specs.declared.entries.VEntry.{VEntry}
 use Rattle.key_names.specs.Book.{Book, Lists, Visit, lists_of}
 use Rattle.key_names.specs.Calls.{Setting, Call}
 use Rattle.key_names.specs.SeenLine.{SeenLine}
-use Rattle.key_names.specs.ScriptGrammar.{Script}
+use Rattle.key_names.specs.Texts.ScriptGrammar.{Script}
 use Rattle.key_names.specs.Meaning.{CallMeaning, caller_start}
 use Rattle.key_names.specs.IsTranscript.{IsTranscript, HasLines, MarksStand, FormsStand, AnswersStand, DataStand}
 use Rattle.key_names.specs.IsTranscript.{SeenStands, FirstFails, Clause, lines_clause, marks_clause, answers_clause}

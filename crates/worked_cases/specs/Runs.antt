@@ -2,9 +2,9 @@
 use Rattle.std.specs.Prelude.{ℕ, suc, List, [], ◌∷◌, ◌++◌, codes, take, drop, slice_set}
 use Rattle.std.specs.List.{AllByRecursion}
 use Rattle.key_names.specs.SeenLine.{SeenLine}
-use Rattle.key_names.specs.Spelling.{lined}
-use Rattle.key_names.specs.ScriptGrammar.{Script, IsScript}
-use Rattle.key_names.specs.TranscriptGrammar.{IsTranscriptText}
+use Rattle.key_names.specs.Texts.Spelling.{lined}
+use Rattle.key_names.specs.Texts.ScriptGrammar.{Script, IsScript}
+use Rattle.key_names.specs.Texts.TranscriptGrammar.{IsTranscriptText}
 use Rattle.key_names.specs.IsTranscript.{IsTranscript, FirstFails, Clause, lines_clause}
 
 -- the input is the text of a script, and the output that of a transcript, which is lawful for it

@@ -2,9 +2,9 @@
 ghost use Rattle.std.specs.Prelude.{◌≡◌, [], ◌∷◌, codes, Ok};
 ghost use Rattle.key_names.specs.declared.faults.FaultKind.TheVariants.{UnknownWord, BadHex, BadFork, BadCpus};
 ghost use Rattle.key_names.specs.declared.faults.FaultKind.TheVariants.{Unfinished};
-ghost use Rattle.key_names.specs.Spelling.{lined};
-ghost use Rattle.key_names.specs.ScriptGrammar.{script_text};
-ghost use Rattle.key_names.specs.ScriptFaults.{script_of, first_fault};
+ghost use Rattle.key_names.specs.Texts.Spelling.{lined};
+ghost use Rattle.key_names.specs.Texts.ScriptGrammar.{script_text};
+ghost use Rattle.key_names.specs.Texts.ScriptFaults.{script_of, first_fault};
 ghost use Rattle.worked_cases.specs.Runs.{one_cpu};
 ghost use Rattle.worked_cases.specs.ShortScripts.{short, fault_at};
 

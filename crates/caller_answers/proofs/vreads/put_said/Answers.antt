@@ -1,5 +1,5 @@
 use Rattle.std.proofs.Common.{arith, sym, ◌∙◌}
-use Rattle.key_names.proofs.TranscriptStates.{set_here, set_other}
+use Rattle.key_names.proofs.Transcripts.TranscriptStates.{set_here, set_other}
 use Rattle.caller_answers.proofs.Going.{found_in_front}
 use Rattle.caller_answers.proofs.vreads.put_said.Goals as goal
 

@@ -1,4 +1,4 @@
-use Rattle.caller_run.proofs.Whole.{lawful_runs}
+use Rattle.caller_run.proofs.Law.Whole.{lawful_runs}
 use Rattle.caller_run.proofs.laws.callers_are_lawful.Goals as goal
 
 pub returns : goal.returns

@@ -1,7 +1,7 @@
 use Rattle.std.proofs.Common.{◌+◌}
 use Rattle.lane_table.specs.Calls.{plan_of, view}
-use Rattle.lane_table.proofs.HandLemmas.{has_new, idle_of}
-use Rattle.caller_run.proofs.AllCallers.{starts_first, starts_whole, ends_whole}
+use Rattle.lane_table.proofs.Calls.HandLemmas.{has_new, idle_of}
+use Rattle.caller_run.proofs.Forks.AllCallers.{starts_first, starts_whole, ends_whole}
 use Rattle.caller_run.proofs.new_table.run_new.Goals as goal
 
 pub run_plan-pass-requires-clause-has : goal.run_plan-pass-requires-clause-has

@@ -1,12 +1,12 @@
 use Rattle.std.proofs.Common.{rules, ◌≡◌, ℕ, ◌+◌, ◌<◌, Some, length, map, refl, sym, ap, ◌∙◌, subst, arith}
 use Rattle.std.specs.Prelude.{slice_get}
 use Rattle.key_names.specs.Book.{list_at}
-use Rattle.lane_table.proofs.HandLemmas.{idle_of}
+use Rattle.lane_table.proofs.Calls.HandLemmas.{idle_of}
 use Rattle.rng_core.specs.Told.{moment}
 use Rattle.caller_run.specs.Grove.{Plot, grove_of}
 use Rattle.caller_run.specs.Plots.{plot, plot_by}
 use Rattle.caller_run.specs.Ways.{load, kids_of, SameKids, WentBeside}
-use Rattle.caller_run.proofs.WentOn.{can_still, here_floor, here_fits, can_on, thread_took, here_took, past, went_end, went_fork, can_start, returned, list_number}
+use Rattle.caller_run.proofs.Forks.WentOn.{can_still, here_floor, here_fits, can_on, thread_took, here_took, past, went_end, went_fork, can_start, returned, list_number}
 use Rattle.caller_run.proofs.run.+callers.Goals as goal
 
 -- ---- in the scope

@@ -3,7 +3,7 @@ use Rattle.lane_table.specs.Calls.{view}
 use Rattle.rng_core.specs.Did.{setting_of}
 use Rattle.caller_run.specs.Plots.{plot}
 use Rattle.caller_run.specs.Ways.{Returned}
-use Rattle.caller_run.proofs.AllCallers.{can_caller}
+use Rattle.caller_run.proofs.Forks.AllCallers.{can_caller}
 use Rattle.caller_run.proofs.run.run_caller.Goals as goal
 
 pub run_family-requires : goal.run_family-requires

@@ -1,12 +1,12 @@
 use Rattle.std.proofs.Common.{length, rules, ap, ◌∙◌, arith}
 use Rattle.std.proofs.lemmas.List.{length-map}
-use Rattle.lane_table.proofs.HandLemmas.{idle_of}
+use Rattle.lane_table.proofs.Calls.HandLemmas.{idle_of}
 use Rattle.transcript_text.specs.Gathered.{Gathered}
 use Rattle.caller_run.specs.Grove.{told_by}
 use Rattle.caller_run.specs.Plans.{lines_in}
 use Rattle.caller_run.specs.Plots.{plot}
-use Rattle.caller_run.proofs.AllCallers.{can_all, slots_there, last_there, whole_ran}
-use Rattle.caller_run.proofs.Planned.{slots_back}
+use Rattle.caller_run.proofs.Forks.AllCallers.{can_all, slots_there, last_there, whole_ran}
+use Rattle.caller_run.proofs.Plans.Planned.{slots_back}
 use Rattle.caller_run.proofs.run.run_plan.Goals as goal
 
 pub run_family-pass-requires : goal.run_family-pass-requires

@@ -1,6 +1,6 @@
 use Rattle.std.proofs.Common.{◌≡◌, ◌*◌, ◌+◌, ◌++◌, ◌∙◌, ap, ap₂, sym, arith}
 use Rattle.key_names.specs.Keystream.{keystream}
-use Rattle.key_names.proofs.Keystreams.{keystream-add}
+use Rattle.key_names.proofs.Standards.Keystreams.{keystream-add}
 use Rattle.chacha_blocks.proofs.Rounds.{no_rounds, more_rounds}
 use Rattle.chacha_blocks.proofs.Words.{block_bytes}
 use Rattle.chacha_blocks.proofs.block.two_blocks.Goals as goal

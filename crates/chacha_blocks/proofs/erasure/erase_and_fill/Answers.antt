@@ -1,5 +1,5 @@
 use Rattle.std.proofs.Common.{◌++◌, ◌∙◌, ap₂, length, refl, arith}
-use Rattle.key_names.proofs.Keystreams.{keystream-append}
+use Rattle.key_names.proofs.Standards.Keystreams.{keystream-append}
 use Rattle.chacha_blocks.proofs.Pieces.{part_of}
 use Rattle.chacha_blocks.proofs.erasure.erase_and_fill.Goals as goal
 

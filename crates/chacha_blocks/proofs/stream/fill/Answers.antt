@@ -1,5 +1,5 @@
 use Rattle.std.proofs.Common.{◌*◌, ◌++◌, ◌∙◌, ap₂, ℕ, length, arith}
-use Rattle.key_names.proofs.Keystreams.{keystream-append}
+use Rattle.key_names.proofs.Standards.Keystreams.{keystream-append}
 use Rattle.chacha_blocks.proofs.stream.fill.Goals as goal
 
 pub returns : goal.returns

@@ -1,5 +1,5 @@
 use Rattle.std.proofs.Common.{◌*◌, ◌∙◌, ap, length, take, arith}
-use Rattle.key_names.proofs.Keystreams.{take-keystream}
+use Rattle.key_names.proofs.Standards.Keystreams.{take-keystream}
 use Rattle.chacha_blocks.proofs.stream.fill_by_pair.Goals as goal
 
 pub returns-in-1-to-64 : goal.returns-in-1-to-64

@@ -1,6 +1,6 @@
 use Rattle.std.proofs.Common.{◌≡◌, take}
 use Rattle.std.specs.List.{list_any}
-use Rattle.key_names.specs.ScriptFaults.{is_unprintable}
+use Rattle.key_names.specs.Texts.ScriptFaults.{is_unprintable}
 use Rattle.event_script.proofs.line.has_bad_byte.Given as goal
 
 abbrev pub invariant-loop-byte : goal.invariant-loop-byte

@@ -1,4 +1,4 @@
-use Rattle.key_names.proofs.EventReaders.{event_takes}
+use Rattle.key_names.proofs.Script.EventReaders.{event_takes}
 use Rattle.event_script.specs.Views.{fields_of}
 use Rattle.event_script.proofs.line.said_by.Goals as goal
 

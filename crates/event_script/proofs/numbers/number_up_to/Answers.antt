@@ -4,7 +4,7 @@ use Rattle.std.specs.Str.Parse.{AllDigits, digits_value}
 use Rattle.std.proofs.lemmas.Int.Digits.{digits_more, digits_value_more}
 use Rattle.std.proofs.Math.Nat.{lt_of_not-le}
 use Rattle.std.proofs.lemmas.List.{take_all}
-use Rattle.key_names.proofs.Numbers.{number_good, number_none}
+use Rattle.key_names.proofs.Script.Numbers.{number_good, number_none}
 use Rattle.event_script.proofs.Digits.{digits_take, later_digit, no_digit, too_large}
 use Rattle.event_script.proofs.numbers.number_up_to.Goals as goal
 use Rattle.event_script.proofs.numbers.number_up_to.Goals.{else-field-eq48-via-then-field-eq48+else-field-gt1, else-field-eq48-via-else-field-eq48}

@@ -1,7 +1,7 @@
 use Rattle.std.proofs.Common.{◌+◌, Ok, Err, sym, ap, subst, ◌∙◌, arith}
 use Rattle.std.proofs.lemmas.Bool.{OnFalse_at}
 use Rattle.key_names.specs.declared.faults.ScriptFault.{ScriptFault}
-use Rattle.key_names.specs.ScriptFaults.{Draft, script_of_draft}
+use Rattle.key_names.specs.Texts.ScriptFaults.{Draft, script_of_draft}
 use Rattle.event_script.specs.Drafts.{draft_as}
 use Rattle.event_script.proofs.FirstOfLines.{ends, ends_early, fails, goes_on}
 use Rattle.event_script.specs.ScriptViews.{FailsAt, script_error}

@@ -1,5 +1,5 @@
 use Rattle.std.proofs.Common.{◌≡◌, ◌<◌, ◌≤◌, ◌+◌, length}
-use Rattle.key_names.specs.ScriptFaults.{parts, script_from}
+use Rattle.key_names.specs.Texts.ScriptFaults.{parts, script_from}
 use Rattle.event_script.specs.Drafts.{draft_as}
 use Rattle.event_script.proofs.reading.read_rest.Given as goal
 

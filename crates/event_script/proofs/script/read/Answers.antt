@@ -1,7 +1,7 @@
 use Rattle.std.proofs.Common.{sym, subst, ◌∙◌}
 use Rattle.std.proofs.lemmas.Result.{err_from_is_err_and}
-use Rattle.key_names.specs.ScriptFaults.{script_of_draft}
-use Rattle.key_names.proofs.ScriptTexts.{script_again, script_takes}
+use Rattle.key_names.specs.Texts.ScriptFaults.{script_of_draft}
+use Rattle.key_names.proofs.Script.ScriptTexts.{script_again, script_takes}
 use Rattle.event_script.specs.Drafts.{draft_as}
 use Rattle.event_script.specs.ScriptViews.{FailsAt}
 use Rattle.event_script.proofs.script.read.Goals as goal

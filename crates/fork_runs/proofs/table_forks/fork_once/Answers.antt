@@ -1,7 +1,7 @@
 use Rattle.std.proofs.Common.{◌≡◌, ℕ, ◌+◌, length, rules, ap, subst}
 use Rattle.lane_table.specs.Calls.{Ended, view}
 use Rattle.lane_table.specs.Steps.{Seated}
-use Rattle.lane_table.proofs.HandLemmas.{idle_of}
+use Rattle.lane_table.proofs.Calls.HandLemmas.{idle_of}
 use Rattle.fork_runs.proofs.Ends.{share_is, forked_bytes, plain_sample, plain_reached, plain_over}
 use Rattle.fork_runs.proofs.table_forks.fork_once.Goals as goal
 

@@ -2,8 +2,8 @@ use Rattle.std.proofs.Common.{◌≡◌, ◌<◌, Some, length, sym, ◌∙◌, 
 use Rattle.std.proofs.lemmas.Bool.{both_ways}
 use Rattle.hex.proofs.HexLemmas.{length-encode_with}
 use Rattle.hex.specs.Hex.{lower_digits}
-use Rattle.key_names.proofs.HexBytes.{bytes_spelt, written}
-use Rattle.key_names.proofs.HexFields.{bytes_none}
+use Rattle.key_names.proofs.Script.HexBytes.{bytes_spelt, written}
+use Rattle.key_names.proofs.Script.HexFields.{bytes_none}
 use Rattle.key_names.proofs.hexes.bytes_of.Goals as goal
 
 pub returns-then-is_empty : goal.returns-then-is_empty

@@ -1,6 +1,6 @@
 use Rattle.std.proofs.Common.{take}
 use Rattle.std.specs.Prelude.{MatchBool}
-use Rattle.key_names.specs.Spelling.{AllLower}
+use Rattle.key_names.specs.Texts.Spelling.{AllLower}
 use Rattle.key_names.proofs.hexes.is_lower_hex.Given as goal
 
 abbrev pub invariant-loop-byte : goal.invariant-loop-byte

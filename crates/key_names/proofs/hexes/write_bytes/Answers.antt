@@ -1,7 +1,7 @@
 use Rattle.std.proofs.Common.{◌+◌, ◌*◌, ◌∙◌, ap, sym, arith}
 use Rattle.std.proofs.lemmas.List.{take_all}
 use Rattle.hex.specs.Hex.{encode_lower}
-use Rattle.key_names.proofs.HexBytes.{byte_read, lower_at, no_bytes}
+use Rattle.key_names.proofs.Script.HexBytes.{byte_read, lower_at, no_bytes}
 use Rattle.key_names.proofs.hexes.write_bytes.Goals as goal
 
 pub loop-i-init : goal.loop-i-init

@@ -1,4 +1,4 @@
-use Rattle.key_names.proofs.HeldBytes as held
+use Rattle.key_names.proofs.Values.HeldBytes as held
 use Rattle.key_names.proofs.laws.half_finished_holds_named.Goals as goal
 
 pub returns : goal.returns

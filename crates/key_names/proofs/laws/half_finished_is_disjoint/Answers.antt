@@ -1,4 +1,4 @@
-use Rattle.key_names.proofs.BookUses as book
+use Rattle.key_names.proofs.Uses.BookUses as book
 use Rattle.key_names.proofs.laws.half_finished_is_disjoint.Goals as goal
 
 pub returns : goal.returns

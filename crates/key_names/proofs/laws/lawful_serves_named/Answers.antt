@@ -1,4 +1,4 @@
-use Rattle.key_names.proofs.ServedNamed as named
+use Rattle.key_names.proofs.Values.ServedNamed as named
 use Rattle.key_names.proofs.laws.lawful_serves_named.Goals as goal
 
 pub returns : goal.returns

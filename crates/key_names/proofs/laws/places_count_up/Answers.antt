@@ -1,4 +1,4 @@
-use Rattle.key_names.proofs.PlacesInOrder.{places_count_up}
+use Rattle.key_names.proofs.Transcripts.PlacesInOrder.{places_count_up}
 use Rattle.key_names.proofs.laws.places_count_up.Goals as goal
 
 -- src/laws.rt

@@ -1,4 +1,4 @@
-use Rattle.key_names.proofs.PlacesInOrder.{places_in_any_order}
+use Rattle.key_names.proofs.Transcripts.PlacesInOrder.{places_in_any_order}
 use Rattle.key_names.proofs.laws.places_in_any_order.Goals as goal
 
 -- src/laws.rt

@@ -1,4 +1,4 @@
-use Rattle.key_names.proofs.TranscriptReplays as named
+use Rattle.key_names.proofs.Transcripts.TranscriptReplays as named
 use Rattle.key_names.proofs.laws.states_are_replayed.Goals as goal
 
 pub returns : goal.returns

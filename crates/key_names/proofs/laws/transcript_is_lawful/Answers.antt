@@ -1,4 +1,4 @@
-use Rattle.key_names.proofs.TranscriptLaws as transcripts
+use Rattle.key_names.proofs.Transcripts.TranscriptLaws as transcripts
 use Rattle.key_names.proofs.laws.transcript_is_lawful.Goals as goal
 
 pub returns : goal.returns

@@ -1,4 +1,4 @@
-use Rattle.lane_table.proofs.BookMeans.{visits_give}
+use Rattle.lane_table.proofs.Book.BookMeans.{visits_give}
 use Rattle.lane_table.proofs.laws.closed_gives.Goals as goal
 
 pub returns : goal.returns

@@ -1,4 +1,4 @@
-use Rattle.lane_table.proofs.BookWhole.{forward_lawful}
+use Rattle.lane_table.proofs.Book.BookWhole.{forward_lawful}
 use Rattle.lane_table.proofs.laws.closed_is_forward_lawful.Goals as goal
 
 pub returns : goal.returns

@@ -1,4 +1,4 @@
-use Rattle.lane_table.proofs.RuleParts.{counts}
+use Rattle.lane_table.proofs.Rule.RuleParts.{counts}
 use Rattle.lane_table.proofs.laws.counts_and_shares_add_up.Goals as goal
 
 pub returns : goal.returns

@@ -1,4 +1,4 @@
-use Rattle.lane_table.proofs.RuleParts.{tickets}
+use Rattle.lane_table.proofs.Rule.RuleParts.{tickets}
 use Rattle.lane_table.proofs.laws.each_ticket_has_one_holder.Goals as goal
 
 pub returns : goal.returns

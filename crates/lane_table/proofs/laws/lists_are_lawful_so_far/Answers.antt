@@ -1,4 +1,4 @@
-use Rattle.lane_table.proofs.RuleParts.{lawful_so_far}
+use Rattle.lane_table.proofs.Rule.RuleParts.{lawful_so_far}
 use Rattle.lane_table.proofs.laws.lists_are_lawful_so_far.Goals as goal
 
 pub returns : goal.returns

@@ -1,4 +1,4 @@
-use Rattle.lane_table.proofs.RuleParts.{stamps}
+use Rattle.lane_table.proofs.Rule.RuleParts.{stamps}
 use Rattle.lane_table.proofs.laws.stamps_rise.Goals as goal
 
 pub returns : goal.returns

@@ -1,4 +1,4 @@
-use Rattle.lane_table.proofs.RuleParts.{values}
+use Rattle.lane_table.proofs.Rule.RuleParts.{values}
 use Rattle.lane_table.proofs.laws.values_are_replays.Goals as goal
 
 pub returns : goal.returns

@@ -1,7 +1,7 @@
 use Rattle.std.proofs.Common.{sym, subst}
 use Rattle.std.proofs.Common.{◌+◌}
 use Rattle.lane_table.specs.Calls.{AreStarts}
-use Rattle.lane_table.proofs.Starting.{starts_push}
+use Rattle.lane_table.proofs.Rule.Starting.{starts_push}
 use Rattle.lane_table.proofs.passes.start_contents.Goals as goal
 
 pub loop-lane-preserved : goal.loop-lane-preserved

@@ -2,7 +2,7 @@ use Rattle.std.proofs.Common.{◌≡◌, ℕ, ◌+◌, ◌*◌, ◌^◌, sym, �
 use Rattle.lane_table.specs.declared.view.View.{View}
 use Rattle.lane_table.specs.Steps.{halved, child, newcomer}
 use Rattle.lane_table.specs.Calls.{plan_of, view}
-use Rattle.lane_table.proofs.HandLemmas.{idle_of}
+use Rattle.lane_table.proofs.Calls.HandLemmas.{idle_of}
 use Rattle.caller_run.specs.Families.{SameShare}
 use Rattle.lane_tests.proofs.hold_tests.closed.Goals as goal
 

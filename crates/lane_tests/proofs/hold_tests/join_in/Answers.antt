@@ -2,9 +2,9 @@ use Rattle.std.proofs.Common.{sym, ◌∙◌, ap, subst}
 use Rattle.lane_table.specs.declared.view.View.{View}
 use Rattle.lane_table.specs.Steps.{Seated, both_of}
 use Rattle.lane_table.specs.Calls.{view}
-use Rattle.lane_table.proofs.HandLemmas.{has_joined}
+use Rattle.lane_table.proofs.Calls.HandLemmas.{has_joined}
 use Rattle.caller_run.specs.Families.{SameShare}
-use Rattle.caller_run.proofs.Joins.{share_both}
+use Rattle.caller_run.proofs.Forks.Joins.{share_both}
 use Rattle.lane_tests.proofs.hold_tests.join_in.Goals as goal
 
 pub returns-clause-pass : goal.returns-clause-pass

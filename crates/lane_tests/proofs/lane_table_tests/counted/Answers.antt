@@ -1,6 +1,6 @@
 use Rattle.std.proofs.Common.{sym, ◌∙◌}
 use Rattle.lane_table.specs.Calls.{view}
-use Rattle.lane_table.proofs.HandLemmas.{has_joined, idle_of}
+use Rattle.lane_table.proofs.Calls.HandLemmas.{has_joined, idle_of}
 use Rattle.lane_tests.proofs.lane_table_tests.counted.Goals as goal
 
 pub close-requires-clause-idle : goal.close-requires-clause-idle

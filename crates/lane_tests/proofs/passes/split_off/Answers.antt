@@ -1,5 +1,5 @@
 use Rattle.lane_table.specs.Calls.{view}
-use Rattle.lane_table.proofs.HandLemmas.{has_child, has_halved}
+use Rattle.lane_table.proofs.Calls.HandLemmas.{has_child, has_halved}
 use Rattle.lane_tests.proofs.passes.split_off.Goals as goal
 
 pub returns-clause-has : goal.returns-clause-has

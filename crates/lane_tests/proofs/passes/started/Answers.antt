@@ -1,4 +1,4 @@
-use Rattle.lane_table.proofs.HandLemmas.{has_new}
+use Rattle.lane_table.proofs.Calls.HandLemmas.{has_new}
 use Rattle.lane_tests.proofs.passes.started.Goals as goal
 
 pub returns-clause-has : goal.returns-clause-has

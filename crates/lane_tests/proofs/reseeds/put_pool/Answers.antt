@@ -7,7 +7,7 @@ use Rattle.lane_table.specs.Meaning.{made_of, nothing, replay, ValueStands}
 use Rattle.lane_table.specs.WorldRule.{at, known_of}
 use Rattle.lane_table.specs.Calls.{view}
 use Rattle.lane_table.specs.Hands.{Has, hand, model}
-use Rattle.lane_table.proofs.HandLemmas.{has_put_naming}
+use Rattle.lane_table.proofs.Calls.HandLemmas.{has_put_naming}
 use Rattle.lane_tests.proofs.reseeds.put_pool.Goals as goal
 
 pub put-requires-clause-entry : goal.put-requires-clause-entry

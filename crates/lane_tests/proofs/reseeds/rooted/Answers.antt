@@ -1,4 +1,4 @@
-use Rattle.lane_table.proofs.Lent.{lent}
+use Rattle.lane_table.proofs.Calls.Lent.{lent}
 use Rattle.lane_tests.proofs.reseeds.rooted.Goals as goal
 
 pub put_pool-extracted-requires-clause-makes : goal.put_pool-extracted-requires-clause-makes

@@ -1,7 +1,7 @@
 use Rattle.std.proofs.Common.{ap}
 use Rattle.lane_table.specs.Steps.{Seated}
 use Rattle.lane_table.specs.Calls.{view}
-use Rattle.lane_table.proofs.HandLemmas.{has_halved, has_child}
+use Rattle.lane_table.proofs.Calls.HandLemmas.{has_halved, has_child}
 use Rattle.rng_core.proofs.forks.fork.Goals as goal
 
 pub returns-clause-has : goal.returns-clause-has

@@ -1,7 +1,7 @@
 use Rattle.std.proofs.Common.{◌+◌, arith}
 use Rattle.lane_table.specs.Hands.{model}
 use Rattle.lane_table.specs.Meaning.{nothing}
-use Rattle.lane_table.proofs.Lent.{lent}
+use Rattle.lane_table.proofs.Calls.Lent.{lent}
 use Rattle.rng_core.proofs.integers.serve.Goals as goal
 
 pub leave-requires-clause-makes : goal.leave-requires-clause-makes

@@ -4,7 +4,7 @@ use Rattle.lane_table.specs.Meaning.{parent, got_of}
 use Rattle.lane_table.specs.WorldRule.{known_of}
 use Rattle.lane_table.specs.Calls.{view}
 use Rattle.lane_table.specs.Hands.{model}
-use Rattle.lane_table.proofs.Lent.{lent}
+use Rattle.lane_table.proofs.Calls.Lent.{lent}
 use Rattle.rng_core.proofs.Parents.{parent_cpu}
 use Rattle.rng_core.proofs.integers.serve_refilled.Goals as goal
 

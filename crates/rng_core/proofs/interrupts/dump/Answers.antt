@@ -2,8 +2,8 @@ use Rattle.std.proofs.Common.{ℕ, ◌+◌, length, ap, ◌∙◌, arith}
 use Rattle.lane_table.specs.Calls.{view}
 use Rattle.lane_table.specs.Meaning.{nothing}
 use Rattle.lane_table.specs.WorldRule.{known_of}
-use Rattle.lane_table.proofs.Lent.{lent}
-use Rattle.lane_table.proofs.VisitLists.{begins_length}
+use Rattle.lane_table.proofs.Calls.Lent.{lent}
+use Rattle.lane_table.proofs.Lists.VisitLists.{begins_length}
 use Rattle.rng_core.proofs.Doing.{did_map, did_in_map, did_after, did_in_then}
 use Rattle.rng_core.proofs.Sampling.{did_met, dump_stands}
 use Rattle.rng_core.proofs.interrupts.dump.Goals as goal

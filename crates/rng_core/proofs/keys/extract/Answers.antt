@@ -1,7 +1,7 @@
 use Rattle.std.proofs.Common.{ℕ, ap}
 use Rattle.key_names.specs.declared.entries.PoolEntry.TheVariants.{Extract}
 use Rattle.lane_table.specs.declared.view.LaneEntry.TheVariants.{Pool}
-use Rattle.lane_table.proofs.Lent.{lent}
+use Rattle.lane_table.proofs.Calls.Lent.{lent}
 use Rattle.rng_core.proofs.TellLemmas.{visited_after, visited_is}
 use Rattle.rng_core.proofs.keys.extract.Goals as goal
 

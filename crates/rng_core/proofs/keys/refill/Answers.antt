@@ -2,7 +2,7 @@ use Rattle.std.proofs.Common.{ℕ, ap}
 use Rattle.key_names.specs.declared.entries.BaseEntry.TheVariants.{Refill}
 use Rattle.lane_table.specs.declared.view.LaneEntry.TheVariants.{Base}
 use Rattle.lane_table.specs.Meaning.{nothing}
-use Rattle.lane_table.proofs.Lent.{lent}
+use Rattle.lane_table.proofs.Calls.Lent.{lent}
 use Rattle.rng_core.proofs.TellLemmas.{visited_after, visited_is}
 use Rattle.rng_core.proofs.keys.refill.Goals as goal
 

@@ -1,6 +1,6 @@
 use Rattle.std.proofs.Common.{inr}
 use Rattle.lane_table.specs.Meaning.{nothing}
-use Rattle.lane_table.proofs.Lent.{lent}
+use Rattle.lane_table.proofs.Calls.Lent.{lent}
 use Rattle.rng_core.proofs.Doing.{did_map, did_base}
 use Rattle.rng_core.proofs.reads.draw_early.Goals as goal
 

@@ -4,7 +4,7 @@ use Rattle.key_names.specs.KeyInUse.{taken_bytes}
 use Rattle.lane_table.specs.Meaning.{nothing, got_of}
 use Rattle.lane_table.specs.WorldRule.{known_of}
 use Rattle.lane_table.specs.Calls.{view}
-use Rattle.lane_table.proofs.Lent.{lent, kept}
+use Rattle.lane_table.proofs.Calls.Lent.{lent, kept}
 use Rattle.rng_core.proofs.Doing.{did_map, did_rooted}
 use Rattle.rng_core.proofs.reads.draw_rooted.Goals as goal
 

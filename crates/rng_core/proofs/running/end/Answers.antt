@@ -1,6 +1,6 @@
 use Rattle.std.proofs.Common.{refl, arith}
-use Rattle.lane_table.proofs.Floors.{generation_begun}
-use Rattle.lane_table.proofs.Lent.{lent}
+use Rattle.lane_table.proofs.Rule.Floors.{generation_begun}
+use Rattle.lane_table.proofs.Calls.Lent.{lent}
 use Rattle.rng_core.proofs.Doing.{formed, did_after, did_base, served_of}
 use Rattle.rng_core.proofs.running.end.Goals as goal
 

@@ -1,4 +1,4 @@
-use Rattle.lane_table.proofs.Lent.{lent}
+use Rattle.lane_table.proofs.Calls.Lent.{lent}
 use Rattle.rng_core.proofs.Doing.{formed, did_after, did_base, served_of}
 use Rattle.rng_core.proofs.running.stall.Goals as goal
 

@@ -1,4 +1,4 @@
-use Rattle.lane_table.proofs.Lent.{lent}
+use Rattle.lane_table.proofs.Calls.Lent.{lent}
 use Rattle.rng_core.proofs.Doing.{did_after, did_bits}
 use Rattle.rng_core.proofs.samples.bits.Goals as goal
 

@@ -1,4 +1,4 @@
-use Rattle.lane_table.proofs.Lent.{lent}
+use Rattle.lane_table.proofs.Calls.Lent.{lent}
 use Rattle.rng_core.proofs.Doing.{did_base, served_of}
 use Rattle.rng_core.proofs.system_call.resume.Goals as goal
 

@@ -2,7 +2,7 @@ use Rattle.std.proofs.Common.{arith, ℕ, [], ◌∷◌, Some, None, sym, ap, su
 use Rattle.lane_table.specs.declared.view.LaneView.{LaneView}
 use Rattle.lane_table.specs.Meaning.{behind_of, raise_of, replay}
 use Rattle.lane_table.specs.Hands.{Has, hand}
-use Rattle.lane_table.proofs.HandLemmas.{has_put_naming}
+use Rattle.lane_table.proofs.Calls.HandLemmas.{has_put_naming}
 use Rattle.rng_core.proofs.TellLemmas.{mark_fits, visited_at}
 use Rattle.rng_core.proofs.visits.leave_naming.Goals as goal
 

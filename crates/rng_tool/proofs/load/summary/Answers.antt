@@ -1,5 +1,5 @@
 use Rattle.std.proofs.Common.{rules}
-use Rattle.key_names.specs.ScriptGrammar.{WellFormed}
+use Rattle.key_names.specs.Texts.ScriptGrammar.{WellFormed}
 use Rattle.rng_tool.proofs.Runs.{few_lines}
 use Rattle.rng_tool.proofs.load.summary.Goals as goal
 

@@ -1,7 +1,7 @@
 use Rattle.std.proofs.Common.{◌≡◌, ℕ, ◌<◌, List, length}
 use Rattle.key_names.specs.Book.{Lists, LawfulLanes, list_at}
 use Rattle.key_names.specs.IsTranscript.{start_setting}
-use Rattle.key_names.specs.ScriptGrammar.{Script}
+use Rattle.key_names.specs.Texts.ScriptGrammar.{Script}
 use Rattle.key_names.specs.SeenLine.{SeenLine}
 use Rattle.line_orders.specs.Called.{seen_calls}
 use Rattle.list_replay.specs.Kept.{Keeps}

@@ -2,7 +2,7 @@ use Rattle.std.proofs.Common.{◌≡◌, ◌<◌, List, ℕ, [], ◌∷◌, leng
 use Rattle.hex.specs.Hex.{IsBytes}
 use Rattle.key_names.specs.declared.events.Word.TheVariants.{Bits, Read}
 use Rattle.key_names.specs.SeenLine.{bytes_or_none}
-use Rattle.key_names.specs.TranscriptGrammar.{ShownFits}
+use Rattle.key_names.specs.Texts.TranscriptGrammar.{ShownFits}
 use Rattle.text_tests.proofs.transcript_text_tests.one_read.Goals as goal
 
 read_is_not_bits : Read ≡ Bits → ⊥

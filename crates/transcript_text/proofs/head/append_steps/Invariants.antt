@@ -1,6 +1,6 @@
 use Rattle.std.proofs.Common.{◌≡◌, ◌+◌, ◌*◌, ◌≤◌, ◌++◌, length, drop}
 use Rattle.std.specs.List.{flat_map}
-use Rattle.key_names.specs.TranscriptGrammar.{steps_text}
+use Rattle.key_names.specs.Texts.TranscriptGrammar.{steps_text}
 use Rattle.transcript_text.proofs.StepLists.{next_text}
 use Rattle.transcript_text.proofs.head.append_steps.Given as goal
 

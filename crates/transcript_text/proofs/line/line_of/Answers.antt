@@ -1,6 +1,6 @@
 use Rattle.std.proofs.Common.{◌≡◌, sym, subst, ◌∙◌}
 use Rattle.key_names.specs.declared.events.Word.{Word}
-use Rattle.key_names.specs.TranscriptGrammar.{ShownFits}
+use Rattle.key_names.specs.Texts.TranscriptGrammar.{ShownFits}
 use Rattle.transcript_text.proofs.NameTexts.{same_word}
 use Rattle.transcript_text.specs.ReadLines.{seen_read}
 use Rattle.transcript_text.proofs.LineTexts.{line_splits, spells_line, made_line, numbers_in, numbers_fit}

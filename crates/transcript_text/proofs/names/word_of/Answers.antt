@@ -1,5 +1,5 @@
 use Rattle.std.proofs.Common.{◌≡◌, arith}
-use Rattle.key_names.specs.Spelling.{word_text}
+use Rattle.key_names.specs.Texts.Spelling.{word_text}
 use Rattle.transcript_text.proofs.NameTexts.{each_word}
 use Rattle.transcript_text.proofs.names.word_of.Goals as goal
 

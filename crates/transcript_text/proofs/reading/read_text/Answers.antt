@@ -1,7 +1,7 @@
 use Rattle.std.proofs.Common.{◌≡◌, ◌∷◌, ◌+◌, length, ap, sym, subst, arith}
 use Rattle.std.proofs.lemmas.Bool.{both_ways, eqb-true}
 use Rattle.std.proofs.lemmas.List.{length-append, length-map, nil_from_length}
-use Rattle.key_names.specs.TranscriptGrammar.{IsFirstFault}
+use Rattle.key_names.specs.Texts.TranscriptGrammar.{IsFirstFault}
 use Rattle.transcript_text.specs.Grouping.{seen_callers}
 use Rattle.transcript_text.proofs.ReadingOn.{goes_on, few_done, fault_missing, fault_line, fault_after, found, uncut_head, other_head}
 use Rattle.transcript_text.proofs.reading.read_text.Goals as goal

@@ -1,6 +1,6 @@
 use Rattle.std.proofs.Common.{◌≡◌, ap, sym, refl, length, ◌∙◌, arith}
 use Rattle.key_names.specs.SeenLine.{SeenLine}
-use Rattle.key_names.specs.TranscriptGrammar.{line_text}
+use Rattle.key_names.specs.Texts.TranscriptGrammar.{line_text}
 use Rattle.transcript_text.specs.ReadLines.{seen_read}
 use Rattle.transcript_text.proofs.LineTexts.{same_line, short_shows}
 use Rattle.transcript_text.proofs.reading.take_line.Goals as goal

@@ -1,4 +1,4 @@
-use Rattle.key_names.specs.TranscriptGrammar.{mark_text, MarkFits}
+use Rattle.key_names.specs.Texts.TranscriptGrammar.{mark_text, MarkFits}
 use Rattle.transcript_text.proofs.Answered.{reads_none}
 use Rattle.transcript_text.proofs.StepTexts.{uncut_mark, uncut_place, spells_mark}
 use Rattle.transcript_text.proofs.steps.mark_of.Goals as goal

@@ -1,5 +1,5 @@
 use Rattle.std.proofs.Common.{◌≡◌, ◌<◌, length, get_or, sym, ◌∙◌, arith}
-use Rattle.key_names.specs.TranscriptGrammar.{step_text, StepFits}
+use Rattle.key_names.specs.Texts.TranscriptGrammar.{step_text, StepFits}
 use Rattle.transcript_text.proofs.Answered.{reads_none}
 use Rattle.transcript_text.proofs.StepTexts.{no_look, begins_so}
 use Rattle.transcript_text.proofs.steps.step_of.Goals as goal

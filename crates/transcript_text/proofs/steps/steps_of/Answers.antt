@@ -1,5 +1,5 @@
 use Rattle.std.proofs.Common.{arith}
-use Rattle.key_names.specs.TranscriptGrammar.{steps_text}
+use Rattle.key_names.specs.Texts.TranscriptGrammar.{steps_text}
 use Rattle.transcript_text.specs.Reading.{StepsFit}
 use Rattle.transcript_text.proofs.Answered.{reads_none}
 use Rattle.transcript_text.proofs.StepTexts.{reads_none_at_all, reads_last, no_last, no_next, too_many}

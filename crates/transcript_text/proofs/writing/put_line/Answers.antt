@@ -1,6 +1,6 @@
 use Rattle.std.proofs.Common.{List, ℕ, ◌++◌, subst}
 use Rattle.std.specs.Prelude.{codes}
-use Rattle.key_names.specs.TranscriptGrammar.{line_text}
+use Rattle.key_names.specs.Texts.TranscriptGrammar.{line_text}
 use Rattle.io_edges.specs.Pieces.{AppendsPrefix}
 use Rattle.transcript_text.specs.Putting.{PutSoFar}
 use Rattle.transcript_text.specs.Views.{seen}

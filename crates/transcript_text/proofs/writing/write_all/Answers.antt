@@ -2,7 +2,7 @@ use Rattle.std.proofs.Common.{◌+◌, [], List, get_or, subst, sym, ◌∙◌, 
 use Rattle.std.specs.Prelude.{codes}
 use Rattle.std.specs.Io.KnownBytes.{Appends}
 use Rattle.key_names.specs.SeenLine.{SeenLine}
-use Rattle.key_names.specs.TranscriptGrammar.{transcript_text}
+use Rattle.key_names.specs.Texts.TranscriptGrammar.{transcript_text}
 use Rattle.io_edges.specs.Pieces.{AppendsPrefix}
 use Rattle.transcript_text.specs.Lines.{text_of}
 use Rattle.transcript_text.specs.Putting.{PutSoFar}

@@ -1,5 +1,5 @@
 use Rattle.std.proofs.Common.{◌≡◌, ◌≤◌, []}
-use Rattle.key_names.specs.TranscriptGrammar.{transcript_text}
+use Rattle.key_names.specs.Texts.TranscriptGrammar.{transcript_text}
 use Rattle.transcript_text.specs.Putting.{PutSoFar}
 use Rattle.transcript_text.proofs.WholeTexts.{rest_from}
 use Rattle.transcript_text.proofs.writing.write_all.Given as goal

@@ -8,7 +8,7 @@ use Rattle.lane_table.specs.Calls.{view}
 use Rattle.caller_run.specs.Says.{shown_by}
 use Rattle.caller_run.specs.Standing.{HasEnded}
 use Rattle.caller_run.specs.declared.said.Said.{Said}
-use Rattle.caller_run.proofs.HasGone.{gone_all}
+use Rattle.caller_run.proofs.Forks.HasGone.{gone_all}
 use Rattle.caller_run.proofs.caller.Caller.finish.Goals as goal
 
 pub returns-clause-ended : goal.returns-clause-ended

@@ -2,14 +2,14 @@ use Rattle.std.proofs.Common.{◌≡◌, ℕ, refl, sym, ap, subst}
 use Rattle.key_names.specs.declared.events.Event.{Event}
 use Rattle.key_names.specs.declared.events.Event.TheVariants.{Int8, Int16, Int32, Int64}
 use Rattle.key_names.specs.declared.events.Word.TheVariants.{Bits}
-use Rattle.key_names.specs.ScriptGrammar.{event_word}
+use Rattle.key_names.specs.Texts.ScriptGrammar.{event_word}
 use Rattle.key_names.specs.SeenLine.{bytes_or_none}
 use Rattle.rng_core.specs.Integers.{int_event}
 use Rattle.caller_run.specs.Kinds.{IsInteger}
 use Rattle.caller_run.specs.Says.{shown_by, most_shown}
 use Rattle.caller_run.specs.declared.said.Said.{Said}
-use Rattle.caller_run.proofs.Callings.{by_does, quietly}
-use Rattle.caller_run.proofs.QuietForms.{IsNoInterrupt}
+use Rattle.caller_run.proofs.Calls.Callings.{by_does, quietly}
+use Rattle.caller_run.proofs.Law.QuietForms.{IsNoInterrupt}
 use Rattle.caller_run.proofs.caller.Caller.integer.Goals as goal
 
 -- the event of an integer is that of its width

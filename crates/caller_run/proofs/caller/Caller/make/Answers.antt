@@ -1,10 +1,10 @@
 use Rattle.std.proofs.Common.{length, ◌∷◌, ◌++◌, [], sym, subst, ◌∙◌, arith, rules, ◌≡◌}
 use Rattle.caller_run.specs.Says.{line_of, most_shown}
 use Rattle.caller_run.specs.Standing.{waiting_in, HasGone}
-use Rattle.caller_run.proofs.LogFills.{fills_call}
-use Rattle.caller_run.proofs.CanGo.{can_next}
-use Rattle.caller_run.proofs.HasGone.{gone_call}
-use Rattle.caller_run.proofs.Seeing.{called_kept}
+use Rattle.caller_run.proofs.Plans.LogFills.{fills_call}
+use Rattle.caller_run.proofs.Calls.CanGo.{can_next}
+use Rattle.caller_run.proofs.Forks.HasGone.{gone_call}
+use Rattle.caller_run.proofs.Law.Seeing.{called_kept}
 use Rattle.caller_run.proofs.caller.Caller.make.Goals as goal
 
 pub returns-clause-can : goal.returns-clause-can

@@ -1,11 +1,11 @@
 use Rattle.std.proofs.Common.{◌≡◌, ℕ, zero, suc, ◌<◌, length, refl, sym, ap, ◌∙◌, subst, arith}
 use Rattle.std.specs.Prelude.{◌==◌, if◌then◌else◌}
 use Rattle.key_names.specs.declared.events.Event.TheVariants.{Kread, Uread, Read, Dread}
-use Rattle.key_names.specs.ScriptGrammar.{InRange}
+use Rattle.key_names.specs.Texts.ScriptGrammar.{InRange}
 use Rattle.key_names.specs.SeenLine.{bytes_or_none}
 use Rattle.caller_run.specs.Says.{shown_by, most_shown}
 use Rattle.caller_run.specs.declared.said.Said.{Said}
-use Rattle.caller_run.proofs.Callings.{by_does, no_count, quietly}
+use Rattle.caller_run.proofs.Calls.Callings.{by_does, no_count, quietly}
 use Rattle.caller_run.proofs.caller.Caller.read.Goals as goal
 
 pub returns-in-Kread : goal.returns-in-Kread

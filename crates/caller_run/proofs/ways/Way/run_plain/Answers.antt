@@ -3,8 +3,8 @@ use Rattle.std.specs.Prelude.{vec_len}
 use Rattle.key_names.specs.declared.events.Event.{Event}
 use Rattle.caller_run.specs.Standing.{CanGo}
 use Rattle.caller_run.specs.Ways.{CanGoIn, GoneIn, AreAbove}
-use Rattle.caller_run.proofs.CanGo.{first_can}
-use Rattle.caller_run.proofs.WentOn.{plain_event, as_slices}
+use Rattle.caller_run.proofs.Calls.CanGo.{first_can}
+use Rattle.caller_run.proofs.Forks.WentOn.{plain_event, as_slices}
 use Rattle.caller_run.proofs.ways.Way.run_plain.Goals as goal
 
 pub step-requires : goal.step-requires

@@ -3,8 +3,8 @@ use Rattle.key_names.specs.declared.events.Word.TheVariants.{Fork as ForkWord}
 use Rattle.caller_run.specs.Says.{line_of}
 use Rattle.caller_run.specs.Standing.{HasGone, waiting_in}
 use Rattle.caller_run.specs.Ways.{kid_of}
-use Rattle.caller_run.proofs.Forking.{gone_fork}
-use Rattle.caller_run.proofs.WentOn.{can_past}
+use Rattle.caller_run.proofs.Forks.Forking.{gone_fork}
+use Rattle.caller_run.proofs.Forks.WentOn.{can_past}
 use Rattle.caller_run.proofs.ways.Way.tell_fork.Goals as goal
 
 pub returns-clause-can : goal.returns-clause-can

@@ -1,8 +1,8 @@
 use Rattle.std.proofs.Common.{◌≡◌, ◌+◌, ◌-◌, drop, length, take, ap, ◌∙◌, arith}
 use Rattle.std.specs.List.{list_any}
 use Rattle.std.proofs.lemmas.List.{length-drop, length-map, take_all}
-use Rattle.key_names.specs.ScriptFaults.{blocks_of}
-use Rattle.key_names.proofs.Drafts.{length_blocks}
+use Rattle.key_names.specs.Texts.ScriptFaults.{blocks_of}
+use Rattle.key_names.proofs.Script.Drafts.{length_blocks}
 use Rattle.event_script.specs.Drafts.{draft_as}
 use Rattle.event_script.proofs.Tallies.{orphans}
 use Rattle.event_script.proofs.draft.Draft.has_orphan.Goals as goal

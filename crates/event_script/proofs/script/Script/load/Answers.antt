@@ -1,5 +1,5 @@
 use Rattle.std.proofs.Common.{arith, sym, subst}
-use Rattle.key_names.specs.ScriptGrammar.{WellFormed}
+use Rattle.key_names.specs.Texts.ScriptGrammar.{WellFormed}
 use Rattle.event_script.proofs.Loads.{load_well_formed}
 use Rattle.event_script.proofs.script.Script.load.Goals as goal
 

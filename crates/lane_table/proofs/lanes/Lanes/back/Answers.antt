@@ -1,5 +1,5 @@
 use Rattle.std.proofs.Common.{arith}
-use Rattle.lane_table.proofs.Telling.{left_is}
+use Rattle.lane_table.proofs.Calls.Telling.{left_is}
 use Rattle.lane_table.proofs.lanes.Lanes.back.Goals as goal
 
 pub returns-clause-left : goal.returns-clause-left

@@ -6,8 +6,8 @@ use Rattle.std.specs.Slots.{slots_counts}
 use Rattle.lane_table.specs.declared.view.Content.{Content}
 use Rattle.lane_table.specs.WorldRule.{blank, at}
 use Rattle.lane_table.specs.Calls.{Ended, made_in}
-use Rattle.lane_table.proofs.Lists.{set_default_until}
-use Rattle.lane_table.proofs.Ending.{stored_in, ended}
+use Rattle.lane_table.proofs.Lists.Lists.{set_default_until}
+use Rattle.lane_table.proofs.Rule.Ending.{stored_in, ended}
 use Rattle.lane_table.proofs.lanes.Lanes.close.Goals as goal
 
 pub unreachable-requires : goal.unreachable-requires

@@ -3,8 +3,8 @@ use Rattle.atomic_table.specs.Table.{rest}
 use Rattle.lane_table.specs.declared.view.View.{View}
 use Rattle.lane_table.specs.Steps.{Seated, after, filled}
 use Rattle.lane_table.specs.Calls.{visit_by}
-use Rattle.lane_table.proofs.Putting.{puts}
-use Rattle.lane_table.proofs.Telling.{after_pass}
+use Rattle.lane_table.proofs.Rule.Putting.{puts}
+use Rattle.lane_table.proofs.Calls.Telling.{after_pass}
 use Rattle.lane_table.proofs.lanes.Lanes.decide.Goals as goal
 
 pub store-requires : goal.store-requires

@@ -1,5 +1,5 @@
 use Rattle.std.proofs.Common.{rules, arith}
-use Rattle.lane_table.proofs.Drawing.{draws}
+use Rattle.lane_table.proofs.Rule.Drawing.{draws}
 use Rattle.lane_table.proofs.lanes.Lanes.draw.Goals as goal
 
 pub compare_exchange-requires : goal.compare_exchange-requires

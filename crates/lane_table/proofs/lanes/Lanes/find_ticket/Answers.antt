@@ -1,6 +1,6 @@
 use Rattle.std.proofs.Common.{rules, arith, refl}
-use Rattle.lane_table.proofs.Drawing.{finds}
-use Rattle.lane_table.proofs.Restaging.{restages_found, to_pass}
+use Rattle.lane_table.proofs.Rule.Drawing.{finds}
+use Rattle.lane_table.proofs.Rule.Restaging.{restages_found, to_pass}
 use Rattle.lane_table.proofs.lanes.Lanes.find_ticket.Goals as goal
 
 pub load-requires : goal.load-requires

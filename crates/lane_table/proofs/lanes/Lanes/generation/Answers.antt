@@ -1,6 +1,6 @@
 use Rattle.std.proofs.Common.{rules, arith, refl}
-use Rattle.lane_table.proofs.Looking.{looks}
-use Rattle.lane_table.proofs.Telling.{looked_is}
+use Rattle.lane_table.proofs.Rule.Looking.{looks}
+use Rattle.lane_table.proofs.Calls.Telling.{looked_is}
 use Rattle.lane_table.proofs.lanes.Lanes.generation.Goals as goal
 
 pub load-requires : goal.load-requires

@@ -1,7 +1,7 @@
 use Rattle.std.proofs.Common.{rules, arith, ◌∙◌, ◌<◌, sym, ap, subst, ℕ, length}
 use Rattle.lane_table.specs.Steps.{Seated}
-use Rattle.lane_table.proofs.Shares.{both_share, length_merged}
-use Rattle.lane_table.proofs.Joining.{joins}
+use Rattle.lane_table.proofs.Rule.Shares.{both_share, length_merged}
+use Rattle.lane_table.proofs.Rule.Joining.{joins}
 use Rattle.lane_table.proofs.lanes.Lanes.join.Goals as goal
 
 pub join_seat-requires : goal.join_seat-requires

@@ -1,5 +1,5 @@
 use Rattle.std.proofs.Common.{rules, arith}
-use Rattle.lane_table.proofs.Putting.{leaves}
+use Rattle.lane_table.proofs.Rule.Putting.{leaves}
 use Rattle.lane_table.proofs.lanes.Lanes.leave.Goals as goal
 
 pub store-requires : goal.store-requires

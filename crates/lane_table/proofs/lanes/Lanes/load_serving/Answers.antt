@@ -1,6 +1,6 @@
 use Rattle.std.proofs.Common.{rules, arith, refl}
-use Rattle.lane_table.proofs.Drawing.{loads}
-use Rattle.lane_table.proofs.Restaging.{restages_loaded, to_pass}
+use Rattle.lane_table.proofs.Rule.Drawing.{loads}
+use Rattle.lane_table.proofs.Rule.Restaging.{restages_loaded, to_pass}
 use Rattle.lane_table.proofs.lanes.Lanes.load_serving.Goals as goal
 
 pub load-requires : goal.load-requires

@@ -1,6 +1,6 @@
 use Rattle.std.proofs.Common.{arith, refl, ℕ}
 use Rattle.lane_table.specs.Steps.{Seated}
-use Rattle.lane_table.proofs.Telling.{added_is, replays_push}
+use Rattle.lane_table.proofs.Calls.Telling.{added_is, replays_push}
 use Rattle.lane_table.proofs.lanes.Lanes.put.Goals as goal
 
 pub decide-requires-clause-replays : goal.decide-requires-clause-replays

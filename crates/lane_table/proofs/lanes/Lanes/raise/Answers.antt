@@ -1,8 +1,8 @@
 use Rattle.std.proofs.Common.{rules, arith, ap, sym, ◌∙◌, ℕ}
 use Rattle.lane_table.specs.WorldRule.{at, known_of}
-use Rattle.lane_table.proofs.LawfulLists.{base_generation}
-use Rattle.lane_table.proofs.Looking.{lifts}
-use Rattle.lane_table.proofs.Telling.{raised_is}
+use Rattle.lane_table.proofs.Lists.LawfulLists.{base_generation}
+use Rattle.lane_table.proofs.Rule.Looking.{lifts}
+use Rattle.lane_table.proofs.Calls.Telling.{raised_is}
 use Rattle.lane_table.proofs.lanes.Lanes.raise.Goals as goal
 
 pub store-requires : goal.store-requires

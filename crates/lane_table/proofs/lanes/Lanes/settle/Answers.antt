@@ -1,6 +1,6 @@
 use Rattle.std.proofs.Common.{rules, arith, ◌∙◌, subst, sym, ℕ}
 use Rattle.lane_table.specs.Calls.{Ended, view}
-use Rattle.lane_table.proofs.Looking.{settled}
+use Rattle.lane_table.proofs.Rule.Looking.{settled}
 use Rattle.lane_table.proofs.lanes.Lanes.settle.Goals as goal
 
 pub load-generation-requires : goal.load-generation-requires

@@ -1,5 +1,5 @@
 use Rattle.std.proofs.Common.{rules, arith}
-use Rattle.lane_table.proofs.Splitting.{splits}
+use Rattle.lane_table.proofs.Rule.Splitting.{splits}
 use Rattle.lane_table.proofs.lanes.Lanes.split.Goals as goal
 
 pub split_seat-seat-requires : goal.split_seat-seat-requires

@@ -1,5 +1,5 @@
 use Rattle.std.proofs.Common.{arith, rules}
-use Rattle.lane_table.proofs.Starting.{starts_with}
+use Rattle.lane_table.proofs.Rule.Starting.{starts_with}
 use Rattle.lane_table.proofs.lanes.Lanes.start.Goals as goal
 
 pub new-requires : goal.new-requires

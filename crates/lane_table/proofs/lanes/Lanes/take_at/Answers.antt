@@ -1,7 +1,7 @@
 use Rattle.std.proofs.Common.{arith, ap, ◌<◌, ◌^◌, ℕ, length}
 use Rattle.lane_table.specs.Steps.{Seated}
-use Rattle.lane_table.proofs.Restaging.{Restages, restages_queued, restages_to}
-use Rattle.lane_table.proofs.Telling.{got_early, taken_is}
+use Rattle.lane_table.proofs.Rule.Restaging.{Restages, restages_queued, restages_to}
+use Rattle.lane_table.proofs.Calls.Telling.{got_early, taken_is}
 use Rattle.lane_table.proofs.lanes.Lanes.take_at.Goals as goal
 use Rattle.lane_table.proofs.lanes.Lanes.take_at.Goals.{then-content-ge-LAST, else-content-ge-LAST}
 

@@ -1,5 +1,5 @@
 use Rattle.std.proofs.Common.{rules, arith}
-use Rattle.lane_table.proofs.Drawing.{tries}
+use Rattle.lane_table.proofs.Rule.Drawing.{tries}
 use Rattle.lane_table.proofs.lanes.Lanes.try_draw.Goals as goal
 
 pub compare_exchange-requires : goal.compare_exchange-requires

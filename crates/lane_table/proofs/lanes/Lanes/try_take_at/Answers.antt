@@ -1,7 +1,7 @@
 use Rattle.std.proofs.Common.{arith, ◌≢◌, ◌<◌, ℕ, length}
 use Rattle.lane_table.specs.Steps.{Seated}
-use Rattle.lane_table.proofs.Telling.{got_early, left_tried, taken_is}
-use Rattle.lane_table.proofs.Trying.{loaded_below, tried, missed_tried, three, three_drawn}
+use Rattle.lane_table.proofs.Calls.Telling.{got_early, left_tried, taken_is}
+use Rattle.lane_table.proofs.Rule.Trying.{loaded_below, tried, missed_tried, three, three_drawn}
 use Rattle.lane_table.proofs.lanes.Lanes.try_take_at.Goals as goal
 
 pub try_draw-ticket-requires-clause-early : goal.try_draw-ticket-requires-clause-early

@@ -1,7 +1,7 @@
 use Rattle.std.proofs.Common.{rules, arith, refl, ◌≡◌}
 use Rattle.lane_table.specs.Steps.{Got}
-use Rattle.lane_table.proofs.Serving.{serves}
-use Rattle.lane_table.proofs.Telling.{got_pass}
+use Rattle.lane_table.proofs.Rule.Serving.{serves}
+use Rattle.lane_table.proofs.Calls.Telling.{got_pass}
 use Rattle.lane_table.proofs.lanes.Lanes.turn.Goals as goal
 
 pub load-serving-requires : goal.load-serving-requires

@@ -1,8 +1,8 @@
 use Rattle.std.proofs.Common.{rules, arith, refl, sym, ap, subst, ◌∙◌, ℕ}
 use Rattle.lane_table.specs.WorldRule.{at}
 use Rattle.lane_table.specs.Steps.{Got, Seated}
-use Rattle.lane_table.proofs.Serving.{serves}
-use Rattle.lane_table.proofs.Telling.{got_pass}
+use Rattle.lane_table.proofs.Rule.Serving.{serves}
+use Rattle.lane_table.proofs.Calls.Telling.{got_pass}
 use Rattle.lane_table.proofs.lanes.Lanes.wait_for.Goals as goal
 
 pub load-requires : goal.load-requires

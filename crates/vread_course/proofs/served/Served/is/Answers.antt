@@ -1,7 +1,7 @@
 use Rattle.std.proofs.Common.{◌≡◌, ◌+◌, ◌++◌, List, ℕ, IsTrue, length, take, sym, ap, ◌∙◌, rules, arith}
 use Rattle.std.proofs.lemmas.List.{length-append}
 use Rattle.key_names.specs.Keystream.{keystream}
-use Rattle.key_names.proofs.Keystreams.{length-keystream}
+use Rattle.key_names.proofs.Standards.Keystreams.{length-keystream}
 use Rattle.vread_course.specs.Recipe.{bytes_made}
 use Rattle.vread_course.proofs.ServedBytes.{other_part, both_parts}
 use Rattle.vread_course.proofs.served.Served.is.Goals as goal

@@ -1,0 +1,115 @@
+-- What the acts inside a call mean, and their samples.
+use Rattle.std.proofs.Common.{◌≡◌, ℕ, ◌≤◌, inl, Bool, true, false, List, [], ◌∷◌, map, refl, sym, ap, subst, arith}
+use Rattle.std.specs.Prelude.{if◌then◌else◌}
+use Rattle.std.specs.List.{AllByRecursion}
+use Rattle.key_names.specs.declared.events.Answer.TheVariants.{Unused}
+use Rattle.key_names.specs.declared.events.Event.TheVariants.{Reseed as ReseedEvent}
+use Rattle.key_names.specs.declared.events.InsideAct.{InsideAct}
+use Rattle.key_names.specs.declared.events.InsideAct.TheVariants.{Wipe, Vread, Reseed}
+use Rattle.key_names.specs.declared.names.Step.{Step}
+use Rattle.key_names.specs.declared.point.Point.{Point}
+use Rattle.key_names.specs.declared.point.Point.TheVariants.{Start, Written, Serve, End}
+use Rattle.key_names.specs.Book.{Lists}
+use Rattle.key_names.specs.Calls.{Setting as Told}
+use Rattle.key_names.specs.Deeds.{deeds_of}
+use Rattle.key_names.specs.FastPool.{FastPool}
+use Rattle.key_names.specs.IsTranscript.{EachAct}
+use Rattle.key_names.specs.Meaning.{LineMeaning, ActMeans, unused_line}
+use Rattle.key_names.specs.SeenLine.{SeenLine, bytes_or_none, no_data}
+use Rattle.key_names.specs.VreadSteps.{number_of}
+use Rattle.lane_table.specs.declared.view.View.{View}
+use Rattle.lane_table.specs.declared.view.Visit.{Visit}
+use Rattle.lane_table.specs.BookLists.{StateLists, book_lists}
+use Rattle.lane_table.specs.BookLaws.{Continues}
+use Rattle.rng_core.specs.declared.setting.Setting.{Setting}
+use Rattle.rng_core.specs.Did.{setting_of, result_answer, given}
+use Rattle.rng_core.specs.Acts.{Ask, ActOutcome, done_line}
+use Rattle.rng_core.specs.InsideDid.{act_line, bound_acts, outcome_line}
+use Rattle.key_names.specs.LineSamples.{SamplesStand}
+use Rattle.rng_core.specs.SampleDeeds.{fast_in}
+use Rattle.rng_core.proofs.ActRuns.{Meant, AllMeant}
+use Rattle.caller_run.proofs.Law.QuietForms.{sys, form_samples}
+
+-- each act has one of the four points
+pub points_fit : (set : Setting) (asks : List Ask) (zs : List ActOutcome) →
+    AllByRecursion (λ bound. (1 ≤ bound.point) × (bound.point ≤ 4)) (bound_acts set asks zs)
+points_fit set [] zs = tt
+points_fit set (a ∷ asks) [] = tt
+points_fit set (a ∷ asks) (z ∷ zs) = (go a.point, points_fit set asks zs)
+  where
+    go : (point : Point) → (1 ≤ number_of point) × (number_of point ≤ 4)
+    go Start = (omega arith, omega arith)
+    go Written = (omega arith, omega arith)
+    go Serve = (omega arith, omega arith)
+    go End = (omega arith, omega arith)
+
+module _ (set : Setting) (w : View) where
+  -- the line of each act is what it means
+  module _ (lists : Lists) where
+    pub each_act : (P : SeenLine → LineMeaning → Type 0) →
+        ((a : Ask) (z : ActOutcome) → Meant set w a z → P (act_line set a z) (outcome_line lists z)) →
+        (asks : List Ask) (zs : List ActOutcome) → AllMeant set w asks zs →
+        EachAct P (bound_acts set asks zs) (map (outcome_line lists) zs)
+    each_act P one [] [] all = tt
+    each_act P one [] (z ∷ zs) all = absurd all
+    each_act P one (a ∷ asks) [] all = absurd all
+    each_act P one (a ∷ asks) (z ∷ zs) all = (one a z all.0, each_act P one asks zs all.1)
+
+    pub act_deeds : (a : Ask) (z : ActOutcome) → Meant set w a z → deeds_of lists z.steps ≡ (outcome_line lists z).deeds
+    act_deeds a z m = go z.done m.idle
+      where
+        go : (b : Bool) → (b ≡ false → z.steps ≡ []) →
+            deeds_of lists z.steps ≡ (if b then done_line (deeds_of lists z.steps) z.answer z.bytes else
+            unused_line).deeds
+        go true idle = refl
+        go false idle = ap (deeds_of lists) (idle refl)
+
+    pub act_answer : (a : Ask) (z : ActOutcome) → Meant set w a z →
+        (act_line set a z).answer ≡ (outcome_line lists z).answer
+    act_answer a z m = go z.done
+      where
+        go : (b : Bool) → (if b then result_answer z.answer else Unused)
+            ≡ (if b then done_line (deeds_of lists z.steps) z.answer z.bytes else unused_line).answer
+        go true = refl
+        go false = refl
+
+    pub act_shown : (a : Ask) (z : ActOutcome) → Meant set w a z →
+        (act_line set a z).shown ≡ (outcome_line lists z).shown
+    act_shown a z m = go z.done
+      where
+        go : (b : Bool) → (if b then bytes_or_none (given z.answer z.bytes) else no_data)
+            ≡ (if b then done_line (deeds_of lists z.steps) z.answer z.bytes else unused_line).shown
+        go true = refl
+        go false = refl
+
+  -- no act makes a dump due
+  module _ (lanes : ℕ) (visits : ℕ → List Visit) (callers : StateLists) (c : Continues lanes w visits) where
+    abbrev fast : ℕ → ℕ → FastPool
+    fast = fast_in visits
+
+    abbrev lists_at : Lists
+    lists_at = book_lists lanes visits callers
+
+    abbrev Stand : List Step → Type 0
+    Stand steps = SamplesStand fast (deeds_of lists_at steps)
+
+    none_stand : (steps : List Step) → steps ≡ [] → Stand steps
+    none_stand steps none = subst Stand (sym none) (inl tt)
+
+    act_samples : (told : Told) (act : InsideAct) (m : LineMeaning) → ActMeans told act m → SamplesStand fast m.deeds
+    act_samples told Wipe m k = subst (λ (l : LineMeaning). SamplesStand fast l.deeds) (sym k) (inl tt)
+    act_samples told (Vread n) m k = inl (sys fast told n 0 m.deeds k.0)
+    act_samples told Reseed m k = form_samples fast told ReseedEvent m.deeds tt k.0
+
+    pub acts_samples : (asks : List Ask) (zs : List ActOutcome) → AllMeant set w asks zs →
+        AllByRecursion (λ line. Stand line.steps) (map (λ bound. bound.line) (bound_acts set asks zs))
+    acts_samples [] [] all = tt
+    acts_samples [] (z ∷ zs) all = absurd all
+    acts_samples (a ∷ asks) [] all = absurd all
+    acts_samples (a ∷ asks) (z ∷ zs) all = (go z.done refl, acts_samples asks zs all.1)
+      where
+        go : (b : Bool) → z.done ≡ b → Stand z.steps
+        go true is =
+            act_samples (setting_of set) a.act (done_line (deeds_of lists_at z.steps) z.answer z.bytes)
+            (all.0.done is lanes visits callers c)
+        go false is = none_stand z.steps (all.0.idle is)

@@ -1,0 +1,128 @@
+-- An event by itself, an act that nothing follows, and the end, out of what their calls tell.
+use Rattle.std.proofs.Common.{◌≡◌, ℕ, List, [], map, refl, sym, ap, ◌∙◌, subst, inl}
+use Rattle.key_names.specs.declared.events.Answer.TheVariants.{Ok as Done, Unused}
+use Rattle.key_names.specs.declared.events.Event.{Event}
+use Rattle.key_names.specs.declared.names.Step.{Step}
+use Rattle.key_names.specs.Answers.{answer_of, shown_of}
+use Rattle.key_names.specs.Book.{Lists}
+use Rattle.key_names.specs.Calls.{alone, unbound, ending, BoundAct}
+use Rattle.key_names.specs.Deeds.{deeds_of}
+use Rattle.key_names.specs.Forms.{Form, EndForm}
+use Rattle.caller_run.specs.Items.{items_from}
+use Rattle.key_names.specs.Meaning.{CallerState, caller_after, event_entries, unused_line}
+use Rattle.key_names.specs.SeenLine.{SeenLine, no_data}
+use Rattle.lane_table.specs.declared.view.Visit.{Visit}
+use Rattle.lane_table.specs.declared.view.View.{View}
+use Rattle.lane_table.specs.BookLists.{StateLists, book_lists}
+use Rattle.lane_table.specs.BookLaws.{Continues}
+use Rattle.lane_table.specs.Went.{Deal, step_of, Went}
+use Rattle.caller_run.specs.Doings.{doings_from, items_of}
+use Rattle.key_names.specs.LineSamples.{SamplesStand}
+use Rattle.rng_core.specs.SampleDeeds.{fast_in}
+use Rattle.caller_run.specs.Done.{CallDone}
+use Rattle.caller_run.proofs.Orders.Chains.{items_from_doings, ran_nothing, ran_went}
+
+-- the call of a line went from v to w by these deals, which are the line's steps
+module _ (caller : ℕ) (v w : View) (s : CallerState) (line : SeenLine) (deals : List Deal)
+    (went : Went caller line.event 0 v w deals) (steps : line.steps ≡ map step_of deals) where
+  order : items_of (doings_from line.event 0 deals) ≡ items_from line.event 0 line.steps
+  order = items_from_doings line.event 0 deals ∙ ap (λ (l : List Step). items_from line.event 0 l) (sym steps)
+
+  abbrev InTheEnd : ((ℕ → List Visit) → Lists → Type 0) → Type 0
+  InTheEnd P = (lanes : ℕ) (visits : ℕ → List Visit) (callers : StateLists) → Continues lanes w visits →
+      P visits (book_lists lanes visits callers)
+
+  abbrev Sampled : Type 0
+  Sampled = InTheEnd (λ visits lists. SamplesStand (fast_in visits) (deeds_of lists line.steps))
+
+  pub alone_done : (event : Event) →
+      InTheEnd (λ visits lists. Form s.setting event (deeds_of lists line.steps)
+      × (line.answer ≡ answer_of event (deeds_of lists line.steps))
+      × (line.shown ≡ shown_of event (deeds_of lists line.steps))) →
+      Sampled → CallDone caller v w s (caller_after s event) (alone event line)
+  alone_done event told sampled = record {
+    doings = doings_from line.event 0 deals;
+    ran = ran_went caller line.event 0 v w deals went;
+    order = order;
+    points = tt;
+    meant = λ lanes visits callers c. let t = told lanes visits callers c in record {
+      meaning = record {
+        own = record {
+          deeds = deeds_of (book_lists lanes visits callers) line.steps;
+          answer = line.answer;
+          shown = line.shown;
+        };
+        acts = [];
+        entries = event_entries event;
+        before = s;
+        after = caller_after s event;
+      };
+      before = refl;
+      means = record { form = t.0; answer = t.1; shown = t.2; no_acts = refl; entries = refl; after = refl };
+      after = refl;
+      deeds = refl;
+      answers = refl;
+      shown = refl;
+    };
+    samples = λ lanes visits callers c. (sampled lanes visits callers c, tt);
+  }
+
+  pub ending_done : InTheEnd (λ visits lists. EndForm (deeds_of lists line.steps)) → line.answer ≡ Done →
+      line.shown ≡ no_data → Sampled → CallDone caller v w s s (ending line)
+  ending_done told answer shown sampled = record {
+    doings = doings_from line.event 0 deals;
+    ran = ran_went caller line.event 0 v w deals went;
+    order = order;
+    points = tt;
+    meant = λ lanes visits callers c. record {
+      meaning = record {
+        own = record {
+          deeds = deeds_of (book_lists lanes visits callers) line.steps;
+          answer = line.answer;
+          shown = line.shown;
+        };
+        acts = [];
+        entries = [];
+        before = s;
+        after = s;
+      };
+      before = refl;
+      means = record {
+        form = told lanes visits callers c;
+        answer = answer;
+        shown = shown;
+        no_acts = refl;
+        entries = refl;
+        after = refl;
+      };
+      after = refl;
+      deeds = refl;
+      answers = refl;
+      shown = refl;
+    };
+    samples = λ lanes visits callers c. (sampled lanes visits callers c, tt);
+  }
+
+-- an act that no vread follows is not done
+pub unbound_done : (caller : ℕ) (v : View) (s : CallerState) (bound : BoundAct) → bound.line.steps ≡ [] →
+    bound.line.answer ≡ Unused → bound.line.shown ≡ no_data → CallDone caller v v s s (unbound bound)
+unbound_done caller v s bound none answer shown = record {
+  doings = [];
+  ran = ran_nothing caller v;
+  order = ap (λ (l : List Step). items_from bound.line.event 0 l) (sym none);
+  points = tt;
+  meant = λ lanes visits callers c. record {
+    meaning = record { own = unused_line; acts = []; entries = []; before = s; after = s };
+    before = refl;
+    means = record { own = refl; no_acts = refl; entries = refl; after = refl };
+    after = refl;
+    deeds = ap (deeds_of (book_lists lanes visits callers)) none;
+    answers = answer;
+    shown = shown;
+  };
+  samples = λ lanes visits callers c. (
+    subst (λ (l : List Step). SamplesStand (fast_in visits)
+        (deeds_of (book_lists lanes visits callers) l)) (sym none) (inl tt),
+    tt,
+  );
+}

@@ -1,0 +1,97 @@
+-- A call of the core as one of a caller's calls.
+use Rattle.std.proofs.Common.{◌≡◌, ℕ, List, [], map, refl, sym, subst}
+use Rattle.key_names.specs.declared.events.Answer.{Answer}
+use Rattle.key_names.specs.declared.events.Answer.TheVariants.{Ok as Done}
+use Rattle.key_names.specs.declared.events.Event.{Event}
+use Rattle.key_names.specs.declared.events.Word.{Word}
+use Rattle.key_names.specs.declared.names.Step.{Step}
+use Rattle.key_names.specs.declared.entries.BaseEntry.TheVariants.{End}
+use Rattle.key_names.specs.Calls.{Setting as Told, alone, ending}
+use Rattle.key_names.specs.Deeds.{deeds_of}
+use Rattle.key_names.specs.Forms.{Form, BaseOnly, EndForm}
+use Rattle.key_names.specs.Meaning.{CallerState, caller_after}
+use Rattle.key_names.specs.SeenLine.{Shown, no_data}
+use Rattle.lane_table.specs.declared.view.View.{View}
+use Rattle.lane_table.specs.declared.view.Visit.{Visit}
+use Rattle.lane_table.specs.BookLists.{StateLists, book_lists}
+use Rattle.lane_table.specs.BookLaws.{Continues}
+use Rattle.lane_table.specs.Went.{step_of}
+use Rattle.rng_core.specs.declared.setting.Setting.{Setting}
+use Rattle.rng_core.specs.Told.{Moment}
+use Rattle.rng_core.specs.Did.{Did, Fulfils, setting_of}
+use Rattle.key_names.specs.LineSamples.{SamplesStand}
+use Rattle.rng_core.specs.SampleDeeds.{Sampled, fast_in}
+use Rattle.caller_run.specs.Calling.{Does}
+use Rattle.caller_run.specs.Done.{CallDone}
+use Rattle.caller_run.proofs.Calls.AloneDone.{alone_done, ending_done}
+use Rattle.caller_run.proofs.Law.QuietForms.{end_samples}
+
+abbrev since : View → List Step → Moment
+since view steps = record { view = view; steps = steps }
+
+-- the event's call went from v to w by these steps
+module _ (set : Setting) (v w : View) (s : CallerState) where
+  pub core_done : (event : Event) (word : Word) (answer : Answer) (shown : Shown) (steps : List Step) →
+      s.setting ≡ setting_of set → Does set event answer shown (since v []) (since w steps) →
+      CallDone set.caller v w s (caller_after s event) (alone event (record {
+        caller = set.caller;
+        event = set.event;
+        word = word;
+        answer = answer;
+        steps = steps;
+        shown = shown;
+      }))
+  core_done event word answer shown steps same d =
+      alone_done set.caller v w s (record {
+        caller = set.caller;
+        event = set.event;
+        word = word;
+        answer = answer;
+        steps = steps;
+        shown = shown;
+      })
+      d.deals d.told.went d.told.trace event
+      (λ lanes visits callers c. let h = (line_stands lanes visits callers c).holds in (
+        subst (λ (x : Told). Form x event (deeds_of (book_lists lanes visits callers) steps)) (sym same) h.form,
+        h.answers,
+        h.shows,
+      ))
+      (λ lanes visits callers c. (line_stands lanes visits callers c).samples)
+    where
+      line_stands : (lanes : ℕ) (visits : ℕ → List Visit) (callers : StateLists) → Continues lanes w visits →
+          Sampled (Fulfils (setting_of set) event answer shown) visits
+          (deeds_of (book_lists lanes visits callers) steps)
+      line_stands lanes visits callers c =
+          subst (λ (l : List Step). Sampled (Fulfils (setting_of set) event answer shown) visits
+          (deeds_of (book_lists lanes visits callers) l))
+          (sym d.told.trace) (d.stands lanes visits callers c)
+
+  -- the end
+  pub end_done : (word : Word) (steps : List Step) → Did (BaseOnly End) set (since v []) (since w steps) →
+      CallDone set.caller v w s s (ending (record {
+        caller = set.caller;
+        event = set.event;
+        word = word;
+        answer = Done;
+        steps = steps;
+        shown = no_data;
+      }))
+  end_done word steps d =
+      ending_done set.caller v w s (record {
+        caller = set.caller;
+        event = set.event;
+        word = word;
+        answer = Done;
+        steps = steps;
+        shown = no_data;
+      })
+      d.deals d.told.went d.told.trace
+      (λ lanes visits callers c.
+      subst (λ (l : List Step). EndForm (deeds_of (book_lists lanes visits callers) l)) (sym d.told.trace)
+      (d.stands lanes visits callers c))
+      refl refl
+      (λ lanes visits callers c.
+      subst (λ (l : List Step). SamplesStand (fast_in visits) (deeds_of (book_lists lanes visits callers) l))
+      (sym d.told.trace)
+      (end_samples (fast_in visits) (deeds_of (book_lists lanes visits callers) (map step_of d.deals))
+      (d.stands lanes visits callers c)))

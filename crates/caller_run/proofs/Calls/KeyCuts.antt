@@ -1,0 +1,184 @@
+-- Where the steps of a vread are cut: behind those of the system call for a new key, if there is one.
+use Rattle.std.proofs.Common.{◌≡◌, ℕ, suc, ◌≤◌, ◌⊎◌, inl, inr, Bool, true, false, not, Option, Some, None, List, [], ◌∷◌, ◌++◌, drop, map, refl, sym, ap, ◌∙◌, subst, arith}
+use Rattle.std.specs.Prelude.{MatchBool, ◌==◌, ◌&&◌, slice_get, if◌then◌else◌}
+use Rattle.std.specs.List.{AllByRecursion}
+use Rattle.std.proofs.lemmas.Bool.{and_parts, eqb-true}
+use Rattle.key_names.specs.declared.entries.Taken.TheVariants.{User}
+use Rattle.key_names.specs.declared.names.LaneId.{LaneId}
+use Rattle.key_names.specs.declared.names.LaneId.TheVariants.{Pool as PoolLane, Base as BaseLane, Cpu as CpuLane}
+use Rattle.key_names.specs.declared.names.Step.{Step}
+use Rattle.key_names.specs.declared.names.Step.TheVariants.{Look, Visit as Marked}
+use Rattle.key_names.specs.Book.{Lists, cpu_list}
+use Rattle.key_names.specs.Calls.{Setting as Told}
+use Rattle.key_names.specs.Deeds.{Deed, looked as look_deed, at_pool, at_base, at_cpu, nothing_there, pool_visit, base_visit, cpu_visit, deed_or, deed_at, deeds_of}
+use Rattle.key_names.specs.Flags.{is_insecure}
+use Rattle.key_names.specs.Forms.{CpuReadForm, WaitedInVain, Waited, ReadForm}
+use Rattle.key_names.specs.History.{is_mark}
+use Rattle.key_names.specs.Vgetrandom.{SystemAnswer}
+use Rattle.lane_table.specs.declared.view.Visit.{Visit}
+use Rattle.lane_table.specs.declared.view.View.{View}
+use Rattle.lane_table.specs.BookLists.{book_lists}
+use Rattle.lane_table.specs.BookLaws.{Continues}
+use Rattle.lane_table.specs.Went.{Deal, looked, visited, step_of, Sees, floor}
+use Rattle.rng_core.specs.declared.setting.Setting.{Setting}
+use Rattle.rng_core.specs.Told.{Moment}
+use Rattle.rng_core.specs.Did.{Did, setting_of}
+use Rattle.rng_core.specs.Hosted.{SystemCall}
+use Rattle.caller_run.specs.Items.{Item, items_from, cut_items, cut_rekey}
+use Rattle.caller_run.proofs.Orders.OwnSteps.{BeginsUnmarked}
+
+-- The cut
+
+-- two steps, and then visits
+abbrev pub IsKeySteps : List Step → Type 0
+IsKeySteps [] = ⊥
+IsKeySteps (a ∷ []) = ⊥
+IsKeySteps (a ∷ b ∷ []) = ⊥
+IsKeySteps (a ∷ b ∷ c ∷ more) = (is_mark c ≡ true) × AllByRecursion (λ step. is_mark step ≡ true) more
+
+-- the two parts of a cut
+abbrev pub AreParts : List Item × List Item → List Item → List Item → Type 0
+AreParts cut front rest = let parts : List Item × List Item = (front, rest) in cut ≡ parts
+
+unmarked_cut : (rest : List Item) → BeginsUnmarked rest → AreParts (cut_items rest) [] rest
+unmarked_cut [] begins = refl
+unmarked_cut (item ∷ rest) begins = go (is_mark item.step) begins
+  where
+    go : (b : Bool) → b ≡ false →
+        AreParts (if b then (item ∷ (cut_items rest).0, (cut_items rest).1) else ([], item ∷ rest)) [] (item ∷ rest)
+    go true e = absurd (cc e)
+    go false e = refl
+
+marks_cut : (event n : ℕ) (steps : List Step) (rest : List Item) → AllByRecursion (λ step. is_mark step ≡ true) steps →
+    BeginsUnmarked rest → AreParts (cut_items (items_from event n steps ++ rest)) (items_from event n steps) rest
+marks_cut event n [] rest all begins = unmarked_cut rest begins
+marks_cut event n (step ∷ steps) rest all begins =
+    go (record { event = event; number = n; step = step }) (is_mark step) (items_from event (suc n) steps) all.0
+    (marks_cut event (suc n) steps rest all.1 begins)
+  where
+    go : (item : Item) (b : Bool) (marks : List Item) → b ≡ true → AreParts (cut_items (marks ++ rest)) marks rest →
+        AreParts (let cut = cut_items (marks ++ rest) in
+        if b then (item ∷ cut.0, cut.1) else ([], item ∷ marks ++ rest))
+        (item ∷ marks) rest
+    go item true marks e parts = ap (λ (cut : List Item × List Item). (item ∷ cut.0, cut.1)) parts
+    go item false marks e parts = absurd (cc e)
+
+-- behind the steps for a new key
+pub key_cut : (event n : ℕ) (steps : List Step) (rest : List Item) → IsKeySteps steps → BeginsUnmarked rest →
+    AreParts (cut_rekey (items_from event n steps ++ rest)) (items_from event n steps) rest
+key_cut event n [] rest k begins = absurd k
+key_cut event n (a ∷ []) rest k begins = absurd k
+key_cut event n (a ∷ b ∷ []) rest k begins = absurd k
+key_cut event n (a ∷ b ∷ c ∷ more) rest k begins =
+    go (items_from event n (a ∷ b ∷ [])) (items_from event (suc (suc n)) (c ∷ more)) (is_mark c) k.0
+    (marks_cut event (suc (suc n)) (c ∷ more) rest k begins)
+  where
+    go : (front marks : List Item) (by : Bool) → by ≡ true → AreParts (cut_items (marks ++ rest)) marks rest →
+        AreParts (let cut = cut_items (marks ++ rest) in
+        if by then (front ++ cut.0, cut.1) else ([], front ++ marks ++ rest))
+        (front ++ marks) rest
+    go front marks true e parts = ap (λ (cut : List Item × List Item). (front ++ cut.0, cut.1)) parts
+    go front marks false e parts = absurd (cc e)
+
+-- and in front of all, where there are none
+pub plain_cut : (items : List Item) → BeginsUnmarked (drop 2 items) → AreParts (cut_rekey items) [] items
+plain_cut [] begins = refl
+plain_cut (a ∷ []) begins = refl
+plain_cut (a ∷ b ∷ []) begins = refl
+plain_cut (a ∷ b ∷ c ∷ items) begins = go (is_mark c.step) begins
+  where
+    go : (by : Bool) → by ≡ false →
+        AreParts (let cut = cut_items (c ∷ items) in if by then (a ∷ b ∷ cut.0, cut.1) else ([], a ∷ b ∷ c ∷ items))
+        [] (a ∷ b ∷ c ∷ items)
+    go true e = absurd (cc e)
+    go false e = refl
+
+-- The steps of a system call for a new key
+
+abbrev is_visit : Deed → Bool
+is_visit (look_deed g) = false
+is_visit (at_pool v) = true
+is_visit (at_base v) = true
+is_visit (at_cpu v) = true
+is_visit nothing_there = true
+
+visit_or : {E : Type 0} (deed : E → Deed) (o : Option E) → ((e : E) → is_visit (deed e) ≡ true) →
+    is_visit (deed_or deed o) ≡ true
+visit_or deed None visits = refl
+visit_or deed (Some e) visits = visits e
+
+module _ (lists : Lists) where
+  visit_at : (lane : LaneId) (place : ℕ) → is_visit (deed_at lists lane place) ≡ true
+  visit_at PoolLane place = visit_or (λ e. at_pool (pool_visit lists place e)) (slice_get lists.pool place) (λ e. refl)
+  visit_at BaseLane place = visit_or (λ e. at_base (base_visit lists place e)) (slice_get lists.base place) (λ e. refl)
+  visit_at (CpuLane c) place = visit_or (λ e. at_cpu (cpu_visit lists c place e)) (slice_get (cpu_list lists c) place)
+      (λ e. refl)
+
+  -- a mark stands exactly where a visit does
+  marks_are : (steps : List Step) → map is_mark steps ≡ map is_visit (deeds_of lists steps)
+  marks_are [] = refl
+  marks_are (Look g ∷ steps) = ap (λ (l : List Bool). false ∷ l) (marks_are steps)
+  marks_are (Marked mark ∷ steps) = λ i. sym (visit_at mark.lane mark.place) i ∷ marks_are steps i
+
+  all_marks : (steps : List Step) → AllByRecursion (λ b. b ≡ true) (map is_mark steps) →
+      AllByRecursion (λ step. is_mark step ≡ true) steps
+  all_marks [] all = tt
+  all_marks (step ∷ steps) all = (all.0, all_marks steps all.1)
+
+  key_marks : (steps : List Step) (more : List Bool) → map is_mark steps ≡ false ∷ false ∷ true ∷ more →
+      AllByRecursion (λ b. b ≡ true) more → IsKeySteps steps
+  key_marks [] more e all = absurd (cc e)
+  key_marks (a ∷ []) more e all = absurd (cc e)
+  key_marks (a ∷ b ∷ []) more e all = absurd (cc e)
+  key_marks (a ∷ b ∷ c ∷ steps) more e all =
+      let rest : map is_mark steps ≡ more = cc e in
+      (cc e, all_marks steps (subst (AllByRecursion (λ b. b ≡ true)) (sym rest) all))
+
+  -- a read from a CPU behind a look
+  read_steps : (set : Told) (steps : List Step) (g : ℕ) (rest : List Deed) → deeds_of lists steps ≡ look_deed g ∷ rest →
+      CpuReadForm set (User 32) rest → IsKeySteps steps
+  read_steps set steps g rest e (inl f) =
+      key_marks steps [] (marks_are steps ∙ ap (map is_visit) e
+      ∙ ap (λ (l : List Deed). false ∷ map is_visit l) f.deeds_are) tt
+  read_steps set steps g rest e (inr f) =
+      key_marks steps (true ∷ []) (marks_are steps ∙ ap (map is_visit) e
+      ∙ ap (λ (l : List Deed). false ∷ map is_visit l) f.deeds_are)
+      (refl, tt)
+
+  -- its look is no less than what was seen before it
+  look_seen : (w : View) (low high g : ℕ) (rest : List Deed) (deals : List Deal) → Sees w low deals high →
+      deeds_of lists (map step_of deals) ≡ look_deed g ∷ rest → low ≤ g
+  look_seen w low high g rest [] sees e = absurd (cc e)
+  look_seen w low high g rest (looked h ∷ deals) sees e =
+      let same : look_deed h ≡ look_deed g = cc e in let found : h ≡ g = cc same in let a = sees.0 in omega arith
+  look_seen w low high g rest (visited mark entry ∷ deals) sees e =
+      let no : true ≡ false = sym (visit_at mark.lane mark.place)
+      ∙ ap (λ (l : List Deed). elim l as (λ _. Bool) [ [] ↦ true | d ∷ ds ↦ is_visit d ]) e in absurd (cc no)
+
+-- where a generation was seen, a system call for a new key reads from the CPU
+pub key_call : (set : Setting) (answer : SystemAnswer) (l m : Moment)
+    (k : Did (SystemCall (setting_of set) 32 0 answer) set l m)
+    (lanes : ℕ) (visits : ℕ → List Visit) → Continues lanes m.view visits → 1 ≤ floor l.view →
+    IsKeySteps (map step_of k.deals)
+key_call set answer l m k lanes visits c seen =
+    let lists : Lists = book_lists lanes visits [] in
+    let f = (k.stands lanes visits [] c).form in
+    let above = look_seen lists m.view (floor l.view) (floor m.view) f.0 f.1 k.deals k.told.went.sees f.2 in
+    go lists f.0 f.1 (omega arith) f.2 (f.0 == 0 && not (is_insecure 0)) refl f.3
+  where
+    no_zero : (g : ℕ) → 1 ≤ g → (g == 0 && not (is_insecure 0)) ≡ true → ⊥
+    no_zero g low e = let zero_is = eqb-true g 0 (and_parts (g == 0) (not (is_insecure 0)) e).0 in absurd (omega arith)
+
+    reads : (lists : Lists) (g : ℕ) (rest : List Deed) → 1 ≤ g →
+        deeds_of lists (map step_of k.deals) ≡ look_deed g ∷ rest →
+        ReadForm (setting_of set) (User 32) g rest → IsKeySteps (map step_of k.deals)
+    reads lists g rest low e (inl f) = let zero_is = f.0 in absurd (omega arith)
+    reads lists g rest low e (inr f) = read_steps lists (setting_of set) (map step_of k.deals) g rest e f
+
+    go : (lists : Lists) (g : ℕ) (rest : List Deed) → 1 ≤ g →
+        deeds_of lists (map step_of k.deals) ≡ look_deed g ∷ rest →
+        (b : Bool) → (g == 0 && not (is_insecure 0)) ≡ b →
+        MatchBool b (WaitedInVain rest ⊎ Waited (setting_of set) 32 rest) (ReadForm (setting_of set) (User 32) g rest) →
+        IsKeySteps (map step_of k.deals)
+    go lists g rest low e true b h = absurd (no_zero g low b)
+    go lists g rest low e false b h = reads lists g rest low e h

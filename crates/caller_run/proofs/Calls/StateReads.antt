@@ -1,0 +1,143 @@
+-- Reads out of a caller's current vgetrandom state, as its loop over the events sees them.
+use Rattle.std.proofs.Common.{Option, ◌≤◌, ◌≡◌, ℕ, ◌<◌, List, [], ◌++◌, length, map, get_or, sym, ap, ◌∙◌, subst, refl}
+use Rattle.std.specs.Prelude.{Result, slice_get, unwrap_or}
+use Rattle.std.specs.List.{AllByRecursion}
+use Rattle.key_names.specs.declared.errno.Errno.{Errno}
+use Rattle.key_names.specs.declared.events.Answer.{Answer}
+use Rattle.key_names.specs.declared.events.Word.TheVariants.{Vread as VreadWord}
+use Rattle.key_names.specs.declared.names.Step.{Step}
+use Rattle.key_names.specs.Calls.{vread_call}
+use Rattle.key_names.specs.Meaning.{current_state, with_state}
+use Rattle.key_names.specs.SeenLine.{Shown, bytes_or_none}
+use Rattle.key_names.specs.Texts.TranscriptGrammar.{StepFits}
+use Rattle.key_names.specs.VgetrandomState.{VgetrandomState, wiped_state}
+use Rattle.lane_table.specs.Calls.{view}
+use Rattle.lane_table.specs.Went.{Deal, step_of, floor}
+use Rattle.lane_table.specs.Hands.{Has}
+use Rattle.lane_table.specs.declared.lanes.Lanes.{Lanes}
+use Rattle.key_names.specs.Meaning.{CallerState}
+use Rattle.key_names.specs.VreadSteps.{published_by}
+use Rattle.std.proofs.lemmas.Option.{slice_get-get_or}
+use Rattle.rng_core.specs.Acts.{ActOutcome}
+use Rattle.rng_core.proofs.InsideCalls.{fresh_undone, outcomes_long}
+use Rattle.caller_run.specs.Calling.{StateRead}
+use Rattle.caller_run.specs.Says.{IsNoCount}
+use Rattle.rng_core.specs.declared.acts.Bound.{Bound}
+use Rattle.rng_core.specs.declared.attempt.Attempt.TheVariants.{Before}
+use Rattle.rng_core.specs.Acting.{act_stand, InsideRan}
+use Rattle.rng_core.specs.Acts.{Ask, asks_of, outcomes_of}
+use Rattle.rng_core.specs.Did.{result_answer, given}
+use Rattle.rng_core.specs.Hosted as core
+use Rattle.rng_core.specs.InsideDid.{IsFresh, bound_acts, InsideDid}
+use Rattle.rng_core.specs.Told.{moment}
+use Rattle.rng_core.specs.VreadDid.{VreadDid}
+use Rattle.caller_run.specs.Calling.{stand}
+use Rattle.caller_run.specs.Done.{CallDone}
+use Rattle.caller_run.specs.Says.{shown_by, line_of}
+use Rattle.caller_run.specs.declared.caller.Caller.{Caller}
+use Rattle.caller_run.specs.declared.said.Said.{Said}
+use Rattle.caller_run.proofs.Calls.InsideDone.{inside_done}
+use Rattle.caller_run.proofs.Calls.VreadDone.{vread_done}
+
+-- the current one of some states
+pub current_is : (states : List VgetrandomState) (i : ℕ) (other : VgetrandomState) → i < length states →
+    get_or states i other ≡ unwrap_or (slice_get states i) wiped_state
+current_is states i other low = sym (ap (λ (o : Option VgetrandomState). unwrap_or o wiped_state)
+    (slice_get-get_or states i other low))
+
+-- d is c behind a read out of this state, which left that one
+pub record IsBehind (t : Lanes) (c d : Caller) (said : Said) (served : List ℕ) (before : List Step)
+    (st left : VgetrandomState)
+    (ended : Result (Unit {0}) Errno) : Type 0 where
+  pub has : Has t d.set.caller [] d.pass
+  pub set : d.set ≡ c.set
+  pub stands : stand d ≡ with_state (stand c) left
+  pub published : left.generation ≤ published_by (floor (view d.pass))
+  pub new : before ≡ []
+  pub current : st ≡ current_state (stand c)
+  pub answers : said.answer ≡ result_answer ended
+  pub shows : shown_by served said.shows ≡ bytes_or_none (given ended served)
+  pub bytes : IsNoCount said.shows
+
+module _ {t : Lanes} {c d : Caller} {said : Said} {served : List ℕ} {before : List Step} {st left : VgetrandomState}
+    {ended : Result (Unit {0}) Errno} (b : IsBehind t c d said served before st left ended) where
+  -- as the line tells it
+  told_by : (P : VgetrandomState → Answer → Shown → List Step → Type 0) →
+      P st (result_answer ended) (bytes_or_none (given ended served)) before →
+      P (current_state (stand c)) said.answer (shown_by served said.shows) []
+  told_by P here =
+      subst (P (current_state (stand c)) said.answer (shown_by served said.shows)) b.new
+      (subst (λ (s : VgetrandomState). P s said.answer (shown_by served said.shows) before) b.current
+      (subst (λ (a : Answer). P st a (shown_by served said.shows) before) (sym b.answers)
+      (subst (λ (x : Shown). P st (result_answer ended) x before) (sym b.shows) here)))
+
+  steps_fit : {steps : List Step} (deals : List Deal) → steps ≡ before ++ map step_of deals →
+      AllByRecursion StepFits (map step_of deals) → AllByRecursion StepFits steps
+  steps_fit deals trace fits = subst (AllByRecursion StepFits)
+      (sym (trace ∙ ap (λ (l : List Step). l ++ map step_of deals) b.new)) fits
+
+  module _ {n flags : ℕ} {steps : List Step} where
+    -- a read is told by what it did
+    read_by : (asks : List Ask) (zs : List ActOutcome) →
+        CallDone c.set.caller (view c.pass) (view d.pass) (stand c) (with_state (stand c) left)
+        (vread_call n flags (line_of c.set VreadWord served said steps) (bound_acts c.set asks zs)) →
+        length zs ≡ length asks → AllByRecursion StepFits steps →
+        AllByRecursion (λ z. AllByRecursion StepFits z.steps) zs →
+        StateRead t n flags c d said served steps asks zs
+    read_by asks zs done long steps_fit acts_fit = record {
+      has = b.has;
+      set = b.set;
+      left = left;
+      stands = b.stands;
+      published = b.published;
+      done = subst (λ (s : CallerState). CallDone c.set.caller (view c.pass) (view d.pass) (stand c) s
+          (vread_call n flags (line_of c.set VreadWord served said steps) (bound_acts c.set asks zs))) (sym b.stands)
+          done;
+      long = long;
+      steps_fit = steps_fit;
+      acts_fit = acts_fit;
+      shows = b.bytes;
+    }
+
+    -- with no act inside
+    pub read_alone : (acts : List Bound) (out : List ℕ) → acts ≡ [] →
+        VreadDid n flags st left (result_answer ended) (bytes_or_none (given ended served)) c.set (moment c.pass before)
+        (moment d.pass steps) →
+        StateRead t n flags c d said served steps (asks_of acts) (outcomes_of acts out)
+    read_alone acts out none did =
+        subst (λ (bs : List Bound). StateRead t n flags c d said served steps (asks_of bs) (outcomes_of bs out))
+        (sym none)
+        (read_by [] []
+        (vread_done c.set (view c.pass) (view d.pass) (stand c) n flags left said.answer (shown_by served said.shows)
+        VreadWord steps refl
+        (told_by (λ s a x l. VreadDid n flags s left a x c.set (moment c.pass l) (moment d.pass steps)) did))
+        refl (steps_fit did.did.deals did.did.told.trace did.did.told.fits) tt)
+
+    -- with these acts inside, which then were those
+    pub read_inside : (acts after : List Bound) (out out_after : List ℕ) → AllByRecursion IsFresh acts →
+        1 < length (view c.pass).lanes →
+        asks_of after ≡ asks_of acts →
+        InsideDid n flags st left (result_answer ended) (bytes_or_none (given ended served)) c.set
+        (moment c.pass before)
+        (moment d.pass steps)
+        (asks_of acts) (outcomes_of after out_after) →
+        InsideRan n flags st left (act_stand (core.stand c.set c.pass before) Before (asks_of acts)
+        (outcomes_of acts out))
+        (λ last. act_stand (core.stand c.set d.pass steps) last (asks_of after) (outcomes_of after out_after)) →
+        StateRead t n flags c d said served steps (asks_of acts) (outcomes_of after out_after)
+    read_inside acts after out out_after fresh two asks did ran =
+        let zs = outcomes_of after out_after in
+        read_by (asks_of acts) zs
+        (inside_done c.set (view c.pass) (view d.pass) (stand c) n flags left said.answer (shown_by served said.shows)
+        VreadWord steps
+        (asks_of acts)
+        (outcomes_of acts out) zs refl (fresh_undone acts out fresh) (outcomes_long acts out) two
+        (told_by (λ s a x l. InsideDid n flags s left a x c.set (moment c.pass l) (moment d.pass steps) (asks_of acts)
+        zs) did)
+        (told_by (λ s a x l. InsideRan n flags s left (act_stand (core.stand c.set c.pass l) Before (asks_of acts)
+        (outcomes_of acts out))
+        (λ last. act_stand (core.stand c.set d.pass steps) last (asks_of acts) zs))
+        (subst (λ (l : List Ask). InsideRan n flags st left
+        (act_stand (core.stand c.set c.pass before) Before (asks_of acts) (outcomes_of acts out))
+        (λ last. act_stand (core.stand c.set d.pass steps) last l zs)) asks ran)))
+        (outcomes_long after out_after ∙ ap length asks) (steps_fit did.deals did.trace did.fits) did.acts_fit

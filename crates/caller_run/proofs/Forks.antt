@@ -1,0 +1,9 @@
+-- A caller with all that it forks.
+pub mod HasGone
+pub mod HasForked
+pub mod Forking
+pub mod WentOn
+pub mod Joins
+pub mod Runs
+pub mod Gathers
+pub mod AllCallers

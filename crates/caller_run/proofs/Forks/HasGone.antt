@@ -1,0 +1,212 @@
+-- What a caller has done, behind one event more.
+use Rattle.std.proofs.Common.{◌≡◌, ℕ, suc, true, List, [], ◌∷◌, ◌++◌, refl, sym, ap, ◌∙◌, subst, arith, append_assoc, length}
+use Rattle.std.specs.List.{AllByRecursion}
+use Rattle.key_names.specs.declared.events.Answer.TheVariants.{Ok as Done}
+use Rattle.key_names.specs.declared.events.Event.{Event}
+use Rattle.key_names.specs.declared.events.Event.TheVariants.{Vread, Inside}
+use Rattle.key_names.specs.declared.events.Word.TheVariants.{End as EndWord}
+use Rattle.key_names.specs.declared.names.Step.{Step}
+use Rattle.key_names.specs.declared.entries.BaseEntry.TheVariants.{End}
+use Rattle.key_names.specs.Calls.{Call, alone, ending, has_vread, setting_after, setting_after_call}
+use Rattle.std.specs.List.{fold}
+use Rattle.std.proofs.lemmas.List.Sums.{fold-append}
+use Rattle.key_names.specs.Forms.{BaseOnly}
+use Rattle.key_names.specs.IsTranscript.{LineIs, LinesFit}
+use Rattle.key_names.specs.Meaning.{CallerState, caller_start, caller_after}
+use Rattle.key_names.specs.Texts.ScriptGrammar.{event_word}
+use Rattle.key_names.specs.SeenLine.{SeenLine, no_data}
+use Rattle.lane_table.specs.declared.lanes.Lanes.{Lanes}
+use Rattle.lane_table.specs.declared.lanes.Pass.{Pass}
+use Rattle.lane_table.specs.declared.view.View.{View}
+use Rattle.lane_table.specs.Calls.{view}
+use Rattle.rng_core.specs.declared.setting.Setting.{Setting}
+use Rattle.rng_core.specs.Acts.{Ask}
+use Rattle.rng_core.specs.Told.{moment}
+use Rattle.rng_core.specs.Did.{Did}
+use Rattle.caller_run.specs.declared.caller.Caller.{Caller}
+use Rattle.caller_run.specs.declared.said.Said.{Said}
+use Rattle.caller_run.specs.Calling.{stand, Called}
+use Rattle.caller_run.specs.Done.{CallDone, CallsDone}
+use Rattle.caller_run.specs.Kinds.{IsCall}
+use Rattle.caller_run.specs.Says.{shown_by, line_of}
+use Rattle.caller_run.specs.Waiting.{IsAlone, CallsSoFar}
+use Rattle.caller_run.specs.Standing.{HasLine, Start, Forked, HasGone, HasEnded}
+use Rattle.caller_run.proofs.Orders.CallChains.{calls_done_nothing, calls_done_plainly}
+use Rattle.caller_run.proofs.Forks.HasForked.{forked_more}
+use Rattle.caller_run.proofs.Calls.CoreDone.{core_done, end_done}
+use Rattle.caller_run.proofs.Orders.LoopCalls.{alone_follows, so_far_nothing, so_far_alone, so_far_end}
+use Rattle.caller_run.proofs.Law.Seeing.{same_stand}
+use Rattle.caller_run.proofs.Calls.CanGo.{GoesOn, setting_moves}
+use Rattle.caller_run.proofs.Orders.ToldAnew.{idle_more}
+
+call_alone : (event : Event) → IsCall event → IsAlone event
+call_alone (Vread len flags) is = absurd is
+call_alone (Inside point act) is = absurd is
+call_alone event is = tt
+
+-- one line more fits
+pub fit_more : (caller n : ℕ) (events : List Event) (event : Event) (rest : List Event) (lines : List SeenLine)
+    (line : SeenLine) →
+    LineIs caller n (event_word event) line →
+    ((more : List SeenLine) → LinesFit caller n (event ∷ rest) more → LinesFit caller 0 events (lines ++ more)) →
+    (more : List SeenLine) → LinesFit caller (suc n) rest more → LinesFit caller 0 events ((lines ++ line ∷ []) ++ more)
+fit_more caller n events event rest lines line is fit more f =
+    subst (LinesFit caller 0 events) (sym (append_assoc lines (line ∷ []) more)) (fit (line ∷ more) (is, f))
+
+-- an event that the caller made, c being the caller before it, d behind its call, and e where it goes on
+module _ {begun : Start} {events rest : List Event} {event : Event} {c e : Caller} {lines : List SeenLine}
+    {asks : List Ask} {kids : List Start}
+    (d : Caller) (g : HasGone begun events (event ∷ rest) c lines asks kids) (set : d.set ≡ c.set)
+    (on : GoesOn event d e) where
+  -- behind it the calls are these, and these callers were forked
+  pub gone_on : (calls : List Call) (after : List SeenLine) (left waiting : List Ask) (more : List Start) →
+      CallsDone begun.caller (length more) begun.view (view d.pass) (caller_start begun.set)
+      (caller_after (stand d) event) calls →
+      (caller_after (stand d) event).setting ≡ fold setting_after_call begun.set calls →
+      AllByRecursion (Forked begun (view d.pass) calls) more →
+      (has_vread rest ≡ true → waiting ≡ left) → CallsSoFar events rest after waiting calls →
+      ((more : List SeenLine) → LinesFit begun.caller (suc c.set.event) rest more →
+      LinesFit begun.caller 0 events (after ++ more)) →
+      AllByRecursion (HasLine begun.caller after) left → HasGone begun events rest e after left more
+  gone_on calls after left waiting more done settings forked waits so_far fit idle = record {
+    own = on.caller ∙ ap (λ (s : Setting). s.caller) set ∙ g.own;
+    calls = calls;
+    done = subst (λ (s : CallerState). CallsDone begun.caller (length more) begun.view (view e.pass)
+        (caller_start begun.set) s calls)
+        (sym on.stand)
+        (subst (λ (p : Pass). CallsDone begun.caller (length more) begun.view (view p) (caller_start begun.set)
+        (caller_after (stand d) event) calls)
+        (sym on.pass) done);
+    settings = ap (λ (s : CallerState). s.setting) on.stand ∙ settings;
+    forked = subst (λ (p : Pass). AllByRecursion (Forked begun (view p) calls) more) (sym on.pass) forked;
+    waiting = waiting;
+    waits = waits;
+    so_far = so_far;
+    fit = subst (λ (n : ℕ). (more : List SeenLine) → LinesFit begun.caller n rest more →
+        LinesFit begun.caller 0 events (after ++ more))
+        (let a = on.event in let b = ap (λ (s : Setting). s.event) set in
+        let q : suc c.set.event ≡ e.set.event = omega arith in q) fit;
+    idle = idle;
+  }
+
+  -- they are one more, which forks nobody
+  pub gone_by : (call : Call) (after : List SeenLine) (left waiting : List Ask) →
+      CallDone c.set.caller (view c.pass) (view d.pass) (stand c) (caller_after (stand d) event) call →
+      (caller_after (stand d) event).setting ≡ setting_after_call (stand c).setting call →
+      (has_vread rest ≡ true → waiting ≡ left) → CallsSoFar events rest after waiting (g.calls ++ call ∷ []) →
+      ((more : List SeenLine) → LinesFit begun.caller (suc c.set.event) rest more →
+      LinesFit begun.caller 0 events (after ++ more)) →
+      AllByRecursion (HasLine begun.caller after) left → HasGone begun events rest e after left kids
+  gone_by call after left waiting done sets =
+      gone_on (g.calls ++ call ∷ []) after left waiting kids
+      (calls_done_plainly begun.caller (length kids) begun.view (view c.pass) (view d.pass) (caller_start begun.set)
+      (stand c) (caller_after (stand d) event)
+      g.calls call g.done
+      (subst (λ (n : ℕ). CallDone n (view c.pass) (view d.pass) (stand c) (caller_after (stand d) event) call) g.own
+      done))
+      (sets ∙ ap (λ s. setting_after_call s call) g.settings
+      ∙ sym (fold-append setting_after_call begun.set g.calls (call ∷ [])))
+      (forked_more begun (view c.pass) (view d.pass) g.calls (call ∷ []) kids done.ran.same.sized done.ran.grows
+      g.forked)
+
+  -- the line of its call is the event's
+  pub own_line : (said : Said) (served : List ℕ) (steps : List Step) →
+      LineIs begun.caller c.set.event (event_word event) (line_of d.set (event_word event) served said steps)
+  own_line said served steps =
+      record {
+        caller = ap (λ (s : Setting). s.caller) set ∙ g.own;
+        event = ap (λ (s : Setting). s.event) set;
+        word_is = refl;
+      }
+
+-- an event whose call was one of the core
+module _ {begun : Start} {events rest : List Event} {event : Event} {t : Lanes} {c d e : Caller}
+    {lines : List SeenLine}
+    {asks : List Ask} {kids : List Start} {said : Said} {served : List ℕ} {steps : List Step} (is : IsCall event)
+    (k : Called t event c d said served steps)
+    (on : GoesOn event d e) where
+  pub gone_call : HasGone begun events (event ∷ rest) c lines asks kids →
+      HasGone begun events rest e (lines ++ line_of d.set (event_word event) served said steps ∷ []) asks kids
+  gone_call g =
+      let line : SeenLine = line_of d.set (event_word event) served said steps in
+      gone_by d g k.set on (alone event line) (lines ++ line ∷ []) asks g.waiting
+      (subst (λ (s : Setting). CallDone c.set.caller (view c.pass) (view d.pass) (stand c)
+      (caller_after (stand d) event)
+      (alone event (line_of s (event_word event) served said steps))) (sym k.set)
+      (subst (λ (s : CallerState). CallDone c.set.caller (view c.pass) (view d.pass) (stand c) (caller_after s event)
+      (alone event (line_of c.set (event_word event) served said steps))) (sym (same_stand k))
+      (core_done c.set (view c.pass) (view d.pass) (stand c) event (event_word event) said.answer
+      (shown_by served said.shows) steps refl k.does)))
+      (setting_moves (stand d) event ∙ ap (λ (s : CallerState). setting_after s.setting event) (same_stand k))
+      (λ has. g.waits (alone_follows event (call_alone event is) rest ∙ has))
+      (so_far_alone events rest lines g.waiting g.calls event line (call_alone event is) g.so_far)
+      (fit_more begun.caller c.set.event events event rest lines line (own_line d g k.set on said served steps) g.fit)
+      (idle_more begun.caller lines line asks g.idle)
+
+-- the end
+pub gone_all : {begun : Start} {events : List Event} {c : Caller} {lines : List SeenLine} {asks : List Ask}
+    {kids : List Start}
+    (d : Caller) (served : List ℕ) (said : Said) (steps : List Step) → d.set ≡ c.set → said.answer ≡ Done →
+    (line_of d.set EndWord served said steps).shown ≡ no_data →
+    Did (BaseOnly End) c.set (moment c.pass []) (moment d.pass steps) → HasGone begun events [] c lines asks kids →
+    HasEnded begun events (view d.pass) (lines ++ line_of d.set EndWord served said steps ∷ []) kids
+gone_all {begun = begun} {events = events} {c = c} {lines = lines} {kids = kids} d served said steps set answer shown
+    did g =
+    let line : SeenLine = line_of d.set EndWord served said steps in
+    let same : line ≡ record {
+      caller = c.set.caller;
+      event = c.set.event;
+      word = EndWord;
+      answer = Done;
+      steps = steps;
+      shown = no_data;
+    } =
+    (λ i. record {
+      caller = (set i).caller;
+      event = (set i).event;
+      word = EndWord;
+      answer = answer i;
+      steps = steps;
+      shown = shown i;
+    }) in
+    let ends : CallDone begun.caller (view c.pass) (view d.pass) (stand c) (stand c) (ending line) =
+    subst (λ (n : ℕ). CallDone n (view c.pass) (view d.pass) (stand c) (stand c) (ending line)) g.own
+    (subst (λ (l : SeenLine). CallDone c.set.caller (view c.pass) (view d.pass) (stand c) (stand c) (ending l))
+    (sym same)
+    (end_done c.set (view c.pass) (view d.pass) (stand c) EndWord steps did)) in
+    record {
+      fit = g.fit (line ∷ []) (record {
+        caller = ap (λ (s : Setting). s.caller) set ∙ g.own;
+        event = ap (λ (s : Setting). s.event) set;
+        word_is = refl;
+      });
+      reached = stand c;
+      done = subst (CallsDone begun.caller (length kids) begun.view (view d.pass) (caller_start begun.set) (stand c))
+          (sym (so_far_end events lines g.waiting g.calls line g.so_far))
+          (calls_done_plainly begun.caller (length kids) begun.view (view c.pass) (view d.pass)
+          (caller_start begun.set) (stand c) (stand c) g.calls (ending line) g.done ends);
+      forked = subst (λ (calls : List Call). AllByRecursion (Forked begun (view d.pass) calls) kids)
+          (sym (so_far_end events lines g.waiting g.calls line g.so_far))
+          (forked_more begun (view c.pass) (view d.pass) g.calls (ending line ∷ []) kids ends.ran.same.sized
+          ends.ran.grows g.forked);
+    }
+
+-- the start
+pub gone_nothing : (begun : Start) (events : List Event) (c : Caller) → c.set.caller ≡ begun.caller →
+    c.set.event ≡ 0 → stand c ≡ caller_start begun.set → view c.pass ≡ begun.view →
+    HasGone begun events events c [] [] []
+gone_nothing begun events c own none_yet stands knows = record {
+  own = own;
+  calls = [];
+  done = subst (λ (s : CallerState). CallsDone begun.caller 0 begun.view (view c.pass) (caller_start begun.set) s [])
+      (sym stands)
+      (subst (λ (w : View). CallsDone begun.caller 0 begun.view w (caller_start begun.set) (caller_start begun.set) [])
+      (sym knows) (calls_done_nothing begun.caller begun.view (caller_start begun.set)));
+  settings = ap (λ (s : CallerState). s.setting) stands;
+  forked = tt;
+  waiting = [];
+  waits = λ has. refl;
+  so_far = so_far_nothing events;
+  idle = tt;
+  fit = λ more fit. subst (λ (n : ℕ). LinesFit begun.caller n events more) none_yet fit;
+}

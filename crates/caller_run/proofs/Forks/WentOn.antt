@@ -1,0 +1,464 @@
+-- Callers on their way, with all that they fork.
+use Rattle.std.proofs.Common.{◌≡◌, ℕ, zero, suc, Some, ◌+◌, ◌<◌, ◌≤◌, ◌^◌, List, [], ◌∷◌, ◌++◌, length, map, refl, sym, ap, ◌∙◌, subst, arith, append_assoc, append-nil, length-append, replicate}
+use Rattle.std.specs.Prelude.{slice_get, vec_len, vec_capacity, sum_by}
+use Rattle.std.specs.List.{AllByRecursion}
+use Rattle.std.proofs.lemmas.List.{map-append}
+use Rattle.std.proofs.lemmas.List.Elements.{recursion_from_All}
+use Rattle.std.proofs.lemmas.List.Sums.{sum_by-cons}
+use Rattle.key_names.specs.declared.events.Event.{Event}
+use Rattle.key_names.specs.declared.events.Event.TheVariants.{Fork}
+use Rattle.key_names.specs.declared.entries.BaseEntry.TheVariants.{Fork as Forks, Stall, Unstall}
+use Rattle.key_names.specs.declared.names.Step.{Step}
+use Rattle.key_names.specs.declared.names.Step.TheVariants.{Visit as Marked}
+use Rattle.key_names.specs.Book.{list_at}
+use Rattle.key_names.specs.Forms.{BaseOnly}
+use Rattle.key_names.specs.Texts.ScriptGrammar.{Script, InRange, FewActs, ForksAbove}
+use Rattle.key_names.specs.SeenLine.{SeenLine}
+use Rattle.key_names.specs.Texts.TranscriptGrammar.{StepFits}
+use Rattle.key_names.specs.VgetrandomState.{wiped_state}
+use Rattle.key_names.proofs.Lists.Each.{each_append}
+use Rattle.lane_table.specs.declared.lanes.Lanes.{Lanes}
+use Rattle.lane_table.specs.declared.lanes.Pass.{Pass}
+use Rattle.lane_table.specs.declared.view.View.{View}
+use Rattle.lane_table.specs.Calls.{view, slots, IsSamePass}
+use Rattle.lane_table.specs.Hands.{Has, model}
+use Rattle.lane_table.specs.Steps.{halved, both_of}
+use Rattle.lane_table.specs.Went.{floor, step_of}
+use Rattle.lane_table.proofs.Calls.HandLemmas.{has_joined}
+use Rattle.rng_core.specs.declared.setting.Setting.{Setting}
+use Rattle.rng_core.specs.declared.acts.Bound.{Bound}
+use Rattle.rng_core.specs.Acts.{Ask, asks_of, all_wanted}
+use Rattle.rng_core.specs.Did.{Did, setting_of}
+use Rattle.rng_core.specs.InsideDid.{IsFresh}
+use Rattle.rng_core.specs.Told.{Moment, moment}
+use Rattle.rng_core.proofs.Doing.{did_floor}
+use Rattle.transcript_text.specs.Gathered.{Gathered}
+use Rattle.caller_run.specs.declared.caller.Caller.{Caller}
+use Rattle.caller_run.specs.declared.rooms.Room.{Room}
+use Rattle.caller_run.specs.declared.rooms.Sheet.{Sheet}
+use Rattle.caller_run.specs.declared.logs.Log.{Log}
+use Rattle.caller_run.specs.declared.ways.Way.{Way}
+use Rattle.caller_run.specs.Calling.{stand, StatesStand}
+use Rattle.caller_run.specs.Families.{SameHalves, RanOn, RanSo}
+use Rattle.caller_run.specs.Forest.{more, forks}
+use Rattle.caller_run.specs.Grove.{Grove, Plot, plant, grove_of, tree, told_in}
+use Rattle.caller_run.specs.Kinds.{ForksNobody}
+use Rattle.caller_run.specs.Laws.{Run}
+use Rattle.caller_run.specs.Plots.{plot, plot_by}
+use Rattle.caller_run.specs.Says.{most_shown}
+use Rattle.caller_run.specs.Standing.{Start, CanGoWith, CanGo, HasGone, HasEnded, waiting_in}
+use Rattle.caller_run.specs.Took.{since, Took}
+use Rattle.caller_run.specs.Ways.{IsNewSheet, ArePrepared, kids_of, child_set, start_of, CanGoIn, GoneIn, AreAbove, CanRun, CanGoOn, CanTell, RanPlain, AtFork, RanHere, TookFrom, kid_of, numbered, Returned, WentOn, SameKids, Past, WentBeside}
+use Rattle.caller_run.proofs.Calls.CanGo.{GoesOn, can_next}
+use Rattle.caller_run.proofs.Forks.Forking.{took_thread, took_here}
+use Rattle.caller_run.proofs.Forks.HasGone.{gone_nothing}
+use Rattle.caller_run.proofs.Plans.Groves.{prepared_none, grove_pushed}
+use Rattle.caller_run.proofs.Plans.LogFills.{Fills}
+use Rattle.caller_run.proofs.Forks.Runs.{low, ran_end, ran_fork, ran_so}
+use Rattle.caller_run.proofs.Law.Seeing.{seen_start, seen_up}
+use Rattle.caller_run.proofs.Orders.ToldAnew.{AreTold, told_more}
+
+-- ---- events up to a fork
+
+pub plain_event : (e : Event) → ((x : ℕ) → e ≡ Fork x → ⊥) → ForksNobody e
+plain_event (Fork child) other = other child refl
+plain_event e other = tt
+
+-- the same buffers, as slices
+pub as_slices : (P : ℕ → ℕ → Type 0) (a b c d : ℕ) → c ≡ a → d ≡ b → P a b → P c d
+as_slices P a b c d first second here = subst (λ (n : ℕ). P n d) (sym first) (subst (P a) (sym second) here)
+
+-- nobody was forked between two moments
+gone_halves : {begun : Start} {events es rest : List Event} {c d : Caller} {ls ls' : List SeenLine} {xs ys : List Ask}
+    {kids : List Start} → HasGone begun events es c ls xs kids → HasGone begun events rest d ls' ys kids →
+    SameHalves (view c.pass) (view d.pass)
+gone_halves g h = record {
+  share = h.done.ran.same.share ∙ sym g.done.ran.same.share;
+  halvings = h.done.ran.same.halvings ∙ sym g.done.ran.same.halvings;
+}
+
+ended_halves : {begun : Start} {events es : List Event} {c : Caller} {w : View} {ls ls' : List SeenLine} {xs : List Ask}
+    {kids : List Start} → HasGone begun events es c ls xs kids → HasEnded begun events w ls' kids →
+    SameHalves (view c.pass) w
+ended_halves g h = record {
+  share = h.done.ran.same.share ∙ sym g.done.ran.same.share;
+  halvings = h.done.ran.same.halvings ∙ sym g.done.ran.same.halvings;
+}
+
+same_kids : (x y : Way) → y.kids ≡ x.kids → SameKids x.kids y.kids
+same_kids x y is = record {
+  shape = ap (λ ks. tree (grove_of (map plot ks.items))) is;
+  many = ap vec_len is;
+  space = ap vec_capacity is;
+}
+
+-- a caller that forks nobody more
+module _ (t : Lanes) (script : Script) {events : List Event} {x m : Way} (y : Way) where
+  pub went_end : CanGoOn t script events x → RanPlain t events x [] m → y.kids ≡ m.kids →
+      y.caller.set ≡ m.caller.set → Has t y.caller.set.caller [] y.caller.pass →
+      floor (view y.caller.pass) ≤ (model y.caller.pass 1).base.generation →
+      ((begun : Start) (all : List Event) (kids : List Start) → GoneIn begun all [] m.caller m kids →
+      HasEnded begun all (view y.caller.pass) y.sheet.log.lines.lines kids) → WentOn t script events x y
+  went_end can plain kept set has reached ended = record {
+    has = has;
+    same = same_kids x y (kept ∙ plain.kids);
+    goes = λ begun all kids above gone.
+        let g = plain.gone begun all kids gone in let e = ended begun all kids g in record {
+          own = ap (λ (s : Setting). s.caller) set ∙ g.own;
+          end = view y.caller.pass;
+          starts = [];
+          runs = [];
+          ran = ran_end script (view x.caller.pass) (view y.caller.pass) (ended_halves gone e);
+          ended = subst (HasEnded begun all (view y.caller.pass) y.sheet.log.lines.lines) (sym (append-nil kids)) e;
+          seen = reached;
+          told = ap (λ ks. told_in (grove_of (map plot ks.items))) (kept ∙ plain.kids)
+              ∙ prepared_none script.callers (kids_of x)
+              (subst (ArePrepared script.callers (kids_of x)) plain.forks' can.ready);
+        };
+  }
+
+-- ---- the steps of a fork
+
+module _ (m w : Caller) (steps : List Step) (child : ℕ) (theirs : Pass) (at : AtFork m w steps child theirs) where
+  abbrev u : View
+  u = at.forked.before
+
+  did : Did (BaseOnly (Forks child)) m.set (since (view m.pass) []) (since u (Marked at.forked.mark ∷ []))
+  did = subst (λ (l : List Step). Did (BaseOnly (Forks child)) m.set (since (view m.pass) []) (since u l))
+      at.forked.visit at.forked.did
+
+  pub thread_took : TookFrom m w child u steps
+  thread_took = record {
+    set = at.set;
+    states = at.states;
+    took = subst (λ (v : View). Took m.set child (view m.pass) u v steps) (sym at.forked.pass_is)
+        (subst (Took m.set child (view m.pass) u (halved u)) (sym at.forked.visit)
+        (took_thread m.set child (view m.pass) u at.forked.mark did));
+  }
+
+  pub here_took : (p : Pass) (after : List Step) → RanHere w.set (moment w.pass steps) (moment p after) →
+      TookFrom m (record w { pass = p }) child u after
+  here_took p after here = record {
+    set = at.set;
+    states = at.states;
+    took = took_here m.set child (view m.pass) u at.forked.mark did here.middle.view (view p) here.middle.steps after
+        (subst (λ (l : List Step). Did (BaseOnly Stall) m.set (since (halved u) l) here.middle) at.forked.visit
+        (subst (λ (v : View). Did (BaseOnly Stall) m.set (since v steps) here.middle) at.forked.pass_is
+        (subst (λ (s : Setting). Did (BaseOnly Stall) s (moment w.pass steps) here.middle) at.set here.stall)))
+        (subst (λ (s : Setting). Did (BaseOnly Unstall) s here.middle (moment p after)) at.set here.unstall);
+  }
+
+-- ---- what a caller may do next
+
+-- a pass that saw more
+pub can_still : (t : Lanes) (c d : Caller) (log : Log) {served inside : ℕ} {rest : List Event} → d.set ≡ c.set →
+    d.states ≡ c.states → Has t d.set.caller [] d.pass → floor (view c.pass) ≤ floor (view d.pass) →
+    CanGo t c log served inside rest → CanGo t d log served inside rest
+can_still t c d log {served = served} {inside = inside} {rest = rest} set states has up can =
+    subst (λ (e : Caller). CanGo t e log served inside rest)
+    (λ i. record { pass = d.pass; set = sym set i; states = sym states i }) (record {
+      goes = record {
+        ready = record {
+          has = subst (λ (s : Setting). Has t s.caller [] d.pass) set has;
+          cpu = can.goes.ready.cpu;
+          moment = can.goes.ready.moment;
+        };
+        states = seen_up (floor (view c.pass)) (floor (view d.pass)) (stand c) up can.goes.states;
+        range = can.goes.range;
+        numbers = can.goes.numbers;
+        at = can.goes.at;
+        line_room = can.goes.line_room;
+        step_room = can.goes.step_room;
+        byte_room = can.goes.byte_room;
+        longest = can.goes.longest;
+        wanted = can.goes.wanted;
+        few = can.goes.few;
+        fresh = can.goes.fresh;
+        told = can.goes.told;
+      };
+      act_room = can.act_room;
+    })
+
+pub at_floor : (m w : Caller) (steps : List Step) (child : ℕ) (theirs : Pass) → AtFork m w steps child theirs →
+    floor (view m.pass) ≤ floor (view w.pass)
+at_floor m w steps child theirs at =
+    subst (λ (v : View). floor (view m.pass) ≤ floor v) (sym at.forked.pass_is)
+    (did_floor m.set (moment m.pass []) (record { view = at.forked.before; steps = steps }) at.forked.did)
+
+pub at_fits : (m w : Caller) (steps : List Step) (child : ℕ) (theirs : Pass) → AtFork m w steps child theirs →
+    AllByRecursion StepFits steps
+at_fits m w steps child theirs at =
+    subst (AllByRecursion StepFits) (sym at.forked.did.told.trace) at.forked.did.told.fits
+
+module _ (set : Setting) (m n : Moment) (here : RanHere set m n) where
+  pub here_floor : floor m.view ≤ floor n.view
+  here_floor =
+      let a = did_floor set m here.middle here.stall in let b = did_floor set here.middle n here.unstall in omega arith
+
+  pub here_fits : AllByRecursion StepFits m.steps → AllByRecursion StepFits n.steps
+  here_fits fits =
+      subst (AllByRecursion StepFits) (sym here.unstall.told.trace)
+      (each_append StepFits here.middle.steps (map step_of here.unstall.deals)
+      (subst (AllByRecursion StepFits) (sym here.stall.told.trace)
+      (each_append StepFits m.steps (map step_of here.stall.deals) fits here.stall.told.fits)) here.unstall.told.fits)
+
+-- the line of a fork
+module _ (before after : Gathered) (line : SeenLine) (lines : after.lines ≡ before.lines ++ line ∷ [])
+    (line_room : after.line_room + 1 ≡ before.line_room) (step_room : before.step_room ≤ after.step_room + 20)
+    (byte_room : before.byte_room ≤ after.byte_room) where
+  fills_fork : (child : ℕ) (acts : List Bound) → AllByRecursion IsFresh acts →
+      AreTold (length before.lines) (asks_of acts) → Fills (Fork child) before after acts acts
+  fills_fork child acts fresh told = record {
+    lines = ap length lines ∙ length-append before.lines (line ∷ []);
+    line_room = line_room;
+    step_room = omega arith;
+    byte_room = omega arith;
+    wanted = omega arith;
+    many = refl;
+    fresh = fresh;
+    told = subst (λ (ls : List SeenLine). AreTold (length ls) (asks_of acts)) (sym lines)
+        (told_more before.lines line (asks_of acts) told);
+  }
+
+  pub can_past : (t : Lanes) (child : ℕ) (c e : Caller) (log : Log) {served inside : ℕ} {rest : List Event} →
+      log.lines ≡ before → GoesOn (Fork child) c e → CanGo t c log served inside (Fork child ∷ rest) →
+      CanGo t e (record log { lines = after }) served inside rest
+  can_past t child c e log {served = served} {inside = inside} {rest = rest} is on can =
+      let goes : CanGoWith t c before log.acts.items served inside (Fork child ∷ rest) =
+      subst (λ (l : Gathered). CanGoWith t c l log.acts.items served inside (Fork child ∷ rest)) is can.goes in
+      record {
+        goes = can_next c refl goes.ready.has goes.states on (fills_fork child log.acts.items goes.fresh goes.told) goes;
+        act_room = can.act_room;
+      }
+
+pub can_on : (t : Lanes) (script : Script) (child : ℕ) (rest : List Event) (w z : Way) (steps : List Step) →
+    CanTell t script child rest w steps → z.kids ≡ w.kids → CanGoIn t z rest → CanGoOn t script rest z
+can_on t script child rest w z steps tell kids can = record {
+  can = can;
+  well = tell.well;
+  cpus = tell.cpus;
+  ready = subst (λ ks. ArePrepared script.callers (grove_of (map plot ks.items)) (forks rest)) (sym kids) tell.ready;
+}
+
+-- the line was told, and the caller went on
+module _ (t : Lanes) (script : Script) (child : ℕ) {rest : List Event} (w : Way) {z y : Way} (d : Caller) (steps : List Step)
+    (gone : (begun : Start) (events : List Event) (kids : List Start) (m : Caller) (u : View) →
+    TookFrom m d child u steps → begun.caller < child → GoneIn begun events (Fork child ∷ rest) m w kids →
+    GoneIn begun events rest z.caller z (kids ++ kid_of m child u ∷ []))
+    (pass : z.caller.pass ≡ d.pass) (on : WentOn t script rest z y) where
+  pub past : (begun : Start) (events : List Event) (kids : List Start) (m : Caller) (u : View) →
+      TookFrom m d child u steps → begun.caller < child → AreAbove begun.caller rest →
+      GoneIn begun events (Fork child ∷ rest) m w kids → Past script begun events kids u (kid_of m child u) y
+  past begun events kids m v from low above g = record {
+    behind = view z.caller.pass;
+    after = record {
+      share = ap (λ (p : Pass). (view p).share) pass ∙ from.took.behind.ran.same.share;
+      halvings = ap (λ (p : Pass). (view p).halvings) pass ∙ from.took.behind.ran.same.halvings;
+    };
+    went = on.goes begun events (kids ++ kid_of m child v ∷ []) above (gone begun events kids m v from low g);
+  }
+
+-- ---- a fork, and the rest
+
+module _ (t : Lanes) (script : Script) (child : ℕ) {events rest : List Event} {x m w y : Way} {steps : List Step}
+    {theirs q : Pass} (kid back : Room) (z : Way) where
+  pub went_fork : RanPlain t events x (Fork child ∷ rest) m → AtFork m.caller w.caller steps child theirs →
+      w.sheet ≡ m.sheet → kids_of m ≡ plant (plot kid) (kids_of w) →
+      (vec_len w.kids + 1 ≡ vec_len m.kids) × (vec_capacity w.kids ≡ vec_capacity m.kids) →
+      WentBeside t script child rest w steps theirs (plot kid) y q (plot back) →
+      z.caller.set ≡ y.caller.set → z.sheet ≡ y.sheet → IsSamePass t y.caller.pass z.caller.pass →
+      z.caller.pass.seat.me ≡ (both_of (view y.caller.pass) (view q), slots y.caller.pass) →
+      z.kids.items ≡ y.kids.items ++ back ∷ [] → vec_len z.kids ≡ vec_len y.kids + 1 →
+      vec_capacity z.kids ≡ vec_capacity y.kids → WentOn t script events x z
+  went_fork plain at sheet took space beside set filled same joined pushed longer log =
+      let put : kids_of z ≡ plant (plot back) (kids_of y) = grove_pushed z.kids.items y.kids.items back pushed in
+      record {
+        has = subst (λ (s : Setting). Has t s.caller [] z.caller.pass) (sym set)
+            (has_joined t y.caller.set.caller (view q) y.caller.pass z.caller.pass
+            (beside.has.pass.sized ∙ sym beside.of_child.has.pass.sized) beside.has same joined);
+        same = record {
+          shape = ap tree put
+              ∙ (λ i. more (beside.of_child.caller i) (beside.of_child.shape i) (beside.same.shape i))
+              ∙ sym (ap tree took) ∙ ap (λ ks. tree (grove_of (map plot ks.items))) plain.kids;
+          many = (let a = beside.same.many in let b = space.0 in let e = ap vec_len plain.kids in omega arith);
+          space = log ∙ beside.same.space ∙ space.1 ∙ ap vec_capacity plain.kids;
+        };
+        goes = λ begun all kids above gone.
+            let u = at.forked.before in
+            let g = plain.gone begun all kids gone in
+            let high = plain.above begun.caller above in
+            let first = (thread_took m.caller w.caller steps child theirs at).took.first.ran.same in
+            let to_m : SameHalves (view x.caller.pass) (view m.caller.pass) = gone_halves gone g in
+            let gw : GoneIn begun all (Fork child ∷ rest) m.caller w kids =
+            subst (λ (s : Sheet). HasGone begun all (Fork child ∷ rest) m.caller s.log.lines.lines
+            (waiting_in s.log) kids) (sym sheet) g in
+            let p = beside.goes begun all kids m.caller at high.0 high.1 gw in
+            let new : Start = kid_of m.caller child u in
+            let is : start_of (child_set child w.caller.set) theirs ≡ new =
+            (λ i. record { caller = child; set = setting_of (at.set i); view = at.forked.child_is i }) in
+            let theirs_ran : RanSo script new (view q) beside.of_child.own beside.of_child.runs =
+            subst (λ (s : Start). RanSo script s (view q) beside.of_child.own beside.of_child.runs) is
+            beside.of_child.ran in
+            record {
+              own = ap (λ (s : Setting). s.caller) set ∙ p.went.own;
+              end = p.went.end;
+              starts = new ∷ p.went.starts;
+              runs = (beside.of_child.own ∷ beside.of_child.runs) ++ p.went.runs;
+              ran = subst (λ (v : View). RanOn script (view x.caller.pass) p.went.end v (new ∷ p.went.starts)
+                  ((beside.of_child.own ∷ beside.of_child.runs) ++ p.went.runs))
+                  (sym (ap (λ s. s.0) joined))
+                  (ran_fork script (view x.caller.pass) u p.behind p.went.end (view y.caller.pass) (view q) new
+                  p.went.starts p.went.runs beside.of_child.own beside.of_child.runs
+                  (record {
+                    share = first.share ∙ to_m.share;
+                    halvings = (let a = first.halvings in let b = to_m.halvings in omega arith);
+                  })
+                  p.after p.went.ran refl theirs_ran
+                  (sym theirs_ran.joined.sized ∙ beside.of_child.has.pass.sized ∙ sym beside.has.pass.sized
+                  ∙ p.went.ran.joined.sized));
+              ended = subst (HasEnded begun all p.went.end z.sheet.log.lines.lines)
+                  (append_assoc kids (new ∷ []) p.went.starts)
+                  (subst (λ (s : Sheet). HasEnded begun all p.went.end s.log.lines.lines
+                  ((kids ++ new ∷ []) ++ p.went.starts)) (sym filled) p.went.ended);
+              seen = p.went.seen;
+              told = ap told_in put
+                  ∙ (λ i. beside.of_child.told i ++ p.went.told i)
+                  ∙ sym (map-append numbered (beside.of_child.own ∷ beside.of_child.runs) p.went.runs);
+            };
+      }
+
+-- ---- from a start to the end
+
+pub at_number : (P : List Event → Type 0) (callers : List (List Event)) (c : ℕ) (es : List Event) →
+    slice_get callers c ≡ Some es → AllByRecursion P callers → P es
+at_number P [] c es there all = cc
+at_number P (x ∷ xs) zero es there all = let same : x ≡ es = cc in subst P same all.0
+at_number P (x ∷ xs) (suc c) es there all = at_number P xs c es there all.1
+
+pub list_number : (callers : List (List Event)) (c : ℕ) (es : List Event) → slice_get callers c ≡ Some es →
+    list_at callers c ≡ es
+list_number [] c es there = cc
+list_number (x ∷ xs) zero es there = cc
+list_number (x ∷ xs) (suc c) es there = list_number xs c es there
+
+pub above_number : (k : ℕ) (callers : List (List Event)) (c : ℕ) (es : List Event) → slice_get callers c ≡ Some es →
+    ForksAbove k callers → AreAbove (c + k) es
+above_number k [] c es there all = cc
+above_number k (x ∷ xs) zero es there all = let same : x ≡ es = cc in
+    subst (λ (n : ℕ). AreAbove n es) (let q : k ≡ 0 + k = omega arith in q) (subst (AreAbove k) same all.0)
+above_number k (x ∷ xs) (suc c) es there all =
+    subst (λ (n : ℕ). AreAbove n es) (let q : c + suc k ≡ suc c + k = omega arith in q)
+    (above_number (suc k) xs c es there all.1)
+
+pub few_events : (callers : List (List Event)) (c : ℕ) (es : List Event) → slice_get callers c ≡ Some es →
+    length es ≤ sum_by length callers
+few_events [] c es there = cc
+few_events (x ∷ xs) zero es there = let same : x ≡ es = cc in let long = ap length same in
+    omega (arith, sum_by-cons length x xs)
+few_events (x ∷ xs) (suc c) es there = let rest = few_events xs c es there in
+    omega (arith, sum_by-cons length x xs)
+
+-- a caller at its start
+abbrev pub newly : Pass → Setting → Caller
+newly p set = record { pass = p; set = set; states = record { all = replicate 16 wiped_state; current = 0 } }
+
+module _ (t : Lanes) (script : Script) (set : Setting) (p : Pass) (a : Plot) (sheet : Sheet) (x : Way)
+    {events : List Event} (can : CanRun t script set p a) (begins : x.caller ≡ newly p set) (filled : x.sheet ≡ sheet)
+    (kids : grove_of (map plot x.kids.items) ≡ a.kids) (is : a.sheet ≡ sheet)
+    (there : slice_get script.callers a.caller ≡ Some events) where
+  listed : list_at script.callers a.caller ≡ events
+  listed = list_number script.callers a.caller events there
+
+  own_there : slice_get script.callers set.caller ≡ Some events
+  own_there = ap (slice_get script.callers) (sym can.is) ∙ there
+
+  new : IsNewSheet x.sheet events
+  new = subst (λ (s : Sheet). IsNewSheet s events) (is ∙ sym filled)
+      (subst (IsNewSheet a.sheet) listed can.new)
+
+  starts_well : CanGoIn t x events
+  starts_well = record {
+    goes = record {
+      ready = record {
+        has = subst (λ (c : Caller). Has t c.set.caller [] c.pass) (sym begins) can.has;
+        cpu = subst (λ (c : Caller). c.set.cpu < t.cpus) (sym begins) can.cpu;
+        moment = subst (λ (c : Caller). c.set.now < 2 ^ 40) (sym begins) can.now';
+      };
+      states = subst (λ (c : Caller). Seen' c) (sym begins) (seen_start (floor (view p)) (setting_of set));
+      range = (
+        script.version,
+        subst (λ (n : ℕ). AllByRecursion (InRange script.version n) events) (sym can.cpus)
+            (at_number (AllByRecursion (InRange script.version script.cpus)) script.callers a.caller events there
+            can.well.ranges),
+      );
+      numbers = (let q = few_events script.callers a.caller events there in let n = none_yet in
+          let b = can.well.events in omega arith);
+      at = none_yet ∙ ap length (sym new.lines);
+      line_room = (let n = new.line_room in omega arith);
+      step_room = (let n = new.step_room in let none = ap length new.acts in omega arith);
+      byte_room = (let n = new.byte_room in let b = ap (λ (l : List Bound). all_wanted (asks_of l)) new.acts in
+          omega arith);
+      longest = recursion_from_All (λ event. most_shown event ≤ vec_len x.sheet.served) events new.longest;
+      wanted = (let n = new.inside_is in let b = ap (λ (l : List Bound). all_wanted (asks_of l)) new.acts in
+          omega arith);
+      few = subst (λ (l : List Bound). (length l ≤ 8) × FewActs (length l) events) (sym new.acts)
+          (omega arith, at_number (FewActs 0) script.callers a.caller events there can.well.acts);
+      fresh = subst (AllByRecursion IsFresh) (sym new.acts) tt;
+      told = subst (λ (l : List Bound). AllByRecursion (λ b. b.event < length x.sheet.log.lines.lines) (asks_of l))
+          (sym new.acts) tt;
+    };
+    act_room = new.act_room;
+  }
+    where
+      none_yet : x.caller.set.event ≡ 0
+      none_yet = ap (λ (c : Caller). c.set.event) begins ∙ can.none_yet
+
+      Seen' : Caller → Type 0
+      Seen' c = StatesStand c
+
+  pub can_start : CanGoOn t script events x
+  can_start = record {
+    can = starts_well;
+    well = can.well;
+    cpus = can.cpus;
+    ready = subst (λ (g : Grove). ArePrepared script.callers g (forks events)) (sym kids)
+        (subst (λ (es : List Event). ArePrepared script.callers a.kids (forks es)) listed can.ready);
+  }
+
+  -- and at its end
+  pub returned : (y : Way) (b : Plot) → b ≡ plot_by a.caller y.sheet (map plot y.kids.items) →
+      WentOn t script events x y → Returned t script (start_of set p) a y.caller.pass b
+  returned y b put on =
+      let begun : Start = start_of set p in
+      let none : HasGone begun events events x.caller [] [] [] =
+      subst (λ (c : Caller). HasGone begun events events c [] [] []) (sym begins)
+      (gone_nothing begun events (newly p set) refl can.none_yet refl refl) in
+      let gone : GoneIn begun events events x.caller x [] =
+      subst (λ (l : List SeenLine). HasGone begun events events x.caller l (waiting_in x.sheet.log) []) (sym new.lines)
+      (subst (λ (l : List Bound). HasGone begun events events x.caller [] (asks_of l) []) (sym new.acts) none) in
+      let high : AreAbove set.caller events =
+      subst (λ (n : ℕ). AreAbove n events) (let q : set.caller + 0 ≡ set.caller = omega arith in q)
+      (above_number 0 script.callers set.caller events own_there can.well.above) in
+      let w = on.goes begun events [] high gone in
+      let own : Run = record {
+        begun = begun;
+        end = w.end;
+        lines = y.sheet.log.lines.lines;
+        kids = w.starts;
+      } in
+      let from : view x.caller.pass ≡ view p = ap (λ (c : Caller). view c.pass) begins in
+      record {
+        has = subst (λ (n : ℕ). Has t n [] y.caller.pass) w.own on.has;
+        own = own;
+        runs = w.runs;
+        ran = ran_so script begun (view y.caller.pass) own w.runs refl (record {
+          events = events;
+          there = own_there;
+          has = record { own = refl; ended = w.ended; seen = w.seen };
+        })
+            (subst (λ (v : View). RanOn script v w.end (view y.caller.pass) w.starts w.runs) from w.ran);
+        told = ap (λ (c : Plot). (c.caller, c.sheet.log.lines.lines) ∷ told_in c.kids) put
+            ∙ (λ i. (can.is i, y.sheet.log.lines.lines) ∷ w.told i);
+        caller = ap (λ (c : Plot). c.caller) put;
+        shape = ap (λ (c : Plot). tree c.kids) put ∙ on.same.shape ∙ ap tree kids;
+      }

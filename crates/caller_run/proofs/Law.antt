@@ -1,0 +1,10 @@
+-- All callers together made a lawful transcript.
+pub mod QuietForms
+pub mod LineMarks
+pub mod LineVisits
+pub mod Looks
+pub mod Marks
+pub mod Members
+pub mod SampleLaw
+pub mod Seeing
+pub mod Whole

@@ -1,0 +1,202 @@
+-- The steps of a call in the order in which they happen are those of its lines.
+use Rattle.std.proofs.Common.{append_assoc, ◌≡◌, ℕ, zero, suc, ◌+◌, ◌≤◌, Bool, true, false, cond, List, [], ◌∷◌, ◌++◌, take, drop, map, refl, sym, ap, ◌∙◌, subst, arith, append-nil}
+use Rattle.std.specs.Prelude.{if◌then◌else◌, ◌==◌}
+use Rattle.std.specs.List.{AllByRecursion, flat_map, sum_by}
+use Rattle.std.proofs.lemmas.List.{take-append-drop}
+use Rattle.std.proofs.lemmas.List.Sums.{sum_by-append}
+use Rattle.std.proofs.lemmas.Grind.{flat_map-append}
+use Rattle.key_names.specs.Calls.{Call, alone, vread_call, unbound, ending, BoundAct}
+use Rattle.key_names.specs.History.{is_mark}
+use Rattle.caller_run.specs.Items.{Item, line_items, cut_items, cut_rekey, items_at_point, vread_items, call_items}
+use Rattle.key_names.specs.SeenLine.{SeenLine}
+use Rattle.key_names.proofs.Lists.Each.{each_append, each_parts}
+use Rattle.caller_run.specs.Done.{call_lines, PointsFit}
+
+-- the steps of some lines
+abbrev pub lines_items : List SeenLine → List Item
+lines_items lines = flat_map line_items lines
+
+-- both parts of a cut are the whole
+cut_whole : (items : List Item) → items ≡ (cut_items items).0 ++ (cut_items items).1
+cut_whole [] = refl
+cut_whole (item ∷ items) = go (is_mark item.step) (cut_whole items)
+  where
+    go : (b : Bool) → items ≡ (cut_items items).0 ++ (cut_items items).1 →
+        let cut : List Item × List Item =
+        (if b then (item ∷ (cut_items items).0, (cut_items items).1) else ([], item ∷ items)) in
+        item ∷ items ≡ cut.0 ++ cut.1
+    go true rest = ap (λ (l : List Item). item ∷ l) rest
+    go false rest = refl
+
+pub rekey_whole : (items : List Item) → items ≡ (cut_rekey items).0 ++ (cut_rekey items).1
+rekey_whole [] = refl
+rekey_whole (a ∷ []) = refl
+rekey_whole (a ∷ b ∷ []) = refl
+rekey_whole (a ∷ b ∷ c ∷ items) = go (is_mark c.step)
+  where
+    go : (by : Bool) →
+        let cut : List Item × List Item =
+        (if by then (a ∷ b ∷ (cut_items (c ∷ items)).0, (cut_items (c ∷ items)).1) else ([], a ∷ b ∷ c ∷ items)) in
+        a ∷ b ∷ c ∷ items ≡ cut.0 ++ cut.1
+    go true = ap (λ (l : List Item). a ∷ b ∷ l) (cut_whole (c ∷ items))
+    go false = refl
+
+-- two lists without steps between others
+pub no_steps : (xs ys a b front : List Item) → a ≡ [] → b ≡ [] → (((front ++ xs) ++ a) ++ b) ++ ys ≡ front ++ (xs ++ ys)
+no_steps xs ys a b front e f = (λ i. (((front ++ xs) ++ e i) ++ f i) ++ ys) ∙ simp append-nil (append_assoc front xs ys)
+
+-- without steps at the points 3 and 4 the cut is of no account
+pub no_late : (items : List Item) (acts : List BoundAct) → items_at_point acts 3 ≡ [] → items_at_point acts 4 ≡ [] →
+    vread_items items acts ≡ (take 2 items ++ items_at_point acts 1 ++ items_at_point acts 2) ++ drop 2 items
+no_late items acts e f =
+    let cut = cut_rekey (drop 2 items) in
+    let front : List Item = take 2 items ++ items_at_point acts 1 ++ items_at_point acts 2 in
+    no_steps cut.0 cut.1 (items_at_point acts 3) (items_at_point acts 4) front e f
+    ∙ ap (λ (l : List Item). front ++ l) (sym (rekey_whole (drop 2 items)))
+
+-- where no act has any the steps of the line stand as they are
+pub own_items : (items : List Item) (acts : List BoundAct) → ((p : ℕ) → items_at_point acts p ≡ []) →
+    vread_items items acts ≡ items
+own_items items acts none =
+    no_late items acts (none 3) (none 4)
+    ∙ (λ i. (take 2 items ++ none 1 i ++ none 2 i) ++ drop 2 items)
+    ∙ simp append-nil (take-append-drop 2 items)
+
+abbrev pub act_line : BoundAct → SeenLine
+act_line bound = bound.line
+
+-- what each step weighs
+module _ (f : Item → ℕ) where
+  abbrev weight : List Item → ℕ
+  weight items = sum_by f items
+
+  at_one : (p w : ℕ) → 1 ≤ p → p ≤ 4 → cond (p == 1) w
+      0 + (cond (p == 2) w 0 + (cond (p == 3) w 0 + cond (p == 4) w 0)) ≡ w
+  at_one zero w from to = absurd (omega arith)
+  at_one (suc zero) w from to = omega arith
+  at_one (suc (suc zero)) w from to = omega arith
+  at_one (suc (suc (suc zero))) w from to = omega arith
+  at_one (suc (suc (suc (suc zero)))) w from to = omega arith
+  at_one (suc (suc (suc (suc (suc p))))) w from to = absurd (omega arith)
+
+  point_weight : (bound : BoundAct) (acts : List BoundAct) (point : ℕ) → weight (items_at_point (bound ∷ acts) point)
+      ≡ cond (bound.point == point) (weight (line_items bound.line)) 0 + weight (items_at_point acts point)
+  point_weight bound acts point = go (bound.point == point)
+    where
+      go : (b : Bool) → weight (if b then line_items bound.line
+          ++ items_at_point acts point else items_at_point acts point)
+          ≡ cond b (weight (line_items bound.line)) 0 + weight (items_at_point acts point)
+      go true = sum_by-append f (line_items bound.line) (items_at_point acts point)
+      go false = omega arith
+
+  acts_weight : (acts : List BoundAct) → AllByRecursion (λ bound. (1 ≤ bound.point) × (bound.point ≤ 4)) acts →
+      weight (items_at_point acts 1) + (weight (items_at_point acts 2)
+      + (weight (items_at_point acts 3) + weight (items_at_point acts 4))) ≡ weight (lines_items (map act_line acts))
+  acts_weight [] fit = refl
+  acts_weight (bound ∷ acts) fit =
+      let w : ℕ = weight (line_items bound.line) in
+      let one = at_one bound.point w fit.0.0 fit.0.1 in
+      let rest = acts_weight acts fit.1 in
+      let a = point_weight bound acts 1 in
+      let b = point_weight bound acts 2 in
+      let c = point_weight bound acts 3 in
+      let d = point_weight bound acts 4 in
+      let e : weight (lines_items (map act_line (bound ∷ acts))) ≡ w + weight (lines_items (map act_line acts)) =
+      sum_by-append f (line_items bound.line) (lines_items (map act_line acts)) in omega arith
+
+  pub vread_weight : (items : List Item) (acts : List BoundAct) →
+      AllByRecursion (λ bound. (1 ≤ bound.point) × (bound.point ≤ 4)) acts →
+      weight (vread_items items acts) ≡ weight (lines_items (map act_line acts)) + weight items
+  vread_weight items acts fit =
+      let a1 : List Item = items_at_point acts 1 in
+      let a2 : List Item = items_at_point acts 2 in
+      let a3 : List Item = items_at_point acts 3 in
+      let a4 : List Item = items_at_point acts 4 in
+      let r : List Item = (cut_rekey (drop 2 items)).0 in
+      let end : List Item = (cut_rekey (drop 2 items)).1 in
+      let to2 : List Item = take 2 items ++ a1 ++ a2 in
+      let w1 : weight (vread_items items acts) ≡ weight (to2 ++ r ++ a3 ++ a4) + weight end =
+      sum_by-append f (to2 ++ r ++ a3 ++ a4) end in
+      let w2 = sum_by-append f (to2 ++ r ++ a3) a4 in
+      let w3 = sum_by-append f (to2 ++ r) a3 in
+      let w4 = sum_by-append f to2 r in
+      let w5 = sum_by-append f (take 2 items ++ a1) a2 in
+      let w6 = sum_by-append f (take 2 items) a1 in
+      let acts_all = acts_weight acts fit in
+      let whole : weight items ≡ weight (take 2 items) + weight (drop 2 items) =
+      ap weight (sym (take-append-drop 2 items)) ∙ sum_by-append f (take 2 items) (drop 2 items) in
+      let behind : weight (drop 2 items) ≡ weight r + weight end =
+      ap weight (rekey_whole (drop 2 items)) ∙ sum_by-append f r end in omega arith
+
+-- what holds of each of both holds of each of one
+pub in_front : {X : Type 0} (P : X → Type 0) (xs ys : List X) → AllByRecursion P (xs ++ ys) → AllByRecursion P xs
+in_front P xs ys all = (each_parts P xs ys all).0
+
+pub behind : {X : Type 0} (P : X → Type 0) (xs ys : List X) → AllByRecursion P (xs ++ ys) → AllByRecursion P ys
+behind P xs ys all = (each_parts P xs ys all).1
+
+-- what holds of each step
+module _ (P : Item → Type 0) where
+  abbrev Each : List Item → Type 0
+  Each items = AllByRecursion P items
+
+  -- an act with this line, p being its point, and other acts at a point
+  abbrev At : List BoundAct → SeenLine → ℕ → ℕ → Type 0
+  At acts line p point =
+      Each (if p == point then line_items line ++ items_at_point acts point else items_at_point acts point)
+
+  -- those of each act are among those at its point
+  of_acts : (acts : List BoundAct) → AllByRecursion (λ bound. (1 ≤ bound.point) × (bound.point ≤ 4)) acts →
+      Each (items_at_point acts 1) → Each (items_at_point acts 2) → Each (items_at_point acts 3) →
+      Each (items_at_point acts 4) → Each (lines_items (map act_line acts))
+  of_acts [] fit a b c d = tt
+  of_acts (bound ∷ acts) fit a b c d = go bound.point fit.0.0 fit.0.1 a b c d (of_acts acts fit.1)
+    where
+      both : (point : ℕ) → Each (line_items bound.line ++ items_at_point acts point) →
+          (Each (items_at_point acts point) → Each (lines_items (map act_line acts))) →
+          Each (line_items bound.line ++ lines_items (map act_line acts))
+      both point all rest =
+          each_append P (line_items bound.line) (lines_items (map act_line acts))
+          (in_front P (line_items bound.line) (items_at_point acts point) all)
+          (rest (behind P (line_items bound.line) (items_at_point acts point) all))
+
+      go : (p : ℕ) → 1 ≤ p → p ≤ 4 → At acts bound.line p 1 → At acts bound.line p 2 → At acts bound.line p 3 →
+          At acts bound.line p 4 →
+          (Each (items_at_point acts 1) → Each (items_at_point acts 2) → Each (items_at_point acts 3) →
+          Each (items_at_point acts 4) → Each (lines_items (map act_line acts))) →
+          Each (line_items bound.line ++ lines_items (map act_line acts))
+      go zero from to a b c d rest = absurd (omega arith)
+      go (suc zero) from to a b c d rest = both 1 a (λ x. rest x b c d)
+      go (suc (suc zero)) from to a b c d rest = both 2 b (λ x. rest a x c d)
+      go (suc (suc (suc zero))) from to a b c d rest = both 3 c (λ x. rest a b x d)
+      go (suc (suc (suc (suc zero)))) from to a b c d rest = both 4 d (λ x. rest a b c x)
+      go (suc (suc (suc (suc (suc p))))) from to a b c d rest = absurd (omega arith)
+
+  -- what holds of each step of a call holds of each step of its lines
+  pub call_each : (call : Call) → PointsFit call → Each (call_items call) → Each (lines_items (call_lines call))
+  call_each (alone event line) fit all = subst Each (sym (append-nil (line_items line))) all
+  call_each (vread_call len flags line acts) fit all =
+      let items : List Item = line_items line in
+      let a1 : List Item = items_at_point acts 1 in
+      let a2 : List Item = items_at_point acts 2 in
+      let a3 : List Item = items_at_point acts 3 in
+      let a4 : List Item = items_at_point acts 4 in
+      let r : List Item = (cut_rekey (drop 2 items)).0 in
+      let end : List Item = (cut_rekey (drop 2 items)).1 in
+      let f4 = in_front P (take 2 items ++ a1 ++ a2 ++ r ++ a3 ++ a4) end all in
+      let f3 = in_front P (take 2 items ++ a1 ++ a2 ++ r ++ a3) a4 f4 in
+      let fr = in_front P (take 2 items ++ a1 ++ a2 ++ r) a3 f3 in
+      let f2 = in_front P (take 2 items ++ a1 ++ a2) r fr in
+      let f1 = in_front P (take 2 items ++ a1) a2 f2 in
+      let of_line : Each items =
+      subst Each (take-append-drop 2 items) (each_append P (take 2 items) (drop 2 items)
+      (in_front P (take 2 items) a1 f1)
+      (subst Each (sym (rekey_whole (drop 2 items))) (each_append P r end (behind P (take 2 items ++ a1 ++ a2) r fr)
+      (behind P (take 2 items ++ a1 ++ a2 ++ r ++ a3 ++ a4) end all)))) in
+      let inside = of_acts acts fit (behind P (take 2 items) a1 f1) (behind P (take 2 items ++ a1) a2 f2)
+      (behind P (take 2 items ++ a1 ++ a2 ++ r) a3 f3) (behind P (take 2 items ++ a1 ++ a2 ++ r ++ a3) a4 f4) in
+      subst Each (sym (flat_map-append line_items (map act_line acts) (line ∷ [])))
+      (each_append P (lines_items (map act_line acts)) (items ++ []) inside
+      (subst Each (sym (append-nil items)) of_line))
+  call_each (unbound bound) fit all = subst Each (sym (append-nil (line_items bound.line))) all
+  call_each (ending line) fit all = subst Each (sym (append-nil (line_items line))) all

@@ -1,0 +1,10 @@
+-- Who forks whom, and the room that each caller gets before the first one starts.
+pub mod OnceEach
+pub mod Parents
+pub mod Ancestors
+pub mod Groves
+pub mod Planned
+pub mod Slots
+pub mod LogFills
+pub mod ActWaits
+pub mod Sums

@@ -1,0 +1,104 @@
+-- Bytes from their digits, one byte after the other.
+use Rattle.std.proofs.Common.{◌≡◌, ℕ, zero, suc, ◌+◌, ◌-◌, ◌*◌, ◌/◌, ◌%◌, ◌<◌, ◌≤◌, leb, true, ◌&&◌, inl, inr, Some, List, [], ◌∷◌, ◌++◌, drop, get_or, length, take, refl, sym, subst, ap, ◌∙◌, append_assoc, arith}
+use Rattle.std.specs.Prelude.{slice_index}
+use Rattle.std.proofs.Math.ListN.{set}
+use Rattle.std.proofs.lemmas.Bool.{and_parts, cases_lt, leb-true, or_cases}
+use Rattle.std.proofs.lemmas.List.{get_or_past, take_all, take_more, take_more_set, take-append-le}
+use Rattle.hex.specs.Hex.{IsBytes, encode_lower, encode_with, lower_digits}
+use Rattle.key_names.specs.Texts.ScriptFaults.{bytes_of}
+use Rattle.key_names.specs.Texts.Spelling.{AllLower, is_lower_digit}
+use Rattle.key_names.proofs.Script.HexFields.{bytes_again, spells_letter, spells_number}
+
+pub lower_at : (digits : List ℕ) (i : ℕ) → AllLower digits → i < length digits →
+    is_lower_digit (get_or digits i 0) ≡ true
+lower_at [] i lower here = absurd (omega arith)
+lower_at (c ∷ digits) zero lower here = lower.0
+lower_at (c ∷ digits) (suc i) lower here = lower_at digits i lower.1 (omega arith)
+
+pub number_value : (c : ℕ) → is_lower_digit c ≡ true → c < 97 →
+    (48 ≤ c) × (c - 48 < 10) × (slice_index lower_digits (c - 48) ≡ c)
+number_value c lower small =
+    elim (or_cases (leb 48 c && leb c 57) (leb 97 c && leb c 102) lower) [
+      | inl number ↦
+          let low = leb-true _ _ (and_parts (leb 48 c) (leb c 57) number).0 in
+          let high = leb-true _ _ (and_parts (leb 48 c) (leb c 57) number).1 in
+          (low, omega arith, spells_number (c - 48) (omega arith) ∙ omega arith)
+      | inr letter ↦ let low = leb-true _ _ (and_parts (leb 97 c) (leb c 102) letter).0 in absurd (omega arith)
+    ]
+
+pub letter_value : (c : ℕ) → is_lower_digit c ≡ true → 97 ≤ c →
+    (c - 97 < 6) × (slice_index lower_digits (c - 97 + 10) ≡ c)
+letter_value c lower large =
+    elim (or_cases (leb 48 c && leb c 57) (leb 97 c && leb c 102) lower) [
+      | inl number ↦ let high = leb-true _ _ (and_parts (leb 48 c) (leb c 57) number).1 in absurd (omega arith)
+      | inr letter ↦
+          let high = leb-true _ _ (and_parts (leb 97 c) (leb c 102) letter).1 in
+          let place : c - 97 + 10 ≡ 10 + (c - 97) = omega arith in
+          (omega arith, rw place (spells_letter (c - 97) (omega arith) ∙ omega arith))
+    ]
+
+pub encode_with-append : (t xs ys : List ℕ) → encode_with t (xs ++ ys) ≡ encode_with t xs ++ encode_with t ys
+unfolding encode_with
+encode_with-append t [] ys = refl
+encode_with-append t (x ∷ xs) ys =
+    ap (λ l. slice_index t (x / 16) ∷ slice_index t (x % 16) ∷ l) (encode_with-append t xs ys)
+
+one_byte : (b : ℕ) → encode_lower (b ∷ []) ≡ slice_index lower_digits (b / 16) ∷ slice_index lower_digits (b % 16) ∷ []
+unfolding encode_with
+one_byte b = refl
+
+pub no_bytes : encode_lower [] ≡ []
+unfolding encode_with
+no_bytes = refl
+
+-- one more byte, from the two digits behind those before
+pub byte_read : (out digits : List ℕ) (i high low : ℕ) → i < length out → length digits ≡ 2 * length out →
+    encode_lower (take i out) ≡ take (2 * i) digits → high < 16 → low < 16 →
+    slice_index lower_digits high ≡ get_or digits (2 * i) 0 →
+    slice_index lower_digits low ≡ get_or digits (2 * i + 1) 0 →
+    encode_lower (take (i + 1) (set out i (high * 16 + low))) ≡ take (2 * (i + 1)) digits
+byte_read out digits i high low here twice before small_high small_low at_high at_low =
+    let byte = high * 16 + low in
+    let tens : byte / 16 ≡ high = omega arith in
+    let ones : byte % 16 ≡ low = omega arith in
+    let two : encode_lower (byte ∷ []) ≡ get_or digits (2 * i) 0 ∷ get_or digits (2 * i + 1) 0 ∷ [] =
+    one_byte byte ∙ rw (tens, ones, at_high, at_low) refl in
+    let place : 2 * (i + 1) ≡ (2 * i + 1) + 1 = omega arith in
+    ap encode_lower (take_more_set out i byte here)
+    ∙ encode_with-append lower_digits (take i out) (byte ∷ [])
+    ∙ ap (λ xs. xs ++ encode_lower (byte ∷ [])) before
+    ∙ ap (λ xs. take (2 * i) digits ++ xs) two
+    ∙ sym (append_assoc (take (2 * i) digits) (get_or digits (2 * i) 0 ∷ []) (get_or digits (2 * i + 1) 0 ∷ []))
+    ∙ ap (λ xs. xs ++ get_or digits (2 * i + 1) 0 ∷ []) (sym (take_more digits (2 * i) 0 (omega arith)))
+    ∙ sym (take_more digits (2 * i + 1) 0 (omega arith))
+    ∙ ap (λ n. take n digits) (sym place)
+
+lower_place : (n : ℕ) → is_lower_digit (slice_index lower_digits n) ≡ true → n < 16
+lower_place n lower = elim (cases_lt n 16) [
+  | inl small ↦ small
+  | inr large ↦ (let none : slice_index lower_digits n ≡ 0 = get_or_past lower_digits n 0 large in
+      let zero_lower : is_lower_digit 0 ≡ true = rw none at lower in absurd (cc zero_lower))
+]
+
+-- what is spelt in lower case are bytes
+spelt_bytes : (bytes : List ℕ) → AllLower (encode_lower bytes) → IsBytes bytes
+unfolding encode_with
+spelt_bytes [] lower = λ i. omega arith
+spelt_bytes (b ∷ bytes) lower =
+    let high = lower_place (b / 16) lower.0 in
+    let rest : IsBytes bytes = spelt_bytes bytes lower.1.1 in
+    λ i. elim i as (λ i. slice_index (b ∷ bytes) i < 256) [ zero ↦ omega arith | suc i ↦ rest i ]
+
+-- a field that is the digits of some bytes spells them
+pub bytes_spelt : (field bytes : List ℕ) → 0 < length bytes → AllLower field → encode_lower bytes ≡ field →
+    Some bytes ≡ bytes_of field
+bytes_spelt field [] some lower is = absurd (omega arith)
+bytes_spelt field (b ∷ bytes) some lower is =
+    sym (bytes_again (b ∷ bytes) (spelt_bytes (b ∷ bytes) (subst AllLower (sym is) lower))) ∙ ap bytes_of is
+
+-- what is written over all of a list is all that it holds
+pub written : (out items : List ℕ) (n : ℕ) → length out ≡ length items → n ≡ length items →
+    take n (out ++ drop (length out) items) ≡ out
+written out items n same all =
+    let within : n ≤ length out = omega arith in
+    take-append-le n out (drop (length out) items) within ∙ take_all n out (omega arith)

@@ -1,0 +1,81 @@
+-- Behind a look of a generation a lawful transcript publishes generations, and reads keys that CPUs handed over.
+use Rattle.std.proofs.Common.{◌≡◌, ℕ, zero, suc, ◌≤◌, arith, List, [], ◌∷◌, ◌++◌, sym, subst, ap, ◌∙◌}
+use Rattle.key_names.specs.Book.{Lists}
+use Rattle.key_names.specs.Calls.{Setting}
+use Rattle.key_names.specs.Deeds.{Deed, looked, at_pool, at_base, at_cpu, nothing_there}
+use Rattle.key_names.specs.Forms.{SysForm}
+use Rattle.key_names.specs.Vgetrandom.{SystemAnswer, HostStep, publishes, system_call, at_point}
+use Rattle.key_names.specs.VreadSteps.{answer_behind, Shows, NeverFall, looks_of, published_by}
+use Rattle.key_names.proofs.Transcripts.KeyVisits.{AllThere, there_append, sys_answered}
+use Rattle.key_names.proofs.Vgetrandom.StatesReplay.{KeyIs, Good}
+
+-- each look of a line found at least this generation
+abbrev pub AllKnown : ℕ → List ℕ → Type 0
+AllKnown least [] = Unit {0}
+AllKnown least (g ∷ looks) = (least ≤ g) × AllKnown least looks
+
+known_less : (a b : ℕ) (looks : List ℕ) → a ≤ b → AllKnown b looks → AllKnown a looks
+known_less a b [] le h = tt
+known_less a b (g ∷ looks) le h = (let m : b ≤ g = h.0 in let n : a ≤ g = omega arith in n, known_less a b looks le h.1)
+
+never_fall : (a : ℕ) (looks : List ℕ) → NeverFall (a ∷ looks) → AllKnown a looks
+never_fall a [] h = tt
+never_fall a (b ∷ looks) h = (h.0, known_less a b looks h.0 (never_fall b looks h.1))
+
+looks_append : (least : ℕ) (xs ys : List Deed) → AllKnown least (looks_of (xs ++ ys)) → AllKnown least (looks_of ys)
+looks_append least [] ys h = h
+looks_append least (looked g ∷ xs) ys h = looks_append least xs ys h.1
+looks_append least (at_pool v ∷ xs) ys h = looks_append least xs ys h
+looks_append least (at_base v ∷ xs) ys h = looks_append least xs ys h
+looks_append least (at_cpu v ∷ xs) ys h = looks_append least xs ys h
+looks_append least (nothing_there ∷ xs) ys h = looks_append least xs ys h
+
+published_some : (look g : ℕ) → g ≡ published_by look → 1 ≤ look → 1 ≤ g
+published_some zero g is some = absurd (omega arith)
+published_some (suc look) g is some = let p : g ≡ suc (suc look) = is in omega arith
+
+look_some : (look g : ℕ) → g ≡ published_by look → 1 ≤ g → 1 ≤ look
+look_some zero g is some = let p : g ≡ 0 = is in absurd (omega arith)
+look_some (suc look) g is some = omega arith
+
+-- behind a look of a generation, what a line shows publishes generations, and reads keys that CPUs handed over
+good_shown : (lists : Lists) (set : Setting) (steps : List HostStep) (deeds : List Deed) → AllThere lists deeds →
+    AllKnown 1 (looks_of deeds) → Shows set steps deeds → Good lists steps
+good_shown lists set [] deeds there known shows = tt
+good_shown lists set (publishes g ∷ steps) deeds there known shows =
+    let P : List Deed → Type 0 = λ ds. AllThere lists ds in
+    let h : AllThere lists (looked shows.0 ∷ shows.1) = subst P shows.2 there in
+    let Q : List Deed → Type 0 = λ ds. AllKnown 1 (looks_of ds) in
+    let n : AllKnown 1 (looks_of (looked shows.0 ∷ shows.1)) = subst Q shows.2 known in
+    (published_some shows.0 g (shows.3).0 n.0, good_shown lists set steps shows.1 h.1 n.1 (shows.3).1)
+good_shown lists set (at_point point wiped ∷ steps) deeds there known shows =
+    good_shown lists set steps deeds there known shows
+good_shown lists set (system_call n flags answer ∷ steps) deeds there known shows =
+    let P : List Deed → Type 0 = λ ds. AllThere lists ds in
+    let h : AllThere lists shows.call × AllThere lists shows.rest = there_append lists shows.call shows.rest
+    (subst P shows.deeds_are there) in
+    let R : List Deed → Type 0 = λ ds. AllKnown 1 (looks_of ds) in (
+      λ is_32 no_flags. let F : ℕ → Type 0 = λ i. SysForm set i flags shows.call in
+          let G : ℕ → Type 0 = λ i. SysForm set 32 i shows.call in
+          let form : SysForm set 32 0 shows.call = subst G no_flags (subst F is_32 shows.form) in
+          let Q : SystemAnswer → Type 0 = λ a. KeyIs lists a in
+          let same : answer ≡ answer_behind 0 shows.call = shows.answers
+          ∙ ap (λ f. answer_behind f shows.call) no_flags in
+          subst Q (sym same) (sys_answered lists set shows.call h.0 form).1,
+      good_shown lists set steps shows.rest h.1 (looks_append 1 shows.call shows.rest (subst R shows.deeds_are known))
+          shows.goes_on,
+    )
+
+-- the same of a whole call, whose first look may have found none
+pub good_behind : (lists : Lists) (set : Setting) (steps : List HostStep) (deeds : List Deed) → AllThere lists deeds →
+    NeverFall (looks_of deeds) → Shows set steps deeds →
+    (g : ℕ) (rest : List HostStep) → steps ≡ publishes g ∷ rest → 1 ≤ g → Good lists rest
+good_behind lists set steps deeds there rising shows g rest is some =
+    let S : List HostStep → Type 0 = λ xs. Shows set xs deeds in
+    let m : Shows set (publishes g ∷ rest) deeds = subst S is shows in
+    let P : List Deed → Type 0 = λ ds. AllThere lists ds in
+    let h : AllThere lists (looked m.0 ∷ m.1) = subst P m.2 there in
+    let N : List Deed → Type 0 = λ ds. NeverFall (looks_of ds) in
+    let n : NeverFall (m.0 ∷ looks_of m.1) = subst N m.2 rising in
+    let look : 1 ≤ m.0 = look_some m.0 g (m.3).0 some in
+    good_shown lists set rest m.1 h.1 (known_less 1 m.0 (looks_of m.1) look (never_fall m.0 (looks_of m.1) n)) (m.3).1

@@ -1,0 +1,247 @@
+-- What a line prints by its last visit, or by entries of a vgetrandom state, is what their names tell.
+use Rattle.std.proofs.Common.{◌≡◌, ℕ, ◌+◌, ◌≤◌, ◌⊎◌, Bool, true, false, List, [], ◌∷◌, ◌++◌, inl, inr, refl, sym, ap, ◌∙◌, arith, Some, None, Option, length, take, append_assoc, append-nil}
+use Rattle.std.specs.Prelude.{map, slice_get}
+use Rattle.std.specs.List.{range_with_len}
+use Rattle.std.proofs.lemmas.Bool.{eq-eqb}
+use Rattle.std.proofs.lemmas.List.{length-append}
+use Rattle.std.proofs.lemmas.List.Sums.{fold-append}
+use Rattle.key_names.specs.declared.names.LaneId.{LaneId}
+use Rattle.key_names.specs.declared.names.LaneId.TheVariants.{Pool as PoolLane, Base as BaseLane, Cpu as CpuLane}
+use Rattle.key_names.specs.declared.names.Step.{Step}
+use Rattle.key_names.specs.declared.names.Step.TheVariants.{Look, Visit as Marked}
+use Rattle.key_names.specs.declared.entries.PoolEntry.{PoolEntry}
+use Rattle.key_names.specs.declared.entries.BaseEntry.{BaseEntry}
+use Rattle.key_names.specs.declared.entries.CpuEntry.{CpuEntry}
+use Rattle.key_names.specs.declared.entries.VEntry.{VEntry}
+use Rattle.key_names.specs.declared.events.Event.{Event}
+use Rattle.key_names.specs.declared.events.Event.TheVariants.{At, On, Hw, Device, Write, Add, Credit, Bits, Irq, Input, Read, Vread, Kread, Dread, Uread, Int8, Int16, Int32, Int64, Reseed, Tick, Drop, Fork, Inside, Prepare, Online, Vmfork, State}
+use Rattle.key_names.specs.declared.events.InsideAct.{InsideAct}
+use Rattle.key_names.specs.declared.events.InsideAct.TheVariants.{Wipe as WipeAct, Vread as VreadAct, Reseed as ReseedAct}
+use Rattle.key_names.specs.Answers.{deed_bytes, served_bytes, shown_of, bits_read}
+use Rattle.key_names.specs.Book.{Lists, cpu_list, state_list}
+use Rattle.key_names.specs.Calls.{Setting, BoundAct}
+use Rattle.key_names.specs.Deeds.{Deed, looked, at_pool, at_base, at_cpu, nothing_there, deed_or, deed_at, deeds_of, pool_visit, base_visit, cpu_visit}
+use Rattle.key_names.specs.Meaning.{CallMeaning, LineMeaning, AloneMeans, ActMeans, ActsMean, unused_line}
+use Rattle.key_names.specs.SeenLine.{SeenLine, bytes_in, bytes_or_none}
+use Rattle.key_names.specs.IsTranscript.{EachAct}
+use Rattle.key_names.specs.StateList.{state_step, state_start, state_after}
+use Rattle.key_names.specs.Uses.{is_rekeyed, uses_from, state_uses_at}
+use Rattle.key_names.specs.VreadSteps.{last_place}
+use Rattle.key_names.specs.ServedNamed.{served_in, uses_or, base_place_uses, cpu_place_uses, place_uses, VisitsServeNamed}
+use Rattle.key_names.specs.PrintedBytes.{Origin, at_state, origin_uses, origins_uses, last_origin, StateEntries, state_origins, no_entries, by_none, by_visit, by_entries, LinePrints, LinesPrint}
+use Rattle.key_names.proofs.Vgetrandom.CallsKeep.{match_cases}
+use Rattle.key_names.proofs.Values.HeldBytes.{entry_behind, front_of}
+use Rattle.key_names.proofs.Vgetrandom.KeyTakes.{place_takes, last_takes}
+use Rattle.key_names.proofs.Transcripts.TakenMarks.{mark_takes, deeds_within}
+use Rattle.key_names.proofs.Transcripts.CallTakes.{acts_marks}
+
+pub bytes_of_some : (bs : List ℕ) → bytes_in (bytes_or_none bs) ≡ bs
+bytes_of_some [] = refl
+bytes_of_some (b ∷ bs) = refl
+
+module _ (lists : Lists) where
+  -- a line and what it prints by
+  abbrev pub Prints : StateEntries → SeenLine → Type 0
+  Prints own line = (os : List Origin) × LinePrints lists own line os
+
+  pub prints_none : (own : StateEntries) (line : SeenLine) → bytes_in line.shown ≡ [] → Prints own line
+  prints_none own line none = ([], record { by = by_none refl; shown = none })
+
+  -- the entries of a state from a place on put to use what they do in its list
+  entries_use : (caller k : ℕ) (front es post : List VEntry) →
+      state_list lists caller k ≡ (front ++ es) ++ post →
+      origins_uses lists (map (at_state caller k) (range_with_len (length front) (length es)))
+      ≡ uses_from state_uses_at (state_step caller k) (state_after caller k front) es
+  entries_use caller k front [] post is = refl
+  entries_use caller k front (e ∷ es) post is =
+      let all : List VEntry = state_list lists caller k in
+      let cut : all ≡ (front ++ e ∷ []) ++ (es ++ post) =
+      is ∙ append_assoc front (e ∷ es) post ∙ sym (append_assoc front (e ∷ []) (es ++ post)) in
+      let there : slice_get all (length front) ≡ Some e = entry_behind all front e (es ++ post) cut in
+      let before : take (length front) all ≡ front = front_of all front e (es ++ post) cut in
+      let one : origin_uses lists (at_state caller k (length front))
+      ≡ state_uses_at (state_after caller k front) e =
+      ap (λ o. uses_or (state_uses_at (state_after caller k (take (length front) all))) o) there
+      ∙ ap (λ xs. state_uses_at (state_after caller k xs) e) before in
+      let len : length (front ++ e ∷ []) ≡ length front + 1 = length-append front (e ∷ []) in
+      let next : state_after caller k (front ++ e ∷ []) ≡ state_step caller k (state_after caller k front) e =
+      fold-append (state_step caller k) state_start front (e ∷ []) in
+      let rest = entries_use caller k (front ++ e ∷ []) es post
+      (cut ∙ sym (append_assoc (front ++ e ∷ []) es post)) in
+      ap (λ us. us ++ origins_uses lists (map (at_state caller k) (range_with_len (length front + 1) (length es)))) one
+      ∙ ap (λ us. state_uses_at (state_after caller k front) e ++ us)
+      (ap (λ n. origins_uses lists (map (at_state caller k) (range_with_len n (length es)))) (sym len) ∙ rest
+      ∙ ap (λ s. uses_from state_uses_at (state_step caller k) s es) next)
+
+  -- a line that shows what some entries of its own serve
+  pub prints_entries : (own : StateEntries) (line : SeenLine) (front es post : List VEntry) (out : List ℕ) →
+      state_list lists own.caller own.state ≡ (front ++ es) ++ post → own.from ≤ length front →
+      length front + length es ≤ own.from + own.count → line.shown ≡ bytes_or_none out →
+      out ≡ served_in lists (uses_from state_uses_at (state_step own.caller own.state)
+      (state_after own.caller own.state front) es) → Prints own line
+  prints_entries own line front es post out is above below shown bytes = (
+    state_origins (record own { from = length front; count = length es }),
+    record {
+      by = by_entries (length front) (length es) above below refl;
+      shown = ap bytes_in shown ∙ bytes_of_some out ∙ bytes
+          ∙ ap (served_in lists) (sym (entries_use own.caller own.state front es post is));
+    },
+  )
+
+  -- no vgetrandom state takes the last visit as its key
+  abbrev pub IsFree : List Deed → Type 0
+  IsFree deeds = (c p : ℕ) → is_rekeyed lists c p ≡ true → place_takes c p (last_place deeds) ≡ 0
+
+  -- so it is where the line has no mark of a read that is taken
+  abbrev pub IsUntaken : SeenLine → Type 0
+  IsUntaken line = (c p : ℕ) → is_rekeyed lists c p ≡ true → mark_takes (CpuLane c) p line.steps ≡ 0
+
+  pub untaken_free : (line : SeenLine) → IsUntaken line → IsFree (deeds_of lists line.steps)
+  untaken_free line none c p taken =
+      omega (arith, last_takes c p (deeds_of lists line.steps), deeds_within c p lists line.steps, none c p taken)
+
+module _ (lists : Lists) (named : VisitsServeNamed lists) where
+  pool_place : (place : ℕ) (o : Option PoolEntry) →
+      deed_bytes (deed_or (λ e. at_pool (pool_visit lists place e)) o) ≡ []
+  pool_place place None = refl
+  pool_place place (Some e) = refl
+
+  base_place : (place : ℕ) (o : Option BaseEntry) → slice_get lists.base place ≡ o →
+      deed_bytes (deed_or (λ e. at_base (base_visit lists place e)) o)
+      ≡ served_in lists (uses_or (base_place_uses lists place) o)
+  base_place place None is = refl
+  base_place place (Some e) is = named.base place e is
+
+  not_taken : (c p : ℕ) (b : Bool) → is_rekeyed lists c p ≡ b →
+      (is_rekeyed lists c p ≡ true → place_takes c p (Some (record { cpu = c; place = p })) ≡ 0) →
+      is_rekeyed lists c p ≡ false
+  not_taken c p true is free =
+      let none : place_takes c p (Some (record { cpu = c; place = p })) ≡ 0 = free is in
+      let one : place_takes c p (Some (record { cpu = c; place = p })) ≡ 1 =
+      rw (eq-eqb c c refl, eq-eqb p p refl) refl in
+      absurd (omega arith)
+  not_taken c p false is free = is
+
+  cpu_place : (c place : ℕ) (o : Option CpuEntry) → slice_get (cpu_list lists c) place ≡ o →
+      IsFree lists (deed_or (λ e. at_cpu (cpu_visit lists c place e)) o ∷ []) →
+      deed_bytes (deed_or (λ e. at_cpu (cpu_visit lists c place e)) o)
+      ≡ served_in lists (uses_or (cpu_place_uses lists c place) o)
+  cpu_place c place None is free = refl
+  cpu_place c place (Some e) is free =
+      named.cpus c place e is (not_taken c place (is_rekeyed lists c place) refl (free c place))
+
+  place_named : (lane : LaneId) (place : ℕ) → IsFree lists (deed_at lists lane place ∷ []) →
+      deed_bytes (deed_at lists lane place) ≡ served_in lists (place_uses lists lane place)
+  place_named PoolLane place free = pool_place place (slice_get lists.pool place)
+  place_named BaseLane place free = base_place place (slice_get lists.base place) refl
+  place_named (CpuLane c) place free = cpu_place c place (slice_get (cpu_list lists c) place) refl free
+
+  -- what a call serves, by names
+  served_named : (steps : List Step) → IsFree lists (deeds_of lists steps) →
+      served_bytes (deeds_of lists steps) ≡ served_in lists (origins_uses lists (last_origin steps))
+  served_named [] free = refl
+  served_named (Look g ∷ []) free = refl
+  served_named (Marked mark ∷ []) free = place_named mark.lane mark.place free
+      ∙ ap (served_in lists) (sym (append-nil (place_uses lists mark.lane mark.place)))
+  served_named (Look g ∷ next ∷ steps) free = served_named (next ∷ steps) free
+  served_named (Marked mark ∷ next ∷ steps) free = served_named (next ∷ steps) free
+
+  -- a line that shows what its last visit serves
+  pub prints_visit : (own : StateEntries) (line : SeenLine) (deeds : List Deed) → deeds_of lists line.steps ≡ deeds →
+      line.shown ≡ bytes_or_none (served_bytes deeds) → IsFree lists (deeds_of lists line.steps) → Prints lists own line
+  prints_visit own line deeds is shown free = (
+    last_origin line.steps,
+    record {
+      by = by_visit refl;
+      shown = ap bytes_in shown ∙ bytes_of_some (served_bytes deeds) ∙ ap served_bytes (sym is)
+          ∙ served_named line.steps free;
+    },
+  )
+
+  bits_none : (deeds : List Deed) → bytes_in (bits_read deeds) ≡ []
+  bits_none [] = refl
+  bits_none (looked g ∷ deeds) = refl
+  bits_none (at_pool v ∷ []) = refl
+  bits_none (at_pool v ∷ d ∷ deeds) = refl
+  bits_none (at_base v ∷ deeds) = refl
+  bits_none (at_cpu v ∷ deeds) = refl
+  bits_none (nothing_there ∷ deeds) = refl
+
+  shown_cases : (event : Event) (deeds : List Deed) →
+      (bytes_in (shown_of event deeds) ≡ []) ⊎ (shown_of event deeds ≡ bytes_or_none (served_bytes deeds))
+  shown_cases Bits deeds = inl (bits_none deeds)
+  shown_cases (At moment) deeds = inl refl
+  shown_cases (On cpu) deeds = inl refl
+  shown_cases (Hw bytes) deeds = inl refl
+  shown_cases (Device word text) deeds = inl refl
+  shown_cases (Write text) deeds = inl refl
+  shown_cases (Add text bits) deeds = inl refl
+  shown_cases (Credit bits) deeds = inl refl
+  shown_cases (Irq v1 v2) deeds = inl refl
+  shown_cases (Input word kind code value) deeds = inl refl
+  shown_cases (Vread n flags) deeds = inl refl
+  shown_cases Reseed deeds = inl refl
+  shown_cases Tick deeds = inl refl
+  shown_cases Drop deeds = inl refl
+  shown_cases (Fork child) deeds = inl refl
+  shown_cases (Inside point act) deeds = inl refl
+  shown_cases (Prepare cpu) deeds = inl refl
+  shown_cases (Online cpu) deeds = inl refl
+  shown_cases (Vmfork word text) deeds = inl refl
+  shown_cases (State number) deeds = inl refl
+  shown_cases (Read n flags) deeds = inr refl
+  shown_cases (Kread n) deeds = inr refl
+  shown_cases (Dread n flag) deeds = inr refl
+  shown_cases (Uread n) deeds = inr refl
+  shown_cases Int8 deeds = inr refl
+  shown_cases Int16 deeds = inr refl
+  shown_cases Int32 deeds = inr refl
+  shown_cases Int64 deeds = inr refl
+
+  -- a line of an event by itself
+  pub alone_prints : (own : StateEntries) (event : Event) (line : SeenLine) (m : CallMeaning) →
+      deeds_of lists line.steps ≡ m.own.deeds → line.shown ≡ m.own.shown → IsUntaken lists line →
+      AloneMeans event m → Prints lists own line
+  alone_prints own event line m deeds shown untaken means = elim (shown_cases event m.own.deeds) [
+    | inl none ↦ prints_none lists own line (ap bytes_in (shown ∙ means.shown) ∙ none)
+    | inr bytes ↦ prints_visit own line m.own.deeds deeds (shown ∙ means.shown ∙ bytes)
+        (untaken_free lists line untaken)
+  ]
+
+  -- and of an act inside a vread that is done
+  act_prints : (own : StateEntries) (set : Setting) (act : InsideAct) (line : SeenLine) (m : LineMeaning) →
+      deeds_of lists line.steps ≡ m.deeds → line.shown ≡ m.shown → IsUntaken lists line →
+      ActMeans set act m → Prints lists own line
+  act_prints own set WipeAct line m deeds shown untaken means =
+      prints_none lists own line (ap bytes_in (shown ∙ ap (λ (m : LineMeaning). m.shown) means))
+  act_prints own set (VreadAct n) line m deeds shown untaken means =
+      prints_visit own line m.deeds deeds (shown ∙ means.2) (untaken_free lists line untaken)
+  act_prints own set ReseedAct line m deeds shown untaken means =
+      prints_none lists own line (ap bytes_in (shown ∙ means.2))
+
+  abbrev pub DeedsAre : SeenLine → LineMeaning → Type 0
+  DeedsAre line m = deeds_of lists line.steps ≡ m.deeds
+
+  abbrev pub ShownIs : SeenLine → LineMeaning → Type 0
+  ShownIs line m = line.shown ≡ m.shown
+
+  abbrev act_lines : List BoundAct → List SeenLine
+  act_lines acts = map (λ (bound : BoundAct). bound.line) acts
+
+  -- the lines of the acts inside a vread
+  pub acts_print : (own : StateEntries) (set : Setting) (reached : BoundAct → Bool) (acts : List BoundAct)
+      (ms : List LineMeaning) → EachAct DeedsAre acts ms → EachAct ShownIs acts ms → ActsMean set reached acts ms →
+      ((c p : ℕ) → is_rekeyed lists c p ≡ true → acts_marks (CpuLane c) p acts ≡ 0) →
+      (oss : List (List Origin)) × LinesPrint lists own (act_lines acts) oss
+  acts_print own set reached [] ms deeds shown mean untaken = ([], tt)
+  acts_print own set reached (bound ∷ acts) [] deeds shown mean untaken = absurd mean
+  acts_print own set reached (bound ∷ acts) (m ∷ ms) deeds shown mean untaken =
+      let first : Prints lists own bound.line =
+      match_cases (ActMeans set bound.act m) (m ≡ unused_line) (Prints lists own bound.line) (reached bound)
+      (λ done means. act_prints own set bound.act bound.line m deeds.0 shown.0
+      (λ c p taken. omega (arith, untaken c p taken)) means)
+      (λ left unused. prints_none lists own bound.line
+      (ap bytes_in (shown.0 ∙ ap (λ (m : LineMeaning). m.shown) unused))) mean.0 in
+      let rest = acts_print (no_entries own) set reached acts ms deeds.1 shown.1 mean.1
+      (λ c p taken. omega (arith, untaken c p taken)) in
+      (first.0 ∷ rest.0, (first.1, rest.1))

@@ -1,0 +1,10 @@
+-- Calls of vgetrandom, attempt by attempt, and the list of the state that they use.
+pub mod Attempts
+pub mod CopiesKeep
+pub mod CallsKeep
+pub mod StatesReplay
+pub mod KeyReads
+pub mod KeyTakes
+pub mod VreadEnds
+pub mod VreadRefused
+pub mod AskedSystem

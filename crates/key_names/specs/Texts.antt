@@ -1,0 +1,6 @@
+-- The two texts, spelling by spelling.
+pub mod ScriptFaults
+pub mod ScriptOrFault
+pub mod ScriptGrammar
+pub mod Spelling
+pub mod TranscriptGrammar

@@ -1,0 +1,16 @@
+-- What the lists of the lanes mean in the words of the book.
+pub mod BookAnswers
+pub mod BookBatches
+pub mod BookCpus
+pub mod BookDeeds
+pub mod BookEnds
+pub mod BookEntries
+pub mod BookGrows
+pub mod BookLawful
+pub mod BookMarks
+pub mod BookMeans
+pub mod BookReplays
+pub mod BookSamples
+pub mod BookValues
+pub mod BookWhole
+pub mod DeedGrowth

@@ -1,0 +1,21 @@
+-- Each kind of step keeps the rule of the table.
+pub mod RuleParts
+pub mod Plain
+pub mod Shares
+pub mod Tickets
+pub mod OneLane
+pub mod World
+pub mod Drawing
+pub mod Serving
+pub mod Trying
+pub mod Naming
+pub mod Giving
+pub mod Putting
+pub mod Restaging
+pub mod Looking
+pub mod Splitting
+pub mod Joining
+pub mod Starting
+pub mod Ending
+pub mod Floors
+pub mod Sights
