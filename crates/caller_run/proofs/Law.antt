@@ -1,5 +1,4 @@
 -- All callers together made a lawful transcript.
-pub mod QuietForms
 pub mod LineMarks
 pub mod LineVisits
 pub mod Looks

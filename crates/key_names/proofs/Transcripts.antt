@@ -11,3 +11,4 @@ pub mod TakenOnce
 pub mod TranscriptLaws
 pub mod LaneCounts
 pub mod PlacesInOrder
+pub mod QuietForms

@@ -28,7 +28,7 @@ use Rattle.line_forms.specs.Told.{AllFill, FillsPart, FillsCpu, cpu_read_told, t
 use Rattle.line_forms.specs.declared.told.Sign.{Sign}
 use Rattle.line_forms.specs.declared.told.Sign.TheVariants.{Saw as saw, InPool as in_pool, InBase as in_base, InCpu as in_cpu, Nowhere as nowhere}
 use Rattle.told_entries.proofs.CallForms.{ActDone, CallForm, CallsForm}
-use Rattle.told_entries.proofs.QuietForms.{quiet, end_quiet, sys}
+use Rattle.key_names.proofs.Transcripts.QuietForms.{quiet, end_quiet, sys}
 
 -- ---- reads make no dump due
 

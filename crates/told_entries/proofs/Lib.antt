@@ -15,7 +15,6 @@ pub mod MadeIsTold
 pub mod MarkedSteps
 pub mod Matches
 pub mod OneRow
-pub mod QuietForms
 pub mod RisingSteps
 pub mod RowRanges
 pub mod RowsBehind

@@ -52,7 +52,7 @@ use Rattle.told_entries.proofs.IrqShapes.{irq_shape, act_quiet, none_quiet, part
 use Rattle.told_entries.proofs.IrqShapes.{CallsHere, calls_stand}
 use Rattle.told_entries.proofs.Lines.{Among, apart, each_among, each_in, each_of, deed_in, LineOf, line_of}
 use Rattle.told_entries.proofs.LineVisits.{line_there}
-use Rattle.told_entries.proofs.QuietForms.{quiet, end_quiet}
+use Rattle.key_names.proofs.Transcripts.QuietForms.{quiet, end_quiet}
 use Rattle.told_entries.proofs.RisingSteps.{LineRises, lines_rise, after}
 use Rattle.told_entries.proofs.SampledLines.{all_sampled}
 use Rattle.told_entries.proofs.SampleLaw.{samples_lawful}

@@ -28,7 +28,7 @@ use Rattle.rng_core.specs.InsideDid.{act_line, bound_acts, outcome_line}
 use Rattle.key_names.specs.LineSamples.{SamplesStand}
 use Rattle.rng_core.specs.SampleDeeds.{fast_in}
 use Rattle.rng_core.proofs.ActRuns.{Meant, AllMeant}
-use Rattle.caller_run.proofs.Law.QuietForms.{sys, form_samples}
+use Rattle.key_names.proofs.Transcripts.QuietForms.{sys, form_samples}
 
 -- each act has one of the four points
 pub points_fit : (set : Setting) (asks : List Ask) (zs : List ActOutcome) →

@@ -27,7 +27,7 @@ use Rattle.caller_run.specs.declared.caller.Caller.{Caller}
 use Rattle.caller_run.specs.declared.said.Shows.{Shows}
 use Rattle.caller_run.specs.declared.said.Shows.TheVariants.{Nothing, Served, Count}
 use Rattle.caller_run.specs.declared.said.Said.{Said}
-use Rattle.caller_run.proofs.Law.QuietForms.{IsNoInterrupt, form_samples}
+use Rattle.key_names.proofs.Transcripts.QuietForms.{IsNoInterrupt, form_samples}
 
 -- an event that is no interrupt
 pub quietly : (set : Setting) (event : Event) (answer : Answer) (shown : Shown) (m n : Moment) → IsNoInterrupt event →

@@ -33,7 +33,7 @@ use Rattle.rng_core.specs.SampleDeeds.{fast_in}
 use Rattle.caller_run.specs.Done.{CallDone}
 use Rattle.caller_run.proofs.Orders.Chains.{items_from_doings, unsplit, ran_went, ran_then}
 use Rattle.caller_run.proofs.Orders.CallSteps.{own_items}
-use Rattle.caller_run.proofs.Law.QuietForms.{sys}
+use Rattle.key_names.proofs.Transcripts.QuietForms.{sys}
 
 -- a look that no step tells
 pub ran_glanced : (caller : ℕ) (v w : View) → Stayed v w → Ran caller v w []

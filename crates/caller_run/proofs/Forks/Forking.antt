@@ -35,7 +35,7 @@ use Rattle.caller_run.specs.Ran.{RanBy}
 use Rattle.caller_run.specs.Took.{Tells, since, Took}
 use Rattle.caller_run.proofs.Orders.Chains.{items_from_doings, ran_went, ran_then}
 use Rattle.caller_run.proofs.Orders.PartItems.{items_append}
-use Rattle.caller_run.proofs.Law.QuietForms.{form_samples}
+use Rattle.key_names.proofs.Transcripts.QuietForms.{form_samples}
 use Rattle.key_names.specs.declared.events.Word.TheVariants.{Fork as ForkWord}
 use Rattle.key_names.specs.declared.names.Mark.{Mark}
 use Rattle.key_names.specs.declared.names.Step.TheVariants.{Visit as Marked}

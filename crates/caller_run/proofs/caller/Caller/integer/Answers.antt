@@ -9,7 +9,7 @@ use Rattle.caller_run.specs.Kinds.{IsInteger}
 use Rattle.caller_run.specs.Says.{shown_by, most_shown}
 use Rattle.caller_run.specs.declared.said.Said.{Said}
 use Rattle.caller_run.proofs.Calls.Callings.{by_does, quietly}
-use Rattle.caller_run.proofs.Law.QuietForms.{IsNoInterrupt}
+use Rattle.key_names.proofs.Transcripts.QuietForms.{IsNoInterrupt}
 use Rattle.caller_run.proofs.caller.Caller.integer.Goals as goal
 
 -- the event of an integer is that of its width

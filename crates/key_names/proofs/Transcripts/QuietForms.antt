@@ -15,7 +15,7 @@ use Rattle.key_names.specs.Calls.{Setting}
 use Rattle.key_names.specs.Deeds.{Deed, CpuVisit, looked, at_pool, at_base, at_cpu}
 use Rattle.key_names.specs.FastPool.{FastPool}
 use Rattle.key_names.specs.Forms.{Rooted, BaseOnly, Cross, DrawForm, CpuReadForm, Looked, ReadForm, WaitedInVain, Waited, LookedForm, SysForm, CreditForm, PoolOnly, IntForm, ReseedForm, Form, EndForm}
-use Rattle.key_names.specs.LineSamples.{EntryIsQuiet, IsQuiet}
+use Rattle.key_names.specs.LineSamples.{EntryIsQuiet, IsQuiet, SamplesStand}
 
 -- an event that is no interrupt
 abbrev pub IsNoInterrupt : Event → Type 0
@@ -151,3 +151,11 @@ module _ (fast : ℕ → ℕ → FastPool) where
 
   pub end_quiet : (deeds : List Deed) → EndForm deeds → Quiet deeds
   end_quiet deeds f = base_only _ deeds f
+
+  -- so the samples behind it stand
+  pub form_samples : (set : Setting) (event : Event) (deeds : List Deed) → IsNoInterrupt event → Form set event deeds →
+      SamplesStand fast deeds
+  form_samples set event deeds other f = inl (quiet set event deeds other f)
+
+  pub end_samples : (deeds : List Deed) → EndForm deeds → SamplesStand fast deeds
+  end_samples deeds f = inl (end_quiet deeds f)
