@@ -1,6 +1,6 @@
 //! The same samples by feeders in threads, and by one caller.
 ghost use Rattle.std.specs.Prelude.{◌≤◌, ◌<◌, ◌^◌, [], ◌≡◌};
-ghost use Rattle.lane_table.specs.Hands.{Has};
+ghost use Rattle.lane_table.specs.Hands.{HoldsLanes};
 
 use io_edges::{NoMemory, OpenGate};
 use irq_feed::{Feeds, feed_on_new_table};
@@ -31,9 +31,9 @@ pub fn feeds<R: Threads + Wait + Sync>(rt: &R, alloc: Global, each: u32) -> Resu
 
 // The interrupts of one feeder's samples.
 fn irqs_of<R: Wait>(rt: &R, lanes: &Lanes, pass: &mut Pass, feeds: &Feeds, feeder: u32)
-    requires has { Has lanes.now 0 [] pass.old }
+    requires has { HoldsLanes lanes.now 0 [] pass.old }
     requires cpu { 0 < lanes.now.cpus }
-    ensures { Has lanes.now 0 [] pass.new }
+    ensures { HoldsLanes lanes.now 0 [] pass.new }
 {
     for index in 0..feeds.each() {
         let sample = feeds.sample(feeder, index);

@@ -3,8 +3,8 @@ ghost use Rattle.std.specs.Prelude.{◌≡◌, ◌≢◌, ℕ, ◌+◌, ◌^◌,
 ghost use Rattle.key_names.specs.declared.entries.CpuEntry.TheVariants.{Irq};
 ghost use Rattle.lane_table.specs.declared.view.Handed.{Handed};
 ghost use Rattle.lane_table.specs.declared.view.LaneEntry.TheVariants.{Cpu};
-ghost use Rattle.lane_table.specs.Meaning.{Model, ValueStands, made_of};
-ghost use Rattle.lane_table.specs.Hands.{Has};
+ghost use Rattle.lane_table.specs.Meaning.{Model, ValueRepresents, made_of};
+ghost use Rattle.lane_table.specs.Hands.{HoldsLanes};
 
 use key_names::{CpuEntry, LaneId, Who};
 use lane_table::{Held, LaneState, Lanes, Pass};
@@ -14,17 +14,17 @@ use std::sync::{Mutex, Wait};
 const NEVER: u64 = 1 << 62;
 
 fn started(alloc: Global) -> Result<(Lanes, Pass), AllocError>
-    ensures { IfOk result (λ r. Has r.0 0 [] r.1) }
+    ensures { IfOk result (λ r. HoldsLanes r.0 0 [] r.1) }
 {
     Lanes::start(alloc, 1, 0)
 }
 
 // Mixes an interrupt into the CPU that is held.
 fn mix(held: &mut Held)
-    requires { (i : ℕ) × (s : Model) × (2 ≤ i) × ValueStands i held.old.state s }
+    requires { (i : ℕ) × (s : Model) × (2 ≤ i) × ValueRepresents i held.old.state s }
     ensures turn { held.new.turn ≡ held.old.turn }
-    ensures made { (i : ℕ) (s : Model) (got : Handed) → 2 ≤ i → ValueStands i held.old.state s
-        → ValueStands i held.new.state (made_of s (Cpu (Irq 1 2 0)) got) }
+    ensures made { (i : ℕ) (s : Model) (got : Handed) → 2 ≤ i → ValueRepresents i held.old.state s
+        → ValueRepresents i held.new.state (made_of s (Cpu (Irq 1 2 0)) got) }
 {
     match held.state_mut() {
         LaneState::Cpu(lane) => {
@@ -36,8 +36,8 @@ fn mix(held: &mut Held)
 
 // One visit of CPU 0: it is taken, an interrupt is mixed into it, and it is put.
 fn visit<R: Wait>(rt: &R, lanes: &Lanes, pass: &mut Pass, event: u32)
-    requires { Has lanes.now 0 [] pass.old }
-    ensures { Has lanes.now 0 [] pass.new }
+    requires { HoldsLanes lanes.now 0 [] pass.old }
+    ensures { HoldsLanes lanes.now 0 [] pass.new }
 {
     if pass.stamp() >= NEVER {
         return;

@@ -1,9 +1,9 @@
 -- One call of a caller, by each kind of event.
-pub mod CanGo
+pub mod CanAdvance
 pub mod Callings
 pub mod CoreDone
 pub mod AloneDone
-pub mod ActDoings
+pub mod ActSteps
 pub mod ActsMeant
 pub mod BytesFit
 pub mod CallShapes

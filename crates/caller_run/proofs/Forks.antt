@@ -1,5 +1,5 @@
 -- A caller with all that it forks.
-pub mod HasGone
+pub mod HasAdvanced
 pub mod HasForked
 pub mod Forking
 pub mod WentOn

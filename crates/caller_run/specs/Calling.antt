@@ -5,7 +5,7 @@ use Rattle.key_names.specs.declared.events.Event.{Event}
 use Rattle.key_names.specs.declared.events.Answer.{Answer}
 use Rattle.key_names.specs.declared.events.Word.TheVariants.{Vread as VreadWord}
 use Rattle.key_names.specs.declared.names.Step.{Step}
-use Rattle.key_names.specs.Calls.{Setting as Told, vread_call}
+use Rattle.key_names.specs.Calls.{Setting as CallSetting, vread_call}
 use Rattle.key_names.specs.Meaning.{CallerState, with_state}
 use Rattle.key_names.specs.Texts.ScriptGrammar.{event_word}
 use Rattle.key_names.specs.SeenLine.{Shown}
@@ -14,22 +14,22 @@ use Rattle.key_names.specs.VgetrandomState.{VgetrandomState}
 use Rattle.key_names.specs.VreadSteps.{published_by}
 use Rattle.lane_table.specs.declared.lanes.Lanes.{Lanes}
 use Rattle.lane_table.specs.Calls.{view}
-use Rattle.lane_table.specs.Hands.{Has}
-use Rattle.lane_table.specs.Went.{floor}
+use Rattle.lane_table.specs.Hands.{HoldsLanes}
+use Rattle.lane_table.specs.Advances.{floor}
 use Rattle.rng_core.specs.declared.setting.Setting.{Setting}
-use Rattle.rng_core.specs.Told.{Moment, moment}
-use Rattle.rng_core.specs.Did.{DidIn, Fulfils, setting_of}
+use Rattle.rng_core.specs.Traces.{Moment, moment}
+use Rattle.rng_core.specs.Makes.{MakesIn, IsOutcomeOf, setting_of}
 use Rattle.rng_core.specs.SampleDeeds.{Sampled}
 use Rattle.rng_core.specs.Acts.{Ask, ActOutcome}
-use Rattle.rng_core.specs.InsideDid.{bound_acts}
+use Rattle.rng_core.specs.InsideMakes.{bound_acts}
 use Rattle.caller_run.specs.Done.{CallDone}
 use Rattle.caller_run.specs.Says.{shown_by, line_of, ShowsFit, IsNoCount}
 use Rattle.caller_run.specs.declared.caller.Caller.{Caller}
-use Rattle.caller_run.specs.declared.said.Said.{Said}
+use Rattle.caller_run.specs.declared.reply.Reply.{Reply}
 use Rattle.caller_run.specs.declared.states.States.{States}
 
 -- a caller with this setting and these states, as the meaning of its calls has it
-abbrev pub caller_at : Told → States → CallerState
+abbrev pub caller_at : CallSetting → States → CallerState
 caller_at set states = record { setting = set; states = states.all; current = states.current }
 
 abbrev pub stand : Caller → CallerState
@@ -48,18 +48,18 @@ StatesStand c = Seen (floor (view c.pass)) (stand c)
 
 -- from m to n an event was done, with this answer and these data, and the samples behind it stand
 abbrev pub Does : Setting → Event → Answer → Shown → Moment → Moment → Type 0
-Does set event answer shown m n = DidIn (Sampled (Fulfils (setting_of set) event answer shown)) set m n
+Does set event answer shown m n = MakesIn (Sampled (IsOutcomeOf (setting_of set) event answer shown)) set m n
 
 -- the caller has no lane in its hands, and its setting is one of the table's
 pub record IsReady (t : Lanes) (c : Caller) : Type 0 where
-  pub has : Has t c.set.caller [] c.pass
+  pub has : HoldsLanes t c.set.caller [] c.pass
   pub cpu : c.set.cpu < t.cpus
   pub moment : c.set.now < 2 ^ 40
 
 -- the caller, then c and now d, made the call of an event, with these steps and these bytes
-pub record Called (t : Lanes) (event : Event) (c d : Caller) (said : Said) (served : List ℕ) (steps : List Step)
+pub record Called (t : Lanes) (event : Event) (c d : Caller) (said : Reply) (served : List ℕ) (steps : List Step)
     : Type 0 where
-  pub has : Has t d.set.caller [] d.pass
+  pub has : HoldsLanes t d.set.caller [] d.pass
   pub set : d.set ≡ c.set
   pub states : d.states ≡ c.states
   pub does : Does c.set event said.answer (shown_by served said.shows) (moment c.pass []) (moment d.pass steps)
@@ -67,9 +67,9 @@ pub record Called (t : Lanes) (event : Event) (c d : Caller) (said : Said) (serv
 
 -- the caller, then c and now d, read n bytes out of its current state with these flags and these acts inside, of which
 -- this came
-pub record StateRead (t : Lanes) (n flags : ℕ) (c d : Caller) (said : Said) (served : List ℕ) (steps : List Step)
+pub record StateRead (t : Lanes) (n flags : ℕ) (c d : Caller) (said : Reply) (served : List ℕ) (steps : List Step)
     (asks : List Ask) (zs : List ActOutcome) : Type 0 where
-  pub has : Has t d.set.caller [] d.pass
+  pub has : HoldsLanes t d.set.caller [] d.pass
   pub set : d.set ≡ c.set
   pub left : VgetrandomState
   pub stands : stand d ≡ with_state (stand c) left

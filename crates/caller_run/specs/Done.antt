@@ -13,7 +13,7 @@ use Rattle.lane_table.specs.declared.view.Visit.{Visit}
 use Rattle.lane_table.specs.declared.view.View.{View}
 use Rattle.lane_table.specs.BookLists.{StateLists, book_lists}
 use Rattle.lane_table.specs.BookLaws.{Continues}
-use Rattle.caller_run.specs.Doings.{Doing, items_of}
+use Rattle.caller_run.specs.NumberedSteps.{NumberedStep, items_of}
 use Rattle.caller_run.specs.Ran.{RanBy}
 use Rattle.key_names.specs.LineSamples.{SamplesStand}
 use Rattle.rng_core.specs.SampleDeeds.{fast_in}
@@ -49,9 +49,9 @@ CallSamples fast lists call = AllByRecursion (λ line. SamplesStand fast (deeds_
 -- from v to w, and from s to t, the caller made this call; what it meant is said of all lists in the end of which its
 -- pass knows beginnings
 pub record CallDoneBy (caller splits : ℕ) (v w : View) (s t : CallerState) (call : Call) : Type 0 where
-  pub doings : List Doing
-  pub ran : RanBy caller splits v w doings
-  pub order : items_of doings ≡ call_items call
+  pub numbered_steps : List NumberedStep
+  pub ran : RanBy caller splits v w numbered_steps
+  pub order : items_of numbered_steps ≡ call_items call
   pub points : PointsFit call
   pub meant : (lanes : ℕ) (visits : ℕ → List Visit) (callers : StateLists) → Continues lanes w visits →
       CallMeant (book_lists lanes visits callers) s call t
@@ -78,9 +78,9 @@ pub record CallsMeant (lists : Lists) (s : CallerState) (calls : List Call) (t :
 
 -- what a loop over a caller's calls keeps, which forked so many
 pub record CallsDone (caller splits : ℕ) (v w : View) (s t : CallerState) (calls : List Call) : Type 0 where
-  pub doings : List Doing
-  pub ran : RanBy caller splits v w doings
-  pub order : items_of doings ≡ calls_items calls
+  pub numbered_steps : List NumberedStep
+  pub ran : RanBy caller splits v w numbered_steps
+  pub order : items_of numbered_steps ≡ calls_items calls
   pub points : AllByRecursion PointsFit calls
   pub meant : (lanes : ℕ) (visits : ℕ → List Visit) (callers : StateLists) → Continues lanes w visits →
       CallsMeant (book_lists lanes visits callers) s calls t

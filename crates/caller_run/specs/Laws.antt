@@ -15,9 +15,9 @@ use Rattle.lane_table.specs.Meaning.{replay}
 use Rattle.lane_table.specs.WorldRule.{at, known_of}
 use Rattle.lane_table.specs.Steps.{Grows}
 use Rattle.lane_table.specs.Calls.{Ended}
-use Rattle.lane_table.specs.Went.{floor}
+use Rattle.lane_table.specs.Advances.{floor}
 use Rattle.lane_table.specs.BookLists.{book_of}
-use Rattle.caller_run.specs.Standing.{Start, HasEnded}
+use Rattle.caller_run.specs.Standing.{Start, RunEnded}
 
 -- one caller of a run: its start, what its pass knew behind its last visit, its lines, and the callers that it forked
 pub record Run : Type 0 where
@@ -30,7 +30,7 @@ pub record Run : Type 0 where
 -- list
 pub record HasRun (caller : ℕ) (events : List Event) (r : Run) : Type 0 where
   pub own : r.begun.caller ≡ caller
-  pub ended : HasEnded r.begun events r.end r.lines r.kids
+  pub ended : RunEnded r.begun events r.end r.lines r.kids
   pub seen : floor r.end ≤ (replay (known_of r.end 1)).base.generation
 
 abbrev pub IsOneOf : {X : Type 0} → X → List X → Type 0

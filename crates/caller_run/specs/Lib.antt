@@ -1,5 +1,5 @@
 pub mod Items
-pub mod Doings
+pub mod NumberedSteps
 pub mod Ran
 pub mod Done
 pub mod Waiting

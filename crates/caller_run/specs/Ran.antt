@@ -4,14 +4,14 @@ use Rattle.std.specs.List.{AllByRecursion}
 use Rattle.lane_table.specs.declared.view.View.{View}
 use Rattle.lane_table.specs.WorldRule.{at}
 use Rattle.lane_table.specs.Steps.{Grows}
-use Rattle.lane_table.specs.Went.{Deal, looked, visited, IsMarkOf, maker, places_in, stamps_in, Climbs, Sees, floor}
-use Rattle.caller_run.specs.Doings.{Doing, deals_of}
+use Rattle.lane_table.specs.Advances.{MadeStep, looked, visited, IsMarkOf, maker, places_in, stamps_in, Climbs, Sees, floor}
+use Rattle.caller_run.specs.NumberedSteps.{NumberedStep, made_steps_of}
 
 -- a visit is known, and was made by this caller as this step
-abbrev pub Stood : View → ℕ → Doing → Type 0
-Stood w caller d = Standing d.deal
+abbrev pub Stood : View → ℕ → NumberedStep → Type 0
+Stood w caller d = Standing d.made_step
   where
-    Standing : Deal → Type 0
+    Standing : MadeStep → Type 0
     Standing (looked g) = ⊤
     Standing (visited mark e) = IsMarkOf w mark (maker caller d.event d.number) e
 
@@ -23,18 +23,18 @@ pub record SplitView (splits : ℕ) (v w : View) : Type 0 where
   pub sized : length w.lanes ≡ length v.lanes
 
 -- from v to w the pass of this caller did exactly this, and was split so often
-pub record RanBy (caller splits : ℕ) (v w : View) (doings : List Doing) : Type 0 where
+pub record RanBy (caller splits : ℕ) (v w : View) (numbered_steps : List NumberedStep) : Type 0 where
   pub same : SplitView splits v w
   pub grows : Grows v w
   pub places : (lane : ℕ) → lane < length v.lanes →
-      (at lane w).places ≡ (at lane v).places ++ places_in lane (deals_of doings)
+      (at lane w).places ≡ (at lane v).places ++ places_in lane (made_steps_of numbered_steps)
   pub made : (lane : ℕ) → lane < length v.lanes →
-      (at lane w).made ≡ (at lane v).made + length (places_in lane (deals_of doings))
+      (at lane w).made ≡ (at lane v).made + length (places_in lane (made_steps_of numbered_steps))
   pub heard : (lane : ℕ) → lane < length v.lanes → (at lane w).heard ≡ (at lane v).heard
-  pub climbs : Climbs v.stamp (stamps_in (deals_of doings)) w.stamp
-  pub sees : Sees w (floor v) (deals_of doings) (floor w)
-  pub stood : AllByRecursion (Stood w caller) doings
+  pub climbs : Climbs v.stamp (stamps_in (made_steps_of numbered_steps)) w.stamp
+  pub sees : Sees w (floor v) (made_steps_of numbered_steps) (floor w)
+  pub stood : AllByRecursion (Stood w caller) numbered_steps
 
 -- the same, where it forked nobody
-abbrev pub Ran : ℕ → View → View → List Doing → Type 0
-Ran caller v w doings = RanBy caller 0 v w doings
+abbrev pub Ran : ℕ → View → View → List NumberedStep → Type 0
+Ran caller v w numbered_steps = RanBy caller 0 v w numbered_steps

@@ -8,9 +8,9 @@ use Rattle.key_names.specs.declared.names.Step.{Step}
 use Rattle.key_names.specs.Texts.ScriptGrammar.{bytes_read}
 use Rattle.key_names.specs.SeenLine.{Shown, no_data, count, bytes_or_none, SeenLine}
 use Rattle.rng_core.specs.declared.setting.Setting.{Setting}
-use Rattle.caller_run.specs.declared.said.Shows.{Shows}
-use Rattle.caller_run.specs.declared.said.Shows.TheVariants.{Nothing, Served, Count}
-use Rattle.caller_run.specs.declared.said.Said.{Said}
+use Rattle.caller_run.specs.declared.reply.Shows.{Shows}
+use Rattle.caller_run.specs.declared.reply.Shows.TheVariants.{Nothing, Served, Count}
+use Rattle.caller_run.specs.declared.reply.Reply.{Reply}
 
 -- the data of a line, out of the bytes that were served
 abbrev pub shown_by : List ℕ → Shows → Shown
@@ -38,7 +38,7 @@ ShowsFit word Served = word ≢ Bits
 ShowsFit word (Count n) = word ≡ Bits
 
 -- the line of a call
-abbrev pub line_of : Setting → Word → List ℕ → Said → List Step → SeenLine
+abbrev pub line_of : Setting → Word → List ℕ → Reply → List Step → SeenLine
 line_of set word served said steps = record {
   caller = set.caller;
   event = set.event;

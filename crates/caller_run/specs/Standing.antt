@@ -4,7 +4,7 @@ use Rattle.std.specs.List.{AllByRecursion, fold}
 use Rattle.key_names.specs.declared.events.Event.{Event}
 use Rattle.key_names.specs.declared.events.Event.TheVariants.{Inside, Fork}
 use Rattle.key_names.specs.declared.events.Word.TheVariants.{Inside as InsideWord}
-use Rattle.key_names.specs.Calls.{Call, alone, Setting as Told, setting_after_call, has_vread, calls_of}
+use Rattle.key_names.specs.Calls.{Call, alone, Setting as CallSetting, setting_after_call, has_vread, calls_of}
 use Rattle.key_names.specs.History.{calls_steps, through_visit}
 use Rattle.key_names.specs.IsTranscript.{LineIs, LinesFit}
 use Rattle.key_names.specs.Meaning.{CallerState, caller_start}
@@ -15,12 +15,12 @@ use Rattle.lane_table.specs.declared.view.View.{View}
 use Rattle.lane_table.specs.Calls.{view}
 use Rattle.lane_table.specs.Steps.{Grows, child as split_off}
 use Rattle.rng_core.specs.Acts.{Ask, wants, all_wanted, asks_of}
-use Rattle.rng_core.specs.InsideDid.{IsFresh}
+use Rattle.rng_core.specs.InsideMakes.{IsFresh}
 use Rattle.rng_core.specs.declared.acts.Bound.{Bound}
 use Rattle.transcript_text.specs.Gathered.{Gathered}
 use Rattle.caller_run.specs.Calling.{IsReady, StatesStand, stand}
 use Rattle.caller_run.specs.Done.{CallsDone}
-use Rattle.caller_run.specs.Doings.{Doing, items_of}
+use Rattle.caller_run.specs.NumberedSteps.{NumberedStep, items_of}
 use Rattle.caller_run.specs.Items.{steps_of}
 use Rattle.caller_run.specs.Ran.{RanBy}
 use Rattle.caller_run.specs.Says.{most_shown}
@@ -39,7 +39,7 @@ waiting_in log = asks_of log.acts.items
 
 -- a caller with these lines that can make these events, while these acts wait: so many bytes can be served at once, and
 -- so many can be read inside a vread
-pub record CanGoWith (t : Lanes) (c : Caller) (lines : Gathered) (acts : List Bound) (served inside : ℕ)
+pub record CanAdvanceWith (t : Lanes) (c : Caller) (lines : Gathered) (acts : List Bound) (served inside : ℕ)
     (rest : List Event) : Type 0 where
   pub ready : IsReady t c
   pub states : StatesStand c
@@ -56,8 +56,8 @@ pub record CanGoWith (t : Lanes) (c : Caller) (lines : Gathered) (acts : List Bo
   pub told : AllByRecursion (λ a. a.event < length lines.lines) (asks_of acts)
 
 -- a caller that can make these events
-pub record CanGo (t : Lanes) (c : Caller) (log : Log) (served inside : ℕ) (rest : List Event) : Type 0 where
-  pub goes : CanGoWith t c log.lines log.acts.items served inside rest
+pub record CanAdvance (t : Lanes) (c : Caller) (log : Log) (served inside : ℕ) (rest : List Event) : Type 0 where
+  pub goes : CanAdvanceWith t c log.lines log.acts.items served inside rest
   pub act_room : 8 ≤ vec_capacity log.acts
 
 -- the line of an act that waits
@@ -69,7 +69,7 @@ pub record HasLine (caller : ℕ) (lines : List SeenLine) (a : Ask) : Type 0 whe
 -- a caller at its start: its number, its setting, and what its pass knows
 pub record Start : Type 0 where
   pub caller : ℕ
-  pub set : Told
+  pub set : CallSetting
   pub view : View
 
 -- a caller that began so, and whose pass knows w now, has forked this child by one of these calls
@@ -82,9 +82,9 @@ pub record Forked (begun : Start) (w : View) (calls : List Call) (child : Start)
   -- what its pass did up to and with the visit of the fork, and what it knew then
   pub splits : ℕ
   pub middle : View
-  pub doings : List Doing
-  pub ran : RanBy begun.caller splits begun.view middle doings
-  pub order : steps_of (items_of doings) ≡ calls_steps before ++ through_visit line.steps
+  pub numbered_steps : List NumberedStep
+  pub ran : RanBy begun.caller splits begun.view middle numbered_steps
+  pub order : steps_of (items_of numbered_steps) ≡ calls_steps before ++ through_visit line.steps
   pub sized : length w.lanes ≡ length middle.lanes
   pub grows : Grows middle w
   pub view_is : child.view ≡ split_off middle
@@ -92,7 +92,7 @@ pub record Forked (begun : Start) (w : View) (calls : List Call) (child : Start)
 
 -- from its start a caller has made all events but the rest, and these are its lines; acts that ask this wait, and these
 -- are the callers that it forked
-pub record HasGone (begun : Start) (events rest : List Event) (c : Caller) (lines : List SeenLine) (asks : List Ask)
+pub record HasAdvanced (begun : Start) (events rest : List Event) (c : Caller) (lines : List SeenLine) (asks : List Ask)
     (kids : List Start) : Type 0 where
   pub own : c.set.caller ≡ begun.caller
   pub calls : List Call
@@ -107,7 +107,7 @@ pub record HasGone (begun : Start) (events rest : List Event) (c : Caller) (line
   pub idle : AllByRecursion (HasLine begun.caller lines) asks
 
 -- the caller has made all of its events, and ended; its pass then knew w
-pub record HasEnded (begun : Start) (events : List Event) (w : View) (lines : List SeenLine) (kids : List Start)
+pub record RunEnded (begun : Start) (events : List Event) (w : View) (lines : List SeenLine) (kids : List Start)
     : Type 0 where
   pub fit : LinesFit begun.caller 0 events lines
   pub reached : CallerState

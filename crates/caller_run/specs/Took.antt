@@ -12,17 +12,17 @@ use Rattle.lane_table.specs.declared.view.View.{View}
 use Rattle.lane_table.specs.BookLists.{StateLists, book_lists}
 use Rattle.lane_table.specs.BookLaws.{Continues}
 use Rattle.rng_core.specs.declared.setting.Setting.{Setting}
-use Rattle.rng_core.specs.Told.{Moment}
-use Rattle.caller_run.specs.Doings.{Doing, items_of}
+use Rattle.rng_core.specs.Traces.{Moment}
+use Rattle.caller_run.specs.NumberedSteps.{NumberedStep, items_of}
 use Rattle.caller_run.specs.Items.{items_from}
 use Rattle.caller_run.specs.Ran.{RanBy}
 
 -- from m to n the caller took these steps of one line, and its pass was split so often
 pub record Tells (set : Setting) (splits : ℕ) (m n : Moment) (steps : List Step) : Type 0 where
   pub trace : n.steps ≡ m.steps ++ steps
-  pub doings : List Doing
-  pub ran : RanBy set.caller splits m.view n.view doings
-  pub order : items_of doings ≡ items_from set.event (length m.steps) steps
+  pub numbered_steps : List NumberedStep
+  pub ran : RanBy set.caller splits m.view n.view numbered_steps
+  pub order : items_of numbered_steps ≡ items_from set.event (length m.steps) steps
 
 abbrev pub since : View → List Step → Moment
 since view steps = record { view = view; steps = steps }

@@ -8,7 +8,7 @@ use Rattle.key_names.specs.Calls.{Call, BoundAct, has_vread, calls_from, calls_o
 use Rattle.key_names.specs.SeenLine.{SeenLine}
 use Rattle.key_names.specs.VreadSteps.{number_of}
 use Rattle.rng_core.specs.Acts.{Ask, ActOutcome}
-use Rattle.rng_core.specs.InsideDid.{act_line}
+use Rattle.rng_core.specs.InsideMakes.{act_line}
 use Rattle.rng_core.specs.declared.setting.Setting.{Setting}
 
 -- a caller's lines, these being told anew as the lines of the acts that ask this

@@ -15,15 +15,15 @@ use Rattle.lane_table.specs.declared.lanes.Lanes.{Lanes}
 use Rattle.lane_table.specs.declared.lanes.Pass.{Pass}
 use Rattle.lane_table.specs.declared.view.View.{View}
 use Rattle.lane_table.specs.Calls.{view}
-use Rattle.lane_table.specs.Hands.{Has}
+use Rattle.lane_table.specs.Hands.{HoldsLanes}
 use Rattle.lane_table.specs.Meaning.{replay}
 use Rattle.lane_table.specs.Steps.{halved, child as split_off}
 use Rattle.lane_table.specs.WorldRule.{at, known_of}
-use Rattle.lane_table.specs.Went.{floor}
+use Rattle.lane_table.specs.Advances.{floor}
 use Rattle.rng_core.specs.declared.setting.Setting.{Setting}
-use Rattle.rng_core.specs.Did.{Did, setting_of}
+use Rattle.rng_core.specs.Makes.{Makes, setting_of}
 use Rattle.rng_core.specs.Forks as cuts
-use Rattle.rng_core.specs.Told.{Moment, moment}
+use Rattle.rng_core.specs.Traces.{Moment, moment}
 use Rattle.caller_run.specs.declared.caller.Caller.{Caller}
 use Rattle.caller_run.specs.declared.rooms.Room.{Room}
 use Rattle.caller_run.specs.declared.rooms.Sheet.{Sheet}
@@ -35,7 +35,7 @@ use Rattle.caller_run.specs.Grove.{Grove, cleared, planted, Plot, grove_of, tree
 use Rattle.caller_run.specs.Laws.{Run, RanAll, LawfulRuns, lines_of_all}
 use Rattle.caller_run.specs.Plots.{plot}
 use Rattle.caller_run.specs.Says.{most_shown}
-use Rattle.caller_run.specs.Standing.{Start, CanGo, HasGone, HasEnded, waiting_in, read_inside}
+use Rattle.caller_run.specs.Standing.{Start, CanAdvance, HasAdvanced, RunEnded, waiting_in, read_inside}
 use Rattle.caller_run.specs.Took.{Took}
 
 -- room for these events, with nothing in it
@@ -81,13 +81,13 @@ abbrev pub start_of : Setting → Pass → Start
 start_of set p = record { caller = set.caller; set = setting_of set; view = view p }
 
 -- a caller on its way can make these events
-abbrev pub CanGoIn : Lanes → Way → List Event → Type 0
-CanGoIn t w events = CanGo t w.caller w.sheet.log (vec_len w.sheet.served) (vec_len w.sheet.inside) events
+abbrev pub CanAdvanceIn : Lanes → Way → List Event → Type 0
+CanAdvanceIn t w events = CanAdvance t w.caller w.sheet.log (vec_len w.sheet.served) (vec_len w.sheet.inside) events
 
 -- a caller on its way has made the events before these
 abbrev pub GoneIn : Start → List Event → List Event → Caller → Way → List Start → Type 0
 GoneIn begun events rest c w kids =
-    HasGone begun events rest c w.sheet.log.lines.lines (waiting_in w.sheet.log) kids
+    HasAdvanced begun events rest c w.sheet.log.lines.lines (waiting_in w.sheet.log) kids
 
 -- each event that forks names a caller of a higher number
 abbrev pub AreAbove : ℕ → List Event → Type 0
@@ -97,7 +97,7 @@ AreAbove c events = AllByRecursion (IsForkAbove c) events
 
 -- a caller can run from its start: its pass holds nothing, and its room is new
 pub record CanRun (t : Lanes) (script : Script) (set : Setting) (p : Pass) (a : Plot) : Type 0 where
-  pub has : Has t set.caller [] p
+  pub has : HoldsLanes t set.caller [] p
   pub cpu : set.cpu < t.cpus
   pub now' : set.now < 2 ^ 40
   pub none_yet : set.event ≡ 0
@@ -109,8 +109,8 @@ pub record CanRun (t : Lanes) (script : Script) (set : Setting) (p : Pass) (a : 
   pub ready : ArePrepared script.callers a.kids (forks (list_at script.callers a.caller))
 
 -- a caller on its way can make these events, and the rooms of those that they fork are new
-pub record CanGoOn (t : Lanes) (script : Script) (events : List Event) (w : Way) : Type 0 where
-  pub can : CanGoIn t w events
+pub record CanAdvanceOn (t : Lanes) (script : Script) (events : List Event) (w : Way) : Type 0 where
+  pub can : CanAdvanceIn t w events
   pub well : WellFormed script
   pub cpus : t.cpus ≡ script.cpus
   pub ready : ArePrepared script.callers (kids_of w) (forks events)
@@ -118,7 +118,7 @@ pub record CanGoOn (t : Lanes) (script : Script) (events : List Event) (w : Way)
 -- the line of a fork is still to be told
 pub record CanTell (t : Lanes) (script : Script) (child : ℕ) (rest : List Event) (w : Way) (steps : List Step)
     : Type 0 where
-  pub can : CanGoIn t w (Fork child ∷ rest)
+  pub can : CanAdvanceIn t w (Fork child ∷ rest)
   pub well : WellFormed script
   pub cpus : t.cpus ≡ script.cpus
   pub ready : ArePrepared script.callers (kids_of w) (forks rest)
@@ -129,7 +129,7 @@ pub record CanTell (t : Lanes) (script : Script) (child : ℕ) (rest : List Even
 
 -- the events up to a fork, or all
 pub record RanPlain (t : Lanes) (events : List Event) (x : Way) (rest : List Event) (y : Way) : Type 0 where
-  pub can : CanGoIn t y rest
+  pub can : CanAdvanceIn t y rest
   pub gone : (begun : Start) (all : List Event) (kids : List Start) → GoneIn begun all events x.caller x kids →
       GoneIn begun all rest y.caller y kids
   pub forks' : forks events ≡ forks rest
@@ -146,8 +146,8 @@ pub record AtFork (m w : Caller) (steps : List Step) (child : ℕ) (theirs : Pas
 -- a child ran between two more visits
 pub record RanHere (set : Setting) (m n : Moment) : Type 0 where
   pub middle : Moment
-  pub stall : Did (BaseOnly Stall) set m middle
-  pub unstall : Did (BaseOnly Unstall) set middle n
+  pub stall : Makes (BaseOnly Stall) set m middle
+  pub unstall : Makes (BaseOnly Unstall) set middle n
 
 -- m took the steps of a fork, and is d now
 pub record TookFrom (m d : Caller) (child : ℕ) (u : View) (steps : List Step) : Type 0 where
@@ -165,7 +165,7 @@ numbered r = (r.begun.caller, r.lines)
 
 -- from its start a caller ran, and all that it forked
 pub record Returned (t : Lanes) (script : Script) (begun : Start) (a : Plot) (q : Pass) (b : Plot) : Type 0 where
-  pub has : Has t begun.caller [] q
+  pub has : HoldsLanes t begun.caller [] q
   pub own : Run
   pub runs : List Run
   pub ran : RanSo script begun (view q) own runs
@@ -181,7 +181,7 @@ pub record WentFrom (script : Script) (begun : Start) (events : List Event) (kid
   pub starts : List Start
   pub runs : List Run
   pub ran : RanOn script v end (view y.caller.pass) starts runs
-  pub ended : HasEnded begun events end y.sheet.log.lines.lines (kids ++ starts)
+  pub ended : RunEnded begun events end y.sheet.log.lines.lines (kids ++ starts)
   pub seen : floor end ≤ (replay (known_of end 1)).base.generation
   pub told : told_in (kids_of y) ≡ map numbered runs
 
@@ -193,7 +193,7 @@ pub record SameKids (ks ks' : GlobalVec Room) : Type 0 where
 
 -- a caller on its way made these events, ended, and joined all that it forked
 pub record WentOn (t : Lanes) (script : Script) (rest : List Event) (x y : Way) : Type 0 where
-  pub has : Has t y.caller.set.caller [] y.caller.pass
+  pub has : HoldsLanes t y.caller.set.caller [] y.caller.pass
   pub same : SameKids x.kids y.kids
   pub goes : (begun : Start) (events : List Event) (kids : List Start) → AreAbove begun.caller rest →
       GoneIn begun events rest x.caller x kids → WentFrom script begun events kids (view x.caller.pass) y
@@ -208,7 +208,7 @@ pub record Past (script : Script) (begun : Start) (events : List Event) (kids : 
 -- a child ran beside its parent, which went on
 pub record WentBeside (t : Lanes) (script : Script) (child : ℕ) (rest : List Event) (w : Way) (steps : List Step)
     (theirs : Pass) (a : Plot) (y : Way) (q : Pass) (b : Plot) : Type 0 where
-  pub has : Has t y.caller.set.caller [] y.caller.pass
+  pub has : HoldsLanes t y.caller.set.caller [] y.caller.pass
   pub same : SameKids w.kids y.kids
   pub of_child : Returned t script (start_of (child_set child w.caller.set) theirs) a q b
   pub goes : (begun : Start) (events : List Event) (kids : List Start) (m : Caller)

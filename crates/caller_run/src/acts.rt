@@ -7,13 +7,13 @@ ghost use Rattle.key_names.specs.declared.events.Event.{Event};
 ghost use Rattle.key_names.specs.declared.events.Event.TheVariants.{Inside};
 ghost use Rattle.lane_table.specs.declared.lanes.Lanes.{Lanes};
 ghost use Rattle.rng_core.specs.Acts.{all_wanted, ask_of, asks_of, outcome_of, outcomes_of};
-ghost use Rattle.rng_core.specs.InsideDid.{act_line};
-ghost use Rattle.caller_run.specs.Standing.{Start, CanGo, HasGone, waiting_in};
+ghost use Rattle.rng_core.specs.InsideMakes.{act_line};
+ghost use Rattle.caller_run.specs.Standing.{Start, CanAdvance, HasAdvanced, waiting_in};
 ghost use Rattle.caller_run.specs.Waiting.{act_lines, told_anew};
 
 use crate::caller::Caller;
 use crate::logs::Log;
-use crate::said::Said;
+use crate::reply::Reply;
 use key_names::{Answer, Event, InsideAct, Point, Trace, Word};
 use rng_core::Bound;
 use transcript_text::{CallerLines, LineView, Shown};
@@ -45,16 +45,16 @@ impl Caller {
     /// An act waits for the caller's next `vread`. Its line says that it was not done, until that `vread` tells it anew.
     pub(crate) fn wait(&mut self, log: &mut Log, event: &Event, point: u8, act: InsideAct)
         requires can { (t : Lanes) × (served : ℕ) × (inside : ℕ)
-            × CanGo t self.old log.old served inside (event.now ∷ []) }
+            × CanAdvance t self.old log.old served inside (event.now ∷ []) }
         requires is { event.now ≡ Inside point act }
         ensures can { (t : Lanes) (served inside : ℕ) (rest : List Event)
-            → CanGo t self.old log.old served inside (event.now ∷ rest)
-            → CanGo t self.new log.new served inside rest }
+            → CanAdvance t self.old log.old served inside (event.now ∷ rest)
+            → CanAdvance t self.new log.new served inside rest }
         ensures gone { (begun : Start) (events rest : List Event) (kids : List Start)
-            → HasGone begun events (event.now ∷ rest) self.old log.old.lines.lines (waiting_in log.old) kids
-            → HasGone begun events rest self.new log.new.lines.lines (waiting_in log.new) kids }
+            → HasAdvanced begun events (event.now ∷ rest) self.old log.old.lines.lines (waiting_in log.old) kids
+            → HasAdvanced begun events rest self.new log.new.lines.lines (waiting_in log.new) kids }
     {
-        let unused = Said::only(Answer::Unused);
+        let unused = Reply::only(Answer::Unused);
         self.tell(&mut log.lines, Word::Inside, unused, &Trace::empty(), &[]);
         let bound = Bound::of(point_of(point), act, self.set.event);
         log.acts.push_reserved(bound);
@@ -74,7 +74,7 @@ impl Caller {
         ensures step_room { lines.old.step_room ≤ lines.new.step_room + 20 }
         ensures byte_room { lines.old.byte_room ≤ lines.new.byte_room + length bytes.now }
     {
-        let said = Said::of_act(bound.done, bound.answer);
+        let said = Reply::of_act(bound.done, bound.answer);
         let line = LineView {
             caller: self.set.caller,
             event: bound.event,

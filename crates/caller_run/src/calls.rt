@@ -6,7 +6,7 @@ ghost use Rattle.caller_run.specs.Kinds.{IsCall, IsSetting, IsSample, IsReseed, 
 ghost use Rattle.caller_run.specs.Says.{most_shown};
 
 use crate::caller::Caller;
-use crate::said::{Said, Shows};
+use crate::reply::{Reply, Shows};
 use key_names::{Answer, Event, Trace};
 use lane_table::Lanes;
 use rng_core::{
@@ -17,18 +17,18 @@ use std::sync::Wait;
 
 impl Caller {
     // What is only set asks nothing of the core.
-    fn ask_nothing(&self, lanes: &Lanes, trace: &Trace, event: &Event) -> Said
+    fn ask_nothing(&self, lanes: &Lanes, trace: &Trace, event: &Event) -> Reply
         requires ready { IsReady lanes.now self.now }
         requires kind { IsSetting event.now }
         requires new { trace.now ≡ [] }
         ensures { (served : List ℕ) → Called lanes.now event.now self.now self.now result served trace.now }
     {
         let _asked = (self.set.event, lanes.cpus(), trace.len());
-        Said::only(Answer::Ok)
+        Reply::only(Answer::Ok)
     }
 
     // What goes into the pool, and what is read of its credit.
-    fn sample<R: Wait>(&mut self, rt: &R, lanes: &Lanes, trace: &mut Trace, event: &Event) -> Said
+    fn sample<R: Wait>(&mut self, rt: &R, lanes: &Lanes, trace: &mut Trace, event: &Event) -> Reply
         requires ready { IsReady lanes.now self.old }
         requires kind { IsSample event.now }
         requires new { trace.old ≡ [] }
@@ -39,23 +39,23 @@ impl Caller {
         match event {
             Event::Write { text } => {
                 mix(rt, lanes, pass, trace, set, text.bytes());
-                Said::only(Answer::Ok)
+                Reply::only(Answer::Ok)
             }
             Event::Device { word, text } => {
                 device(rt, lanes, pass, trace, set, *word, text.bytes());
-                Said::only(Answer::Ok)
+                Reply::only(Answer::Ok)
             }
             Event::Add { text, bits } => {
                 add(rt, lanes, pass, trace, set, text.bytes(), *bits);
-                Said::only(Answer::Ok)
+                Reply::only(Answer::Ok)
             }
             Event::Credit { bits } => {
                 add(rt, lanes, pass, trace, set, &[], *bits);
-                Said::only(Answer::Ok)
+                Reply::only(Answer::Ok)
             }
             Event::Irq { v1, v2 } => {
                 irq(rt, lanes, pass, trace, set, *v1, *v2);
-                Said::only(Answer::Ok)
+                Reply::only(Answer::Ok)
             }
             Event::Input {
                 word,
@@ -64,15 +64,15 @@ impl Caller {
                 value,
             } => {
                 input(rt, lanes, pass, trace, set, *word, *kind, *code, *value);
-                Said::only(Answer::Ok)
+                Reply::only(Answer::Ok)
             }
-            Event::Bits => Said::done(Shows::Count(bits(rt, lanes, pass, trace, set))),
+            Event::Bits => Reply::done(Shows::Count(bits(rt, lanes, pass, trace, set))),
             _ => unreachable!(),
         }
     }
 
     // Reseeds.
-    fn reseed<R: Wait>(&mut self, rt: &R, lanes: &Lanes, trace: &mut Trace, event: &Event) -> Said
+    fn reseed<R: Wait>(&mut self, rt: &R, lanes: &Lanes, trace: &mut Trace, event: &Event) -> Reply
         requires ready { IsReady lanes.now self.old }
         requires kind { IsReseed event.now }
         requires new { trace.old ≡ [] }
@@ -81,11 +81,11 @@ impl Caller {
         let pass = &mut self.pass;
         let set = &self.set;
         match event {
-            Event::Reseed => Said::tried(reseed(rt, lanes, pass, trace, set)),
-            Event::Tick => Said::ticked(tick(rt, lanes, pass, trace, set)),
+            Event::Reseed => Reply::tried(reseed(rt, lanes, pass, trace, set)),
+            Event::Tick => Reply::ticked(tick(rt, lanes, pass, trace, set)),
             Event::Vmfork { word, text } => {
                 vmfork(rt, lanes, pass, trace, set, *word, text.bytes());
-                Said::only(Answer::Ok)
+                Reply::only(Answer::Ok)
             }
             _ => unreachable!(),
         }
@@ -98,7 +98,7 @@ impl Caller {
         lanes: &Lanes,
         trace: &mut Trace,
         event: &Event,
-    ) -> Said
+    ) -> Reply
         requires ready { IsReady lanes.now self.old }
         requires range { (version : ℕ) × InRange version lanes.now.cpus event.now }
         requires kind { IsOfCpu event.now }
@@ -110,11 +110,11 @@ impl Caller {
         match event {
             Event::Prepare { cpu } => {
                 prepare(rt, lanes, pass, trace, set, *cpu);
-                Said::only(Answer::Ok)
+                Reply::only(Answer::Ok)
             }
             Event::Online { cpu } => {
                 online(rt, lanes, pass, trace, set, *cpu);
-                Said::only(Answer::Ok)
+                Reply::only(Answer::Ok)
             }
             _ => unreachable!(),
         }
@@ -128,7 +128,7 @@ impl Caller {
         trace: &mut Trace,
         served: &mut [u8],
         event: &Event,
-    ) -> Said
+    ) -> Reply
         requires ready { IsReady lanes.now self.old }
         requires range { (version : ℕ) × InRange version lanes.now.cpus event.now }
         requires len { length served.old ≡ most_shown event.now }
@@ -141,18 +141,18 @@ impl Caller {
         match event {
             Event::Kread { .. } => {
                 kernel_read(rt, lanes, pass, trace, set, served);
-                Said::done(Shows::Served)
+                Reply::done(Shows::Served)
             }
             Event::Uread { .. } => {
                 urandom_file(rt, lanes, pass, trace, set, served);
-                Said::done(Shows::Served)
+                Reply::done(Shows::Served)
             }
             Event::Read { flags, .. } => {
-                Said::read(getrandom(rt, lanes, pass, trace, set, served, *flags))
+                Reply::read(getrandom(rt, lanes, pass, trace, set, served, *flags))
             }
             Event::Dread { flag, .. } => {
                 let nonblock = *flag == 1;
-                Said::read(random_file(rt, lanes, pass, trace, set, served, nonblock))
+                Reply::read(random_file(rt, lanes, pass, trace, set, served, nonblock))
             }
             _ => unreachable!(),
         }
@@ -166,7 +166,7 @@ impl Caller {
         trace: &mut Trace,
         served: &mut [u8],
         event: &Event,
-    ) -> Said
+    ) -> Reply
         requires ready { IsReady lanes.now self.old }
         requires len { length served.old ≡ most_shown event.now }
         requires kind { IsInteger event.now }
@@ -175,7 +175,7 @@ impl Caller {
     {
         let _asked = event;
         int(rt, lanes, &mut self.pass, trace, &self.set, served);
-        Said::done(Shows::Served)
+        Reply::done(Shows::Served)
     }
 
     /// The call that an event asks for, and what its line tells beside the steps. `served` gets the bytes that it shows.
@@ -186,7 +186,7 @@ impl Caller {
         trace: &mut Trace,
         served: &mut [u8],
         event: &Event,
-    ) -> Said
+    ) -> Reply
         requires ready { IsReady lanes.now self.old }
         requires range { (version : ℕ) × InRange version lanes.now.cpus event.now }
         requires len { length served.old ≡ most_shown event.now }

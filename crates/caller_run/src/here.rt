@@ -1,7 +1,7 @@
 //! A child that gets no thread.
 ghost use Rattle.std.specs.Prelude.{◌≤◌, [], length};
-ghost use Rattle.lane_table.specs.Hands.{Has};
-ghost use Rattle.rng_core.specs.Told.{moment};
+ghost use Rattle.lane_table.specs.Hands.{HoldsLanes};
+ghost use Rattle.rng_core.specs.Traces.{moment};
 ghost use Rattle.caller_run.specs.Ways.{RanHere};
 
 use crate::rooms::Room;
@@ -20,10 +20,10 @@ pub fn run_here<R: Wait, F: FnOnce() -> (Pass, Room)>(
     trace: &mut Trace,
     child: F,
 ) -> (Pass, Room)
-    requires has { Has lanes.now set.now.caller [] pass.old }
+    requires has { HoldsLanes lanes.now set.now.caller [] pass.old }
     requires room { length trace.old ≤ 18 }
     requires child { F.IsAlwaysCallable child }
-    ensures has { Has lanes.now set.entry.now.caller [] pass.new }
+    ensures has { HoldsLanes lanes.now set.entry.now.caller [] pass.new }
     ensures here { RanHere set.entry.now (moment pass.old trace.old) (moment pass.new trace.new) }
     ensures child { F.post child result }
 {

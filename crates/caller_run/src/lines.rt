@@ -7,7 +7,7 @@ ghost use Rattle.transcript_text.specs.Views.{bytes_of, seen, seen_shown};
 ghost use Rattle.caller_run.specs.Says.{line_of, ShowsFit};
 
 use crate::caller::Caller;
-use crate::said::{Said, Shows};
+use crate::reply::{Reply, Shows};
 use key_names::{Answer, Event, Step, Trace, Word};
 use transcript_text::{CallerLines, LineView, Shown};
 
@@ -82,7 +82,7 @@ impl Caller {
         &self,
         lines: &mut CallerLines,
         word: Word,
-        said: Said,
+        said: Reply,
         trace: &Trace,
         served: &[u8],
     )

@@ -3,11 +3,11 @@ ghost use Rattle.std.specs.Prelude.{◌≡◌, ◌<◌, ◌^◌, []};
 ghost use Rattle.std.specs.Thread.{IsSync};
 ghost use Rattle.key_names.specs.Texts.ScriptGrammar.{WellFormed};
 ghost use Rattle.lane_table.specs.Calls.{view};
-ghost use Rattle.lane_table.specs.Hands.{Has};
+ghost use Rattle.lane_table.specs.Hands.{HoldsLanes};
 ghost use Rattle.caller_run.specs.Families.{SameShare};
 ghost use Rattle.caller_run.specs.Plans.{IsPlanFor, IsReady};
 ghost use Rattle.caller_run.specs.Plots.{plot};
-ghost use Rattle.caller_run.specs.Ways.{CanGoOn, CanRun, CanTell, IsFirst, Returned, WentBeside, WentOn, WholeRan, child_set, start_of};
+ghost use Rattle.caller_run.specs.Ways.{CanAdvanceOn, CanRun, CanTell, IsFirst, Returned, WentBeside, WentOn, WholeRan, child_set, start_of};
 
 use crate::children::{Child, Children};
 use crate::here::run_here;
@@ -39,13 +39,13 @@ pub fn run_caller<R: Threads + Wait + Sync, G: Gate>(
     room: Room,
     gate: &G,
 ) -> (Pass, Room)
-    requires has { Has lanes.now caller [] pass }
+    requires has { HoldsLanes lanes.now caller [] pass }
     requires own { set.caller ≡ caller }
     requires set { (set.cpu < lanes.now.cpus) × (set.now < 2 ^ 40) }
     requires well { WellFormed script.now }
     requires cpus { lanes.now.cpus ≡ script.now.cpus }
     requires room { IsReady script.now.callers caller (plot room) }
-    ensures has { Has lanes.now caller [] result.0 }
+    ensures has { HoldsLanes lanes.now caller [] result.0 }
     ensures share { SameShare (view pass) (view result.0) }
     ensures ran { Returned lanes.now script.now (start_of set pass) (plot room) result.0 (plot result.1) }
 {
@@ -104,7 +104,7 @@ fn run_from<R: Threads + Wait + Sync, G: Gate>(
     gate: &G,
     children: Children,
 ) -> Way
-    requires { CanGoOn lanes.now script.now events.now way }
+    requires { CanAdvanceOn lanes.now script.now events.now way }
     ensures { WentOn lanes.now script.now events.now way result }
 {
     let Some((child, rest)) = way.run_plain(rt, lanes, events, gate) else {
@@ -183,11 +183,11 @@ pub fn run_all<R: Threads + Wait + Sync, G: Gate>(
     plan: Plan,
     gate: &G,
 ) -> (Pass, Transcript)
-    requires has { Has lanes.now 0 [] pass }
+    requires has { HoldsLanes lanes.now 0 [] pass }
     requires well { WellFormed script.now }
     requires cpus { lanes.now.cpus ≡ script.now.cpus }
     requires plan { IsPlanFor script.now plan }
-    ensures has { Has lanes.now 0 [] result.0 }
+    ensures has { HoldsLanes lanes.now 0 [] result.0 }
     ensures share { SameShare (view pass) (view result.0) }
     ensures whole { IsFirst (view pass) → (view pass).share ≡ 2 ^ (view pass).halvings
         → WholeRan script.now result.1 (view result.0) }
@@ -205,11 +205,11 @@ pub(crate) fn run_plan<R: Threads + Wait + Sync, G: Gate>(
     gate: &G,
     children: Children,
 ) -> (Pass, Transcript)
-    requires has { Has lanes.now 0 [] pass }
+    requires has { HoldsLanes lanes.now 0 [] pass }
     requires well { WellFormed script.now }
     requires cpus { lanes.now.cpus ≡ script.now.cpus }
     requires plan { IsPlanFor script.now plan }
-    ensures has { Has lanes.now 0 [] result.0 }
+    ensures has { HoldsLanes lanes.now 0 [] result.0 }
     ensures share { SameShare (view pass) (view result.0) }
     ensures whole { IsFirst (view pass) → (view pass).share ≡ 2 ^ (view pass).halvings
         → WholeRan script.now result.1 (view result.0) }

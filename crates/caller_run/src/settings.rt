@@ -2,7 +2,7 @@
 ghost use Rattle.std.specs.Prelude.{◌≡◌, ◌<◌, ◌^◌, ◌+◌, ◌-◌};
 ghost use Rattle.key_names.specs.Calls.{setting_after};
 ghost use Rattle.key_names.specs.Meaning.{caller_after};
-ghost use Rattle.rng_core.specs.Did.{setting_of};
+ghost use Rattle.rng_core.specs.Makes.{setting_of};
 ghost use Rattle.caller_run.specs.Calling.{stand};
 
 use crate::caller::Caller;

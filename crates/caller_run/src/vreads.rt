@@ -4,14 +4,14 @@ ghost use Rattle.std.specs.List.{AllByRecursion};
 ghost use Rattle.key_names.specs.declared.events.Event.{Event};
 ghost use Rattle.key_names.specs.declared.events.Event.TheVariants.{Vread};
 ghost use Rattle.rng_core.specs.Acts.{all_wanted, asks_of, outcomes_of};
-ghost use Rattle.rng_core.specs.InsideDid.{IsFresh};
+ghost use Rattle.rng_core.specs.InsideMakes.{IsFresh};
 ghost use Rattle.caller_run.specs.Calling.{IsReady, StatesStand, StateRead};
-ghost use Rattle.caller_run.specs.Standing.{Start, CanGo, HasGone, waiting_in};
+ghost use Rattle.caller_run.specs.Standing.{Start, CanAdvance, HasAdvanced, waiting_in};
 
 use crate::acts::all_wanted;
 use crate::caller::Caller;
 use crate::logs::{Log, most_shown};
-use crate::said::Said;
+use crate::reply::Reply;
 use key_names::{Event, Trace, Word};
 use lane_table::Lanes;
 use rng_core::{Bound, vread, vread_inside};
@@ -29,7 +29,7 @@ impl Caller {
         flags: u32,
         acts: &mut [Bound],
         inside: &mut [u8],
-    ) -> Said
+    ) -> Reply
         requires ready { IsReady lanes.now self.old }
         requires states { StatesStand self.old }
         requires short { length served.old ≤ 2 ^ 20 }
@@ -44,9 +44,9 @@ impl Caller {
         let pass = &mut self.pass;
         let set = &self.set;
         if acts.is_empty() {
-            return Said::read(vread(rt, lanes, pass, trace, set, st, served, flags));
+            return Reply::read(vread(rt, lanes, pass, trace, set, st, served, flags));
         }
-        Said::read(vread_inside(rt, lanes, pass, trace, set, st, served, flags, acts, inside))
+        Reply::read(vread_inside(rt, lanes, pass, trace, set, st, served, flags, acts, inside))
     }
 
     /// A read out of the current state, with the acts inside that waited for it. Their lines are told anew.
@@ -60,15 +60,15 @@ impl Caller {
         event: &Event,
         flags: u32,
     )
-        requires can { CanGo lanes.now self.old log.old (length served.old) (length inside.old) (event.now ∷ []) }
+        requires can { CanAdvance lanes.now self.old log.old (length served.old) (length inside.old) (event.now ∷ []) }
         requires is { (len : ℕ) × (event.now ≡ Vread len flags) }
         ensures act_room { vec_capacity log.new.acts ≡ vec_capacity log.old.acts }
         ensures can { (rest : List Event)
-            → CanGo lanes.now self.old log.old (length served.old) (length inside.old) (event.now ∷ rest)
-            → CanGo lanes.now self.new log.new (length served.old) (length inside.old) rest }
+            → CanAdvance lanes.now self.old log.old (length served.old) (length inside.old) (event.now ∷ rest)
+            → CanAdvance lanes.now self.new log.new (length served.old) (length inside.old) rest }
         ensures gone { (begun : Start) (events rest : List Event) (kids : List Start)
-            → HasGone begun events (event.now ∷ rest) self.old log.old.lines.lines (waiting_in log.old) kids
-            → HasGone begun events rest self.new log.new.lines.lines (waiting_in log.new) kids }
+            → HasAdvanced begun events (event.now ∷ rest) self.old log.old.lines.lines (waiting_in log.old) kids
+            → HasAdvanced begun events rest self.new log.new.lines.lines (waiting_in log.new) kids }
     {
         let mut trace = Trace::empty();
         let served = &mut served[..most_shown(event) as usize];

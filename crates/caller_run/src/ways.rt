@@ -9,18 +9,18 @@ ghost use Rattle.key_names.specs.VgetrandomState.{wiped_state};
 ghost use Rattle.lane_table.specs.declared.lanes.Lanes.{Lanes};
 ghost use Rattle.lane_table.specs.declared.view.View.{View};
 ghost use Rattle.lane_table.specs.Calls.{view};
-ghost use Rattle.lane_table.specs.Hands.{Has, model};
-ghost use Rattle.lane_table.specs.Went.{floor};
+ghost use Rattle.lane_table.specs.Hands.{HoldsLanes, model};
+ghost use Rattle.lane_table.specs.Advances.{floor};
 ghost use Rattle.caller_run.specs.declared.caller.Caller.{Caller};
 ghost use Rattle.caller_run.specs.Forest.{forks};
 ghost use Rattle.caller_run.specs.Grove.{grove_of, plant};
 ghost use Rattle.caller_run.specs.Plots.{plot};
-ghost use Rattle.caller_run.specs.Standing.{Start, HasEnded};
-ghost use Rattle.caller_run.specs.Ways.{ArePrepared, AtFork, CanGoIn, CanRun, CanTell, GoneIn, RanPlain, TookFrom, child_set, kid_of, kids_of};
+ghost use Rattle.caller_run.specs.Standing.{Start, RunEnded};
+ghost use Rattle.caller_run.specs.Ways.{ArePrepared, AtFork, CanAdvanceIn, CanRun, CanTell, GoneIn, RanPlain, TookFrom, child_set, kid_of, kids_of};
 
 use crate::caller::Caller;
+use crate::reply::Reply;
 use crate::rooms::{Room, Sheet};
-use crate::said::Said;
 use crate::states::States;
 use event_script::Script;
 use io_edges::Gate;
@@ -66,7 +66,7 @@ impl Way {
         events: &'a [Event],
         gate: &G,
     ) -> Option<(u32, &'a [Event])>
-        requires { CanGoIn lanes.now self.old events.now }
+        requires { CanAdvanceIn lanes.now self.old events.now }
         ensures { MatchOption result (RanPlain lanes.now events.now self.old [] self.new)
             (λ r. RanPlain lanes.now events.now self.old (Fork r.0 ∷ r.1.now) self.new) }
     {
@@ -99,7 +99,7 @@ impl Way {
         child: u32,
         _rest: &[Event],
     ) -> (Pass, Room)
-        requires can { CanGoIn lanes.now self.old (Fork child ∷ _rest.now) }
+        requires can { CanAdvanceIn lanes.now self.old (Fork child ∷ _rest.now) }
         requires well { WellFormed _script.now × (lanes.now.cpus ≡ _script.now.cpus) }
         requires kids { ArePrepared _script.now.callers (kids_of self.old) (child ∷ forks _rest.now) }
         requires new { trace.old ≡ [] }
@@ -121,10 +121,10 @@ impl Way {
 
     /// The line of a fork.
     pub(crate) fn tell_fork(&mut self, trace: &Trace, child: u32)
-        requires can { (t : Lanes) × (rest : List Event) × CanGoIn t self.old (Fork child ∷ rest) }
+        requires can { (t : Lanes) × (rest : List Event) × CanAdvanceIn t self.old (Fork child ∷ rest) }
         requires fits { AllByRecursion StepFits trace.now }
         ensures can { (t : Lanes) (rest : List Event)
-            → CanGoIn t self.old (Fork child ∷ rest) → CanGoIn t self.new rest }
+            → CanAdvanceIn t self.old (Fork child ∷ rest) → CanAdvanceIn t self.new rest }
         ensures pass { self.new.caller.pass ≡ self.old.caller.pass }
         ensures kids { self.new.kids ≡ self.old.kids }
         ensures gone { (begun : Start) (events rest : List Event) (kids : List Start) (m : Caller) (u : View)
@@ -132,7 +132,7 @@ impl Way {
             → GoneIn begun events (Fork child ∷ rest) m self.old kids
             → GoneIn begun events rest self.new.caller self.new (kids ++ kid_of m child u ∷ []) }
     {
-        let done = Said::only(Answer::Ok);
+        let done = Reply::only(Answer::Ok);
         self.caller
             .tell(&mut self.sheet.log.lines, Word::Fork, done, trace, &[]);
         self.caller.go_on(&Event::Fork { child });

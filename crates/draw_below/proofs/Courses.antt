@@ -19,18 +19,18 @@ use Rattle.lane_table.specs.BookLaws.{Continues}
 use Rattle.lane_table.specs.BookLists.{StateLists, book_lists, book_of}
 use Rattle.lane_table.specs.Calls.{Ended, SameView, made_in, plan_of}
 use Rattle.lane_table.specs.LaneNumbers.{index_of}
-use Rattle.lane_table.specs.Steps.{Grows, newcomer}
-use Rattle.lane_table.specs.Went.{AllStand, Climbs, Deal, IsMarkOf, looked, maker, places_in, stamps_in, step_of, visited}
+use Rattle.lane_table.specs.Steps.{Grows, first_view}
+use Rattle.lane_table.specs.Advances.{AllStand, Climbs, MadeStep, IsMarkOf, looked, maker, places_in, stamps_in, step_of, visited}
 use Rattle.lane_table.specs.WorldRule.{at, blank, known_of}
 use Rattle.lane_table.proofs.Book.BookEnds.{continues_before, ended_lanes, ended_lawful, ended_visits}
 use Rattle.lane_table.proofs.Book.BookMarks.{MarksVisit}
 use Rattle.lane_table.proofs.Lists.Places.{stands_at}
 use Rattle.lane_table.proofs.Lists.VisitLists.{begins_refl, begins_trans}
-use Rattle.lane_table.proofs.Calls.WentLemmas.{climbs_append, mark_grown}
+use Rattle.lane_table.proofs.Calls.AdvanceLemmas.{climbs_append, mark_grown}
 use Rattle.rng_core.specs.declared.setting.Setting.{Setting}
-use Rattle.rng_core.specs.Did.{Did, Fulfils, setting_of}
-use Rattle.rng_core.specs.Told.{Moment}
-use Rattle.rng_core.specs.Told as told
+use Rattle.rng_core.specs.Makes.{Makes, IsOutcomeOf, setting_of}
+use Rattle.rng_core.specs.Traces.{Moment}
+use Rattle.rng_core.specs.Traces as told
 use Rattle.draw_below.specs.Draws.{Takes}
 use Rattle.draw_below.specs.LaneWords.{ReadsWord}
 use Rattle.draw_below.specs.TableDraws.{AreTableWords, AreWordCalls, first_setting, marks_of}
@@ -57,45 +57,45 @@ record Course (v w : View) (marks : List MarkBy) : Type 0 where
   climbs : Climbs v.stamp (stamps_of marks) w.stamp
   known : AllByRecursion (IsKnown w) marks
 
-abbrev deal_marks : ℕ → List Deal → List MarkBy
-deal_marks n deals = marks_from 0 0 n (map step_of deals)
+abbrev deal_marks : ℕ → List MadeStep → List MarkBy
+deal_marks n made_steps = marks_from 0 0 n (map step_of made_steps)
 
 one_longer : (b : Bool) (p : ℕ) (rest : List ℕ) (n : ℕ) → length rest ≡ n →
     length (cond b (p ∷ rest) rest) ≡ cond b 1 0 + n
 one_longer true p rest n e = omega arith
 one_longer false p rest n e = omega arith
 
-made_by : (lane n : ℕ) (deals : List Deal) → length (places_in lane deals) ≡ marks_in lane (deal_marks n deals)
+made_by : (lane n : ℕ) (made_steps : List MadeStep) → length (places_in lane made_steps) ≡ marks_in lane (deal_marks n made_steps)
 made_by lane n [] = refl
-made_by lane n (looked g ∷ deals) = made_by lane (suc n) deals
-made_by lane n (visited mark e ∷ deals) =
-    one_longer (nat_eq (index_of mark.lane) lane) mark.place (places_in lane deals) _ (made_by lane (suc n) deals)
-    ∙ sym (sum_by-cons (here_in lane) (record { mark = mark; who = maker 0 0 n }) (deal_marks (suc n) deals))
+made_by lane n (looked g ∷ made_steps) = made_by lane (suc n) made_steps
+made_by lane n (visited mark e ∷ made_steps) =
+    one_longer (nat_eq (index_of mark.lane) lane) mark.place (places_in lane made_steps) _ (made_by lane (suc n) made_steps)
+    ∙ sym (sum_by-cons (here_in lane) (record { mark = mark; who = maker 0 0 n }) (deal_marks (suc n) made_steps))
 
-stamps_by : (n : ℕ) (deals : List Deal) → stamps_in deals ≡ stamps_of (deal_marks n deals)
+stamps_by : (n : ℕ) (made_steps : List MadeStep) → stamps_in made_steps ≡ stamps_of (deal_marks n made_steps)
 stamps_by n [] = refl
-stamps_by n (looked g ∷ deals) = stamps_by (suc n) deals
-stamps_by n (visited mark e ∷ deals) = ap (λ (l : List ℕ). mark.stamp ∷ l) (stamps_by (suc n) deals)
+stamps_by n (looked g ∷ made_steps) = stamps_by (suc n) made_steps
+stamps_by n (visited mark e ∷ made_steps) = ap (λ (l : List ℕ). mark.stamp ∷ l) (stamps_by (suc n) made_steps)
 
-known_by : (w : View) (n : ℕ) (deals : List Deal) → AllStand w 0 0 n deals →
-    AllByRecursion (IsKnown w) (deal_marks n deals)
+known_by : (w : View) (n : ℕ) (made_steps : List MadeStep) → AllStand w 0 0 n made_steps →
+    AllByRecursion (IsKnown w) (deal_marks n made_steps)
 known_by w n [] stand = tt
-known_by w n (looked g ∷ deals) stand = known_by w (suc n) deals stand
-known_by w n (visited mark e ∷ deals) stand = ((e, stand.0), known_by w (suc n) deals stand.1)
+known_by w n (looked g ∷ made_steps) stand = known_by w (suc n) made_steps stand
+known_by w n (visited mark e ∷ made_steps) stand = ((e, stand.0), known_by w (suc n) made_steps stand.1)
 
 abbrev from : View → List Step → Moment
 from v steps = record { view = v; steps = steps }
 
 -- one call
-course_of : (v w : View) (steps : List Step) (deals : List Deal) →
-    told.Told first_setting (from v []) (from w steps) deals → Course v w (marks_from 0 0 0 steps)
-course_of v w steps deals is =
-    let go : Course v w (deal_marks 0 deals) = record {
+course_of : (v w : View) (steps : List Step) (made_steps : List MadeStep) →
+    told.TraceRecords first_setting (from v []) (from w steps) made_steps → Course v w (marks_from 0 0 0 steps)
+course_of v w steps made_steps is =
+    let go : Course v w (deal_marks 0 made_steps) = record {
       same = is.went.same;
       grows = is.went.grows;
-      made = λ lane low. is.went.made lane low ∙ ap (λ (k : ℕ). (at lane v).made + k) (made_by lane 0 deals);
-      climbs = subst (λ (l : List ℕ). Climbs v.stamp l w.stamp) (stamps_by 0 deals) is.went.climbs;
-      known = known_by w 0 deals is.went.stand;
+      made = λ lane low. is.went.made lane low ∙ ap (λ (k : ℕ). (at lane v).made + k) (made_by lane 0 made_steps);
+      climbs = subst (λ (l : List ℕ). Climbs v.stamp l w.stamp) (stamps_by 0 made_steps) is.went.climbs;
+      known = known_by w 0 made_steps is.went.stand;
     } in
     subst (λ (l : List Step). Course v w (marks_from 0 0 0 l)) (sym is.trace) go
 
@@ -151,12 +151,12 @@ reads_of v w (r ∷ rs) t =
     record {
       calls = one.steps ∷ rest.calls;
       course = course_then v u w (marks_from 0 0 0 one.steps) (marks_of rest.calls)
-          (course_of v u one.steps one.did.deals one.did.told) rest.course;
+          (course_of v u one.steps one.did.made_steps one.did.told) rest.course;
       are = λ lanes visits callers c. (
         record {
           bytes = one.bytes;
           fulfils = subst
-              (λ (l : List Step). Fulfils (setting_of first_setting) Int32 Done (bytes_or_none one.bytes)
+              (λ (l : List Step). IsOutcomeOf (setting_of first_setting) Int32 Done (bytes_or_none one.bytes)
               (deeds_of (book_lists lanes visits callers) l)) (sym one.did.told.trace)
               (one.did.stands lanes visits callers
               (continues_before lanes u w visits rest.course.same.sized rest.course.grows c));
@@ -202,19 +202,19 @@ made_of_three v n = go v.lanes n
     go (a ∷ b ∷ c ∷ d ∷ l) e = absurd (omega arith)
 
 abbrev start : View
-start = newcomer (plan_of 3 0)
+start = first_view (plan_of 3 0)
 
 -- a sample was added on a new table, and then words were read
 module _ (set : Setting) (plain : set ≡ first_setting) (p q w : View) (words : List ℕ) (new : p ≡ start)
     (sampled : (steps : List Step)
-    × Did (Fulfils (setting_of set) (Add (range_with_len 0 32) 256) Done no_data) set (from p []) (from q steps))
+    × Makes (IsOutcomeOf (setting_of set) (Add (range_with_len 0 32) 256) Done no_data) set (from p []) (from q steps))
     (gave : Takes (ReadsWord set) q words w) where
   added : (steps : List Step)
-      × Did (Fulfils (setting_of first_setting) (Add (range_with_len 0 32) 256) Done no_data) first_setting
+      × Makes (IsOutcomeOf (setting_of first_setting) (Add (range_with_len 0 32) 256) Done no_data) first_setting
       (from p []) (from q steps)
   added = subst
       (λ (s : Setting). (steps : List Step)
-      × Did (Fulfils (setting_of s) (Add (range_with_len 0 32) 256) Done no_data) s (from p []) (from q steps))
+      × Makes (IsOutcomeOf (setting_of s) (Add (range_with_len 0 32) 256) Done no_data) s (from p []) (from q steps))
       plain sampled
 
   taken : Takes (ReadsWord first_setting) q words w
@@ -224,7 +224,7 @@ module _ (set : Setting) (plain : set ≡ first_setting) (p q w : View) (words :
   reads = reads_of q w words taken
 
   first : Course p q (marks_from 0 0 0 added.0)
-  first = course_of p q added.0 added.1.deals added.1.told
+  first = course_of p q added.0 added.1.made_steps added.1.told
 
   abbrev marks : List MarkBy
   marks = marks_from 0 0 0 added.0 ++ marks_of reads.calls
@@ -280,7 +280,7 @@ module _ (set : Setting) (plain : set ≡ first_setting) (p q w : View) (words :
       lawful = ended_lawful w [] low ended;
       added = added.0;
       adds = subst
-          (λ (l : List Step). Fulfils (setting_of first_setting) (Add (range_with_len 0 32) 256) Done no_data
+          (λ (l : List Step). IsOutcomeOf (setting_of first_setting) (Add (range_with_len 0 32) 256) Done no_data
           (deeds_of (book_lists (length w.lanes) (known_of w) []) l)) (sym added.1.told.trace)
           (added.1.stands (length w.lanes) (known_of w) []
           (continues_before (length w.lanes) q w (known_of w) reads.course.same.sized reads.course.grows goes_on));

@@ -8,14 +8,14 @@ use Rattle.key_names.specs.SeenLine.{bytes_or_none}
 use Rattle.lane_table.specs.declared.view.View.{View}
 use Rattle.lane_table.specs.Calls.{view}
 use Rattle.rng_core.specs.declared.setting.Setting.{Setting}
-use Rattle.rng_core.specs.Did.{Did, Fulfils, setting_of}
+use Rattle.rng_core.specs.Makes.{Makes, IsOutcomeOf, setting_of}
 use Rattle.draw_below.specs.declared.lane_words.LaneWords.{LaneWords}
 
 -- an integer of 4 bytes was read in a call with a trace of its own, and the word is its bytes, the lowest first
 pub record ReadsWord (set : Setting) (before : View) (word : ℕ) (after : View) : Type 0 where
   pub bytes : List ℕ
   pub steps : List Step
-  pub did : Did (Fulfils (setting_of set) Int32 Done (bytes_or_none bytes)) set
+  pub did : Makes (IsOutcomeOf (setting_of set) Int32 Done (bytes_or_none bytes)) set
       (record { view = before; steps = [] }) (record { view = after; steps = steps })
   pub word_is : word ≡ from_le_bytes w32 bytes
 

@@ -9,9 +9,9 @@ use Rattle.key_names.specs.Book.{Book, Lists, LawfulLanes, lists_of}
 use Rattle.key_names.specs.Deeds.{deeds_of}
 use Rattle.key_names.specs.IsTranscript.{MarkBy, VisitsAre, marks_from}
 use Rattle.key_names.specs.SeenLine.{bytes_or_none, no_data}
-use Rattle.lane_table.specs.Went.{Climbs}
+use Rattle.lane_table.specs.Advances.{Climbs}
 use Rattle.rng_core.specs.declared.setting.Setting.{Setting}
-use Rattle.rng_core.specs.Did.{Fulfils, setting_of}
+use Rattle.rng_core.specs.Makes.{IsOutcomeOf, setting_of}
 use Rattle.draw_below.specs.Draws.{accepts, value_of}
 use Rattle.draw_below.specs.declared.table_draws.Drawn.{Drawn}
 
@@ -36,7 +36,7 @@ first_setting = record { caller = 0; event = 0; cpu = 0; now = 0; hw = replicate
 -- first
 pub record IsWordCall (lists : Lists) (word : ℕ) (steps : List Step) : Type 0 where
   pub bytes : List ℕ
-  pub fulfils : Fulfils (setting_of first_setting) Int32 Done (bytes_or_none bytes) (deeds_of lists steps)
+  pub fulfils : IsOutcomeOf (setting_of first_setting) Int32 Done (bytes_or_none bytes) (deeds_of lists steps)
   pub word_is : word ≡ from_le_bytes w32 bytes
 
 -- each word is that of its call
@@ -56,7 +56,7 @@ pub record AreTableWords (words : List ℕ) : Type 0 where
   pub book : Book
   pub lawful : LawfulLanes (lists_of book)
   pub added : List Step
-  pub adds : Fulfils (setting_of first_setting) (Add (range_with_len 0 32) 256) Done no_data
+  pub adds : IsOutcomeOf (setting_of first_setting) (Add (range_with_len 0 32) 256) Done no_data
       (deeds_of (lists_of book) added)
   pub reads : List (List Step)
   pub read : AreWordCalls (lists_of book) words reads

@@ -1,6 +1,6 @@
 //! The integers of the core as words.
 ghost use Rattle.std.specs.Prelude.{◌≡◌, ◌<◌, []};
-ghost use Rattle.lane_table.specs.Hands.{Has};
+ghost use Rattle.lane_table.specs.Hands.{HoldsLanes};
 ghost use Rattle.rng_core.specs.Hosted.{IsFree, free_props};
 
 use lane_table::{Lanes, Pass};
@@ -20,7 +20,7 @@ pub struct LaneWords<'a> {
 impl<'a> LaneWords<'a> {
     /// The words that this pass reads with this setting.
     pub fn over(lanes: &'a Lanes, pass: &'a mut Pass, set: Setting) -> LaneWords<'a>
-        requires has { Has lanes.now set.caller [] pass.old }
+        requires has { HoldsLanes lanes.now set.caller [] pass.old }
         requires cpu { set.cpu < lanes.now.cpus }
         ensures lanes { result.lanes.now ≡ lanes.now }
         ensures same_reference { result.pass.ghost_name ≡ pass.entry.ghost_name }

@@ -6,9 +6,9 @@ ghost use Rattle.key_names.specs.declared.events.Answer.TheVariants.{Ok as Done}
 ghost use Rattle.key_names.specs.declared.names.Step.{Step};
 ghost use Rattle.key_names.specs.SeenLine.{no_data};
 ghost use Rattle.lane_table.specs.Calls.{view};
-ghost use Rattle.lane_table.specs.Hands.{Has};
-ghost use Rattle.rng_core.specs.Told.{moment};
-ghost use Rattle.rng_core.specs.Did.{Did, Fulfils, setting_of};
+ghost use Rattle.lane_table.specs.Hands.{HoldsLanes};
+ghost use Rattle.rng_core.specs.Traces.{moment};
+ghost use Rattle.rng_core.specs.Makes.{Makes, IsOutcomeOf, setting_of};
 ghost use Rattle.draw_below.specs.Draws.{Takes};
 ghost use Rattle.draw_below.specs.LaneWords.{ReadsWord, SameSource};
 ghost use Rattle.draw_below.specs.TableDraws.{AreTableDraws, draws_in, ends_of, first_setting};
@@ -86,10 +86,10 @@ fn draw_by_pass<R: Wait>(
     c: u32,
     count: u32,
 ) -> Drawn
-    requires has { Has lanes.now set.caller [] pass.old }
+    requires has { HoldsLanes lanes.now set.caller [] pass.old }
     requires cpu { set.cpu < lanes.now.cpus }
     requires count { count ≤ 1000 }
-    ensures has { Has lanes.now set.caller [] pass.new }
+    ensures has { HoldsLanes lanes.now set.caller [] pass.new }
     ensures drawn { (taken : List ℕ) × Takes (ReadsWord set) (view pass.old) taken (view pass.new)
         × (ends_of result ≡ draws_in c count 0 taken) }
 {
@@ -112,10 +112,10 @@ fn first_setting() -> Setting
 
 // Adds the first sample, which makes the core ready.
 fn add_sample<R: Wait>(rt: &R, lanes: &Lanes, pass: &mut Pass, set: &Setting)
-    requires has { Has lanes.now set.now.caller [] pass.old }
+    requires has { HoldsLanes lanes.now set.now.caller [] pass.old }
     requires moment { set.now.now < 2 ^ 40 }
-    ensures has { Has lanes.now set.entry.now.caller [] pass.new }
-    ensures did { (steps : List Step) × Did (Fulfils (setting_of set.entry.now) (Add (range_with_len 0 32) 256) Done no_data)
+    ensures has { HoldsLanes lanes.now set.entry.now.caller [] pass.new }
+    ensures did { (steps : List Step) × Makes (IsOutcomeOf (setting_of set.entry.now) (Add (range_with_len 0 32) 256) Done no_data)
         set.entry.now (moment pass.old []) (moment pass.new steps) }
 {
     let mut trace = Trace::empty();

@@ -15,12 +15,12 @@ use Rattle.lane_table.specs.declared.view.View.{View}
 use Rattle.lane_table.specs.Calls.{SameView, made_in}
 use Rattle.lane_table.specs.LaneNumbers.{index_of}
 use Rattle.lane_table.specs.Steps.{Grows}
-use Rattle.lane_table.specs.Went.{AllStand, Climbs, Deal, IsMarkOf, looked, maker, places_in, stamps_in, step_of, visited}
+use Rattle.lane_table.specs.Advances.{AllStand, Climbs, MadeStep, IsMarkOf, looked, maker, places_in, stamps_in, step_of, visited}
 use Rattle.lane_table.specs.WorldRule.{at, blank, known_of}
 use Rattle.lane_table.proofs.Lists.VisitLists.{begins_refl, begins_trans}
-use Rattle.lane_table.proofs.Calls.WentLemmas.{climbs_append, mark_grown}
+use Rattle.lane_table.proofs.Calls.AdvanceLemmas.{climbs_append, mark_grown}
 use Rattle.rng_core.specs.declared.setting.Setting.{Setting}
-use Rattle.rng_core.specs.Told as told
+use Rattle.rng_core.specs.Traces as told
 use Rattle.fork_runs.specs.Runs.{knowing, DidAll}
 use Rattle.fork_runs.specs.TableForks.{first_setting, marks_of, stamps_of}
 
@@ -43,8 +43,8 @@ pub record Course (v w : View) (marks : List MarkBy) : Type 0 where
   pub climbs : Climbs v.stamp (stamps_of marks) w.stamp
   pub known : AllByRecursion (IsKnown w) marks
 
-abbrev deal_marks : ℕ → ℕ → List Deal → List MarkBy
-deal_marks caller n deals = marks_from caller 0 n (map step_of deals)
+abbrev deal_marks : ℕ → ℕ → List MadeStep → List MarkBy
+deal_marks caller n made_steps = marks_from caller 0 n (map step_of made_steps)
 
 one_longer : (b : Bool) (p : ℕ) (rest : List ℕ) (n : ℕ) → length rest ≡ n →
     length (cond b (p ∷ rest) rest) ≡ cond b 1 0 + n
@@ -52,35 +52,35 @@ one_longer true p rest n e = omega arith
 one_longer false p rest n e = omega arith
 
 module _ (caller : ℕ) where
-  made_by : (lane n : ℕ) (deals : List Deal) → length (places_in lane deals) ≡ marks_in lane (deal_marks caller n deals)
+  made_by : (lane n : ℕ) (made_steps : List MadeStep) → length (places_in lane made_steps) ≡ marks_in lane (deal_marks caller n made_steps)
   made_by lane n [] = refl
-  made_by lane n (looked g ∷ deals) = made_by lane (suc n) deals
-  made_by lane n (visited mark e ∷ deals) =
-      one_longer (nat_eq (index_of mark.lane) lane) mark.place (places_in lane deals) _ (made_by lane (suc n) deals)
+  made_by lane n (looked g ∷ made_steps) = made_by lane (suc n) made_steps
+  made_by lane n (visited mark e ∷ made_steps) =
+      one_longer (nat_eq (index_of mark.lane) lane) mark.place (places_in lane made_steps) _ (made_by lane (suc n) made_steps)
       ∙ sym (sum_by-cons (here_in lane) (record { mark = mark; who = maker caller 0 n })
-      (deal_marks caller (suc n) deals))
+      (deal_marks caller (suc n) made_steps))
 
-  stamps_by : (n : ℕ) (deals : List Deal) → stamps_in deals ≡ stamps_of (deal_marks caller n deals)
+  stamps_by : (n : ℕ) (made_steps : List MadeStep) → stamps_in made_steps ≡ stamps_of (deal_marks caller n made_steps)
   stamps_by n [] = refl
-  stamps_by n (looked g ∷ deals) = stamps_by (suc n) deals
-  stamps_by n (visited mark e ∷ deals) = ap (λ (l : List ℕ). mark.stamp ∷ l) (stamps_by (suc n) deals)
+  stamps_by n (looked g ∷ made_steps) = stamps_by (suc n) made_steps
+  stamps_by n (visited mark e ∷ made_steps) = ap (λ (l : List ℕ). mark.stamp ∷ l) (stamps_by (suc n) made_steps)
 
-  known_by : (w : View) (n : ℕ) (deals : List Deal) → AllStand w caller 0 n deals →
-      AllByRecursion (IsKnown w) (deal_marks caller n deals)
+  known_by : (w : View) (n : ℕ) (made_steps : List MadeStep) → AllStand w caller 0 n made_steps →
+      AllByRecursion (IsKnown w) (deal_marks caller n made_steps)
   known_by w n [] stand = tt
-  known_by w n (looked g ∷ deals) stand = known_by w (suc n) deals stand
-  known_by w n (visited mark e ∷ deals) stand = ((e, stand.0), known_by w (suc n) deals stand.1)
+  known_by w n (looked g ∷ made_steps) stand = known_by w (suc n) made_steps stand
+  known_by w n (visited mark e ∷ made_steps) stand = ((e, stand.0), known_by w (suc n) made_steps stand.1)
 
-  course_told : (v w : View) (steps : List Step) (deals : List Deal) →
-      told.Told (first_setting caller) (knowing v []) (knowing w steps) deals →
+  course_told : (v w : View) (steps : List Step) (made_steps : List MadeStep) →
+      told.TraceRecords (first_setting caller) (knowing v []) (knowing w steps) made_steps →
       Course v w (marks_from caller 0 0 steps)
-  course_told v w steps deals is =
-      let go : Course v w (deal_marks caller 0 deals) = record {
+  course_told v w steps made_steps is =
+      let go : Course v w (deal_marks caller 0 made_steps) = record {
         same = is.went.same;
         grows = is.went.grows;
-        made = λ lane low. is.went.made lane low ∙ ap (λ (k : ℕ). (at lane v).made + k) (made_by lane 0 deals);
-        climbs = subst (λ (l : List ℕ). Climbs v.stamp l w.stamp) (stamps_by 0 deals) is.went.climbs;
-        known = known_by w 0 deals is.went.stand;
+        made = λ lane low. is.went.made lane low ∙ ap (λ (k : ℕ). (at lane v).made + k) (made_by lane 0 made_steps);
+        climbs = subst (λ (l : List ℕ). Climbs v.stamp l w.stamp) (stamps_by 0 made_steps) is.went.climbs;
+        known = known_by w 0 made_steps is.went.stand;
       } in
       subst (λ (l : List Step). Course v w (marks_from caller 0 0 l)) (sym is.trace) go
 
@@ -120,7 +120,7 @@ course_then u v w xs ys a b = record {
 pub course_did : {P : List Deed → Type 0} (caller : ℕ) (v w : View) (steps : List Step) →
     DidAll P (first_setting caller) v steps w → Course v w (marks_of caller (steps ∷ []))
 course_did caller v w steps k = course_then v w w (marks_from caller 0 0 steps) []
-    (course_told caller v w steps k.deals k.told) (course_none w)
+    (course_told caller v w steps k.made_steps k.told) (course_none w)
 
 -- calls behind calls
 pub course_calls : (caller : ℕ) (u v w : View) (xs ys : List (List Step)) → Course u v (marks_of caller xs) →

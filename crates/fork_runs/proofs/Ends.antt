@@ -23,16 +23,16 @@ use Rattle.lane_table.specs.BookLists.{StateLists, book_lists, book_of}
 use Rattle.lane_table.specs.Calls.{Ended, made_in, plan_of}
 use Rattle.lane_table.specs.LaneNumbers.{index_of}
 use Rattle.lane_table.specs.Meaning.{replay}
-use Rattle.lane_table.specs.Steps.{Grows, newcomer, halved, both_of, merged, with_list, told}
+use Rattle.lane_table.specs.Steps.{Grows, first_view, halved, both_of, merged, with_list, told}
 use Rattle.lane_table.specs.Steps as steps
-use Rattle.lane_table.specs.Went.{floor}
+use Rattle.lane_table.specs.Advances.{floor}
 use Rattle.lane_table.specs.WorldRule.{AllBegin, Begins, at, blank, known_of}
 use Rattle.lane_table.proofs.Book.BookEnds.{continues_before, ended_lanes, ended_lawful, ended_visits}
 use Rattle.lane_table.proofs.Book.BookMarks.{MarksVisit}
 use Rattle.lane_table.proofs.Lists.Places.{stands_at}
 use Rattle.lane_table.proofs.Rule.Shares.{merged_at, length_merged}
 use Rattle.lane_table.proofs.Lists.VisitLists.{begins_refl, begins_nil}
-use Rattle.lane_table.proofs.Calls.WentLemmas.{mark_grown}
+use Rattle.lane_table.proofs.Calls.AdvanceLemmas.{mark_grown}
 use Rattle.vdso_state.specs.declared.place.Place.{Place}
 use Rattle.vdso_state.specs.declared.place.Turn.{Turn}
 use Rattle.vdso_state.specs.declared.place.Turn.TheVariants.{First, Second}
@@ -43,8 +43,8 @@ use Rattle.vcall_fork.specs.declared.stage.Stage.TheVariants.{At}
 use Rattle.vcall_fork.specs.Stops.{RestOfCall}
 use Rattle.vcall_fork.specs.Forks.{ForksAreTold, ChildTakesKey}
 use Rattle.rng_core.specs.declared.setting.Setting.{Setting}
-use Rattle.rng_core.specs.Did.{Fulfils, setting_of}
-use Rattle.rng_core.proofs.Doing.{did_floor}
+use Rattle.rng_core.specs.Makes.{IsOutcomeOf, setting_of}
+use Rattle.rng_core.proofs.Makings.{did_floor}
 use Rattle.rng_core.proofs.Hosting.{published_more}
 use Rattle.fork_runs.specs.Stretches.{Stop, FinishedOver}
 use Rattle.fork_runs.specs.Runs.{knowing, DidAll, RanBy, ReachedStop, ForkedOver}
@@ -135,13 +135,13 @@ module _ (lanes : ℕ) (visits : ℕ → List Visit) where
   }
 
 abbrev start : View
-start = newcomer (plan_of 3 0)
+start = first_view (plan_of 3 0)
 
 -- caller 0 called on a new table behind a sample, and forked
 module _ (turn : Turn) (point : Point) (n : ℕ) (p q w x : View) (left : Stage) (out : List ℕ) (t : VgetrandomState)
     (parent child : List ℕ) (new : p ≡ start)
     (sampled : (own : List Step)
-    × DidAll (Fulfils (setting_of (first_setting 0)) (Add (range_with_len 0 32) 256) Done no_data) (first_setting 0) p own
+    × DidAll (IsOutcomeOf (setting_of (first_setting 0)) (Add (range_with_len 0 32) 256) Done no_data) (first_setting 0) p own
     q)
     (reached : ReachedStop (first_setting 0) n 0 wiped_state turn point left out t q w)
     (over : ForkedOver (first_setting 0) n 0 left out t parent child w x) where
@@ -358,12 +358,12 @@ module _ (turn : Turn) (point : Point) (n : ℕ) (p q w x : View) (left : Stage)
 module _ (set : Setting) (n m k f g : ℕ) (s : VgetrandomState) (plain : set ≡ first_setting 0) (same : m ≡ n)
     (again : k ≡ m) (none : f ≡ 0) (none_again : g ≡ f) (wiped : s ≡ wiped_state) where
   pub plain_sample : (p q : View) → ((own : List Step)
-      × DidAll (Fulfils (setting_of set) (Add (range_with_len 0 32) 256) Done no_data) set p own q) →
+      × DidAll (IsOutcomeOf (setting_of set) (Add (range_with_len 0 32) 256) Done no_data) set p own q) →
       (own : List Step)
-      × DidAll (Fulfils (setting_of (first_setting 0)) (Add (range_with_len 0 32) 256) Done no_data) (first_setting 0) p own
+      × DidAll (IsOutcomeOf (setting_of (first_setting 0)) (Add (range_with_len 0 32) 256) Done no_data) (first_setting 0) p own
       q
   plain_sample p q d = subst (λ (z : Setting). (own : List Step)
-      × DidAll (Fulfils (setting_of z) (Add (range_with_len 0 32) 256) Done no_data) z p own q) plain d
+      × DidAll (IsOutcomeOf (setting_of z) (Add (range_with_len 0 32) 256) Done no_data) z p own q) plain d
 
   pub plain_reached : (turn : Turn) (point : Point) (left : Stage) (out : List ℕ) (t : VgetrandomState) (q w : View) →
       ReachedStop set m f s turn point left out t q w →

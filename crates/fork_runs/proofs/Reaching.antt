@@ -12,7 +12,7 @@ use Rattle.key_names.specs.VreadSteps.{published_by}
 use Rattle.lane_table.specs.declared.view.View.{View}
 use Rattle.lane_table.specs.Steps.{halved}
 use Rattle.lane_table.specs.Steps as steps
-use Rattle.lane_table.specs.Went.{floor}
+use Rattle.lane_table.specs.Advances.{floor}
 use Rattle.vdso_state.specs.declared.place.Turn.{Turn}
 use Rattle.vdso_state.specs.declared.place.Turn.TheVariants.{First, Second}
 use Rattle.vcall_fork.specs.declared.stage.Stage.{Stage}
@@ -20,8 +20,8 @@ use Rattle.vcall_fork.specs.declared.stage.Stage.TheVariants.{New, At}
 use Rattle.vcall_fork.specs.Forks.{ForksAreTold}
 use Rattle.vcall_fork.specs.Stages.{published_or}
 use Rattle.rng_core.specs.declared.setting.Setting.{Setting}
-use Rattle.rng_core.specs.Did.{Fulfils, setting_of}
-use Rattle.rng_core.proofs.Doing.{did_floor}
+use Rattle.rng_core.specs.Makes.{IsOutcomeOf, setting_of}
+use Rattle.rng_core.proofs.Makings.{did_floor}
 use Rattle.rng_core.proofs.Hosting.{published_more}
 use Rattle.fork_runs.specs.Stretches.{StoppedOver}
 use Rattle.fork_runs.specs.Runs.{knowing, DidAll, ReachedStop}
@@ -81,7 +81,7 @@ by_first set n flags stage held s point left out t v w new k =
 module _ (law : ForksAreTold) (set : Setting) (n flags : ℕ) (s : VgetrandomState) (point : Point) (stage mid left : Stage)
     (held half out : List ℕ) (u t : VgetrandomState) (v x y w : View) (new : stage ≡ New)
     (first : Stopping set n flags stage held s First Serve mid half u v x)
-    (reseeded : (own : List Step) × DidAll (Fulfils (setting_of set) Reseed Done no_data) set x own y) where
+    (reseeded : (own : List Step) × DidAll (IsOutcomeOf (setting_of set) Reseed Done no_data) set x own y) where
   abbrev earlier : StoppedOver set n flags New held s First Serve mid half u (knowing v []) (knowing x first.0)
   earlier = subst (λ (z : Stage). StoppedOver set n flags z held s First Serve mid half u (knowing v [])
       (knowing x first.0)) new first.1

@@ -7,8 +7,8 @@ use Rattle.key_names.specs.Vgetrandom.{SystemAnswer, read, failed, HostStep, pub
 use Rattle.key_names.specs.VgetrandomState.{VgetrandomState}
 use Rattle.key_names.specs.VreadSteps.{Shows, published_by}
 use Rattle.lane_table.specs.Calls.{view}
-use Rattle.lane_table.specs.Hands.{Has}
-use Rattle.lane_table.specs.Went.{floor}
+use Rattle.lane_table.specs.Hands.{HoldsLanes}
+use Rattle.lane_table.specs.Advances.{floor}
 use Rattle.vdso_state.specs.declared.outcome.VEnd.{VEnd}
 use Rattle.vdso_state.specs.declared.outcome.VEnd.TheVariants.{Zero, Batch, System}
 use Rattle.vdso_state.specs.declared.place.Turn.{Turn}
@@ -19,8 +19,8 @@ use Rattle.vcall_fork.specs.declared.stage.Stage.{Stage}
 use Rattle.vcall_fork.specs.Stages.{published_or}
 use Rattle.vcall_fork.specs.Stops.{RestOfCall, Stopped}
 use Rattle.rng_core.specs.declared.lane_host.LaneHost.{LaneHost}
-use Rattle.rng_core.specs.Told.{moment}
-use Rattle.rng_core.specs.Did.{Did, setting_of}
+use Rattle.rng_core.specs.Traces.{moment}
+use Rattle.rng_core.specs.Makes.{Makes, setting_of}
 use Rattle.rng_core.specs.Acts.{Ask, asks_of, wipes_at}
 use Rattle.rng_core.specs.Acting.{ActStand, acting, is_first}
 use Rattle.rng_core.specs.Hosting.{standing, SameLoans, hosting}
@@ -52,7 +52,7 @@ module _ {R : Type 0} (h last : LaneHost R) (steps : List HostStep) (does : Does
   pub loans : SameLoans h last
   loans = (host_acts steps h last does).1
 
-  pub has_still : Has h.lanes.now h.set.now.caller [] last.pass.now
+  pub has_still : HoldsLanes h.lanes.now h.set.now.caller [] last.pass.now
   has_still = has_again _ _ _ _ _ loans.lanes (acted_set steps (standing h) (standing last) acted) last.free
 
   module _ (idle : length h.acts.now ≡ 0) (two : 1 < length (view h.pass.now).lanes) where
@@ -63,9 +63,9 @@ module _ {R : Type 0} (h last : LaneHost R) (steps : List HostStep) (does : Does
         (moment h.pass.now h.trace.now) (moment last.pass.now last.trace.now)
     own = acted_own steps h.set.now (asks_of h.acts.now) (standing h) (standing last) refl refl two acted
 
-    pub did_own : Did (Shows (setting_of h.set.now) steps) h.set.now (moment h.pass.now h.trace.now)
+    pub did_own : Makes (Shows (setting_of h.set.now) steps) h.set.now (moment h.pass.now h.trace.now)
         (moment last.pass.now last.trace.now)
-    did_own = record { deals = own.deals; told = own.alone none; stands = own.stands }
+    did_own = record { made_steps = own.made_steps; told = own.alone none; stands = own.stands }
 
     pub stays_unwiped : AreUnwiped steps
     stays_unwiped = unwiped steps (standing h) (standing last) none acted

@@ -15,15 +15,15 @@ use Rattle.key_names.specs.VreadSteps.{Shows, published_by}
 use Rattle.lane_table.specs.declared.view.View.{View}
 use Rattle.lane_table.specs.Steps.{halved, both_of}
 use Rattle.lane_table.specs.Steps as steps
-use Rattle.lane_table.specs.Went.{floor}
+use Rattle.lane_table.specs.Advances.{floor}
 use Rattle.vdso_state.specs.declared.place.Turn.{Turn}
 use Rattle.vdso_state.specs.declared.place.Turn.TheVariants.{First, Second}
 use Rattle.vdso_state.specs.Places.{BehindPlace}
 use Rattle.vcall_fork.specs.declared.stage.Stage.{Stage}
 use Rattle.vcall_fork.specs.declared.stage.Stage.TheVariants.{At}
 use Rattle.rng_core.specs.declared.setting.Setting.{Setting}
-use Rattle.rng_core.specs.Told.{Moment}
-use Rattle.rng_core.specs.Did.{Did, Fulfils, setting_of}
+use Rattle.rng_core.specs.Traces.{Moment}
+use Rattle.rng_core.specs.Makes.{Makes, IsOutcomeOf, setting_of}
 use Rattle.fork_runs.specs.Stretches.{Stop, FinishedOver}
 use Rattle.fork_runs.specs.TableForks.{first_setting}
 
@@ -33,7 +33,7 @@ knowing v steps = record { view = v; steps = steps }
 
 -- one call, with steps of its own
 abbrev pub DidAll : (List Deed → Type 0) → Setting → View → List Step → View → Type 0
-DidAll P set v steps w = Did P set (knowing v []) (knowing w steps)
+DidAll P set v steps w = Makes P set (knowing v []) (knowing w steps)
 
 pub record RanBySecond (set : Setting) (n flags : ℕ) (s : VgetrandomState) (point : Point) (before : List HostStep)
     (v : View) (calls : List (List Step)) (w : View) : Type 0 where
@@ -47,7 +47,7 @@ pub record RanBySecond (set : Setting) (n flags : ℕ) (s : VgetrandomState) (po
   pub at_serve : View
   pub behind : View
   pub shown : DidAll (Shows (setting_of set) earlier.before) set v own at_serve
-  pub reseeds : DidAll (Fulfils (setting_of set) Reseed Done no_data) set at_serve reseeded behind
+  pub reseeds : DidAll (IsOutcomeOf (setting_of set) Reseed Done no_data) set at_serve reseeded behind
   pub shown_more : DidAll (Shows (setting_of set) later.before) set behind more w
 
 abbrev pub RanBy : Setting → ℕ → ℕ → VgetrandomState → Turn → Point → List HostStep → View → List (List Step) → View →

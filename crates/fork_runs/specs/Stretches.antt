@@ -6,7 +6,7 @@ use Rattle.key_names.specs.declared.point.Point.{Point}
 use Rattle.key_names.specs.Vgetrandom.{read, failed, HostStep, Ending, no_bytes, by_batch, by_system, Outcome, outcome_behind}
 use Rattle.key_names.specs.VgetrandomState.{VgetrandomState}
 use Rattle.key_names.specs.VreadSteps.{Shows, points_of, published_by}
-use Rattle.lane_table.specs.Went.{floor}
+use Rattle.lane_table.specs.Advances.{floor}
 use Rattle.vdso_state.specs.declared.place.Turn.{Turn}
 use Rattle.vdso_state.specs.declared.place.Place.{Place}
 use Rattle.vdso_state.specs.Places.{AtPlace, Climbs}
@@ -14,8 +14,8 @@ use Rattle.vcall_fork.specs.declared.stage.Stage.{Stage}
 use Rattle.vcall_fork.specs.declared.stage.Stage.TheVariants.{At}
 use Rattle.vcall_fork.specs.Stops.{RestOfCall}
 use Rattle.rng_core.specs.declared.setting.Setting.{Setting}
-use Rattle.rng_core.specs.Told.{Moment}
-use Rattle.rng_core.specs.Did.{Did, setting_of}
+use Rattle.rng_core.specs.Traces.{Moment}
+use Rattle.rng_core.specs.Makes.{Makes, setting_of}
 
 -- no point wiped the state
 abbrev pub AreUnwiped : List HostStep → Type 0
@@ -44,7 +44,7 @@ pub record StoppedOver (set : Setting) (n flags : ℕ) (stage : Stage) (held : L
   pub held_is : out ≡ stop.held
   pub state_is : t ≡ stop.state
   pub known : stop.place.published ≤ published_by (floor m.view)
-  pub did : Did (Shows (setting_of set) stop.before) set l m
+  pub did : Makes (Shows (setting_of set) stop.before) set l m
 
 -- a call that ended so gave these bytes
 abbrev pub GivesBytes : Ending → List ℕ → Type 0
@@ -62,4 +62,4 @@ pub record FinishedOver (set : Setting) (n flags : ℕ) (stage : Stage) (held : 
   pub unwiped : AreUnwiped steps
   pub climbs : Climbs (published_by (floor l.view)) (published_by (floor m.view)) steps
   pub gives : GivesBytes outcome.ending out
-  pub did : Did (Shows (setting_of set) steps) set l m
+  pub did : Makes (Shows (setting_of set) steps) set l m

@@ -16,14 +16,14 @@ use Rattle.key_names.specs.SeenLine.{no_data}
 use Rattle.key_names.specs.Vgetrandom.{HostStep, at_point, Outcome, outcome_behind, by_batch, IsCall}
 use Rattle.key_names.specs.VgetrandomState.{VgetrandomState, wiped_state}
 use Rattle.key_names.specs.VreadSteps.{Shows}
-use Rattle.lane_table.specs.Went.{Climbs}
+use Rattle.lane_table.specs.Advances.{Climbs}
 use Rattle.vdso_state.specs.declared.place.Turn.{Turn}
 use Rattle.vdso_state.specs.declared.place.Turn.TheVariants.{First, Second}
 use Rattle.vdso_state.specs.declared.place.Place.{Place}
 use Rattle.vdso_state.specs.Places.{BehindPlace}
 use Rattle.vcall_fork.specs.Forks.{takes_key}
 use Rattle.rng_core.specs.declared.setting.Setting.{Setting}
-use Rattle.rng_core.specs.Did.{Fulfils, setting_of}
+use Rattle.rng_core.specs.Makes.{IsOutcomeOf, setting_of}
 use Rattle.fork_runs.specs.Stretches.{AreUnwiped, Stop, GivesBytes}
 
 -- a caller in its first event, on CPU 0, at moment 0, with hardware words 0
@@ -46,7 +46,7 @@ pub record WayBySecond (lists : Lists) (n : ℕ) (point : Point) (before : List 
   pub more : List Step
   pub calls_are : calls ≡ own ∷ reseeded ∷ more ∷ []
   pub shown : IsShown lists 0 earlier.before own
-  pub reseeds : Fulfils (setting_of (first_setting 0)) Reseed Done no_data (deeds_of lists reseeded)
+  pub reseeds : IsOutcomeOf (setting_of (first_setting 0)) Reseed Done no_data (deeds_of lists reseeded)
   pub shown_more : IsShown lists 0 later.before more
 
 -- how the steps before a stop show in the parent's calls
@@ -80,7 +80,7 @@ pub record AreForkedBytes (turn : Turn) (point : Point) (n : ℕ) (parent child 
   pub book : Book
   pub lawful : LawfulLanes (lists_of book)
   pub added : List Step
-  pub adds : Fulfils (setting_of (first_setting 0)) (Add (range_with_len 0 32) 256) Done no_data
+  pub adds : IsOutcomeOf (setting_of (first_setting 0)) (Add (range_with_len 0 32) 256) Done no_data
       (deeds_of (lists_of book) added)
   pub stop : Stop (IsCall n 0 wiped_state) n 0 turn point
   pub calls : List (List Step)

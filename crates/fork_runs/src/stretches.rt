@@ -3,10 +3,10 @@ ghost use Rattle.std.specs.Prelude.{◌≡◌, ◌<◌, ◌≤◌, true, [], Lis
 ghost use Rattle.key_names.specs.declared.names.Step.{Step};
 ghost use Rattle.key_names.specs.VreadSteps.{published_by};
 ghost use Rattle.lane_table.specs.Calls.{view};
-ghost use Rattle.lane_table.specs.Hands.{Has};
-ghost use Rattle.lane_table.specs.Went.{floor};
+ghost use Rattle.lane_table.specs.Hands.{HoldsLanes};
+ghost use Rattle.lane_table.specs.Advances.{floor};
 ghost use Rattle.rng_core.specs.Hosting.{SameLoans};
-ghost use Rattle.rng_core.specs.Told.{moment};
+ghost use Rattle.rng_core.specs.Traces.{moment};
 ghost use Rattle.vcall_fork.specs.Stages.{is_open, is_stopped, published_or};
 ghost use Rattle.fork_runs.specs.Ending.{gives};
 ghost use Rattle.fork_runs.specs.Stretches.{StoppedOver, FinishedOver};
@@ -34,7 +34,7 @@ fn run_on_host<R: Wait>(
     requires length { length buf.old ≡ call.old.len }
     requires known { published_or 0 call.old.stage ≤ published_by (floor (view host.old.pass.now)) }
     ensures loans { SameLoans host.old host.new }
-    ensures has { Has host.old.lanes.now host.old.set.now.caller [] host.new.pass.now }
+    ensures has { HoldsLanes host.old.lanes.now host.old.set.now.caller [] host.new.pass.now }
     ensures len { call.new.len ≡ call.old.len }
     ensures flags { call.new.flags ≡ call.old.flags }
     ensures stopped { result ≡ true → StoppedOver host.old.set.now call.old.len call.old.flags call.old.stage buf.old
@@ -59,12 +59,12 @@ pub(crate) fn run_to<R: Wait>(
     attempt: Turn,
     point: Point,
 ) -> bool
-    requires has { Has lanes.now set.now.caller [] pass.old }
+    requires has { HoldsLanes lanes.now set.now.caller [] pass.old }
     requires cpu { set.now.cpu < lanes.now.cpus }
     requires open { is_open call.old.stage ≡ true }
     requires length { length buf.old ≡ call.old.len }
     requires known { published_or 0 call.old.stage ≤ published_by (floor (view pass.old)) }
-    ensures has { Has lanes.now set.entry.now.caller [] pass.new }
+    ensures has { HoldsLanes lanes.now set.entry.now.caller [] pass.new }
     ensures len { call.new.len ≡ call.old.len }
     ensures flags { call.new.flags ≡ call.old.flags }
     ensures stopped { result ≡ true → (steps : List Step) × StoppedOver set.entry.now call.old.len call.old.flags
@@ -100,7 +100,7 @@ fn finish_on_host<R: Wait>(
     requires length { length buf.old ≡ call.len }
     requires known { published_or 0 call.stage ≤ published_by (floor (view host.old.pass.now)) }
     ensures loans { SameLoans host.old host.new }
-    ensures has { Has host.old.lanes.now host.old.set.now.caller [] host.new.pass.now }
+    ensures has { HoldsLanes host.old.lanes.now host.old.set.now.caller [] host.new.pass.now }
     ensures finished { result ≡ true → FinishedOver host.old.set.now call.len call.flags call.stage buf.old st.old
         buf.new (moment host.old.pass.now host.old.trace.now) (moment host.new.pass.now host.new.trace.now) }
 {
@@ -118,12 +118,12 @@ pub(crate) fn finish<R: Wait>(
     st: &mut VState,
     buf: &mut [u8],
 ) -> bool
-    requires has { Has lanes.now set.now.caller [] pass.old }
+    requires has { HoldsLanes lanes.now set.now.caller [] pass.old }
     requires cpu { set.now.cpu < lanes.now.cpus }
     requires stopped { is_stopped call.stage ≡ true }
     requires length { length buf.old ≡ call.len }
     requires known { published_or 0 call.stage ≤ published_by (floor (view pass.old)) }
-    ensures has { Has lanes.now set.entry.now.caller [] pass.new }
+    ensures has { HoldsLanes lanes.now set.entry.now.caller [] pass.new }
     ensures finished { result ≡ true → (steps : List Step) × FinishedOver set.entry.now call.len call.flags
         call.stage buf.old st.old buf.new (moment pass.old []) (moment pass.new steps) }
 {

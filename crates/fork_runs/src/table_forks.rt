@@ -7,10 +7,10 @@ ghost use Rattle.key_names.specs.declared.names.Step.{Step};
 ghost use Rattle.key_names.specs.SeenLine.{no_data};
 ghost use Rattle.key_names.specs.VreadSteps.{published_by};
 ghost use Rattle.lane_table.specs.Calls.{view};
-ghost use Rattle.lane_table.specs.Hands.{Has};
-ghost use Rattle.lane_table.specs.Went.{floor};
-ghost use Rattle.rng_core.specs.Told.{moment};
-ghost use Rattle.rng_core.specs.Did.{Did, Fulfils, setting_of};
+ghost use Rattle.lane_table.specs.Hands.{HoldsLanes};
+ghost use Rattle.lane_table.specs.Advances.{floor};
+ghost use Rattle.rng_core.specs.Traces.{moment};
+ghost use Rattle.rng_core.specs.Makes.{Makes, IsOutcomeOf, setting_of};
 ghost use Rattle.vcall_fork.specs.declared.stage.Stage.TheVariants.{New};
 ghost use Rattle.vcall_fork.specs.Stages.{is_stopped, published_or};
 ghost use Rattle.fork_runs.specs.Runs.{ReachedStop, ForkedOver};
@@ -56,10 +56,10 @@ fn first_setting(caller: u32) -> Setting
 
 // Adds the first sample, which makes the core ready.
 fn add_sample<R: Wait>(rt: &R, lanes: &Lanes, pass: &mut Pass, set: &Setting)
-    requires has { Has lanes.now set.now.caller [] pass.old }
+    requires has { HoldsLanes lanes.now set.now.caller [] pass.old }
     requires moment { set.now.now < 2 ^ 40 }
-    ensures has { Has lanes.now set.entry.now.caller [] pass.new }
-    ensures did { (steps : List Step) × Did (Fulfils (setting_of set.entry.now) (Add (range_with_len 0 32) 256) Done no_data)
+    ensures has { HoldsLanes lanes.now set.entry.now.caller [] pass.new }
+    ensures did { (steps : List Step) × Makes (IsOutcomeOf (setting_of set.entry.now) (Add (range_with_len 0 32) 256) Done no_data)
         set.entry.now (moment pass.old []) (moment pass.new steps) }
 {
     let mut trace = Trace::empty();
@@ -68,10 +68,10 @@ fn add_sample<R: Wait>(rt: &R, lanes: &Lanes, pass: &mut Pass, set: &Setting)
 
 // Reseeds the core. The answer is whether it was ready.
 fn reseed_once<R: Wait>(rt: &R, lanes: &Lanes, pass: &mut Pass, set: &Setting) -> bool
-    requires has { Has lanes.now set.now.caller [] pass.old }
+    requires has { HoldsLanes lanes.now set.now.caller [] pass.old }
     requires moment { set.now.now < 2 ^ 40 }
-    ensures has { Has lanes.now set.entry.now.caller [] pass.new }
-    ensures did { result ≡ true → (steps : List Step) × Did (Fulfils (setting_of set.entry.now) Reseed Done no_data)
+    ensures has { HoldsLanes lanes.now set.entry.now.caller [] pass.new }
+    ensures did { result ≡ true → (steps : List Step) × Makes (IsOutcomeOf (setting_of set.entry.now) Reseed Done no_data)
         set.entry.now (moment pass.old []) (moment pass.new steps) }
 {
     let mut trace = Trace::empty();
@@ -93,12 +93,12 @@ fn reach_second<R: Wait>(
     buf: &mut [u8],
     point: Point,
 ) -> bool
-    requires has { Has lanes.now set.now.caller [] pass.old }
+    requires has { HoldsLanes lanes.now set.now.caller [] pass.old }
     requires cpu { set.now.cpu < lanes.now.cpus }
     requires moment { set.now.now < 2 ^ 40 }
     requires new { call.old.stage ≡ New }
     requires length { length buf.old ≡ call.old.len }
-    ensures has { Has lanes.now set.entry.now.caller [] pass.new }
+    ensures has { HoldsLanes lanes.now set.entry.now.caller [] pass.new }
     ensures len { call.new.len ≡ call.old.len }
     ensures flags { call.new.flags ≡ call.old.flags }
     ensures reached { result ≡ true → ReachedStop set.entry.now call.old.len call.old.flags st.old Turn.Second point
@@ -136,12 +136,12 @@ fn reach_stop<R: Wait>(
     attempt: Turn,
     point: Point,
 ) -> bool
-    requires has { Has lanes.now set.now.caller [] pass.old }
+    requires has { HoldsLanes lanes.now set.now.caller [] pass.old }
     requires cpu { set.now.cpu < lanes.now.cpus }
     requires moment { set.now.now < 2 ^ 40 }
     requires new { call.old.stage ≡ New }
     requires length { length buf.old ≡ call.old.len }
-    ensures has { Has lanes.now set.entry.now.caller [] pass.new }
+    ensures has { HoldsLanes lanes.now set.entry.now.caller [] pass.new }
     ensures len { call.new.len ≡ call.old.len }
     ensures flags { call.new.flags ≡ call.old.flags }
     ensures reached { result ≡ true → ReachedStop set.entry.now call.old.len call.old.flags st.old attempt point
@@ -164,13 +164,13 @@ fn fork_at_stop<R: Wait>(
     buf: &mut [u8],
     child_buf: &mut [u8],
 ) -> bool
-    requires has { Has lanes.now set.now.caller [] pass.old }
+    requires has { HoldsLanes lanes.now set.now.caller [] pass.old }
     requires cpu { set.now.cpu < lanes.now.cpus }
     requires stopped { is_stopped call.stage ≡ true }
     requires length { length buf.old ≡ call.len }
     requires child_length { length child_buf.old ≡ call.len }
     requires known { published_or 0 call.stage ≤ published_by (floor (view pass.old)) }
-    ensures has { Has lanes.now set.entry.now.caller [] pass.new }
+    ensures has { HoldsLanes lanes.now set.entry.now.caller [] pass.new }
     ensures forked { result ≡ true → ForkedOver set.entry.now call.len call.flags call.stage buf.old st.old buf.new
         child_buf.new (view pass.old) (view pass.new) }
 {

@@ -16,15 +16,15 @@ use Rattle.lane_table.specs.declared.view.LaneView.{LaneView}
 use Rattle.lane_table.specs.declared.view.View.{View}
 use Rattle.lane_table.specs.Calls.{Ended, SameView, made_in, plan_of}
 use Rattle.lane_table.specs.LaneNumbers.{index_of}
-use Rattle.lane_table.specs.Steps.{Grows, newcomer}
-use Rattle.lane_table.specs.Went.{AllStand, Climbs, Deal, IsMarkOf, looked, places_in, stamps_in, step_of, visited}
+use Rattle.lane_table.specs.Steps.{Grows, first_view}
+use Rattle.lane_table.specs.Advances.{AllStand, Climbs, MadeStep, IsMarkOf, looked, places_in, stamps_in, step_of, visited}
 use Rattle.lane_table.specs.WorldRule.{at, blank, known_of, times}
 use Rattle.lane_table.proofs.Book.BookEnds.{ended_places, ended_visits}
 use Rattle.lane_table.proofs.Book.BookMarks.{MarksPlace, MarksVisit}
 use Rattle.lane_table.proofs.Lists.Places.{stands_at}
 use Rattle.lane_table.proofs.Lists.VisitLists.{begins_refl, begins_trans}
-use Rattle.lane_table.proofs.Calls.WentLemmas.{climbs_append, mark_grown}
-use Rattle.rng_core.specs.Told as told
+use Rattle.lane_table.proofs.Calls.AdvanceLemmas.{climbs_append, mark_grown}
+use Rattle.rng_core.specs.Traces as told
 use Rattle.lane_table.specs.BookLists.{book_of}
 use Rattle.irq_feed.specs.declared.samples.Sample.{Sample}
 use Rattle.irq_feed.specs.Mixing.{Mixes, in_event, moment}
@@ -70,18 +70,18 @@ pub record Course (v w : View) (marks : List MarkBy) : Type 0 where
   pub climbs : Climbs v.stamp (stamps_of marks) w.stamp
   pub known : AllByRecursion (IsKnown w) marks
 
-abbrev deal_marks : ℕ → ℕ → List Deal → List MarkBy
-deal_marks event n deals = marks_from 0 event n (map step_of deals)
+abbrev deal_marks : ℕ → ℕ → List MadeStep → List MarkBy
+deal_marks event n made_steps = marks_from 0 event n (map step_of made_steps)
 
-places_by : (lane event n : ℕ) (deals : List Deal) → places_in lane deals ≡ places (lane_of lane (deal_marks event n deals))
+places_by : (lane event n : ℕ) (made_steps : List MadeStep) → places_in lane made_steps ≡ places (lane_of lane (deal_marks event n made_steps))
 places_by lane event n [] = refl
-places_by lane event n (looked g ∷ deals) = places_by lane event (suc n) deals
-places_by lane event n (visited mark e ∷ deals) =
-    go (nat_eq (index_of mark.lane) lane) (places_by lane event (suc n) deals)
+places_by lane event n (looked g ∷ made_steps) = places_by lane event (suc n) made_steps
+places_by lane event n (visited mark e ∷ made_steps) =
+    go (nat_eq (index_of mark.lane) lane) (places_by lane event (suc n) made_steps)
   where
-    go : (b : Bool) → places_in lane deals ≡ places (lane_of lane (deal_marks event (suc n) deals)) →
-        cond b (mark.place ∷ places_in lane deals) (places_in lane deals)
-        ≡ places (either b mark (lane_of lane (deal_marks event (suc n) deals)))
+    go : (b : Bool) → places_in lane made_steps ≡ places (lane_of lane (deal_marks event (suc n) made_steps)) →
+        cond b (mark.place ∷ places_in lane made_steps) (places_in lane made_steps)
+        ≡ places (either b mark (lane_of lane (deal_marks event (suc n) made_steps)))
     go true rest = ap (λ (l : List ℕ). mark.place ∷ l) rest
     go false rest = rest
 
@@ -89,31 +89,31 @@ length_places : (ms : List Mark) → length (places ms) ≡ length ms
 length_places [] = refl
 length_places (m ∷ ms) = ap suc (length_places ms)
 
-stamps_by : (event n : ℕ) (deals : List Deal) → stamps_in deals ≡ stamps_of (deal_marks event n deals)
+stamps_by : (event n : ℕ) (made_steps : List MadeStep) → stamps_in made_steps ≡ stamps_of (deal_marks event n made_steps)
 stamps_by event n [] = refl
-stamps_by event n (looked g ∷ deals) = stamps_by event (suc n) deals
-stamps_by event n (visited mark e ∷ deals) = ap (λ (l : List ℕ). mark.stamp ∷ l) (stamps_by event (suc n) deals)
+stamps_by event n (looked g ∷ made_steps) = stamps_by event (suc n) made_steps
+stamps_by event n (visited mark e ∷ made_steps) = ap (λ (l : List ℕ). mark.stamp ∷ l) (stamps_by event (suc n) made_steps)
 
-known_by : (w : View) (event n : ℕ) (deals : List Deal) → AllStand w 0 event n deals →
-    AllByRecursion (IsKnown w) (deal_marks event n deals)
+known_by : (w : View) (event n : ℕ) (made_steps : List MadeStep) → AllStand w 0 event n made_steps →
+    AllByRecursion (IsKnown w) (deal_marks event n made_steps)
 known_by w event n [] stand = tt
-known_by w event n (looked g ∷ deals) stand = known_by w event (suc n) deals stand
-known_by w event n (visited mark e ∷ deals) stand = ((e, stand.0), known_by w event (suc n) deals stand.1)
+known_by w event n (looked g ∷ made_steps) stand = known_by w event (suc n) made_steps stand
+known_by w event n (visited mark e ∷ made_steps) stand = ((e, stand.0), known_by w event (suc n) made_steps stand.1)
 
 -- one call
-course_of : (event : ℕ) (v w : View) (steps : List Step) (deals : List Deal) →
-    told.Told (in_event first_setting event) (moment v []) (moment w steps) deals → Course v w (marks_from 0 event 0 steps)
-course_of event v w steps deals is =
-    let go : Course v w (deal_marks event 0 deals) = record {
+course_of : (event : ℕ) (v w : View) (steps : List Step) (made_steps : List MadeStep) →
+    told.TraceRecords (in_event first_setting event) (moment v []) (moment w steps) made_steps → Course v w (marks_from 0 event 0 steps)
+course_of event v w steps made_steps is =
+    let go : Course v w (deal_marks event 0 made_steps) = record {
       same = is.went.same;
       grows = is.went.grows;
       made = λ lane low. is.went.made lane low
           ∙ ap (λ (k : ℕ). (at lane v).made + k)
-          (ap length (places_by lane event 0 deals) ∙ length_places (lane_of lane (deal_marks event 0 deals)));
+          (ap length (places_by lane event 0 made_steps) ∙ length_places (lane_of lane (deal_marks event 0 made_steps)));
       placed = λ lane low. is.went.places lane low
-          ∙ ap (λ (l : List ℕ). (at lane v).places ++ l) (places_by lane event 0 deals);
-      climbs = subst (λ (l : List ℕ). Climbs v.stamp l w.stamp) (stamps_by event 0 deals) is.went.climbs;
-      known = known_by w event 0 deals is.went.stand;
+          ∙ ap (λ (l : List ℕ). (at lane v).places ++ l) (places_by lane event 0 made_steps);
+      climbs = subst (λ (l : List ℕ). Climbs v.stamp l w.stamp) (stamps_by event 0 made_steps) is.went.climbs;
+      known = known_by w event 0 made_steps is.went.stand;
     } in
     subst (λ (l : List Step). Course v w (marks_from 0 event 0 l)) (sym is.trace) go
 
@@ -168,7 +168,7 @@ pub course_in : (event : ℕ) (xs : List Sample) (v w : View) (m : Mixes first_s
 course_in event [] v w m = subst (λ (z : View). Course v z []) (sym m) (course_none v)
 course_in event (x ∷ xs) v w (u, one, more) =
     course_then v u w (marks_from 0 event 0 one.steps) (marks_of (suc event) (calls_in (suc event) xs u w more))
-    (course_of event v u one.steps one.did.deals one.did.told) (course_in (suc event) xs u w more)
+    (course_of event v u one.steps one.did.made_steps one.did.told) (course_in (suc event) xs u w more)
 
 -- ---- a table of three lanes in the end
 
@@ -260,7 +260,7 @@ in_lane w lane (by ∷ marks) all = go (nat_eq (index_of by.mark.lane) lane) ref
     go false is rest = rest
 
 abbrev pub start : View
-start = newcomer (plan_of 3 0)
+start = first_view (plan_of 3 0)
 
 module _ (w : View) (marks : List MarkBy) (course : Course start w marks) where
   pub wide : length w.lanes ≡ 3

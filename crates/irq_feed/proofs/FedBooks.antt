@@ -15,7 +15,7 @@ use Rattle.key_names.specs.declared.events.Event.TheVariants.{Irq as IrqEvent}
 use Rattle.key_names.specs.declared.events.Answer.TheVariants.{Ok as Done}
 use Rattle.key_names.specs.SeenLine.{no_data}
 use Rattle.key_names.specs.Book.{Book, Lists, LawfulLanes, lists_of, cpu_list}
-use Rattle.key_names.specs.Calls.{Setting as Told}
+use Rattle.key_names.specs.Calls.{Setting as CallSetting}
 use Rattle.key_names.specs.Deeds.{Deed, PoolVisit, BaseVisit, CpuVisit, at_pool, at_base, at_cpu, deeds_of}
 use Rattle.key_names.specs.FastPool.{FastPool, fast_after, makes_due, dump_bits, dump_bytes}
 use Rattle.key_names.specs.Forms.{Rooted, BaseOnly, Cross, DumpForm, IrqForm}
@@ -34,7 +34,7 @@ use Rattle.lane_table.proofs.Book.BookEntries.{cpu_kind, pool_kind, entries_leng
 use Rattle.lane_table.proofs.Book.BookSamples.{fast_met}
 use Rattle.lane_table.proofs.Book.BookWhole.{cpu_listed}
 use Rattle.lane_table.proofs.Lists.VisitLists.{begins_refl}
-use Rattle.rng_core.specs.Did.{Fulfils, setting_of}
+use Rattle.rng_core.specs.Makes.{IsOutcomeOf, setting_of}
 use Rattle.rng_core.specs.SampleDeeds.{Sampled, fast_in}
 use Rattle.irq_feed.specs.declared.samples.Sample.{Sample}
 use Rattle.irq_feed.specs.Mixing.{Mixes}
@@ -49,7 +49,7 @@ use Rattle.irq_feed.proofs.Courses.{Course, all_here, calls_in, course_in, in_or
 use Rattle.irq_feed.proofs.Dumps.{Dumped, bits_at_dump, dumps_are, due_more, none_dumped, quiet_more}
 use Rattle.irq_feed.proofs.Entries.{AllThere, CountUp, Counts, count_up, cpu_here, cpu_seen, next_entry, parts_count, pool_here, pool_seen}
 
-abbrev set : Told
+abbrev set : CallSetting
 set = setting_of first_setting
 
 -- ---- what one call leaves
@@ -260,7 +260,7 @@ module _ (visits : ℕ → List Visit) where
   fast = fast_in visits
 
   abbrev IsCall : Sample → List Step → Type 0
-  IsCall x steps = Sampled (Fulfils set (IrqEvent x.v1 x.v2) Done no_data) visits (deeds_of lists steps)
+  IsCall x steps = Sampled (IsOutcomeOf set (IrqEvent x.v1 x.v2) Done no_data) visits (deeds_of lists steps)
 
   abbrev AreSampled : List Sample → List (List Step) → Type 0
   AreSampled [] [] = Unit {0}
@@ -279,7 +279,7 @@ module _ (visits : ℕ → List Visit) where
   are_sampled event [] v w m c = tt
   are_sampled event (x ∷ xs) v w (u, one, more) c =
       let rest = course_in (suc event) xs u w more in (
-        subst (λ (l : List Step). Sampled (Fulfils set (IrqEvent x.v1 x.v2) Done no_data) visits (deeds_of lists l))
+        subst (λ (l : List Step). Sampled (IsOutcomeOf set (IrqEvent x.v1 x.v2) Done no_data) visits (deeds_of lists l))
             (sym one.did.told.trace)
             (one.did.stands 3 visits [] (continues_before 3 u w visits rest.same.sized rest.grows c)),
         are_sampled (suc event) xs u w more c,

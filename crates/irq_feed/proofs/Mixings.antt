@@ -15,13 +15,13 @@ use Rattle.std.specs.Prelude.{Some, None}
 use Rattle.lane_table.specs.declared.view.View.{View}
 use Rattle.lane_table.specs.LaneNumbers.{index_of}
 use Rattle.lane_table.specs.WorldRule.{at, known_of}
-use Rattle.lane_table.specs.Went.{Deal, looked as did_look, visited, step_of, places_in}
+use Rattle.lane_table.specs.Advances.{MadeStep, looked as did_look, visited, step_of, places_in}
 use Rattle.lane_table.specs.Steps.{Grows}
 use Rattle.lane_table.specs.BookLists.{book_lists}
 use Rattle.lane_table.proofs.Lists.VisitLists.{begins_trans, begins_refl}
 use Rattle.lane_table.proofs.Book.BookEnds.{continues_before}
 use Rattle.rng_core.specs.declared.setting.Setting.{Setting as Called}
-use Rattle.rng_core.specs.Did.{setting_of}
+use Rattle.rng_core.specs.Makes.{setting_of}
 use Rattle.irq_feed.specs.declared.samples.Sample.{Sample}
 use Rattle.irq_feed.specs.declared.known.Known.{Known}
 use Rattle.irq_feed.specs.declared.known.Known.TheVariants.{Worker, Feeder, Nobody}
@@ -112,11 +112,11 @@ direct_room feeds number index cap cap' xs ys before low small room same =
 
 -- ---- places
 
-places_same : (lane : ℕ) (deals : List Deal) → places_in lane deals ≡ places_of lane (map step_of deals)
+places_same : (lane : ℕ) (made_steps : List MadeStep) → places_in lane made_steps ≡ places_of lane (map step_of made_steps)
 places_same lane [] = refl
-places_same lane (did_look g ∷ deals) = places_same lane deals
-places_same lane (visited mark e ∷ deals) =
-    ap (λ ps. cond (index_of mark.lane == lane) (mark.place ∷ ps) ps) (places_same lane deals)
+places_same lane (did_look g ∷ made_steps) = places_same lane made_steps
+places_same lane (visited mark e ∷ made_steps) =
+    ap (λ ps. cond (index_of mark.lane == lane) (mark.place ∷ ps) ps) (places_same lane made_steps)
 
 places_more : (lane : ℕ) (xs ys : List Step) → places_of lane (xs ++ ys) ≡ places_of lane xs ++ places_of lane ys
 places_more lane [] ys = refl
@@ -183,9 +183,9 @@ puts set event (x ∷ xs) v w (u, one, more) =
       all = λ lane low.
           p.all lane (let s = went.same.sized in omega arith)
           ∙ ap (λ l. l ++ places_of lane p.steps) (went.places lane low)
-          ∙ append_assoc (at lane v).places (places_in lane d.deals) (places_of lane p.steps)
+          ∙ append_assoc (at lane v).places (places_in lane d.made_steps) (places_of lane p.steps)
           ∙ ap (λ l. (at lane v).places ++ (l ++ places_of lane p.steps))
-          (places_same lane d.deals ∙ ap (places_of lane) (sym d.told.trace))
+          (places_same lane d.made_steps ∙ ap (places_of lane) (sym d.told.trace))
           ∙ ap (λ l. (at lane v).places ++ l) (sym (places_more lane one.steps p.steps));
       irqs = λ lanes visits callers c.
           let lists = book_lists lanes visits callers in
@@ -194,7 +194,7 @@ puts set event (x ∷ xs) v w (u, one, more) =
           ∙ irqs_more (deeds_of lists one.steps) (deeds_of lists p.steps)
           ∙ ap (λ l. irqs_of (deeds_of lists l) ++ irqs_of (deeds_of lists p.steps)) d.told.trace
           ∙ ap (λ l. l ++ irqs_of (deeds_of lists p.steps))
-          (irq_one (setting_of set) x.v1 x.v2 (deeds_of lists (map step_of d.deals)) first.holds.form)
+          (irq_one (setting_of set) x.v1 x.v2 (deeds_of lists (map step_of d.made_steps)) first.holds.form)
           ∙ ap (λ l. irq_of set x ∷ l) (p.irqs lanes visits callers c);
       sized = p.sized ∙ went.same.sized;
       grows = λ j low. begins_trans (known_of v j) (known_of u j) (known_of w j) (went.grows j low)

@@ -3,7 +3,7 @@ use Rattle.std.specs.Prelude.{◌≡◌, ℕ, zero, suc, ◌+◌, ◌*◌, ◌<�
 use Rattle.std.specs.List.{AllByRecursion}
 use Rattle.lane_table.specs.declared.lanes.Lanes.{Lanes}
 use Rattle.lane_table.specs.declared.lanes.Pass.{Pass}
-use Rattle.lane_table.specs.Hands.{Has}
+use Rattle.lane_table.specs.Hands.{HoldsLanes}
 use Rattle.rng_core.specs.declared.setting.Setting.{Setting}
 use Rattle.irq_feed.specs.declared.samples.Sample.{Sample}
 use Rattle.irq_feed.specs.declared.known.Ended.{Ended}
@@ -62,7 +62,7 @@ HasRoom feeds m = (length (mixed_in m) + feeds.each ≤ 160000) × (length (mixe
 
 -- the worker's calls can be made
 pub record CanMix (lanes : Lanes) (set : Setting) (p : Pass) : Type 0 where
-  pub has : Has lanes set.caller [] p
+  pub has : HoldsLanes lanes set.caller [] p
   pub cpu : set.cpu < lanes.cpus
   pub moment : set.now < 2 ^ 40
 

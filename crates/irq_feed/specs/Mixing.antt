@@ -16,8 +16,8 @@ use Rattle.lane_table.specs.Steps.{Grows}
 use Rattle.lane_table.specs.BookLists.{StateLists, book_lists}
 use Rattle.lane_table.specs.BookLaws.{Continues}
 use Rattle.rng_core.specs.declared.setting.Setting.{Setting}
-use Rattle.rng_core.specs.Told.{Moment}
-use Rattle.rng_core.specs.Did.{DidIn, Fulfils, setting_of}
+use Rattle.rng_core.specs.Traces.{Moment}
+use Rattle.rng_core.specs.Makes.{MakesIn, IsOutcomeOf, setting_of}
 use Rattle.rng_core.specs.SampleDeeds.{Sampled}
 use Rattle.irq_feed.specs.declared.samples.Sample.{Sample}
 
@@ -30,7 +30,7 @@ moment v steps = record { view = v; steps = steps }
 -- from v to w the pass made one interrupt of this sample, and the steps tell it
 pub record Interrupted (set : Setting) (event : ℕ) (x : Sample) (v w : View) : Type 0 where
   pub steps : List Step
-  pub did : DidIn (Sampled (Fulfils (setting_of set) (IrqEvent x.v1 x.v2) Done no_data)) (in_event set event)
+  pub did : MakesIn (Sampled (IsOutcomeOf (setting_of set) (IrqEvent x.v1 x.v2) Done no_data)) (in_event set event)
       (moment v []) (moment w steps)
 
 -- from v to w it made one of each sample, in order, in events that are numbered from this one on

@@ -10,9 +10,9 @@ use Rattle.key_names.specs.PoolList.{pool_after}
 use Rattle.key_names.specs.Deeds.{deeds_of}
 use Rattle.key_names.specs.Book.{Book, Lists, LawfulLanes, lists_of, cpu_list}
 use Rattle.key_names.specs.IsTranscript.{MarkBy, VisitsAre, marks_from}
-use Rattle.lane_table.specs.Went.{Climbs}
+use Rattle.lane_table.specs.Advances.{Climbs}
 use Rattle.rng_core.specs.declared.setting.Setting.{Setting}
-use Rattle.rng_core.specs.Did.{Fulfils, setting_of}
+use Rattle.rng_core.specs.Makes.{IsOutcomeOf, setting_of}
 use Rattle.irq_feed.specs.declared.samples.Sample.{Sample}
 use Rattle.irq_feed.specs.declared.table_feed.FeedSums.{FeedSums}
 use Rattle.irq_feed.specs.Samples.{numbers, first_samples, of_feeder}
@@ -27,7 +27,7 @@ AreCalls lists [] [] = Unit {0}
 AreCalls lists [] (steps ∷ calls) = ⊥
 AreCalls lists (x ∷ xs) [] = ⊥
 AreCalls lists (x ∷ xs) (steps ∷ calls) =
-    Fulfils (setting_of first_setting) (IrqEvent x.v1 x.v2) Done no_data (deeds_of lists steps)
+    IsOutcomeOf (setting_of first_setting) (IrqEvent x.v1 x.v2) Done no_data (deeds_of lists steps)
     × AreCalls lists xs calls
 
 -- the visits that these calls made, in events that are numbered from this one on

@@ -4,7 +4,7 @@ ghost use Rattle.irq_feed.specs.declared.samples.Sample.{Sample};
 ghost use Rattle.lane_table.specs.declared.view.View.{View};
 ghost use Rattle.std.specs.Thread.{IsSync};
 ghost use Rattle.lane_table.specs.Calls.{view};
-ghost use Rattle.lane_table.specs.Hands.{Has};
+ghost use Rattle.lane_table.specs.Hands.{HoldsLanes};
 ghost use Rattle.irq_feed.specs.Passes.{AreNew, IsFeeder, IsPassOf, next_number};
 ghost use Rattle.irq_feed.specs.Mixing.{Mixes, Put};
 ghost use Rattle.irq_feed.specs.Fed.{AllMixed, CanMix, CanStart, CanTakeBack, Front, HasDrained, HasRoom, is_direct, mixed_in};
@@ -46,11 +46,11 @@ pub fn feed<'a, R: Threads + Wait + Sync, G: Gate>(
     worker: FeedPass,
     gate: &'a G,
 ) -> Result<(Mixed, FeedPass), NoMemory>
-    requires has { Has lanes.now set.caller [] pass.old }
+    requires has { HoldsLanes lanes.now set.caller [] pass.old }
     requires cpu { set.cpu < lanes.now.cpus }
     requires moment { set.now < 2 ^ 40 }
     requires new { AreNew queue.now feeds.now worker }
-    ensures has { Has lanes.now set.caller [] pass.new }
+    ensures has { HoldsLanes lanes.now set.caller [] pass.new }
     ensures all { IfOk result (λ r. AllMixed feeds.now r.1 r.0) }
     ensures calls { IfOk result (λ r. Mixes set 0 (mixed_in r.0) (view pass.old) (view pass.new)) }
     ensures entries { IfOk result (λ r. Put set (mixed_in r.0) (view pass.old) (view pass.new)) }
@@ -84,11 +84,11 @@ pub(crate) fn feed_by<'a, R: Threads + Wait + Sync, G: Gate>(
     gate: &'a G,
     feeders: Feeders,
 ) -> Result<(Mixed, FeedPass), NoMemory>
-    requires has { Has lanes.now set.caller [] pass.old }
+    requires has { HoldsLanes lanes.now set.caller [] pass.old }
     requires cpu { set.cpu < lanes.now.cpus }
     requires moment { set.now < 2 ^ 40 }
     requires new { AreNew queue.now feeds.now worker }
-    ensures has { Has lanes.now set.caller [] pass.new }
+    ensures has { HoldsLanes lanes.now set.caller [] pass.new }
     ensures all { IfOk result (λ r. AllMixed feeds.now r.1 r.0) }
     ensures calls { IfOk result (λ r. Mixes set 0 (mixed_in r.0) (view pass.old) (view pass.new)) }
     ensures entries { IfOk result (λ r. Put set (mixed_in r.0) (view pass.old) (view pass.new)) }

@@ -1,7 +1,7 @@
 //! The worker: it takes samples out of the queue, and makes an interrupt of each.
 ghost use Rattle.std.specs.Prelude.{◌≡◌, ◌<◌, ◌≤◌, ◌^◌, ◌++◌, ◌∷◌, [], length, vec_capacity};
 ghost use Rattle.lane_table.specs.Calls.{view};
-ghost use Rattle.lane_table.specs.Hands.{Has};
+ghost use Rattle.lane_table.specs.Hands.{HoldsLanes};
 ghost use Rattle.irq_feed.specs.Samples.{first_samples};
 ghost use Rattle.irq_feed.specs.Rule.{IsWorker, Popped, with_taken};
 ghost use Rattle.irq_feed.specs.Passes.{known, IsPassOf};
@@ -43,11 +43,11 @@ fn mix<R: Wait>(
     mixed: &mut Mixed,
     sample: Sample,
 )
-    requires has { Has lanes.now set.now.caller [] pass.old }
+    requires has { HoldsLanes lanes.now set.now.caller [] pass.old }
     requires cpu { set.now.cpu < lanes.now.cpus }
     requires moment { set.now.now < 2 ^ 40 }
     requires room { (length (mixed_in mixed.old) < 160000) × (length (mixed_in mixed.old) < vec_capacity mixed.old.samples) }
-    ensures has { Has lanes.now set.entry.now.caller [] pass.new }
+    ensures has { HoldsLanes lanes.now set.entry.now.caller [] pass.new }
     ensures mixed { mixed_in mixed.new ≡ mixed_in mixed.old ++ sample ∷ [] }
     ensures direct { mixed.new.direct ≡ mixed.old.direct }
     ensures room { vec_capacity mixed.new.samples ≡ vec_capacity mixed.old.samples }
@@ -71,12 +71,12 @@ pub(crate) fn drain<R: Wait, G: Gate>(
     mixed: &mut Mixed,
     count: u32,
 )
-    requires has { Has call.now.lanes.now call.now.set.caller [] pass.old }
+    requires has { HoldsLanes call.now.lanes.now call.now.set.caller [] pass.old }
     requires set { (call.now.set.cpu < call.now.lanes.now.cpus) × (call.now.set.now < 2 ^ 40) }
     requires worker { IsPassOf call.now.queue.now worker.old × IsWorker (known worker.old) }
     requires none { (mixed_in mixed.old ≡ []) × (known worker.old ≡ with_taken (known worker.old) []) }
     requires room { (count ≤ 160000) × (count ≤ vec_capacity mixed.old.samples) }
-    ensures has { Has call.now.lanes.now call.now.set.caller [] pass.new }
+    ensures has { HoldsLanes call.now.lanes.now call.now.set.caller [] pass.new }
     ensures worker { IsPassOf call.now.queue.now worker.new }
     ensures taken { known worker.new ≡ with_taken (known worker.old) (mixed_in mixed.new) }
     ensures count { length (mixed_in mixed.new) ≡ count }
@@ -98,10 +98,10 @@ pub(crate) fn mix_directly<R: Wait, G: Gate>(
     mixed: &mut Mixed,
     number: u32,
 )
-    requires has { Has call.now.lanes.now call.now.set.caller [] pass.old }
+    requires has { HoldsLanes call.now.lanes.now call.now.set.caller [] pass.old }
     requires set { (call.now.set.cpu < call.now.lanes.now.cpus) × (call.now.set.now < 2 ^ 40) }
     requires room { HasRoom call.now.feeds.now mixed.old }
-    ensures has { Has call.now.lanes.now call.now.set.caller [] pass.new }
+    ensures has { HoldsLanes call.now.lanes.now call.now.set.caller [] pass.new }
     ensures mixed { mixed_in mixed.new ≡ mixed_in mixed.old ++ first_samples call.now.feeds.now number call.now.feeds.now.each }
     ensures direct { mixed.new.direct ≡ mixed.old.direct }
     ensures room { vec_capacity mixed.new.samples ≡ vec_capacity mixed.old.samples }

@@ -15,7 +15,7 @@ use Rattle.lane_table.specs.declared.lanes.Pass.{Pass}
 use Rattle.lane_table.specs.declared.lanes.Held.{Held}
 use Rattle.lane_table.specs.declared.lanes.TakeFault.{TakeFault}
 use Rattle.lane_table.specs.declared.lanes.TakeFault.TheVariants.{Spent, Busy}
-use Rattle.lane_table.specs.Meaning.{nothing, replay, made_of, ahead_of, IsOf, Fits, ValueStands}
+use Rattle.lane_table.specs.Meaning.{nothing, replay, made_of, ahead_of, IsOf, Fits, ValueRepresents}
 use Rattle.lane_table.specs.References.{LawfulLists, AllAnswered, Closed}
 use Rattle.lane_table.specs.WorldRule.{Replays, AllBegin, Rising, Consistent, last_stamp, times, once_below, at, known_of}
 use Rattle.lane_table.specs.Steps.{Seated, Grows, KeepsHeld, OwesNothing, MayName, handed, raising, visited}
@@ -63,7 +63,7 @@ IsIdle v = (lane : ℕ) → IsAway lane v
 
 -- the value stands for the model of the lane's list as it is known, and its next place and last stamp are the list's
 pub record Stands (lane : ℕ) (h : Held) (v : View) : Type 0 where
-  pub value : ValueStands lane h.state (replay (known_of v lane))
+  pub value : ValueRepresents lane h.state (replay (known_of v lane))
   pub place : h.turn.place ≡ length (known_of v lane)
   pub stamp : h.turn.stamp ≡ last_stamp v.first (known_of v lane)
 
@@ -79,7 +79,7 @@ pub record Holds (t : Lanes) (p : Pass) (h : Held) : Type 0 where
 pub record CanPut (t : Lanes) (p : Pass) (h : Held) (e : LaneEntry) : Type 0 where
   pub holds : Holds t p h
   pub kind : IsOf h.turn.lane e
-  pub makes : ValueStands h.turn.lane h.state
+  pub makes : ValueRepresents h.turn.lane h.state
       (made_of (replay (known_of (view p) h.turn.lane)) e (handed h.turn.lane e (view p)))
   pub fits : Fits (replay (known_of (view p) h.turn.lane)) (handed h.turn.lane e (view p)) e
   pub names : MayName h.turn.lane e (view p)
@@ -87,7 +87,7 @@ pub record CanPut (t : Lanes) (p : Pass) (h : Held) (e : LaneEntry) : Type 0 whe
 -- the value is as taken, no half-finished reference names the place, and this hold has not raised the generation
 pub record CanLeave (t : Lanes) (p : Pass) (h : Held) : Type 0 where
   pub holds : Holds t p h
-  pub value : ValueStands h.turn.lane h.state (replay (known_of (view p) h.turn.lane))
+  pub value : ValueRepresents h.turn.lane h.state (replay (known_of (view p) h.turn.lane))
   pub free : OwesNothing h.turn.lane (view p)
 
 -- What stays
@@ -100,24 +100,24 @@ pub record SameView (v w : View) : Type 0 where
   pub sized : length w.lanes ≡ length v.lanes
 
 -- what a pass did at a lane, and heard of it, is as before
-pub record Still (j : ℕ) (v w : View) : Type 0 where
+pub record SameHistory (j : ℕ) (v w : View) : Type 0 where
   pub made : (at j w).made ≡ (at j v).made
   pub places : (at j w).places ≡ (at j v).places
   pub heard : (at j w).heard ≡ (at j v).heard
 
 -- and so is how it stands there
-pub record Aside (j : ℕ) (v w : View) : Type 0 where
+pub record SameOtherLane (j : ℕ) (v w : View) : Type 0 where
   pub stage : (at j w).stage ≡ (at j v).stage
   pub owed : (at j w).owes ≡ (at j v).owes
   pub raise : (at j w).raised ≡ (at j v).raised
-  pub still : Still j v w
+  pub still : SameHistory j v w
 
 -- the same, where an answer may be owed now
-pub record Beside (j : ℕ) (v w : View) : Type 0 where
+pub record SameHeldLane (j : ℕ) (v w : View) : Type 0 where
   pub known : known_of w j ≡ known_of v j
   pub stage : (at j w).stage ≡ (at j v).stage
   pub raise : (at j w).raised ≡ (at j v).raised
-  pub still : Still j v w
+  pub still : SameHistory j v w
 
 -- What the calls tell
 
@@ -129,9 +129,9 @@ pub record Taken (lane : ℕ) (h : Held) (m m' : Seated) : Type 0 where
   pub stands : Stands lane h m'.0
   pub holding : (at lane m'.0).stage ≡ Holding h.turn.ticket
   pub free : OwesNothing lane m'.0
-  pub still : Still lane m.0 m'.0
+  pub still : SameHistory lane m.0 m'.0
   pub keeps : KeepsHeld lane m.0 m'.0
-  pub aside : (j : ℕ) → j < length m.0.lanes → j ≢ lane → Aside j m.0 m'.0
+  pub aside : (j : ℕ) → j < length m.0.lanes → j ≢ lane → SameOtherLane j m.0 m'.0
   pub grows : Grows m.0 m'.0
   -- a base is as far as all that the pass has seen
   pub fresh : lane ≡ 1 → m.0.seen ≤ (replay (known_of m'.0 1)).base.generation
@@ -171,7 +171,7 @@ pub record Tried (lane : ℕ) (m m' : Seated) : Type 0 where
   pub consistent : Consistent m.0 → Consistent m'.0
   pub same : SameView m.0 m'.0
   pub keeps : KeepsHeld lane m.0 m'.0
-  pub aside : (j : ℕ) → j < length m.0.lanes → Aside j m.0 m'.0
+  pub aside : (j : ℕ) → j < length m.0.lanes → SameOtherLane j m.0 m'.0
   pub grows : Grows m.0 m'.0
   pub slots : m'.1 ≡ m.1
   pub looks : m'.0.looks ≡ m.0.looks
@@ -192,7 +192,7 @@ pub record Added (lane : ℕ) (x : Visit) (m m' : Seated) : Type 0 where
   pub ahead : (l b : ℕ) → ahead_of x.entry ≡ Some (l, b) → l < length m.0.lanes
       → at l m'.0 ≡ record (at l m.0) { owes = Some (length (known_of m.0 lane)) }
   pub others : (j : ℕ) → j ≢ lane → ((l b : ℕ) → ahead_of x.entry ≡ Some (l, b) → j ≢ l) → at j m'.0 ≡ at j m.0
-  pub beside : (j : ℕ) → j ≢ lane → Beside j m.0 m'.0
+  pub beside : (j : ℕ) → j ≢ lane → SameHeldLane j m.0 m'.0
   pub grows : Grows m.0 m'.0
   pub slots : m'.1 ≡ rest m.1
   pub looks : m'.0.looks ≡ m.0.looks
@@ -208,7 +208,7 @@ pub record Left (lane : ℕ) (m m' : Seated) : Type 0 where
   pub same : SameView m.0 m'.0
   pub stage : (at lane m'.0).stage ≡ Away
   pub known : known_of m'.0 lane ≡ known_of m.0 lane
-  pub still : Still lane m.0 m'.0
+  pub still : SameHistory lane m.0 m'.0
   pub others : (j : ℕ) → j ≢ lane → at j m'.0 ≡ at j m.0
   pub grows : Grows m.0 m'.0
   pub slots : m'.1 ≡ rest m.1

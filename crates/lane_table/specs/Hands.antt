@@ -11,7 +11,7 @@ use Rattle.lane_table.specs.WorldRule.{at, known_of, last_stamp}
 use Rattle.lane_table.specs.Calls.{IsPassOf, IsAway, count_of, slots, view}
 
 -- a lane that is held, with its next place and its last stamp as taken
-pub record Hand : Type 0 where
+pub record HeldLane : Type 0 where
   pub lane : ℕ
   pub ticket : ℕ
   pub place : ℕ
@@ -21,7 +21,7 @@ pub record Hand : Type 0 where
   -- 1 where this hold raised the generation
   pub raised : ℕ
 
-abbrev pub hand : Turn → Option ℕ → ℕ → Hand
+abbrev pub hand : Turn → Option ℕ → ℕ → HeldLane
 hand turn owes raised = record {
   lane = turn.lane;
   ticket = turn.ticket;
@@ -31,7 +31,7 @@ hand turn owes raised = record {
   raised = raised;
 }
 
-pub record IsInHand (v : View) (h : Hand) : Type 0 where
+pub record IsInHand (v : View) (h : HeldLane) : Type 0 where
   pub near : h.lane < length v.lanes
   pub stage : (at h.lane v).stage ≡ Holding h.ticket
   pub owed : (at h.lane v).owes ≡ h.owes
@@ -39,20 +39,20 @@ pub record IsInHand (v : View) (h : Hand) : Type 0 where
   pub next : h.place ≡ length (known_of v h.lane)
   pub last : h.stamp ≡ last_stamp v.first (known_of v h.lane)
 
-abbrev pub NotIn : ℕ → List Hand → Type 0
+abbrev pub NotIn : ℕ → List HeldLane → Type 0
 NotIn lane [] = ⊤
 NotIn lane (h ∷ hands) = (lane ≢ h.lane) × NotIn lane hands
 
 -- each is held, and no lane twice
-abbrev pub AllInHand : View → List Hand → Type 0
+abbrev pub AllInHand : View → List HeldLane → Type 0
 AllInHand v [] = ⊤
 AllInHand v (h ∷ hands) = IsInHand v h × NotIn h.lane hands × AllInHand v hands
 
-abbrev pub slot_of : Hand → ℕ × Option Content
+abbrev pub slot_of : HeldLane → ℕ × Option Content
 slot_of h = (h.lane, None)
 
 -- the pass, of this table and this caller, has these lanes in its hands and stands at no other
-pub record Has (t : Lanes) (caller : ℕ) (hands : List Hand) (p : Pass) : Type 0 where
+pub record HoldsLanes (t : Lanes) (caller : ℕ) (hands : List HeldLane) (p : Pass) : Type 0 where
   pub pass : IsPassOf t p
   pub own : p.caller ≡ caller
   pub out : slots p ≡ map slot_of hands

@@ -7,7 +7,7 @@ pub mod Calls
 pub mod Lending
 pub mod LendingBoxed
 pub mod Hands
-pub mod Went
+pub mod Advances
 pub mod BookLists
 pub mod BookLaws
 pub mod RuleLaws

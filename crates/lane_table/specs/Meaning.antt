@@ -262,10 +262,10 @@ pub record CpuLaneStands (lane : CpuLane) (c : CpuModel) : Type 0 where
   pub fast : lane.fast ≡ c.fast
 
 -- the value of this lane is of its kind, and stands for the model
-abbrev pub ValueStands : ℕ → LaneState → Model → Type 0
-ValueStands lane (PoolValue value) s = (lane ≡ 0) × PoolLaneStands value s.pool
-ValueStands lane (BaseLaneValue value) s = (lane ≡ 1) × (value.base ≡ s.base)
-ValueStands lane (CpuLaneValue value) s = (2 ≤ lane) × CpuLaneStands value s.cpu
+abbrev pub ValueRepresents : ℕ → LaneState → Model → Type 0
+ValueRepresents lane (PoolValue value) s = (lane ≡ 0) × PoolLaneStands value s.pool
+ValueRepresents lane (BaseLaneValue value) s = (lane ≡ 1) × (value.base ≡ s.base)
+ValueRepresents lane (CpuLaneValue value) s = (2 ≤ lane) × CpuLaneStands value s.cpu
 
 abbrev pub no_one : Who
 no_one = record { caller = 0; event = 0; step = 0 }

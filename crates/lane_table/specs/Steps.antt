@@ -260,8 +260,8 @@ nobody = record {
   lanes = [];
 }
 
-abbrev pub newcomer : Plan → View
-newcomer plan = record {
+abbrev pub first_view : Plan → View
+first_view plan = record {
   first = plan.first;
   share = 1;
   halvings = 0;

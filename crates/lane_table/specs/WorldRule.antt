@@ -13,7 +13,7 @@ use Rattle.lane_table.specs.declared.view.View.{View}
 use Rattle.lane_table.specs.declared.view.Content.{Content}
 use Rattle.lane_table.specs.declared.view.Stage.{Stage}
 use Rattle.lane_table.specs.declared.view.Stage.TheVariants.{Away, Queued, Holding}
-use Rattle.lane_table.specs.Meaning.{behind_of, ahead_of, raise_of, parent, replay, ValueStands}
+use Rattle.lane_table.specs.Meaning.{behind_of, ahead_of, raise_of, parent, replay, ValueRepresents}
 use Rattle.lane_table.specs.References.{Closed, LawfulLists, ConsistentLists}
 
 -- Words and slots. A lane's two words have 128 bytes to themselves, so that lanes share no cache line
@@ -59,7 +59,7 @@ raises xs = sum_by (λ x. raise_of x.entry) xs
 
 -- what lies in the lane stands for its list
 pub record Replays (lane first : ℕ) (log : List Visit) (c : Content) : Type 0 where
-  pub value : ValueStands lane c.state (replay log)
+  pub value : ValueRepresents lane c.state (replay log)
   pub place : c.place ≡ length log
   pub stamp : c.stamp ≡ last_stamp first log
 
@@ -120,8 +120,8 @@ pub record PassOk (ticket serving : ℕ) (owner : ℕ → ℕ) (home : Home) (lo
   pub found : a.found ≤ ticket
 
 -- the value is at home and stands for the list, or it is out with the pass that is served
-abbrev pub Whereabouts : ℕ → ℕ → ℕ → Home → List LaneView → List Visit → Type 0
-Whereabouts lane first serving home col log =
+abbrev pub IsHomeOrHeld : ℕ → ℕ → ℕ → Home → List LaneView → List Visit → Type 0
+IsHomeOrHeld lane first serving home col log =
     ((c : Content) × (home ≡ some (some (Some c))) × Replays lane first log c)
     ⊎ ((j : ℕ) × (a : LaneView) × (get_elem? col j ≡ some a) × (a.stage ≡ Holding serving))
 
@@ -142,7 +142,7 @@ pub record LaneOk (lane first ticket serving : ℕ) (home : Home) (col : List La
   pub ordered : serving ≤ ticket
   pub counted : serving + sum_by (λ a. has_ticket a.stage) col ≡ ticket
   pub passes : (j : ℕ) (a : LaneView) → get_elem? col j ≡ some a → PassOk ticket serving owner home log j a
-  pub whereabouts : Whereabouts lane first serving home col log
+  pub whereabouts : IsHomeOrHeld lane first serving home col log
   -- the passes made all visits of the list, each once
   pub made : sum_by (λ a. a.made) col ≡ length log
   pub placed : (p : ℕ) → sum_by (λ a. times p a.places) col ≡ once_below p (length log)

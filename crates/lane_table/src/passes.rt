@@ -2,7 +2,7 @@
 ghost use Rattle.std.specs.Prelude.{◌≡◌, ◌+◌, ◌*◌, ◌^◌, ◌<◌, ◌≤◌, ℕ, [], IfOk, length, replicate, slice_set, slice_get, Some, vec_len};
 ghost use Rattle.std.specs.List.{sum_by};
 ghost use Rattle.lane_table.specs.WorldRule.{Replays, words_of};
-ghost use Rattle.lane_table.specs.Steps.{newcomer, halved, child, both_of};
+ghost use Rattle.lane_table.specs.Steps.{first_view, halved, child, both_of};
 ghost use Rattle.lane_table.specs.Calls.{view, slots, count_of, first_of, plan_of, made_in, IsPassOf, IsSamePass, IsIdle, Ended, AreStarts};
 
 use crate::lanes::{GENERATION, LINE, Lanes, Pass};
@@ -87,7 +87,7 @@ impl Lanes {
         requires first { first ≤ 2 ^ 62 }
         ensures table { IfOk result (λ r. (r.0.cpus ≡ cpus) × (first_of r.0 ≡ first)) }
         ensures pass { IfOk result (λ r. IsPassOf r.0 r.1 × (r.1.caller ≡ 0)) }
-        ensures seat { IfOk result (λ r. r.1.seat.me ≡ (newcomer (plan_of (cpus + 2) first), [])) }
+        ensures seat { IfOk result (λ r. r.1.seat.me ≡ (first_view (plan_of (cpus + 2) first), [])) }
     {
         let count = cpus as usize + 2;
         let words = start_words(alloc, count, first)?;

@@ -8,11 +8,11 @@ pub struct World;
 
 impl TableRule<Option<Content>, View, Plan> for World {
     ghost use Rattle.lane_table.specs.WorldRule.{WorldRule};
-    ghost use Rattle.lane_table.specs.Steps.{newcomer};
+    ghost use Rattle.lane_table.specs.Steps.{first_view};
 
     ghost holds = { λ plan. WorldRule plan.first };
 
-    ghost first = { newcomer };
+    ghost first = { first_view };
 }
 
 /// The visit that a step makes.

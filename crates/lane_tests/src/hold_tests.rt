@@ -4,7 +4,7 @@ ghost use Rattle.key_names.specs.Texts.ScriptGrammar.{WellFormed};
 ghost use Rattle.lane_table.specs.declared.view.View.{View};
 ghost use Rattle.lane_table.specs.Steps.{halved, child};
 ghost use Rattle.lane_table.specs.Calls.{view};
-ghost use Rattle.lane_table.specs.Hands.{Has};
+ghost use Rattle.lane_table.specs.Hands.{HoldsLanes};
 ghost use Rattle.caller_run.specs.Families.{SameShare};
 ghost use Rattle.caller_run.specs.Plans.{IsPlanFor};
 
@@ -77,10 +77,10 @@ fn hold<R: Wait>(
     mut watcher: Pass,
     gate: &HeldCpu,
 ) -> (Pass, Pass)
-    requires pass { Has lanes.now 2 [] pass }
-    requires watcher { Has lanes.now 3 [] watcher }
-    ensures pass { Has lanes.now 2 [] result.0 }
-    ensures watcher { Has lanes.now 3 [] result.1 }
+    requires pass { HoldsLanes lanes.now 2 [] pass }
+    requires watcher { HoldsLanes lanes.now 3 [] watcher }
+    ensures pass { HoldsLanes lanes.now 2 [] result.0 }
+    ensures watcher { HoldsLanes lanes.now 3 [] result.1 }
     ensures share { ((view result.0).share ≡ (view pass).share) × ((view result.0).halvings ≡ (view pass).halvings) }
     ensures shares { ((view result.1).share ≡ (view watcher).share)
         × ((view result.1).halvings ≡ (view watcher).halvings) }
@@ -107,12 +107,12 @@ fn run_behind<R: Threads + Wait + Sync>(
     plan: Plan,
     gate: &HeldCpu,
 ) -> Pass
-    requires has { Has lanes.now 0 [] pass }
+    requires has { HoldsLanes lanes.now 0 [] pass }
     requires share { ((view pass).share ≡ 1) × ((view pass).halvings ≡ 2) }
     requires well { WellFormed script.now }
     requires cpus { lanes.now.cpus ≡ script.now.cpus }
     requires plan { IsPlanFor script.now plan }
-    ensures has { Has lanes.now 0 [] result }
+    ensures has { HoldsLanes lanes.now 0 [] result }
     ensures share { (view result).share * 4 ≡ 2 ^ (view result).halvings }
 {
     gate.wait_for(&gate.cpu_is_held);
@@ -121,9 +121,9 @@ fn run_behind<R: Threads + Wait + Sync>(
 }
 
 fn join_in(lanes: &Lanes, pass: &mut Pass, other: Pass, _caller: u32)
-    requires pass { Has lanes.now 0 [] pass.old }
-    requires other { Has lanes.now _caller [] other }
-    ensures pass { Has lanes.now 0 [] pass.new }
+    requires pass { HoldsLanes lanes.now 0 [] pass.old }
+    requires other { HoldsLanes lanes.now _caller [] other }
+    ensures pass { HoldsLanes lanes.now 0 [] pass.new }
     ensures share { (whole : View) → SameShare (halved whole) (view pass.old) → SameShare (child whole) (view other)
         → SameShare whole (view pass.new) }
 {
@@ -132,9 +132,9 @@ fn join_in(lanes: &Lanes, pass: &mut Pass, other: Pass, _caller: u32)
 
 // Ends a table whose first pass was split twice, and is a quarter with all that was split off it since.
 fn closed(lanes: Lanes, mut pass: Pass, half: Pass, quarter: Pass) -> u128
-    requires pass { Has lanes 0 [] pass × ((view pass).share * 4 ≡ 2 ^ (view pass).halvings) }
-    requires half { Has lanes 2 [] half × ((view half).share ≡ 1) × ((view half).halvings ≡ 1) }
-    requires quarter { Has lanes 3 [] quarter × ((view quarter).share ≡ 1) × ((view quarter).halvings ≡ 2) }
+    requires pass { HoldsLanes lanes 0 [] pass × ((view pass).share * 4 ≡ 2 ^ (view pass).halvings) }
+    requires half { HoldsLanes lanes 2 [] half × ((view half).share ≡ 1) × ((view half).halvings ≡ 1) }
+    requires quarter { HoldsLanes lanes 3 [] quarter × ((view quarter).share ≡ 1) × ((view quarter).halvings ≡ 2) }
 {
     join_in(&lanes, &mut pass, quarter, 3);
     join_in(&lanes, &mut pass, half, 2);
@@ -158,16 +158,16 @@ fn visits_of<R: Threads + Wait + Sync>(
     let ((half, quarter), pass) = thread::join(
         rt,
         move || -> (Pass, Pass)
-            requires { Has table.now 2 [] half × ((view half).share ≡ 1) × ((view half).halvings ≡ 1)
-                × Has table.now 3 [] quarter × ((view quarter).share ≡ 1) × ((view quarter).halvings ≡ 2) }
-            ensures { Has table.entry.now 2 [] result.0 × ((view result.0).share ≡ 1) × ((view result.0).halvings ≡ 1)
-                × Has table.entry.now 3 [] result.1 × ((view result.1).share ≡ 1) × ((view result.1).halvings ≡ 2) }
+            requires { HoldsLanes table.now 2 [] half × ((view half).share ≡ 1) × ((view half).halvings ≡ 1)
+                × HoldsLanes table.now 3 [] quarter × ((view quarter).share ≡ 1) × ((view quarter).halvings ≡ 2) }
+            ensures { HoldsLanes table.entry.now 2 [] result.0 × ((view result.0).share ≡ 1) × ((view result.0).halvings ≡ 1)
+                × HoldsLanes table.entry.now 3 [] result.1 × ((view result.1).share ≡ 1) × ((view result.1).halvings ≡ 2) }
         { hold(rt, table, half, quarter, gate) },
         move || -> Pass
-            requires { Has table.now 0 [] pass × ((view pass).share ≡ 1) × ((view pass).halvings ≡ 2)
+            requires { HoldsLanes table.now 0 [] pass × ((view pass).share ≡ 1) × ((view pass).halvings ≡ 2)
                 × WellFormed script.now × (table.now.cpus ≡ script.now.cpus)
                 × IsPlanFor script.now plan }
-            ensures { Has table.entry.now 0 [] result × ((view result).share * 4 ≡ 2 ^ (view result).halvings) }
+            ensures { HoldsLanes table.entry.now 0 [] result × ((view result).share * 4 ≡ 2 ^ (view result).halvings) }
         { run_behind(rt, table, pass, script, plan, gate) },
     );
     Ok(closed(lanes, pass, half, quarter))

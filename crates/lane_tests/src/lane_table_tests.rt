@@ -4,9 +4,9 @@ ghost use Rattle.key_names.specs.declared.entries.CpuEntry.TheVariants.{Irq};
 ghost use Rattle.lane_table.specs.declared.view.Handed.{Handed};
 ghost use Rattle.lane_table.specs.declared.view.LaneEntry.TheVariants.{Cpu};
 ghost use Rattle.lane_table.specs.LaneNumbers.{index_of};
-ghost use Rattle.lane_table.specs.Meaning.{Model, ValueStands, made_of};
+ghost use Rattle.lane_table.specs.Meaning.{Model, ValueRepresents, made_of};
 ghost use Rattle.lane_table.specs.Calls.{view, count_of};
-ghost use Rattle.lane_table.specs.Hands.{Has};
+ghost use Rattle.lane_table.specs.Hands.{HoldsLanes};
 
 use crate::passes::{split_off, started};
 use crate::reseeds::{install, put_base, raise, rooted};
@@ -22,8 +22,8 @@ const NEVER: u64 = 1 << 62;
 
 // Ends a table whose pass was split once.
 fn counted(lanes: Lanes, mut pass: Pass, other: Pass) -> u128
-    requires pass { Has lanes 0 [] pass × ((view pass).share ≡ 1) × ((view pass).halvings ≡ 1) }
-    requires other { Has lanes 1 [] other × ((view other).share ≡ 1) × ((view other).halvings ≡ 1) }
+    requires pass { HoldsLanes lanes 0 [] pass × ((view pass).share ≡ 1) × ((view pass).halvings ≡ 1) }
+    requires other { HoldsLanes lanes 1 [] other × ((view other).share ≡ 1) × ((view other).halvings ≡ 1) }
 {
     lanes.join(&mut pass, other);
     lanes.close(pass)
@@ -31,9 +31,9 @@ fn counted(lanes: Lanes, mut pass: Pass, other: Pass) -> u128
 
 // Why caller 1 does not get the lane now, or its next place. A lane that is got is given back.
 fn place_of(lanes: &Lanes, pass: &mut Pass, lane: LaneId) -> Result<u64, TakeFault>
-    requires has { Has lanes.now 1 [] pass.old }
+    requires has { HoldsLanes lanes.now 1 [] pass.old }
     requires lane { index_of lane < count_of lanes.now }
-    ensures has { Has lanes.now 1 [] pass.new }
+    ensures has { HoldsLanes lanes.now 1 [] pass.new }
     ensures share { ((view pass.new).share ≡ (view pass.old).share)
         × ((view pass.new).halvings ≡ (view pass.old).halvings) }
 {
@@ -54,11 +54,11 @@ fn beside<R: Wait>(
     pass: &mut Pass,
     other: &mut Pass,
 ) -> (Result<u64, TakeFault>, Result<u64, TakeFault>)
-    requires has { Has lanes.now 0 [] pass.old }
-    requires other { Has lanes.now 1 [] other.old }
+    requires has { HoldsLanes lanes.now 0 [] pass.old }
+    requires other { HoldsLanes lanes.now 1 [] other.old }
     requires cpus { lanes.now.cpus ≡ 2 }
-    ensures has { Has lanes.now 0 [] pass.new }
-    ensures other { Has lanes.now 1 [] other.new }
+    ensures has { HoldsLanes lanes.now 0 [] pass.new }
+    ensures other { HoldsLanes lanes.now 1 [] other.new }
     ensures share { ((view pass.new).share ≡ (view pass.old).share)
         × ((view pass.new).halvings ≡ (view pass.old).halvings) }
     ensures shares { ((view other.new).share ≡ (view other.old).share)
@@ -73,10 +73,10 @@ fn beside<R: Wait>(
 
 // Mixes an interrupt into the CPU that is held.
 fn mix(held: &mut Held)
-    requires { (i : ℕ) × (s : Model) × (2 ≤ i) × ValueStands i held.old.state s }
+    requires { (i : ℕ) × (s : Model) × (2 ≤ i) × ValueRepresents i held.old.state s }
     ensures turn { held.new.turn ≡ held.old.turn }
-    ensures made { (i : ℕ) (s : Model) (got : Handed) → 2 ≤ i → ValueStands i held.old.state s
-        → ValueStands i held.new.state (made_of s (Cpu (Irq 1 2 0)) got) }
+    ensures made { (i : ℕ) (s : Model) (got : Handed) → 2 ≤ i → ValueRepresents i held.old.state s
+        → ValueRepresents i held.new.state (made_of s (Cpu (Irq 1 2 0)) got) }
 {
     match held.state_mut() {
         LaneState::Cpu(lane) => {
@@ -88,8 +88,8 @@ fn mix(held: &mut Held)
 
 // One visit of CPU 0.
 fn irq<R: Wait>(rt: &R, lanes: &Lanes, pass: &mut Pass, caller: u32, event: u32)
-    requires has { Has lanes.now caller [] pass.old }
-    ensures has { Has lanes.now caller [] pass.new }
+    requires has { HoldsLanes lanes.now caller [] pass.old }
+    ensures has { HoldsLanes lanes.now caller [] pass.new }
     ensures share { ((view pass.new).share ≡ (view pass.old).share)
         × ((view pass.new).halvings ≡ (view pass.old).halvings) }
 {
@@ -113,8 +113,8 @@ fn irq<R: Wait>(rt: &R, lanes: &Lanes, pass: &mut Pass, caller: u32, event: u32)
 }
 
 fn irqs<R: Wait>(rt: &R, lanes: &Lanes, mut pass: Pass, caller: u32, times: u32) -> Pass
-    requires { Has lanes.now caller [] pass }
-    ensures has { Has lanes.now caller [] result }
+    requires { HoldsLanes lanes.now caller [] pass }
+    ensures has { HoldsLanes lanes.now caller [] result }
     ensures share { ((view result).share ≡ (view pass).share) × ((view result).halvings ≡ (view pass).halvings) }
 {
     for event in 0..times {
@@ -135,10 +135,10 @@ struct Reseeded {
 // A root out of the pool becomes the base's key, and the generation is raised (`crng_reseed`). Before and after the
 // raise, while the base is held, the other pass looks.
 fn reseed<R: Wait>(rt: &R, lanes: &Lanes, pass: &mut Pass, other: &mut Pass) -> Reseeded
-    requires has { Has lanes.now 0 [] pass.old }
-    requires other { Has lanes.now 1 [] other.old }
-    ensures has { Has lanes.now 0 [] pass.new }
-    ensures other { Has lanes.now 1 [] other.new }
+    requires has { HoldsLanes lanes.now 0 [] pass.old }
+    requires other { HoldsLanes lanes.now 1 [] other.old }
+    ensures has { HoldsLanes lanes.now 0 [] pass.new }
+    ensures other { HoldsLanes lanes.now 1 [] other.new }
     ensures share { ((view pass.new).share ≡ (view pass.old).share)
         × ((view pass.new).halvings ≡ (view pass.old).halvings) }
     ensures shares { ((view other.new).share ≡ (view other.old).share)
@@ -171,12 +171,12 @@ fn two_threads<R: Threads + Wait + Sync>(
     let (one, two) = thread::join(
         rt,
         move || -> Pass
-            requires { Has table.now 0 [] mine × ((view mine).share ≡ 1) × ((view mine).halvings ≡ 1) }
-            ensures { Has table.entry.now 0 [] result × ((view result).share ≡ 1) × ((view result).halvings ≡ 1) }
+            requires { HoldsLanes table.now 0 [] mine × ((view mine).share ≡ 1) × ((view mine).halvings ≡ 1) }
+            ensures { HoldsLanes table.entry.now 0 [] result × ((view result).share ≡ 1) × ((view result).halvings ≡ 1) }
         { irqs(rt, table, mine, 0, times) },
         move || -> Pass
-            requires { Has table.now 1 [] theirs × ((view theirs).share ≡ 1) × ((view theirs).halvings ≡ 1) }
-            ensures { Has table.entry.now 1 [] result × ((view result).share ≡ 1) × ((view result).halvings ≡ 1) }
+            requires { HoldsLanes table.now 1 [] theirs × ((view theirs).share ≡ 1) × ((view theirs).halvings ≡ 1) }
+            ensures { HoldsLanes table.entry.now 1 [] result × ((view result).share ≡ 1) × ((view result).halvings ≡ 1) }
         { irqs(rt, table, theirs, 1, times) },
     );
     Ok(counted(lanes, one, two))

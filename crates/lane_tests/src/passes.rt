@@ -2,7 +2,7 @@
 ghost use Rattle.std.specs.Prelude.{◌≡◌, ◌+◌, ◌^◌, ◌<◌, ◌≤◌, [], IfOk};
 ghost use Rattle.lane_table.specs.LaneNumbers.{index_of};
 ghost use Rattle.lane_table.specs.Calls.{view, count_of};
-ghost use Rattle.lane_table.specs.Hands.{Has};
+ghost use Rattle.lane_table.specs.Hands.{HoldsLanes};
 
 use key_names::LaneId;
 use lane_table::{Lanes, Pass, TakeFault};
@@ -17,7 +17,7 @@ pub(crate) fn started(alloc: Global, cpus: u32, first: u64) -> Result<(Lanes, Pa
     requires cpus { (1 ≤ cpus) × (cpus ≤ 256) }
     requires first { first ≤ 2 ^ 62 }
     ensures cpus { IfOk result (λ r. r.0.cpus ≡ cpus) }
-    ensures has { IfOk result (λ r. Has r.0 0 [] r.1) }
+    ensures has { IfOk result (λ r. HoldsLanes r.0 0 [] r.1) }
     ensures share { IfOk result (λ r. ((view r.1).share ≡ 1) × ((view r.1).halvings ≡ 0)) }
     ensures start { IfOk result (λ r. r.1.stamp ≡ first) }
 {
@@ -27,9 +27,9 @@ pub(crate) fn started(alloc: Global, cpus: u32, first: u64) -> Result<(Lanes, Pa
 
 /// Splits the pass of another caller off that of caller 0.
 pub(crate) fn split_off(lanes: &Lanes, pass: &mut Pass, caller: u32) -> Pass
-    requires { Has lanes.now 0 [] pass.old }
-    ensures has { Has lanes.now 0 [] pass.new }
-    ensures child { Has lanes.now caller [] result }
+    requires { HoldsLanes lanes.now 0 [] pass.old }
+    ensures has { HoldsLanes lanes.now 0 [] pass.new }
+    ensures child { HoldsLanes lanes.now caller [] result }
     ensures share { ((view pass.new).share ≡ (view pass.old).share)
         × ((view pass.new).halvings ≡ (view pass.old).halvings + 1) }
     ensures shares { ((view result).share ≡ (view pass.old).share)
@@ -52,9 +52,9 @@ pub(crate) fn is_set_in_time(flag: &AtomicBool) -> bool {
 
 /// Whether another is seen in the queue of a lane that is held under the first ticket.
 pub(crate) fn sees_another_queued(lanes: &Lanes, pass: &mut Pass, caller: u32, lane: LaneId) -> bool
-    requires has { Has lanes.now caller [] pass.old }
+    requires has { HoldsLanes lanes.now caller [] pass.old }
     requires lane { index_of lane < count_of lanes.now }
-    ensures has { Has lanes.now caller [] pass.new }
+    ensures has { HoldsLanes lanes.now caller [] pass.new }
     ensures share { ((view pass.new).share ≡ (view pass.old).share)
         × ((view pass.new).halvings ≡ (view pass.old).halvings) }
 {

@@ -5,10 +5,10 @@ ghost use Rattle.key_names.specs.declared.entries.BaseEntry.TheVariants.{Reseed}
 ghost use Rattle.key_names.specs.PoolList.{root_of_extraction};
 ghost use Rattle.lane_table.specs.declared.view.Handed.{Handed};
 ghost use Rattle.lane_table.specs.declared.view.LaneEntry.TheVariants.{Pool, Base};
-ghost use Rattle.lane_table.specs.Meaning.{Model, ValueStands, made_of, got_of, nothing};
+ghost use Rattle.lane_table.specs.Meaning.{Model, ValueRepresents, made_of, got_of, nothing};
 ghost use Rattle.lane_table.specs.WorldRule.{known_of};
 ghost use Rattle.lane_table.specs.Calls.{view, SameView};
-ghost use Rattle.lane_table.specs.Hands.{Has, hand, model};
+ghost use Rattle.lane_table.specs.Hands.{HoldsLanes, hand, model};
 
 use key_names::{BaseEntry, LaneId, Mark, PoolNote, Who};
 use lane_table::{Held, LaneState, Lanes, Pass};
@@ -26,10 +26,10 @@ const WHO: Who = Who {
 
 // The root of an extraction of the pool.
 fn extract(state: &mut LaneState) -> [u8; 32]
-    requires { (s : Model) × ValueStands 0 state.old s }
-    ensures made { (s : Model) (place : ℕ) → ValueStands 0 state.old s
-        → ValueStands 0 state.new (made_of s (Pool (Extract HARDWARE place)) nothing) }
-    ensures root { (s : Model) → ValueStands 0 state.old s → result ≡ root_of_extraction s.pool HARDWARE }
+    requires { (s : Model) × ValueRepresents 0 state.old s }
+    ensures made { (s : Model) (place : ℕ) → ValueRepresents 0 state.old s
+        → ValueRepresents 0 state.new (made_of s (Pool (Extract HARDWARE place)) nothing) }
+    ensures root { (s : Model) → ValueRepresents 0 state.old s → result ≡ root_of_extraction s.pool HARDWARE }
 {
     match state {
         LaneState::Pool(lane) => lane.pool.extract(&HARDWARE),
@@ -39,10 +39,10 @@ fn extract(state: &mut LaneState) -> [u8; 32]
 
 /// A root is installed in the base. The result is the new generation.
 pub(crate) fn install(state: &mut LaneState, root: [u8; 32]) -> u64
-    requires { (s : Model) × ValueStands 1 state.old s × (s.base.generation < 2 ^ 62) }
-    ensures made { (s : Model) (place : ℕ) (got : Handed) → got.key ≡ root → ValueStands 1 state.old s
-        → ValueStands 1 state.new (made_of s (Base (Reseed place 1000)) got) }
-    ensures generation { (s : Model) → ValueStands 1 state.old s → result ≡ s.base.generation + 1 }
+    requires { (s : Model) × ValueRepresents 1 state.old s × (s.base.generation < 2 ^ 62) }
+    ensures made { (s : Model) (place : ℕ) (got : Handed) → got.key ≡ root → ValueRepresents 1 state.old s
+        → ValueRepresents 1 state.new (made_of s (Base (Reseed place 1000)) got) }
+    ensures generation { (s : Model) → ValueRepresents 1 state.old s → result ≡ s.base.generation + 1 }
 {
     match state {
         LaneState::Base(lane) => {
@@ -55,12 +55,12 @@ pub(crate) fn install(state: &mut LaneState, root: [u8; 32]) -> u64
 
 // Puts the pool with an extraction for the base that is held under it.
 fn put_pool(lanes: &Lanes, pass: &mut Pass, base: &Held, pool: Held) -> Mark
-    requires has { Has lanes.now 0 (hand pool.turn None 0 ∷ hand base.now.turn None 0 ∷ []) pass.old }
+    requires has { HoldsLanes lanes.now 0 (hand pool.turn None 0 ∷ hand base.now.turn None 0 ∷ []) pass.old }
     requires at { (pool.turn.lane ≡ 0) × (base.now.turn.lane ≡ 1) }
-    requires makes { ValueStands 0 pool.state (made_of (model pass.old 0) (Pool (Extract HARDWARE base.now.turn.place))
+    requires makes { ValueRepresents 0 pool.state (made_of (model pass.old 0) (Pool (Extract HARDWARE base.now.turn.place))
         nothing) }
     requires early { pass.old.stamp < 2 ^ 62 }
-    ensures has { Has lanes.now 0 (hand base.now.turn (Some result.place) 0 ∷ []) pass.new }
+    ensures has { HoldsLanes lanes.now 0 (hand base.now.turn (Some result.place) 0 ∷ []) pass.new }
     ensures kept { model pass.new 1 ≡ model pass.old 1 }
     ensures root { (got_of (Some result.place) (known_of (view pass.new) 0)).key ≡ root_of_extraction
         (model pass.old 0).pool HARDWARE }
@@ -81,9 +81,9 @@ pub(crate) fn rooted<R: Wait>(
     pass: &mut Pass,
     base: &Held,
 ) -> ([u8; 32], Mark)
-    requires has { Has lanes.now 0 (hand base.now.turn None 0 ∷ []) pass.old }
+    requires has { HoldsLanes lanes.now 0 (hand base.now.turn None 0 ∷ []) pass.old }
     requires at { base.now.turn.lane ≡ 1 }
-    ensures has { Has lanes.now 0 (hand base.now.turn (Some result.1.place) 0 ∷ []) pass.new }
+    ensures has { HoldsLanes lanes.now 0 (hand base.now.turn (Some result.1.place) 0 ∷ []) pass.new }
     ensures kept { model pass.new 1 ≡ model pass.old 1 }
     ensures root { (got_of (Some result.1.place) (known_of (view pass.new) 0)).key ≡ result.0 }
     ensures share { ((view pass.new).share ≡ (view pass.old).share)
@@ -98,11 +98,11 @@ pub(crate) fn rooted<R: Wait>(
 
 /// Raises the generation to that of the entry that the base is put with.
 pub(crate) fn raise(lanes: &Lanes, pass: &mut Pass, base: &Held, root: u64, generation: u64)
-    requires has { Has lanes.now 0 (hand base.now.turn (Some root) 0 ∷ []) pass.old }
+    requires has { HoldsLanes lanes.now 0 (hand base.now.turn (Some root) 0 ∷ []) pass.old }
     requires at { base.now.turn.lane ≡ 1 }
     requires next { generation ≡ (model pass.old 1).base.generation + 1 }
     requires small { generation < 2 ^ 63 }
-    ensures has { Has lanes.now 0 (hand base.now.turn (Some root) 1 ∷ []) pass.new }
+    ensures has { HoldsLanes lanes.now 0 (hand base.now.turn (Some root) 1 ∷ []) pass.new }
     ensures kept { model pass.new 1 ≡ model pass.old 1 }
     ensures behind { known_of (view pass.new) 0 ≡ known_of (view pass.old) 0 }
     ensures share { ((view pass.new).share ≡ (view pass.old).share)
@@ -115,12 +115,12 @@ pub(crate) fn raise(lanes: &Lanes, pass: &mut Pass, base: &Held, root: u64, gene
 
 /// Puts the base as it was reseeded.
 pub(crate) fn put_base(lanes: &Lanes, pass: &mut Pass, base: Held, root: u64) -> Mark
-    requires has { Has lanes.now 0 (hand base.turn (Some root) 1 ∷ []) pass.old }
+    requires has { HoldsLanes lanes.now 0 (hand base.turn (Some root) 1 ∷ []) pass.old }
     requires at { base.turn.lane ≡ 1 }
-    requires makes { ValueStands 1 base.state (made_of (model pass.old 1) (Base (Reseed root 1000))
+    requires makes { ValueRepresents 1 base.state (made_of (model pass.old 1) (Base (Reseed root 1000))
         (got_of (Some root) (known_of (view pass.old) 0))) }
     requires early { pass.old.stamp ≤ 2 ^ 62 }
-    ensures has { Has lanes.now 0 [] pass.new }
+    ensures has { HoldsLanes lanes.now 0 [] pass.new }
     ensures share { ((view pass.new).share ≡ (view pass.old).share)
         × ((view pass.new).halvings ≡ (view pass.old).halvings) }
 {

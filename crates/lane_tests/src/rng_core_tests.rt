@@ -1,10 +1,10 @@
 //! Little runs of one caller over a fresh table, with steps and bytes that another implementation gave.
 ghost use Rattle.std.specs.Prelude.{◌≡◌, ◌≤◌, ◌<◌, ◌^◌, [], length};
 ghost use Rattle.std.specs.List.{AllByRecursion};
-ghost use Rattle.lane_table.specs.Hands.{Has};
+ghost use Rattle.lane_table.specs.Hands.{HoldsLanes};
 ghost use Rattle.rng_core.specs.Integers.{IsWidth};
 ghost use Rattle.rng_core.specs.Acts.{asks_of, all_wanted};
-ghost use Rattle.rng_core.specs.InsideDid.{IsFresh};
+ghost use Rattle.rng_core.specs.InsideMakes.{IsFresh};
 
 mod waits;
 
@@ -82,9 +82,9 @@ fn added<R: Wait>(
     bits: u32,
     want: &[Step],
 ) -> bool
-    requires has { Has lanes.now set.now.caller [] pass.old }
+    requires has { HoldsLanes lanes.now set.now.caller [] pass.old }
     requires moment { set.now.now < 2 ^ 40 }
-    ensures has { Has lanes.now set.entry.now.caller [] pass.new }
+    ensures has { HoldsLanes lanes.now set.entry.now.caller [] pass.new }
 {
     let mut trace = Trace::empty();
     add(rt, lanes, pass, &mut trace, set, text, bits);
@@ -92,9 +92,9 @@ fn added<R: Wait>(
 }
 
 fn reseeded<R: Wait>(rt: &R, lanes: &Lanes, pass: &mut Pass, set: &Setting, want: &[Step]) -> bool
-    requires has { Has lanes.now set.now.caller [] pass.old }
+    requires has { HoldsLanes lanes.now set.now.caller [] pass.old }
     requires moment { set.now.now < 2 ^ 40 }
-    ensures has { Has lanes.now set.entry.now.caller [] pass.new }
+    ensures has { HoldsLanes lanes.now set.entry.now.caller [] pass.new }
 {
     let mut trace = Trace::empty();
     let answer = reseed(rt, lanes, pass, &mut trace, set);
@@ -109,9 +109,9 @@ fn key_pressed<R: Wait>(
     value: u8,
     want: &[Step],
 ) -> bool
-    requires has { Has lanes.now set.now.caller [] pass.old }
+    requires has { HoldsLanes lanes.now set.now.caller [] pass.old }
     requires moment { set.now.now < 2 ^ 40 }
-    ensures has { Has lanes.now set.entry.now.caller [] pass.new }
+    ensures has { HoldsLanes lanes.now set.entry.now.caller [] pass.new }
 {
     let mut trace = Trace::empty();
     input(rt, lanes, pass, &mut trace, set, 0, 1, 30, value);
@@ -125,8 +125,8 @@ fn bits_of<R: Wait>(
     set: &Setting,
     want: &[Step],
 ) -> Option<u32>
-    requires has { Has lanes.now set.now.caller [] pass.old }
-    ensures has { Has lanes.now set.entry.now.caller [] pass.new }
+    requires has { HoldsLanes lanes.now set.now.caller [] pass.old }
+    ensures has { HoldsLanes lanes.now set.entry.now.caller [] pass.new }
 {
     let mut trace = Trace::empty();
     let bits = bits(rt, lanes, pass, &mut trace, set);
@@ -141,10 +141,10 @@ fn read_of<R: Wait, const N: usize>(
     flags: u32,
     want: &[Step],
 ) -> Option<Result<[u8; N], Errno>>
-    requires has { Has lanes.now set.now.caller [] pass.old }
+    requires has { HoldsLanes lanes.now set.now.caller [] pass.old }
     requires cpu { set.now.cpu < lanes.now.cpus }
     requires short { N ≤ 2 ^ 20 }
-    ensures has { Has lanes.now set.entry.now.caller [] pass.new }
+    ensures has { HoldsLanes lanes.now set.entry.now.caller [] pass.new }
 {
     let mut trace = Trace::empty();
     let mut bytes = [0; N];
@@ -166,10 +166,10 @@ fn file_read_of<R: Wait, const N: usize>(
     nonblock: bool,
     want: &[Step],
 ) -> Option<Result<[u8; N], Errno>>
-    requires has { Has lanes.now set.now.caller [] pass.old }
+    requires has { HoldsLanes lanes.now set.now.caller [] pass.old }
     requires cpu { set.now.cpu < lanes.now.cpus }
     requires short { N ≤ 2 ^ 20 }
-    ensures has { Has lanes.now set.entry.now.caller [] pass.new }
+    ensures has { HoldsLanes lanes.now set.entry.now.caller [] pass.new }
 {
     let mut trace = Trace::empty();
     let mut bytes = [0; N];
@@ -190,10 +190,10 @@ fn int_of<R: Wait, const W: usize>(
     set: &Setting,
     want: &[Step],
 ) -> Option<[u8; W]>
-    requires has { Has lanes.now set.now.caller [] pass.old }
+    requires has { HoldsLanes lanes.now set.now.caller [] pass.old }
     requires cpu { set.now.cpu < lanes.now.cpus }
     requires width { IsWidth W }
-    ensures has { Has lanes.now set.entry.now.caller [] pass.new }
+    ensures has { HoldsLanes lanes.now set.entry.now.caller [] pass.new }
 {
     let mut trace = Trace::empty();
     let mut bytes = [0; W];
@@ -342,13 +342,13 @@ fn inside_of<R: Wait>(
     out: &mut [u8],
     want: &[Step],
 ) -> Option<Result<[u8; 64], Errno>>
-    requires has { Has lanes.now set.now.caller [] pass.old }
+    requires has { HoldsLanes lanes.now set.now.caller [] pass.old }
     requires cpu { set.now.cpu < lanes.now.cpus }
     requires moment { set.now.now < 2 ^ 40 }
     requires some { 0 < length acts.old }
     requires fresh { AllByRecursion IsFresh acts.old }
     requires fits { length out.old ≡ all_wanted (asks_of acts.old) }
-    ensures has { Has lanes.now set.entry.now.caller [] pass.new }
+    ensures has { HoldsLanes lanes.now set.entry.now.caller [] pass.new }
 {
     let mut trace = Trace::empty();
     let mut bytes = [0; 64];

@@ -14,13 +14,13 @@ use Rattle.lane_table.specs.BookLists.{StateLists, book_lists}
 use Rattle.lane_table.specs.BookLaws.{Continues}
 use Rattle.lane_table.specs.Steps.{Grows}
 use Rattle.lane_table.specs.WorldRule.{known_of}
-use Rattle.lane_table.specs.Went.{Deal, looked, visited, step_of, looks_in, Sees, floor}
+use Rattle.lane_table.specs.Advances.{MadeStep, looked, visited, step_of, looks_in, Sees, floor}
 use Rattle.lane_table.proofs.Book.BookEnds.{continues_before}
 use Rattle.rng_core.specs.declared.setting.Setting.{Setting}
-use Rattle.rng_core.specs.Told.{Moment, Told}
-use Rattle.rng_core.specs.Did.{DidIn, Did, setting_of}
+use Rattle.rng_core.specs.Traces.{Moment, TraceRecords}
+use Rattle.rng_core.specs.Makes.{MakesIn, Makes, setting_of}
 use Rattle.rng_core.specs.Acts.{Ask, ActOutcome, ActRan, ActAt, ActsAt, done_line}
-use Rattle.rng_core.proofs.Doing.{After, did_floor, deeds_then}
+use Rattle.rng_core.proofs.Makings.{After, did_floor, deeds_then}
 use Rattle.rng_core.proofs.TellLemmas.{told_then, trace_then, fits_then}
 
 -- a pass knows no less
@@ -51,7 +51,7 @@ onward_then u v w a b = record {
   floors = let x = a.floors in let y = b.floors in omega arith;
 }
 
-pub did_onward : {P : (ℕ → List Visit) → List Deed → Type 0} (set : Setting) (l m : Moment) → DidIn P set l m →
+pub did_onward : {P : (ℕ → List Visit) → List Deed → Type 0} (set : Setting) (l m : Moment) → MakesIn P set l m →
     Onward l.view m.view
 did_onward set l m k = record {
   sized = k.told.went.same.sized;
@@ -91,13 +91,13 @@ risen_then : (low mid high : ℕ) (xs ys : List ℕ) → Risen low xs mid → Ri
 risen_then low mid high [] ys a b = risen_lower low mid high ys a b
 risen_then low mid high (g ∷ xs) ys a b = (a.0, risen_then g mid high xs ys a.1 b)
 
-pub sees_risen : (w : View) (low high : ℕ) (deals : List Deal) → Sees w low deals high → Risen low (looks_in deals) high
+pub sees_risen : (w : View) (low high : ℕ) (made_steps : List MadeStep) → Sees w low made_steps high → Risen low (looks_in made_steps) high
 sees_risen w low high [] h = h
-sees_risen w low high (looked g ∷ deals) h = (h.0, sees_risen w g high deals h.1)
-sees_risen w low high (visited mark e ∷ deals) h =
-    risen_lower low h.0 high (looks_in deals) h.1 (sees_risen w h.0 high deals h.3)
+sees_risen w low high (looked g ∷ made_steps) h = (h.0, sees_risen w g high made_steps h.1)
+sees_risen w low high (visited mark e ∷ made_steps) h =
+    risen_lower low h.0 high (looks_in made_steps) h.1 (sees_risen w h.0 high made_steps h.3)
 
-looks_append : (xs ys : List Deal) → looks_in (xs ++ ys) ≡ looks_in xs ++ looks_in ys
+looks_append : (xs ys : List MadeStep) → looks_in (xs ++ ys) ≡ looks_in xs ++ looks_in ys
 looks_append [] ys = refl
 looks_append (looked g ∷ xs) ys = ap (λ (l : List ℕ). g ∷ l) (looks_append xs ys)
 looks_append (visited mark e ∷ xs) ys = looks_append xs ys
@@ -106,22 +106,22 @@ looks_append (visited mark e ∷ xs) ys = looks_append xs ys
 
 -- from l to m these are the caller's own steps, and of the deeds behind them this holds; alone they are all that was done
 pub record Own (set : Setting) (Alone : Type 0) (P : List Deed → Type 0) (l m : Moment) : Type 0 where
-  pub deals : List Deal
-  pub trace : m.steps ≡ l.steps ++ map step_of deals
-  pub fits : AllByRecursion StepFits (map step_of deals)
-  pub rises : Risen (floor l.view) (looks_in deals) (floor m.view)
+  pub made_steps : List MadeStep
+  pub trace : m.steps ≡ l.steps ++ map step_of made_steps
+  pub fits : AllByRecursion StepFits (map step_of made_steps)
+  pub rises : Risen (floor l.view) (looks_in made_steps) (floor m.view)
   pub onward : Onward l.view m.view
-  pub alone : Alone → Told set l m deals
+  pub alone : Alone → TraceRecords set l m made_steps
   pub stands : (lanes : ℕ) (visits : ℕ → List Visit) (callers : StateLists) → Continues lanes m.view visits →
-      P (deeds_of (book_lists lanes visits callers) (map step_of deals))
+      P (deeds_of (book_lists lanes visits callers) (map step_of made_steps))
 
-pub own_did : {P : List Deed → Type 0} {Alone : Type 0} (set : Setting) (l m : Moment) → Did P set l m →
+pub own_did : {P : List Deed → Type 0} {Alone : Type 0} (set : Setting) (l m : Moment) → Makes P set l m →
     Own set Alone P l m
 own_did set l m k = record {
-  deals = k.deals;
+  made_steps = k.made_steps;
   trace = k.told.trace;
   fits = k.told.fits;
-  rises = sees_risen m.view (floor l.view) (floor m.view) k.deals k.told.went.sees;
+  rises = sees_risen m.view (floor l.view) (floor m.view) k.made_steps k.told.went.sees;
   onward = did_onward set l m k;
   alone = λ _. k.told;
   stands = k.stands;
@@ -130,7 +130,7 @@ own_did set l m k = record {
 pub own_map : {set : Setting} {Alone : Type 0} {P Q : List Deed → Type 0} (l m : Moment) →
     ((deeds : List Deed) → P deeds → Q deeds) → Own set Alone P l m → Own set Alone Q l m
 own_map l m f k = record {
-  deals = k.deals;
+  made_steps = k.made_steps;
   trace = k.trace;
   fits = k.fits;
   rises = k.rises;
@@ -142,17 +142,17 @@ own_map l m f k = record {
 pub own_then : {set : Setting} {Alone : Type 0} {P Q : List Deed → Type 0} (l m n : Moment) → Own set Alone P l m →
     Own set Alone Q m n → Own set Alone (After P Q) l n
 own_then {set} l m n a b = record {
-  deals = a.deals ++ b.deals;
-  trace = trace_then l m n a.deals b.deals a.trace b.trace;
-  fits = fits_then a.deals b.deals a.fits b.fits;
-  rises = subst (λ (looks : List ℕ). Risen (floor l.view) looks (floor n.view)) (sym (looks_append a.deals b.deals))
-      (risen_then (floor l.view) (floor m.view) (floor n.view) (looks_in a.deals) (looks_in b.deals) a.rises b.rises);
+  made_steps = a.made_steps ++ b.made_steps;
+  trace = trace_then l m n a.made_steps b.made_steps a.trace b.trace;
+  fits = fits_then a.made_steps b.made_steps a.fits b.fits;
+  rises = subst (λ (looks : List ℕ). Risen (floor l.view) looks (floor n.view)) (sym (looks_append a.made_steps b.made_steps))
+      (risen_then (floor l.view) (floor m.view) (floor n.view) (looks_in a.made_steps) (looks_in b.made_steps) a.rises b.rises);
   onward = onward_then l.view m.view n.view a.onward b.onward;
-  alone = λ e. told_then set l m n a.deals b.deals (a.alone e) (b.alone e);
+  alone = λ e. told_then set l m n a.made_steps b.made_steps (a.alone e) (b.alone e);
   stands = λ lanes visits callers c. let book = book_lists lanes visits callers in record {
-    first = deeds_of book (map step_of a.deals);
-    rest = deeds_of book (map step_of b.deals);
-    deeds_are = deeds_then book a.deals b.deals;
+    first = deeds_of book (map step_of a.made_steps);
+    rest = deeds_of book (map step_of b.made_steps);
+    deeds_are = deeds_then book a.made_steps b.made_steps;
     before = a.stands lanes visits callers (continues_before lanes m.view n.view visits b.onward.sized b.onward.grows
         c);
     behind = b.stands lanes visits callers c;
@@ -163,12 +163,12 @@ own_then {set} l m n a b = record {
 pub own_behind : {set : Setting} {Alone : Type 0} {P : List Deed → Type 0} (l m n : Moment) → m.steps ≡ l.steps →
     Onward l.view m.view → (Alone → m.view ≡ l.view) → Own set Alone P m n → Own set Alone P l n
 own_behind {set} l m n same onward idle k = record {
-  deals = k.deals;
-  trace = k.trace ∙ ap (λ (s : List Step). s ++ map step_of k.deals) same;
+  made_steps = k.made_steps;
+  trace = k.trace ∙ ap (λ (s : List Step). s ++ map step_of k.made_steps) same;
   fits = k.fits;
-  rises = risen_lower (floor l.view) (floor m.view) (floor n.view) (looks_in k.deals) onward.floors k.rises;
+  rises = risen_lower (floor l.view) (floor m.view) (floor n.view) (looks_in k.made_steps) onward.floors k.rises;
   onward = onward_then l.view m.view n.view onward k.onward;
-  alone = λ e. subst (λ (z : Moment). Told set z n k.deals) (λ i. record { view = idle e i; steps = same i })
+  alone = λ e. subst (λ (z : Moment). TraceRecords set z n k.made_steps) (λ i. record { view = idle e i; steps = same i })
       (k.alone e);
   stands = k.stands;
 }

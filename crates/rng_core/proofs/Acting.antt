@@ -7,21 +7,21 @@ use Rattle.key_names.specs.Deeds.{Deed}
 use Rattle.key_names.specs.Vgetrandom.{HostStep, publishes, system_call, at_point}
 use Rattle.key_names.specs.VreadSteps.{published_by, Shows, PointReached, points_of, before_start, from_start, first_points, second_points, number_of}
 use Rattle.lane_table.specs.declared.view.View.{View}
-use Rattle.lane_table.specs.Went.{looked, floor}
+use Rattle.lane_table.specs.Advances.{looked, floor}
 use Rattle.vdso_state.specs.Host.{Does, DoesAll}
 use Rattle.rng_core.specs.declared.lane_host.LaneHost.{LaneHost}
 use Rattle.rng_core.specs.declared.attempt.Attempt.{Attempt}
 use Rattle.rng_core.specs.declared.attempt.Attempt.TheVariants.{Before, First, Later}
 use Rattle.rng_core.specs.declared.setting.Setting.{Setting}
-use Rattle.rng_core.specs.Told.{Told}
-use Rattle.rng_core.specs.Did.{Did, setting_of}
+use Rattle.rng_core.specs.Traces.{TraceRecords}
+use Rattle.rng_core.specs.Makes.{Makes, setting_of}
 use Rattle.rng_core.specs.Hosted.{SystemCall}
 use Rattle.rng_core.specs.Acts.{Ask, ActOutcome, ActsAt, wipes_at}
 use Rattle.rng_core.specs.Acting.{attempt_at, is_first, acting, ActStand}
 use Rattle.rng_core.specs.Hosting.{standing, SameLoans, hosting}
 use Rattle.rng_core.proofs.ActRuns.{Onward, onward_same, onward_is, onward_then, acts_onward, did_onward, AllMeant, meant_at, all_onward, AllDone, done_at, done_same, long_at, Own, own_did, own_then, own_map, own_behind}
 use Rattle.rng_core.proofs.CallEnds.{PublishesUpTo}
-use Rattle.rng_core.proofs.Doing.{did_look, did_nothing}
+use Rattle.rng_core.proofs.Makings.{did_look, did_nothing}
 use Rattle.rng_core.proofs.Hosting.{published_more}
 
 step_set : (s t : ActStand) (step : HostStep) → Does acting s step t → t.core.set ≡ s.core.set
@@ -109,7 +109,7 @@ acted_own [] set asks s t same is_asks two does =
     (own_did set _ _ (did_nothing set _ two refl))
 acted_own (publishes g ∷ steps) set asks s t same is_asks two does =
     let k = does.1 in
-    let looks = subst (λ (z : Setting). Told z s.core.moment does.0.core.moment (looked k.core.found ∷ [])) same
+    let looks = subst (λ (z : Setting). TraceRecords z s.core.moment does.0.core.moment (looked k.core.found ∷ [])) same
     k.core.told in
     let own = acted_own steps set asks does.0 t (k.core.same ∙ same) (k.acts.asks ∙ is_asks)
     (let e = looks.went.same.sized in omega arith) does.2 in
@@ -122,7 +122,7 @@ acted_own (publishes g ∷ steps) set asks s t same is_asks two does =
     (own_then _ _ _ (own_did set _ _ (did_look set _ _ k.core.found looks)) own)
 acted_own (system_call n flags answer ∷ steps) set asks s t same is_asks two does =
     let k = does.1 in
-    let did = subst (λ (z : Setting). Did (SystemCall (setting_of z) n flags answer) z s.core.moment
+    let did = subst (λ (z : Setting). Makes (SystemCall (setting_of z) n flags answer) z s.core.moment
     does.0.core.moment) same k.core.did in
     let own = acted_own steps set asks does.0 t (k.core.same ∙ same) (k.acts.asks ∙ is_asks)
     (let e = did.told.went.same.sized in omega arith) does.2 in

@@ -29,7 +29,7 @@ use Rattle.lane_table.proofs.Lists.Lists.{at_below}
 use Rattle.lane_table.proofs.Lists.Places.{stands_at}
 use Rattle.lane_table.proofs.Book.BookDeeds.{pool_deed, base_deed, cpu_deed}
 use Rattle.rng_core.specs.declared.setting.Setting.{Setting}
-use Rattle.rng_core.specs.Told.{Moment, Met, Visited}
+use Rattle.rng_core.specs.Traces.{Moment, Met, Visited}
 use Rattle.rng_core.specs.SampleDeeds.{fast_in}
 
 lane_pool : (l : LaneId) → index_of l ≡ 0 → l ≡ PoolLane

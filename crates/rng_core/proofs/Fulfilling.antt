@@ -11,23 +11,23 @@ use Rattle.key_names.specs.Calls.{Setting}
 use Rattle.key_names.specs.Deeds.{Deed, looked}
 use Rattle.key_names.specs.Forms.{Looked, ReadForm, Rooted, BaseOnly}
 use Rattle.key_names.specs.Answers.{answer_of}
-use Rattle.rng_core.specs.Did.{Fulfils, Serving}
+use Rattle.rng_core.specs.Makes.{IsOutcomeOf, Serving}
 
 match_some : (P Q : Type 0) (n : ℕ) → 0 < n → Q → MatchBool (n == 0) P Q
 match_some P Q n h q = subst (λ (b : Bool). MatchBool b P Q) (sym (ne_eqb n 0 (λ e. omega arith))) q
 
 pub kernel_none : (set : Setting) (buf : List ℕ) → length buf ≡ 0 →
-    Fulfils set (Kread (length buf)) Done (bytes_or_none buf) []
+    IsOutcomeOf set (Kread (length buf)) Done (bytes_or_none buf) []
 kernel_none set [] e = record { form = refl; answers = refl; shows = refl }
 kernel_none set (b ∷ bs) e = absurd (omega arith)
 
 pub user_none : (set : Setting) (buf : List ℕ) → length buf ≡ 0 →
-    Fulfils set (Uread (length buf)) Done (bytes_or_none buf) []
+    IsOutcomeOf set (Uread (length buf)) Done (bytes_or_none buf) []
 user_none set [] e = record { form = refl; answers = refl; shows = refl }
 user_none set (b ∷ bs) e = absurd (omega arith)
 
 pub kernel_some : (set : Setting) (n m : ℕ) (bytes : List ℕ) (deeds : List Deed) → m ≡ n → 0 < n →
-    Serving (Looked (ReadForm set (Kernel m))) bytes deeds → Fulfils set (Kread n) Done (bytes_or_none bytes) deeds
+    Serving (Looked (ReadForm set (Kernel m))) bytes deeds → IsOutcomeOf set (Kread n) Done (bytes_or_none bytes) deeds
 kernel_some set n m bytes deeds e some h = record {
   form = match_some _ _ n some
       (subst (λ (k : ℕ). Looked (ReadForm set (Kernel k)) deeds) e h.form);
@@ -36,7 +36,7 @@ kernel_some set n m bytes deeds e some h = record {
 }
 
 pub user_some : (set : Setting) (n m : ℕ) (bytes : List ℕ) (deeds : List Deed) → m ≡ n → 0 < n →
-    Serving (Looked (ReadForm set (User m))) bytes deeds → Fulfils set (Uread n) Done (bytes_or_none bytes) deeds
+    Serving (Looked (ReadForm set (User m))) bytes deeds → IsOutcomeOf set (Uread n) Done (bytes_or_none bytes) deeds
 user_some set n m bytes deeds e some h = record {
   form = match_some _ _ n some
       (subst (λ (k : ℕ). Looked (ReadForm set (User k)) deeds) e h.form);
@@ -45,7 +45,7 @@ user_some set n m bytes deeds e some h = record {
 }
 
 pub reseed_unready : (set : Setting) (g : ℕ) (deeds : List Deed) → g ≡ 0 → deeds ≡ looked g ∷ [] →
-    Fulfils set Reseed NoData no_data deeds
+    IsOutcomeOf set Reseed NoData no_data deeds
 reseed_unready set zero deeds z e = record {
   form = (zero, [], e, inl (refl, refl));
   answers = ap (answer_of Reseed) (sym e);
@@ -54,7 +54,7 @@ reseed_unready set zero deeds z e = record {
 reseed_unready set (suc g) deeds z e = absurd (omega arith)
 
 pub reseed_ready : (set : Setting) (g : ℕ) (deeds rest : List Deed) → 1 ≤ g → deeds ≡ looked g ∷ rest →
-    Rooted set (λ (r : ℕ). Reseeded r set.now) rest → Fulfils set Reseed Done no_data deeds
+    Rooted set (λ (r : ℕ). Reseeded r set.now) rest → IsOutcomeOf set Reseed Done no_data deeds
 reseed_ready set g deeds rest one e h = record {
   form = (g, rest, e, inr (one, h));
   answers = ap (λ (b : Bool). cond b NoData Done) (sym (ne_eqb g 0 (λ z. omega arith))) ∙ ap (answer_of Reseed) (sym e);
@@ -62,9 +62,9 @@ reseed_ready set g deeds rest one e h = record {
 }
 
 pub tick_idle : (set : Setting) (deeds : List Deed) → BaseOnly (Ticked set.now None) deeds →
-    Fulfils set Tick Idle no_data deeds
+    IsOutcomeOf set Tick Idle no_data deeds
 tick_idle set deeds h = record { form = inl h; answers = ap (answer_of Tick) (sym h.deeds_are); shows = refl }
 
 pub tick_fired : (set : Setting) (deeds : List Deed) → Rooted set (λ (r : ℕ). Ticked set.now (Some r)) deeds →
-    Fulfils set Tick Fired no_data deeds
+    IsOutcomeOf set Tick Fired no_data deeds
 tick_fired set deeds h = record { form = inr h; answers = ap (answer_of Tick) (sym h.deeds_are); shows = refl }

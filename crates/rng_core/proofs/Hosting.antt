@@ -26,18 +26,18 @@ use Rattle.lane_table.specs.declared.lanes.Pass.{Pass}
 use Rattle.lane_table.specs.LaneNumbers.{index_of}
 use Rattle.lane_table.specs.WorldRule.{known_of, at}
 use Rattle.lane_table.specs.Calls.{slots, view}
-use Rattle.lane_table.specs.Hands.{Has}
+use Rattle.lane_table.specs.Hands.{HoldsLanes}
 use Rattle.lane_table.specs.BookLists.{book_lists}
-use Rattle.lane_table.specs.Went.{Deal, looked, visited, step_of, AllStand}
+use Rattle.lane_table.specs.Advances.{MadeStep, looked, visited, step_of, AllStand}
 use Rattle.lane_table.proofs.Lists.Places.{stands_at}
 use Rattle.lane_table.proofs.Book.BookEntries.{lane_at, cpu_kind}
 use Rattle.lane_table.proofs.Book.BookWhole.{cpu_lane_of}
 use Rattle.lane_table.proofs.Book.BookCpus.{CpuLane}
 use Rattle.vdso_state.specs.Host.{IsAnswer}
 use Rattle.rng_core.specs.declared.setting.Setting.{Setting}
-use Rattle.rng_core.specs.Told.{Moment}
+use Rattle.rng_core.specs.Traces.{Moment}
 use Rattle.lane_table.specs.BookLaws.{Continues}
-use Rattle.rng_core.specs.Did.{Did, Fulfils, setting_of, errno_answer, result_answer, given}
+use Rattle.rng_core.specs.Makes.{Makes, IsOutcomeOf, setting_of, errno_answer, result_answer, given}
 use Rattle.rng_core.specs.Hosted.{is_away, IsFree, SystemCall}
 
 -- Empty hands
@@ -51,7 +51,7 @@ away_of Away h = refl
 away_of (Queued ticket) h = absurd (cc h)
 away_of (Holding ticket) h = absurd (cc h)
 
-free_has : (t : Lanes) (caller : ℕ) (p : Pass) → IsFree t caller p → Has t caller [] p
+free_has : (t : Lanes) (caller : ℕ) (p : Pass) → IsFree t caller p → HoldsLanes t caller [] p
 free_has t caller p k = record {
   pass = k.pass;
   own = k.own;
@@ -74,15 +74,15 @@ cpu_place PoolLane place = None
 cpu_place BaseLane place = None
 cpu_place (CpuLaneId c) place = Some (record { cpu = c; place = place })
 
-abbrev place_in : Deal → Option CpuPlace
+abbrev place_in : MadeStep → Option CpuPlace
 place_in (looked g) = None
 place_in (visited mark e) = cpu_place mark.lane mark.place
 
 -- the visit of a CPU that some deals end with, if they do
-abbrev pub visit_of : List Deal → Option CpuPlace
+abbrev pub visit_of : List MadeStep → Option CpuPlace
 visit_of [] = None
-visit_of (deal ∷ []) = place_in deal
-visit_of (deal ∷ next ∷ deals) = visit_of (next ∷ deals)
+visit_of (made_step ∷ []) = place_in made_step
+visit_of (made_step ∷ next ∷ made_steps) = visit_of (next ∷ made_steps)
 
 -- it is that of the deeds, in all lists that go on
 module _ (lanes : ℕ) (v : View) (visits : ℕ → List Visit) (callers : List (List (List VEntry)))
@@ -122,19 +122,19 @@ module _ (lanes : ℕ) (v : View) (visits : ℕ → List Visit) (callers : List 
       (ap (λ (xs : List Visit). slice_get xs place) b.1
       ∙ stands_at (known_of v (c + 2) ++ b.0) place visit (at_longer (known_of v (c + 2)) b.0 place visit there))
 
-  deal_place : (caller event n : ℕ) (deal : Deal) → AllStand v caller event n (deal ∷ []) →
-      place_of (deed_of book (step_of deal)) ≡ place_in deal
+  deal_place : (caller event n : ℕ) (made_step : MadeStep) → AllStand v caller event n (made_step ∷ []) →
+      place_of (deed_of book (step_of made_step)) ≡ place_in made_step
   deal_place caller event n (looked g) stand = refl
   deal_place caller event n (visited mark e) stand =
       mark_place mark.lane mark.place stand.0.visit stand.0.near stand.0.there
 
-  pub last_found : (caller event n : ℕ) (deals : List Deal) → AllStand v caller event n deals →
-      last_place (deeds_of book (map step_of deals)) ≡ visit_of deals
+  pub last_found : (caller event n : ℕ) (made_steps : List MadeStep) → AllStand v caller event n made_steps →
+      last_place (deeds_of book (map step_of made_steps)) ≡ visit_of made_steps
   last_found caller event n [] stand = refl
-  last_found caller event n (deal ∷ []) stand = deal_place caller event n deal stand
-  last_found caller event n (looked g ∷ next ∷ deals) stand = last_found caller event (suc n) (next ∷ deals) stand
-  last_found caller event n (visited mark e ∷ next ∷ deals) stand =
-      last_found caller event (suc n) (next ∷ deals) stand.1
+  last_found caller event n (made_step ∷ []) stand = deal_place caller event n made_step stand
+  last_found caller event n (looked g ∷ next ∷ made_steps) stand = last_found caller event (suc n) (next ∷ made_steps) stand
+  last_found caller event n (visited mark e ∷ next ∷ made_steps) stand =
+      last_found caller event (suc n) (next ∷ made_steps) stand.1
 
 shown_bytes : (xs : List ℕ) → bytes_in (bytes_or_none xs) ≡ xs
 shown_bytes [] = refl
@@ -172,22 +172,22 @@ answered_behind flags (Err errno) bytes visit deeds a s v =
 
 -- a read that was made is a system call with its answer
 pub system_called : (set : Setting) (n flags : ℕ) (result : Result (Unit {0}) Errno) (bytes : List ℕ) (l m : Moment)
-    (k : Did (Fulfils (setting_of set) (Read n flags) (result_answer result) (bytes_or_none (given result bytes))) set
+    (k : Makes (IsOutcomeOf (setting_of set) (Read n flags) (result_answer result) (bytes_or_none (given result bytes))) set
     l m)
-    → Did (SystemCall (setting_of set) n flags (answer_by result bytes (visit_of k.deals))) set l m
+    → Makes (SystemCall (setting_of set) n flags (answer_by result bytes (visit_of k.made_steps))) set l m
 system_called set n flags result bytes l m k = record {
-  deals = k.deals;
+  made_steps = k.made_steps;
   told = k.told;
   stands = λ lanes visits callers c. let h = k.stands lanes visits callers c in record {
     form = h.form;
-    answers = answered_behind flags result bytes (visit_of k.deals)
-        (deeds_of (book_lists lanes visits callers) (map step_of k.deals)) h.answers h.shows
-        (sym (last_found lanes m.view visits callers c set.caller set.event (length l.steps) k.deals k.told.went.stand));
+    answers = answered_behind flags result bytes (visit_of k.made_steps)
+        (deeds_of (book_lists lanes visits callers) (map step_of k.made_steps)) h.answers h.shows
+        (sym (last_found lanes m.view visits callers c set.caller set.event (length l.steps) k.made_steps k.told.went.stand));
   };
 }
 
 pub has_again : (t t' : Lanes) (set set' : Setting) (p : Pass) → t' ≡ t → set' ≡ set → IsFree t' set'.caller p →
-    Has t set.caller [] p
+    HoldsLanes t set.caller [] p
 has_again t t' set set' p same_table same_set k =
     free_has t set.caller p (subst (λ (z : Lanes). IsFree z set.caller p) same_table
     (subst (λ (z : Setting). IsFree t' z.caller p) same_set k))

@@ -22,20 +22,20 @@ use Rattle.lane_table.specs.declared.view.Visit.{Visit}
 use Rattle.lane_table.specs.BookLists.{StateLists, book_lists}
 use Rattle.lane_table.specs.BookLaws.{Continues}
 use Rattle.lane_table.specs.Calls.{view}
-use Rattle.lane_table.specs.Went.{step_of, looks_in, floor}
+use Rattle.lane_table.specs.Advances.{step_of, looks_in, floor}
 use Rattle.vdso_state.specs.Host.{DoesAll}
 use Rattle.vdso_state.specs.Call.{Runs, Finish}
 use Rattle.rng_core.specs.declared.acts.Bound.{Bound}
 use Rattle.rng_core.specs.declared.lane_host.LaneHost.{LaneHost}
 use Rattle.rng_core.specs.declared.attempt.Attempt.TheVariants.{Before}
 use Rattle.rng_core.specs.declared.setting.Setting.{Setting}
-use Rattle.rng_core.specs.Did.{setting_of, result_answer, given}
-use Rattle.rng_core.specs.VreadDid.{done_of, Called}
+use Rattle.rng_core.specs.Makes.{setting_of, result_answer, given}
+use Rattle.rng_core.specs.VreadMakes.{done_of, Called}
 use Rattle.rng_core.specs.Hosted.{stand}
 use Rattle.rng_core.specs.Acts.{Ask, ActOutcome, wants, ask_of, asks_of, outcomes_of, is_ready, all_ready, wipes_at, done_line}
 use Rattle.rng_core.specs.Acting.{ActStand, act_stand, acting, InsideRan}
 use Rattle.rng_core.specs.Hosting.{standing, SameLoans, hosting}
-use Rattle.rng_core.specs.InsideDid.{IsFresh, bound_acts, outcome_line, inside_meaning, InsideDid}
+use Rattle.rng_core.specs.InsideMakes.{IsFresh, bound_acts, outcome_line, inside_meaning, InsideMakes}
 use Rattle.rng_core.proofs.ActRuns.{AllDone, AllMeant, came, Own}
 use Rattle.rng_core.proofs.Acting.{acted_set, acted_asks, acted_onward, acted_up_to, acted_own, acted_wipes, acted_done, acted_meant, host_acts}
 use Rattle.rng_core.proofs.CallEnds.{EndsWell, call_ends}
@@ -243,7 +243,7 @@ module _ {R : Type 0} {h last : LaneHost R} {finish : Finish} (n flags : ℕ) (s
         answers = ends.0;
         shows = ends.1;
         wipes = subst (λ (l : List Ask). WipesStand (bound_acts set l zs) (points_of runs.steps)) none wipes;
-        did = record { deals = own.deals; told = own.alone none; stands = own.stands };
+        did = record { made_steps = own.made_steps; told = own.alone none; stands = own.stands };
       }
 
       module _ (lanes : ℕ) (visits : ℕ → List Visit) (callers : StateLists)
@@ -253,7 +253,7 @@ module _ {R : Type 0} {h last : LaneHost R} {finish : Finish} (n flags : ℕ) (s
         book = book_lists lanes visits callers
 
         abbrev deeds : List Deed
-        deeds = deeds_of book (map step_of own.deals)
+        deeds = deeds_of book (map step_of own.made_steps)
 
         abbrev meaning : CallMeaning
         meaning = inside_meaning book deeds answer shown runs.outcome.entries zs before finish.state
@@ -279,18 +279,18 @@ module _ {R : Type 0} {h last : LaneHost R} {finish : Finish} (n flags : ℕ) (s
 
         line : 0 < length h.acts.now → VreadMeans n flags (bound_acts set asks zs) meaning
         line some = record {
-          looks = subst NeverFall (sym (same_looks book own.deals))
-              (never_fall (floor (view h.pass.now)) (looks_in own.deals) (floor (view last.pass.now)) own.rises);
+          looks = subst NeverFall (sym (same_looks book own.made_steps))
+              (never_fall (floor (view h.pass.now)) (looks_in own.made_steps) (floor (view last.pass.now)) own.rises);
           ways = match_false _ _ (tries_local n flags (bound_acts set asks zs))
               (no_local n flags set (view last.pass.now) asks zs (let e = length-map h.acts.now ask_of in omega arith)
               meant) by_call;
         }
 
-      pub inside_did : 0 < length h.acts.now → InsideDid n flags s finish.state answer shown set from.core.moment
+      pub inside_did : 0 < length h.acts.now → InsideMakes n flags s finish.state answer shown set from.core.moment
           to.core.moment asks zs
       inside_did some = record {
         entries = runs.outcome.entries;
-        deals = own.deals;
+        made_steps = own.made_steps;
         trace = own.trace;
         fits = own.fits;
         acts_fit = all_fit set (view last.pass.now) asks zs meant;

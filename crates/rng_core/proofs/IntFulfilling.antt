@@ -21,14 +21,14 @@ use Rattle.lane_table.specs.declared.view.LaneEntry.TheVariants.{Base, Cpu}
 use Rattle.lane_table.specs.Meaning.{CpuModel, Model, batch_of, batch_at, cpu_entered, generator_of}
 use Rattle.cpu_gen.specs.CpuValue.{CpuValue}
 use Rattle.lane_table.specs.VisitsMet.{FitsBatch, IsIntOfBatch}
-use Rattle.lane_table.specs.Went.{visited}
-use Rattle.lane_table.specs.Went as went
+use Rattle.lane_table.specs.Advances.{visited}
+use Rattle.lane_table.specs.Advances as went
 use Rattle.rng_core.specs.declared.setting.Setting.{Setting}
-use Rattle.rng_core.specs.Told.{Moment, Told, Visited}
-use Rattle.rng_core.specs.Did.{Did, Serving, Served, Fulfils, setting_of}
+use Rattle.rng_core.specs.Traces.{Moment, TraceRecords, Visited}
+use Rattle.rng_core.specs.Makes.{Makes, Serving, Served, IsOutcomeOf, setting_of}
 use Rattle.rng_core.specs.Integers.{IsWidth, int_event}
 use Rattle.rng_core.proofs.Finding.{found_base, found_cpu}
-use Rattle.rng_core.proofs.Doing.{did_map, did_behind, did_then, did_cpu, serving_looked}
+use Rattle.rng_core.proofs.Makings.{did_map, did_behind, did_then, did_cpu, serving_looked}
 
 -- whether a batch has to be filled is read from its last fill
 pub wants_of : (look width : ℕ) (f : Option Fill) (bytes : List ℕ) →
@@ -61,9 +61,9 @@ generator_is key generation got ek eg = λ i. record { key = sym ek i; generatio
 
 -- the forms
 pub did_batch : (set : Setting) (l m n : Moment) (g place width : ℕ) (fills : Bool) (bytes : List ℕ) →
-    FitsBatch width → Told set l m (went.looked g ∷ []) →
+    FitsBatch width → TraceRecords set l m (went.looked g ∷ []) →
     Served set m n (set.cpu + 2) place (Cpu (Int g None width fills)) bytes
-    → Did (Serving (BatchForm (setting_of set) width) bytes) set l n
+    → Makes (Serving (BatchForm (setting_of set) width) bytes) set l n
 did_batch set l m n g place width fills bytes fits a x =
     did_map set l n (λ deeds h. let f = h.form.3 in record {
       form = record {
@@ -94,18 +94,18 @@ record CpuAt (cpu place : ℕ) (entry : CpuEntry) (bytes : List ℕ) (deeds : Li
   serves : bytes ≡ visit.serves
 
 did_base_at : (set : Setting) (m n : Moment) (place : ℕ) (s : Model) (e : BaseEntry) (got : Handed) →
-    Visited set m n 1 place s (Base e) got → Did (BaseAt place e) set m n
+    Visited set m n 1 place s (Base e) got → Makes (BaseAt place e) set m n
 did_base_at set m n place s e got x = record {
-  deals = visited x.mark (Base e) ∷ [];
+  made_steps = visited x.mark (Base e) ∷ [];
   told = x.told;
   stands = λ lanes visits callers c. let f = found_base lanes visits callers set m n place s got c e x in
       record { visit = f.visit; deeds_are = ap (λ (d : Deed). d ∷ []) f.deed_is; at = f.at; is = f.is };
 }
 
 did_cpu_at : (set : Setting) (m n : Moment) (cpu place : ℕ) (e : CpuEntry) (bytes : List ℕ) → IsIntOfBatch e →
-    Served set m n (cpu + 2) place (Cpu e) bytes → Did (CpuAt cpu place e bytes) set m n
+    Served set m n (cpu + 2) place (Cpu e) bytes → Makes (CpuAt cpu place e bytes) set m n
 did_cpu_at set m n cpu place e bytes fits x = record {
-  deals = visited x.visited.mark (Cpu e) ∷ [];
+  made_steps = visited x.visited.mark (Cpu e) ∷ [];
   told = x.visited.told;
   stands = λ lanes visits callers c. let f = found_cpu lanes visits callers set m n place x.model x.got c cpu e
       x.visited fits in record {
@@ -119,10 +119,10 @@ did_cpu_at set m n cpu place e bytes fits x = record {
 }
 
 pub did_refilled_batch : (set : Setting) (k l m n : Moment) (g base place width : ℕ) (s : Model) (got : Handed)
-    (bytes : List ℕ) → FitsBatch width → Told set k l (went.looked g ∷ []) →
+    (bytes : List ℕ) → FitsBatch width → TraceRecords set k l (went.looked g ∷ []) →
     Visited set l m 1 base s (Base (Refill set.cpu place)) got
     → Served set m n (set.cpu + 2) place (Cpu (Int g (Some base) width true)) bytes →
-    Did (Serving (RefilledBatch (setting_of set) width) bytes) set k n
+    Makes (Serving (RefilledBatch (setting_of set) width) bytes) set k n
 did_refilled_batch set k l m n g base place width s got bytes fits a x y =
     did_map set k n (λ deeds h. let b = h.holds.before in let v = h.holds.behind in
     let is : deeds ≡ looked g ∷ at_base b.visit ∷ at_cpu v.visit ∷ [] =
@@ -154,13 +154,13 @@ int_unready set width g rest zero h = ⊎_elim (λ (d : (g ≡ 0) × DrawForm se
     (λ (r : CpuReadForm set (Kernel width) rest). inl (zero, inr r)) h
 
 at_width : (set : FormSetting) (bytes : List ℕ) (deeds : List Deed) (width v : ℕ) → width ≡ v →
-    (Serving (Looked (IntForm set v)) bytes deeds → Fulfils set (int_event v) Done (bytes_or_none bytes) deeds)
-    → Serving (Looked (IntForm set width)) bytes deeds → Fulfils set (int_event width) Done (bytes_or_none bytes) deeds
+    (Serving (Looked (IntForm set v)) bytes deeds → IsOutcomeOf set (int_event v) Done (bytes_or_none bytes) deeds)
+    → Serving (Looked (IntForm set width)) bytes deeds → IsOutcomeOf set (int_event width) Done (bytes_or_none bytes) deeds
 at_width set bytes deeds width v e k = subst (λ (w : ℕ). Serving (Looked (IntForm set w)) bytes deeds →
-    Fulfils set (int_event w) Done (bytes_or_none bytes) deeds) (sym e) k
+    IsOutcomeOf set (int_event w) Done (bytes_or_none bytes) deeds) (sym e) k
 
 pub int_fulfils : (set : FormSetting) (width : ℕ) (bytes : List ℕ) (deeds : List Deed) → IsWidth width →
-    Serving (Looked (IntForm set width)) bytes deeds → Fulfils set (int_event width) Done (bytes_or_none bytes) deeds
+    Serving (Looked (IntForm set width)) bytes deeds → IsOutcomeOf set (int_event width) Done (bytes_or_none bytes) deeds
 int_fulfils set width bytes deeds (inl e) h = at_width set bytes deeds width 1 e
     (λ k. record { form = k.form; answers = refl; shows = ap bytes_or_none k.bytes_are }) h
 int_fulfils set width bytes deeds (inr (inl e)) h =

@@ -2,7 +2,7 @@ pub mod ActLines
 pub mod ActRuns
 pub mod Acting
 pub mod CallEnds
-pub mod Doing
+pub mod Makings
 pub mod Finding
 pub mod Fulfilling
 pub mod Hosting

@@ -25,13 +25,13 @@ use Rattle.key_names.proofs.Vgetrandom.Attempts.{match_true, match_false}
 use Rattle.lane_table.specs.declared.view.View.{View}
 use Rattle.lane_table.specs.BookLists.{book_lists}
 use Rattle.lane_table.specs.Calls.{SameView}
-use Rattle.lane_table.specs.Went.{Deal, looked, visited, step_of, looks_in, floor}
+use Rattle.lane_table.specs.Advances.{MadeStep, looked, visited, step_of, looks_in, floor}
 use Rattle.vdso_state.specs.declared.outcome.VEnd.{VEnd}
 use Rattle.vdso_state.specs.Call.{EndsAs}
 use Rattle.rng_core.specs.declared.setting.Setting.{Setting}
-use Rattle.rng_core.specs.Told.{Moment, Told}
-use Rattle.rng_core.specs.Did.{Did, setting_of, errno_answer, result_answer, given}
-use Rattle.rng_core.specs.VreadDid.{done_of, LocallyServed, Refused, Unserved, LeftToSystem, Called, VreadLine, VreadDid, vread_meaning}
+use Rattle.rng_core.specs.Traces.{Moment, TraceRecords}
+use Rattle.rng_core.specs.Makes.{Makes, setting_of, errno_answer, result_answer, given}
+use Rattle.rng_core.specs.VreadMakes.{done_of, LocallyServed, Refused, Unserved, LeftToSystem, Called, VreadLine, VreadMakes, vread_meaning}
 use Rattle.rng_core.proofs.ActRuns.{Risen, sees_risen}
 use Rattle.rng_core.proofs.Hosting.{none_left, published_more}
 
@@ -49,22 +49,22 @@ visit_looks lists PoolLane place deeds = looks_below deeds (λ e. at_pool (pool_
 visit_looks lists BaseLane place deeds = looks_below deeds (λ e. at_base (base_visit lists place e)) (λ e. refl) _
 visit_looks lists (CpuLane c) place deeds = looks_below deeds (λ e. at_cpu (cpu_visit lists c place e)) (λ e. refl) _
 
-pub same_looks : (lists : Lists) (deals : List Deal) → looks_of (deeds_of lists (map step_of deals)) ≡ looks_in deals
+pub same_looks : (lists : Lists) (made_steps : List MadeStep) → looks_of (deeds_of lists (map step_of made_steps)) ≡ looks_in made_steps
 same_looks lists [] = refl
-same_looks lists (looked g ∷ deals) = ap (λ (l : List ℕ). g ∷ l) (same_looks lists deals)
-same_looks lists (visited mark e ∷ deals) = visit_looks lists mark.lane mark.place (deeds_of lists (map step_of deals))
-    ∙ same_looks lists deals
+same_looks lists (looked g ∷ made_steps) = ap (λ (l : List ℕ). g ∷ l) (same_looks lists made_steps)
+same_looks lists (visited mark e ∷ made_steps) = visit_looks lists mark.lane mark.place (deeds_of lists (map step_of made_steps))
+    ∙ same_looks lists made_steps
 
 pub never_fall : (low : ℕ) (looks : List ℕ) (high : ℕ) → Risen low looks high → NeverFall looks
 never_fall low [] high h = tt
 never_fall low (a ∷ []) high h = tt
 never_fall low (a ∷ b ∷ rest) high h = (h.1.0, never_fall a (b ∷ rest) high h.1)
 
-told_rise : (lists : Lists) (set : Setting) (l m : Moment) (deals : List Deal) → Told set l m deals →
-    Risen (floor l.view) (looks_of (deeds_of lists (map step_of deals))) (floor m.view)
-told_rise lists set l m deals told =
-    subst (λ (looks : List ℕ). Risen (floor l.view) looks (floor m.view)) (sym (same_looks lists deals))
-    (sees_risen m.view (floor l.view) (floor m.view) deals told.went.sees)
+told_rise : (lists : Lists) (set : Setting) (l m : Moment) (made_steps : List MadeStep) → TraceRecords set l m made_steps →
+    Risen (floor l.view) (looks_of (deeds_of lists (map step_of made_steps))) (floor m.view)
+told_rise lists set l m made_steps told =
+    subst (λ (looks : List ℕ). Risen (floor l.view) looks (floor m.view)) (sym (same_looks lists made_steps))
+    (sees_risen m.view (floor l.view) (floor m.view) made_steps told.went.sees)
 
 -- A batch that did not serve does not serve later either
 
@@ -135,7 +135,7 @@ stayed_by n flags s v w k true e = let g = (k.tried e).glanced in
     record { same = g.same; lanes = g.lanes; stamp = g.stamp; floors = let a = g.above in let b = g.known in omega arith }
 
 pub stayed : (n flags : ℕ) (s t : VgetrandomState) (answer : Answer) (shown : Shown) (set : Setting) (l m : Moment)
-    (k : VreadDid n flags s t answer shown set l m) → Stayed l.view k.looked
+    (k : VreadMakes n flags s t answer shown set l m) → Stayed l.view k.looked
 stayed n flags s t answer shown set l m k = go k.began
   where
     go : ((k.looked ≡ l.view) × (out : List ℕ) × LocallyServed n flags s t out set l m)
@@ -159,13 +159,13 @@ module _ (n flags : ℕ) (s t : VgetrandomState) (out : List ℕ) (set : Setting
     after = ap (with_state before) (k.state ∙ ap (λ (z : VgetrandomState). state_after_copy z 0 n) (sym is));
   }
 
-  pub served_read : VreadDid n flags s t (result_answer {T = Unit {0}} (Ok tt)) (bytes_or_none out) set l m
+  pub served_read : VreadMakes n flags s t (result_answer {T = Unit {0}} (Ok tt)) (bytes_or_none out) set l m
   served_read = record {
     looked = l.view;
     began = inl (refl, out, k);
     entries = copy_entries s 0 n;
     did = record {
-      deals = looked k.found ∷ [];
+      made_steps = looked k.found ∷ [];
       told = k.told;
       stands = λ lanes visits callers c. λ before set_is state_is. record {
         looks = tt;
@@ -240,21 +240,21 @@ module _ (n flags : ℕ) (s t : VgetrandomState) (answer : Answer) (shown : Show
         ways = ways (tries_local n flags []) refl;
       }
 
-    called_did : Did (VreadLine (setting_of set) n flags s t answer shown k.outcome.entries) set m o
+    called_did : Makes (VreadLine (setting_of set) n flags s t answer shown k.outcome.entries) set m o
     called_did = record {
-      deals = k.did.deals;
+      made_steps = k.did.made_steps;
       told = k.did.told;
       stands = λ lanes visits callers c. λ before set_is state_is. line
-          (deeds_of (book_lists lanes visits callers) (map step_of k.did.deals)) (k.did.stands lanes visits callers c)
-          (told_rise (book_lists lanes visits callers) set m o k.did.deals k.did.told) before set_is state_is;
+          (deeds_of (book_lists lanes visits callers) (map step_of k.did.made_steps)) (k.did.stands lanes visits callers c)
+          (told_rise (book_lists lanes visits callers) set m o k.did.made_steps k.did.told) before set_is state_is;
     }
 
-    pub called_read : m.steps ≡ l.steps → VreadDid n flags s t answer shown set l o
+    pub called_read : m.steps ≡ l.steps → VreadMakes n flags s t answer shown set l o
     called_read same = record {
       looked = m.view;
       began = inr left;
       entries = k.outcome.entries;
-      did = subst (λ (z : List Step). Did (VreadLine (setting_of set) n flags s t answer shown k.outcome.entries) set
+      did = subst (λ (z : List Step). Makes (VreadLine (setting_of set) n flags s t answer shown k.outcome.entries) set
           (record { view = m.view; steps = z }) o) same called_did;
     }
 
@@ -262,7 +262,7 @@ module _ (n flags : ℕ) (s t : VgetrandomState) (answer : Answer) (shown : Show
 pub left_read : (n n' flags : ℕ) (s s' t : VgetrandomState) (answer : Answer) (shown : Shown) (set : Setting)
     (l m o : Moment) → s.generation ≤ published_by (floor l.view) → n' ≡ n →
     LeftToSystem n flags s s' l m → Called n' flags s' t answer shown set m o →
-    VreadDid n flags s t answer shown set l o
+    VreadMakes n flags s t answer shown set l o
 left_read n n' flags s s' t answer shown set l m o low same left k =
     called_read n flags s t answer shown set l m o low left.looked
     (subst (λ (z : VgetrandomState). Called n flags z t answer shown set m o) left.state

@@ -10,7 +10,7 @@ use Rattle.key_names.specs.declared.entries.CpuEntry.TheVariants.{Irq, Dump}
 use Rattle.key_names.specs.declared.events.Event.TheVariants.{Irq as IrqEvent}
 use Rattle.key_names.specs.declared.events.Answer.TheVariants.{Ok as Done}
 use Rattle.key_names.specs.SeenLine.{no_data}
-use Rattle.key_names.specs.Calls.{Setting as Told}
+use Rattle.key_names.specs.Calls.{Setting as CallSetting}
 use Rattle.key_names.specs.PoolList.{Crossing, ready, early, none}
 use Rattle.key_names.specs.Deeds.{Deed, at_cpu, at_pool}
 use Rattle.key_names.specs.FastPool.{FastPool, makes_due, dump_bytes, dump_bits}
@@ -23,24 +23,24 @@ use Rattle.lane_table.specs.declared.view.Visit.{Visit}
 use Rattle.lane_table.specs.LaneNumbers.{index_of}
 use Rattle.lane_table.specs.Meaning.{Model}
 use Rattle.lane_table.specs.VisitsMet.{IsIntOfBatch}
-use Rattle.lane_table.specs.Went.{visited}
+use Rattle.lane_table.specs.Advances.{visited}
 use Rattle.lane_table.specs.WorldRule.{known_of}
 use Rattle.lane_table.proofs.Lists.Lists.{at_below}
 use Rattle.rng_core.specs.declared.setting.Setting.{Setting}
-use Rattle.rng_core.specs.Told.{Moment, Visited}
-use Rattle.rng_core.specs.Did.{DidIn, Fulfils}
+use Rattle.rng_core.specs.Traces.{Moment, Visited}
+use Rattle.rng_core.specs.Makes.{MakesIn, IsOutcomeOf}
 use Rattle.key_names.specs.LineSamples.{EntryIsQuiet, IsMix, IsCrossing}
 use Rattle.rng_core.specs.SampleDeeds.{Sampled, DumpStands, fast_in}
-use Rattle.rng_core.proofs.Doing.{After}
+use Rattle.rng_core.proofs.Makings.{After}
 use Rattle.rng_core.proofs.Finding.{found_cpu}
 
 -- what follows a credit mixes nothing, and visits no CPU
-rooted : (set : Told) (entry : ℕ → BaseEntry) (deeds : List Deed) → Rooted set entry deeds →
+rooted : (set : CallSetting) (entry : ℕ → BaseEntry) (deeds : List Deed) → Rooted set entry deeds →
     AllByRecursion IsCrossing deeds
 rooted set entry deeds f = subst (AllByRecursion IsCrossing) (sym f.deeds_are)
     (subst (λ (e : PoolEntry). IsMix e → ⊥) (sym f.extracts) (λ k. k), (tt, tt))
 
-crossed : (set : Told) (to : Crossing) (deeds : List Deed) → Cross set to deeds → AllByRecursion IsCrossing deeds
+crossed : (set : CallSetting) (to : Crossing) (deeds : List Deed) → Cross set to deeds → AllByRecursion IsCrossing deeds
 crossed set none deeds f = subst (AllByRecursion IsCrossing) (sym f) tt
 crossed set ready deeds f = rooted set _ deeds f
 crossed set early deeds (inl f) = rooted set _ deeds f
@@ -54,9 +54,9 @@ pub record CpuMet (cpu place : ℕ) (e : CpuEntry) (fast : FastPool) (visits : �
   pub met : fast_in visits only.visit.cpu only.visit.place ≡ fast
 
 pub did_met : (set : Setting) (m n : Moment) (cpu place : ℕ) (s : Model) (e : CpuEntry) (got : Handed) →
-    IsIntOfBatch e → Visited set m n (cpu + 2) place s (Cpu e) got → DidIn (CpuMet cpu place e s.cpu.fast) set m n
+    IsIntOfBatch e → Visited set m n (cpu + 2) place s (Cpu e) got → MakesIn (CpuMet cpu place e s.cpu.fast) set m n
 did_met set m n cpu place s e got fits x = record {
-  deals = visited x.mark (Cpu e) ∷ [];
+  made_steps = visited x.mark (Cpu e) ∷ [];
   told = x.told;
   stands = λ lanes visits callers c.
       let f = found_cpu lanes visits callers set m n place s got c cpu e x fits in record {
@@ -74,7 +74,7 @@ visited_below set m n lane place s e got x =
     let on = ap (λ (l : ℕ). length (known_of n.view l)) x.lane_is in let at = x.place_is in omega arith
 
 -- a dump, and what it mixes
-pub dump_stands : (set : Told) (place from : ℕ) (fast : FastPool) (text : List ℕ) (bits : ℕ) (visits : ℕ → List Visit)
+pub dump_stands : (set : CallSetting) (place from : ℕ) (fast : FastPool) (text : List ℕ) (bits : ℕ) (visits : ℕ → List Visit)
     (deeds : List Deed) → from ≤ place → text ≡ dump_bytes fast → bits ≡ dump_bits fast →
     After (CpuMet set.cpu place (Dump set.now) fast visits) (CreditForm set (Mix text bits)) deeds →
     DumpStands set from visits deeds
@@ -93,9 +93,9 @@ dump_stands set place from fast text bits visits deeds late bytes_are bits_are h
     }
 
 -- an interrupt that made no dump due
-pub sample_quiet : (set : Told) (v1 v2 place : ℕ) (fast : FastPool) (visits : ℕ → List Visit) (deeds : List Deed) →
+pub sample_quiet : (set : CallSetting) (v1 v2 place : ℕ) (fast : FastPool) (visits : ℕ → List Visit) (deeds : List Deed) →
     makes_due fast set.now ≡ false → CpuMet set.cpu place (Irq v1 v2 set.now) fast visits deeds →
-    Sampled (Fulfils set (IrqEvent v1 v2) Done no_data) visits deeds
+    Sampled (IsOutcomeOf set (IrqEvent v1 v2) Done no_data) visits deeds
 sample_quiet set v1 v2 place fast visits deeds quiet h = let only = h.only in record {
   holds = record {
     form = record {
@@ -117,10 +117,10 @@ sample_quiet set v1 v2 place fast visits deeds quiet h = let only = h.only in re
 }
 
 -- and one that did, with the dump
-pub sample_dumped : (set : Told) (v1 v2 place from : ℕ) (fast : FastPool) (visits : ℕ → List Visit)
+pub sample_dumped : (set : CallSetting) (v1 v2 place from : ℕ) (fast : FastPool) (visits : ℕ → List Visit)
     (deeds : List Deed) → IsTrue (makes_due fast set.now) → place < from →
     After (CpuMet set.cpu place (Irq v1 v2 set.now) fast visits) (DumpStands set from visits) deeds →
-    Sampled (Fulfils set (IrqEvent v1 v2) Done no_data) visits deeds
+    Sampled (IsOutcomeOf set (IrqEvent v1 v2) Done no_data) visits deeds
 sample_dumped set v1 v2 place from fast visits deeds due before h =
     let only = h.before.only in let dump = h.behind in
     let deeds_are : deeds ≡ at_cpu only.visit ∷ at_cpu dump.dump ∷ at_pool dump.mix ∷ dump.rest =

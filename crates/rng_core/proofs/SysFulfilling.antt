@@ -13,7 +13,7 @@ use Rattle.key_names.specs.Calls.{Setting}
 use Rattle.key_names.specs.Deeds.{Deed, looked, at_pool, at_base, at_cpu, nothing_there}
 use Rattle.key_names.specs.Forms.{Looked, LookedForm, SysForm, ReadForm, CpuReadForm, DrawForm, BaseOnly, WaitedInVain, Waited, PlainRead, RefilledRead}
 use Rattle.key_names.specs.Answers.{system_answer, was_interrupted, is_interrupt, served_bytes}
-use Rattle.rng_core.specs.Did.{Fulfils, Serving}
+use Rattle.rng_core.specs.Makes.{IsOutcomeOf, Serving}
 
 all_true : (x y z : Bool) → (x && not z) ≡ true → y ≡ true → (x && (y && not z)) ≡ true
 all_true true true z e f = e
@@ -31,7 +31,7 @@ not_both true false z e = refl
 not_both false y z e = refl
 
 pub sys_invalid : (set : Setting) (n flags : ℕ) → is_bad flags ≡ true →
-    Fulfils set (Read n flags) Invalid (bytes_or_none []) []
+    IsOutcomeOf set (Read n flags) Invalid (bytes_or_none []) []
 sys_invalid set n flags bad = record {
   form = subst (λ (b : Bool). MatchBool b (◌≡◌ {A = List Deed} [] []) (Looked (LookedForm set n flags) [])) (sym bad)
       refl;
@@ -60,7 +60,7 @@ module _ (set : Setting) (n flags g : ℕ) (good : is_bad flags ≡ false) where
         (MatchBool (n == 0) (rest ≡ []) (ReadForm set (User n) g rest))) (sym must) h
 
     pub sys_again : is_nonblock flags ≡ true → (deeds : List Deed) → deeds ≡ looked g ∷ [] →
-        Fulfils set (Read n flags) Again (bytes_or_none []) deeds
+        IsOutcomeOf set (Read n flags) Again (bytes_or_none []) deeds
     sys_again now deeds e = record {
       form = form_of [] deeds e (waits_form [] (subst
           (λ (b : Bool). MatchBool b (◌≡◌ {A = List Deed} [] []) (WaitedInVain [] ⊎ Waited set n [])) (sym now) refl));
@@ -91,7 +91,7 @@ module _ (set : Setting) (n flags g : ℕ) (good : is_bad flags ≡ false) where
 
       pub sys_interrupted : (first second deeds : List Deed) → BaseOnly Wait first →
           Serving (BaseOnly Interrupt) [] second → deeds ≡ looked g ∷ (first ++ second) →
-          Fulfils set (Read n flags) Interrupted (bytes_or_none []) deeds
+          IsOutcomeOf set (Read n flags) Interrupted (bytes_or_none []) deeds
       sys_interrupted first second deeds w x is = let e =
           ended_is first second deeds [] Interrupt w x.form
           (is ∙ ap (λ (l : List Deed). looked g ∷ (first ++ l)) (sym (append-nil second))) in let rest : List Deed =
@@ -104,7 +104,7 @@ module _ (set : Setting) (n flags g : ℕ) (good : is_bad flags ≡ false) where
 
       pub sys_waited_none : n ≡ 0 → (first second deeds : List Deed) → BaseOnly Wait first →
           Serving (BaseOnly Resume) [] second → deeds ≡ looked g ∷ (first ++ second) →
-          Fulfils set (Read n flags) Done (bytes_or_none []) deeds
+          IsOutcomeOf set (Read n flags) Done (bytes_or_none []) deeds
       sys_waited_none none first second deeds w x is = let e =
           ended_is first second deeds [] Resume w x.form
           (is ∙ ap (λ (l : List Deed). looked g ∷ (first ++ l)) (sym (append-nil second))) in let rest : List Deed =
@@ -148,7 +148,7 @@ module _ (set : Setting) (n flags g : ℕ) (good : is_bad flags ≡ false) where
 
       pub sys_waited : 0 < n → (first second reads deeds : List Deed) (bytes : List ℕ) → BaseOnly Wait first →
           BaseOnly Resume second → Serving (CpuReadForm set (User n)) bytes reads →
-          deeds ≡ looked g ∷ (first ++ (second ++ reads)) → Fulfils set (Read n flags) Done (bytes_or_none bytes) deeds
+          deeds ≡ looked g ∷ (first ++ (second ++ reads)) → IsOutcomeOf set (Read n flags) Done (bytes_or_none bytes) deeds
       sys_waited some first second reads deeds bytes w x r is = let e =
           ended_is first second deeds reads Resume w x is in let rest : List Deed =
           at_base w.base ∷ at_base x.base ∷ reads in
@@ -179,7 +179,7 @@ module _ (set : Setting) (n flags g : ℕ) (good : is_bad flags ≡ false) where
     no_again = not_both (g == 0) (is_nonblock flags) (is_insecure flags) takes
 
     pub sys_none : n ≡ 0 → (deeds : List Deed) → deeds ≡ looked g ∷ [] →
-        Fulfils set (Read n flags) Done (bytes_or_none []) deeds
+        IsOutcomeOf set (Read n flags) Done (bytes_or_none []) deeds
     sys_none none deeds e = record {
       form = form_of [] deeds e (takes_form [] (subst
           (λ (b : Bool). MatchBool b (◌≡◌ {A = List Deed} [] []) (ReadForm set (User n) g [])) (sym (eq-eqb n 0 none))
@@ -202,7 +202,7 @@ module _ (set : Setting) (n flags g : ℕ) (good : is_bad flags ≡ false) where
         × (served_bytes (looked g ∷ z) ≡ served_bytes z)) (sym p.deeds_are) (refl, refl)) r) h
 
     pub sys_read : 0 < n → (rest deeds : List Deed) (bytes : List ℕ) → Serving (ReadForm set (User n) g) bytes rest →
-        deeds ≡ looked g ∷ rest → Fulfils set (Read n flags) Done (bytes_or_none bytes) deeds
+        deeds ≡ looked g ∷ rest → IsOutcomeOf set (Read n flags) Done (bytes_or_none bytes) deeds
     sys_read some rest deeds bytes r e = let on = read_on rest r.form in record {
       form = form_of rest deeds e (takes_form rest (subst
           (λ (b : Bool). MatchBool b (rest ≡ []) (ReadForm set (User n) g rest)) (sym (ne_eqb n 0 (λ z. omega arith)))

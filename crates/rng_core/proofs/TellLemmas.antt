@@ -21,29 +21,29 @@ use Rattle.lane_table.specs.declared.view.Handed.{Handed}
 use Rattle.lane_table.specs.WorldRule.{known_of}
 use Rattle.lane_table.specs.Steps.{Seated, filled, handed}
 use Rattle.lane_table.specs.Calls.{Added, visit_by}
-use Rattle.lane_table.specs.Went.{Deal, visited, maker, step_of, Went}
-use Rattle.lane_table.proofs.Calls.WentLemmas.{went_then, went_put}
+use Rattle.lane_table.specs.Advances.{MadeStep, visited, maker, step_of, Advances}
+use Rattle.lane_table.proofs.Calls.AdvanceLemmas.{went_then, went_put}
 use Rattle.rng_core.specs.declared.setting.Setting.{Setting}
-use Rattle.rng_core.specs.Told.{Moment, Told, Visited}
+use Rattle.rng_core.specs.Traces.{Moment, TraceRecords, Visited}
 
-length_map : (xs : List Deal) → length (map step_of xs) ≡ length xs
+length_map : (xs : List MadeStep) → length (map step_of xs) ≡ length xs
 length_map [] = refl
 length_map (x ∷ xs) = let e = length_map xs in omega arith
 
 -- one after another
-pub trace_then : (l m n : Moment) (xs ys : List Deal) → m.steps ≡ l.steps ++ map step_of xs →
+pub trace_then : (l m n : Moment) (xs ys : List MadeStep) → m.steps ≡ l.steps ++ map step_of xs →
     n.steps ≡ m.steps ++ map step_of ys → n.steps ≡ l.steps ++ map step_of (xs ++ ys)
 trace_then l m n xs ys a b = b ∙ ap (λ (s : List Step). s ++ map step_of ys) a
     ∙ append_assoc l.steps (map step_of xs) (map step_of ys)
     ∙ ap (λ (s : List Step). l.steps ++ s) (sym (map-append step_of xs ys))
 
-pub fits_then : (xs ys : List Deal) → AllByRecursion StepFits (map step_of xs) →
+pub fits_then : (xs ys : List MadeStep) → AllByRecursion StepFits (map step_of xs) →
     AllByRecursion StepFits (map step_of ys) → AllByRecursion StepFits (map step_of (xs ++ ys))
 fits_then xs ys a b = subst (AllByRecursion StepFits) (sym (map-append step_of xs ys))
     (each_append StepFits (map step_of xs) (map step_of ys) a b)
 
-pub told_then : (set : Setting) (l m n : Moment) (xs ys : List Deal) → Told set l m xs → Told set m n ys →
-    Told set l n (xs ++ ys)
+pub told_then : (set : Setting) (l m n : Moment) (xs ys : List MadeStep) → TraceRecords set l m xs → TraceRecords set m n ys →
+    TraceRecords set l n (xs ++ ys)
 told_then set l m n xs ys a b = record {
   trace = trace_then l m n xs ys a.trace b.trace;
   went = went_then set.caller set.event (length l.steps) (length m.steps) l.view m.view n.view xs ys
@@ -54,7 +54,7 @@ told_then set l m n xs ys a b = record {
 
 -- no step
 pub told_idly : (set : Setting) (m n : Moment) → n.steps ≡ m.steps →
-    Went set.caller set.event (length m.steps) m.view n.view [] → Told set m n []
+    Advances set.caller set.event (length m.steps) m.view n.view [] → TraceRecords set m n []
 told_idly set m n same went = record { trace = same ∙ sym (append-nil m.steps); went = went; fits = tt }
 
 lane_fits : (lane : LaneId) → index_of lane < 2 ^ 32 → LaneFits lane
@@ -87,7 +87,7 @@ visited_by_put set m m' told told' mark who e lane on there near two by trace fi
     trace = trace;
     went = subst (λ (l : ℕ). mark.place ≡ length (known_of m.0 l) → l < length m.0.lanes →
         Added l (filled l (visit_by who mark.stamp e) m.0) m m' →
-        Went set.caller set.event (length told) m.0 m'.0 (visited mark e ∷ [])) on
+        Advances set.caller set.event (length told) m.0 m'.0 (visited mark e ∷ [])) on
         (λ t n a. went_put set.caller set.event (length told) m m' two
         (filled (index_of mark.lane) (visit_by who mark.stamp e) m.0) mark e n t refl by refl a) there near k;
     fits = (fits, tt);
@@ -109,7 +109,7 @@ visited_by_put set m m' told told' mark who e lane on there near two by trace fi
 
 -- a visit behind what no step tells
 pub visited_after : (set : Setting) (l m n : Moment) (lane place : ℕ) (s : Model) (e : LaneEntry) (got : Handed) →
-    Told set l m [] → Visited set m n lane place s e got → Visited set l n lane place s e got
+    TraceRecords set l m [] → Visited set m n lane place s e got → Visited set l n lane place s e got
 visited_after set l m n lane place s e got a b =
     record {
       mark = b.mark;

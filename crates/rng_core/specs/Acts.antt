@@ -13,7 +13,7 @@ use Rattle.key_names.specs.VreadSteps.{number_of, is_wipe}
 use Rattle.lane_table.specs.declared.view.View.{View}
 use Rattle.rng_core.specs.declared.acts.Bound.{Bound}
 use Rattle.rng_core.specs.declared.setting.Setting.{Setting}
-use Rattle.rng_core.specs.Did.{Did, setting_of, result_answer, given}
+use Rattle.rng_core.specs.Makes.{Makes, setting_of, result_answer, given}
 
 -- what an act asks, where, and in which event
 pub record Ask : Type 0 where
@@ -77,7 +77,7 @@ at_event event set = record set { event = event }
 -- from v to w the act was done, with this outcome
 pub record ActRan (set : Setting) (ask : Ask) (v w : View) (y : ActOutcome) : Type 0 where
   pub done : y.done ≡ true
-  pub did : Did (λ deeds. ActMeans (setting_of set) ask.act (done_line deeds y.answer y.bytes)) (at_event ask.event set)
+  pub did : Makes (λ deeds. ActMeans (setting_of set) ask.act (done_line deeds y.answer y.bytes)) (at_event ask.event set)
       (record { view = v; steps = [] }) (record { view = w; steps = y.steps })
 
 -- at a point an act is done that is bound to it and was not done yet

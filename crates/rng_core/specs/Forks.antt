@@ -11,13 +11,13 @@ use Rattle.lane_table.specs.Steps.{halved}
 use Rattle.lane_table.specs.Steps as steps
 use Rattle.lane_table.specs.Calls.{view}
 use Rattle.rng_core.specs.declared.setting.Setting.{Setting}
-use Rattle.rng_core.specs.Told.{Moment}
-use Rattle.rng_core.specs.Did.{Did}
+use Rattle.rng_core.specs.Traces.{Moment}
+use Rattle.rng_core.specs.Makes.{Makes}
 
 -- from m on the pass did what a fork does, its trace had these steps then, and what it knew was cut in half
 pub record Forked (set : Setting) (m : Moment) (told : List Step) (number : ℕ) (pass child : Pass) : Type 0 where
   pub before : View
-  pub did : Did (BaseOnly (Fork number)) set m (record { view = before; steps = told })
+  pub did : Makes (BaseOnly (Fork number)) set m (record { view = before; steps = told })
   pub mark : Mark
   pub visit : told ≡ m.steps ++ Visit mark ∷ []
   pub pass_is : view pass ≡ halved before

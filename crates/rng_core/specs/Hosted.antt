@@ -4,7 +4,7 @@ use Rattle.std.proofs.Props.{props}
 use Rattle.std.specs.Coded.{Coded-set}
 use Rattle.atomic_table.specs.Seated.{TableId, table_id_coded}
 use Rattle.key_names.specs.declared.names.Step.{Step}
-use Rattle.key_names.specs.Calls.{Setting as Told}
+use Rattle.key_names.specs.Calls.{Setting as CallSetting}
 use Rattle.key_names.specs.Deeds.{Deed}
 use Rattle.key_names.specs.Forms.{SysForm}
 use Rattle.key_names.specs.Vgetrandom.{SystemAnswer}
@@ -15,11 +15,11 @@ use Rattle.lane_table.specs.declared.lanes.Lanes.{Lanes}
 use Rattle.lane_table.specs.declared.lanes.Pass.{Pass}
 use Rattle.lane_table.specs.WorldRule.{at}
 use Rattle.lane_table.specs.Calls.{IsPassOf, count_of, slots, view}
-use Rattle.lane_table.specs.Went.{looked, floor}
+use Rattle.lane_table.specs.Advances.{looked, floor}
 use Rattle.rng_core.specs.declared.setting.Setting.{Setting}
-use Rattle.rng_core.specs.Told.{Moment, moment}
-use Rattle.rng_core.specs.Told as told
-use Rattle.rng_core.specs.Did.{Did, setting_of}
+use Rattle.rng_core.specs.Traces.{Moment, moment}
+use Rattle.rng_core.specs.Traces as told
+use Rattle.rng_core.specs.Makes.{Makes, setting_of}
 
 abbrev pub is_away : Stage → Bool
 is_away Away = true
@@ -53,14 +53,14 @@ pub record Published (s : Stand) (g : ℕ) (t : Stand) : Type 0 where
   pub is : g ≡ published_by found
   pub above : floor s.moment.view ≤ found
   pub known : found ≤ floor t.moment.view
-  pub told : told.Told s.set s.moment t.moment (looked found ∷ [])
+  pub told : told.TraceRecords s.set s.moment t.moment (looked found ∷ [])
 
 -- a system call with its answer, as what stands behind its steps
-pub record SystemCall (set : Told) (n flags : ℕ) (answer : SystemAnswer) (deeds : List Deed) : Type 0 where
+pub record SystemCall (set : CallSetting) (n flags : ℕ) (answer : SystemAnswer) (deeds : List Deed) : Type 0 where
   pub form : SysForm set n flags deeds
   pub answers : answer ≡ answer_behind flags deeds
 
 -- it made this system call
 pub record Answered (s : Stand) (n flags : ℕ) (answer : SystemAnswer) (t : Stand) : Type 0 where
   pub same : t.set ≡ s.set
-  pub did : Did (SystemCall (setting_of s.set) n flags answer) s.set s.moment t.moment
+  pub did : Makes (SystemCall (setting_of s.set) n flags answer) s.set s.moment t.moment

@@ -1,13 +1,13 @@
 pub mod Acting
 pub mod Acts
-pub mod Did
+pub mod Makes
 pub mod Forks
-pub mod InsideDid
+pub mod InsideMakes
 pub mod Integers
 pub mod Hosted
 pub mod Hosting
 pub mod Reading
 pub mod SampleDeeds
-pub mod Told
-pub mod VreadDid
+pub mod Traces
+pub mod VreadMakes
 pub mod Waits

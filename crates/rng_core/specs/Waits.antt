@@ -5,15 +5,15 @@ use Rattle.key_names.specs.declared.errno.Errno.TheVariants.{Interrupted}
 use Rattle.key_names.specs.declared.entries.BaseEntry.TheVariants.{Resume, Interrupt}
 use Rattle.key_names.specs.Forms.{BaseOnly}
 use Rattle.lane_table.specs.declared.view.View.{View}
-use Rattle.lane_table.specs.Went.{floor}
+use Rattle.lane_table.specs.Advances.{floor}
 use Rattle.rng_core.specs.declared.setting.Setting.{Setting}
-use Rattle.rng_core.specs.Told.{Moment}
-use Rattle.rng_core.specs.Did.{Did, Serving}
+use Rattle.rng_core.specs.Traces.{Moment}
+use Rattle.rng_core.specs.Makes.{Makes, Serving}
 
 -- the core was found ready, or nobody runs
 abbrev pub Waits : {T : Type 0} → Result T Errno → Setting → Moment → Moment → ℕ → Type 0
-Waits (Ok x) set m n seen = (1 ≤ seen) × Did (Serving (BaseOnly Resume) []) set m n
-Waits (Err e) set m n seen = (e ≡ Interrupted) × Did (Serving (BaseOnly Interrupt) []) set m n
+Waits (Ok x) set m n seen = (1 ≤ seen) × Makes (Serving (BaseOnly Resume) []) set m n
+Waits (Err e) set m n seen = (e ≡ Interrupted) × Makes (Serving (BaseOnly Interrupt) []) set m n
 
 -- how many steps a caller may still need to wait until the core is ready: none where it has seen that it is
 abbrev pub waiting : View → ℕ

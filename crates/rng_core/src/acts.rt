@@ -2,10 +2,10 @@
 ghost use Rattle.std.specs.Prelude.{◌≡◌, ◌==◌, ◌&&◌, ◌<◌, ◌≤◌, ◌^◌, [], true, false, Ok, length};
 ghost use Rattle.key_names.specs.VreadSteps.{number_of, is_wipe};
 ghost use Rattle.lane_table.specs.Calls.{view};
-ghost use Rattle.lane_table.specs.Hands.{Has};
+ghost use Rattle.lane_table.specs.Hands.{HoldsLanes};
 ghost use Rattle.key_names.specs.Meaning.{ActMeans};
-ghost use Rattle.rng_core.specs.Told.{moment};
-ghost use Rattle.rng_core.specs.Did.{Did, setting_of};
+ghost use Rattle.rng_core.specs.Traces.{moment};
+ghost use Rattle.rng_core.specs.Makes.{Makes, setting_of};
 ghost use Rattle.rng_core.specs.Acts.{wants, all_wanted, ask_of, asks_of, outcome_of, outcomes_of, wipes_at, is_ready};
 ghost use Rattle.rng_core.specs.Acts.{all_ready, done_line, ActRan, ActAt, ActsAt};
 
@@ -89,14 +89,14 @@ fn do_act<R: Wait>(
     act: InsideAct,
     out: &mut [u8],
 ) -> Result<(), Errno>
-    requires has { Has lanes.now set.now.caller [] pass.old }
+    requires has { HoldsLanes lanes.now set.now.caller [] pass.old }
     requires cpu { set.now.cpu < lanes.now.cpus }
     requires moment { set.now.now < 2 ^ 40 }
     requires short { length out.old ≤ 2 ^ 20 }
     requires fits { length out.old ≡ wants act }
     requires room { length trace.old ≡ 0 }
-    ensures has { Has lanes.now set.entry.now.caller [] pass.new }
-    ensures did { Did (λ deeds. ActMeans (setting_of set.entry.now) act (done_line deeds result out.new)) set.entry.now
+    ensures has { HoldsLanes lanes.now set.entry.now.caller [] pass.new }
+    ensures did { Makes (λ deeds. ActMeans (setting_of set.entry.now) act (done_line deeds result out.new)) set.entry.now
         (moment pass.old trace.old) (moment pass.new trace.new) }
 {
     match act {
@@ -115,13 +115,13 @@ fn run<R: Wait>(
     bound: &mut Bound,
     out: &mut [u8],
 )
-    requires has { Has lanes.now set.now.caller [] pass.old }
+    requires has { HoldsLanes lanes.now set.now.caller [] pass.old }
     requires cpu { set.now.cpu < lanes.now.cpus }
     requires moment { set.now.now < 2 ^ 40 }
     requires short { length out.old ≤ 2 ^ 20 }
     requires fits { length out.old ≡ wants bound.old.act }
     requires room { length bound.old.trace ≡ 0 }
-    ensures has { Has lanes.now set.entry.now.caller [] pass.new }
+    ensures has { HoldsLanes lanes.now set.entry.now.caller [] pass.new }
     ensures ask { ask_of bound.new ≡ ask_of bound.old }
     ensures ran { ActRan set.entry.now (ask_of bound.old) (view pass.old) (view pass.new)
         (outcome_of bound.new out.new) }
@@ -144,12 +144,12 @@ fn run_at<R: Wait>(
     bound: &mut Bound,
     out: &mut [u8],
 )
-    requires has { Has lanes.now set.now.caller [] pass.old }
+    requires has { HoldsLanes lanes.now set.now.caller [] pass.old }
     requires cpu { set.now.cpu < lanes.now.cpus }
     requires moment { set.now.now < 2 ^ 40 }
     requires fits { length out.old ≡ wants bound.old.act }
     requires ready { is_ready bound.old ≡ true }
-    ensures has { Has lanes.now set.entry.now.caller [] pass.new }
+    ensures has { HoldsLanes lanes.now set.entry.now.caller [] pass.new }
     ensures ask { ask_of bound.new ≡ ask_of bound.old }
     ensures ready { is_ready bound.new ≡ true }
     ensures ran { ActAt set.entry.now point (ask_of bound.old) (view pass.old) (view pass.new)
@@ -178,12 +178,12 @@ pub(crate) fn run_acts<R: Wait>(
     acts: &mut [Bound],
     out: &mut [u8],
 ) -> bool
-    requires has { Has lanes.now set.now.caller [] pass.old }
+    requires has { HoldsLanes lanes.now set.now.caller [] pass.old }
     requires cpu { set.now.cpu < lanes.now.cpus }
     requires moment { 0 < length acts.old → set.now.now < 2 ^ 40 }
     requires fits { length out.old ≡ all_wanted (asks_of acts.old) }
     requires ready { all_ready acts.old ≡ true }
-    ensures has { Has lanes.now set.entry.now.caller [] pass.new }
+    ensures has { HoldsLanes lanes.now set.entry.now.caller [] pass.new }
     ensures wipes { result ≡ wipes_at (asks_of acts.old) point }
     ensures asks { asks_of acts.new ≡ asks_of acts.old }
     ensures ready { all_ready acts.new ≡ true }

@@ -6,7 +6,7 @@ ghost use Rattle.key_names.specs.KeyInUse.{taken_bytes};
 ghost use Rattle.key_names.specs.FastPool.{makes_due, dump_bits, dump_bytes};
 ghost use Rattle.lane_table.specs.declared.view.LaneEntry.TheVariants.{Cpu as OfCpu};
 ghost use Rattle.lane_table.specs.declared.view.Handed.{Handed};
-ghost use Rattle.lane_table.specs.Meaning.{Model, ValueStands, made_of};
+ghost use Rattle.lane_table.specs.Meaning.{Model, ValueRepresents, made_of};
 ghost use Rattle.lane_table.specs.VisitsMet.{cpu_serving};
 ghost use Rattle.rng_core.specs.Reading.{taken_count, IsCpuValue};
 ghost use Rattle.rng_core.specs.Integers.{IsWidth};
@@ -19,7 +19,7 @@ use sample_credit::Dump;
 /// The generation of the CPU's key.
 pub(crate) fn cpu_generation(state: &LaneState) -> u64
     requires { IsCpuValue state.now }
-    ensures { (lane : ℕ) (s : Model) → 2 ≤ lane → ValueStands lane state.now s → result ≡ s.cpu.cpu.generation }
+    ensures { (lane : ℕ) (s : Model) → 2 ≤ lane → ValueRepresents lane state.now s → result ≡ s.cpu.cpu.generation }
 {
     match state {
         LaneState::Cpu(lane) => lane.cpu.generation(),
@@ -32,9 +32,9 @@ pub(crate) fn read(state: &mut LaneState, buf: &mut [u8], taken: Taken)
     requires stands { IsCpuValue state.old }
     requires count { taken_count taken ≡ length buf.old }
     requires some { 0 < length buf.old }
-    ensures made { (lane : ℕ) (s : Model) (got : Handed) (look : ℕ) → 2 ≤ lane → ValueStands lane state.old s
-        → ValueStands lane state.new (made_of s (OfCpu (Read look None taken)) got) }
-    ensures bytes { (lane : ℕ) (s : Model) → 2 ≤ lane → ValueStands lane state.old s
+    ensures made { (lane : ℕ) (s : Model) (got : Handed) (look : ℕ) → 2 ≤ lane → ValueRepresents lane state.old s
+        → ValueRepresents lane state.new (made_of s (OfCpu (Read look None taken)) got) }
+    ensures bytes { (lane : ℕ) (s : Model) → 2 ≤ lane → ValueRepresents lane state.old s
         → buf.new ≡ taken_bytes s.cpu.cpu.key taken }
 {
     match state {
@@ -58,8 +58,8 @@ pub(crate) fn read_refilled(
     requires count { taken_count taken ≡ length buf.old }
     requires some { 0 < length buf.old }
     ensures made { (lane : ℕ) (s : Model) (got : Handed) (look place : ℕ) → 2 ≤ lane → got.key ≡ key
-        → got.generation ≡ generation → ValueStands lane state.old s
-        → ValueStands lane state.new (made_of s (OfCpu (Read look (Some place) taken)) got) }
+        → got.generation ≡ generation → ValueRepresents lane state.old s
+        → ValueRepresents lane state.new (made_of s (OfCpu (Read look (Some place) taken)) got) }
     ensures bytes { buf.new ≡ taken_bytes key taken }
 {
     match state {
@@ -78,7 +78,7 @@ pub(crate) fn read_refilled(
 pub(crate) fn wants(state: &LaneState, width: usize, look: u64) -> bool
     requires stands { IsCpuValue state.now }
     requires width { IsWidth width }
-    ensures { (lane : ℕ) (s : Model) → 2 ≤ lane → ValueStands lane state.now s
+    ensures { (lane : ℕ) (s : Model) → 2 ≤ lane → ValueRepresents lane state.now s
         → result ≡ must_fill look width (s.cpu.fills width) }
 {
     match state {
@@ -92,10 +92,10 @@ pub(crate) fn serve(state: &mut LaneState, look: u64, out: &mut [u8])
     requires stands { IsCpuValue state.old }
     requires width { IsWidth (length out.old) }
     ensures made { (lane : ℕ) (s : Model) (got : Handed) (filled : Bool) → 2 ≤ lane
-        → filled ≡ must_fill look (length out.old) (s.cpu.fills (length out.old)) → ValueStands lane state.old s
-        → ValueStands lane state.new (made_of s (OfCpu (Int look None (length out.old) filled)) got) }
+        → filled ≡ must_fill look (length out.old) (s.cpu.fills (length out.old)) → ValueRepresents lane state.old s
+        → ValueRepresents lane state.new (made_of s (OfCpu (Int look None (length out.old) filled)) got) }
     ensures bytes { (lane : ℕ) (s : Model) (got : Handed) (filled : Bool) → 2 ≤ lane
-        → filled ≡ must_fill look (length out.old) (s.cpu.fills (length out.old)) → ValueStands lane state.old s
+        → filled ≡ must_fill look (length out.old) (s.cpu.fills (length out.old)) → ValueRepresents lane state.old s
         → out.new ≡ cpu_serving s.cpu got (Int look None (length out.old) filled) }
 {
     match state {
@@ -116,11 +116,11 @@ pub(crate) fn serve_refilled(
     requires width { IsWidth (length out.old) }
     ensures made { (lane : ℕ) (s : Model) (got : Handed) (place : ℕ) → 2 ≤ lane → got.key ≡ key
         → got.generation ≡ generation → must_fill look (length out.old) (s.cpu.fills (length out.old)) ≡ true
-        → ValueStands lane state.old s → ValueStands lane state.new
+        → ValueRepresents lane state.old s → ValueRepresents lane state.new
         (made_of s (OfCpu (Int look (Some place) (length out.old) true)) got) }
     ensures bytes { (lane : ℕ) (s : Model) (got : Handed) (place : ℕ) → 2 ≤ lane → got.key ≡ key
         → got.generation ≡ generation → must_fill look (length out.old) (s.cpu.fills (length out.old)) ≡ true
-        → ValueStands lane state.old s → out.new ≡ cpu_serving s.cpu got (Int look (Some place) (length out.old) true) }
+        → ValueRepresents lane state.old s → out.new ≡ cpu_serving s.cpu got (Int look (Some place) (length out.old) true) }
 {
     match state {
         LaneState::Cpu(lane) => {
@@ -134,9 +134,9 @@ pub(crate) fn serve_refilled(
 /// An interrupt's sample. The answer is whether a dump is due.
 pub(crate) fn sample(state: &mut LaneState, v1: u64, v2: u64, now: u64) -> bool
     requires { IsCpuValue state.old }
-    ensures made { (lane : ℕ) (s : Model) (got : Handed) → 2 ≤ lane → ValueStands lane state.old s
-        → ValueStands lane state.new (made_of s (OfCpu (Irq v1 v2 now)) got) }
-    ensures due { (lane : ℕ) (s : Model) → 2 ≤ lane → ValueStands lane state.old s → result ≡ makes_due s.cpu.fast now }
+    ensures made { (lane : ℕ) (s : Model) (got : Handed) → 2 ≤ lane → ValueRepresents lane state.old s
+        → ValueRepresents lane state.new (made_of s (OfCpu (Irq v1 v2 now)) got) }
+    ensures due { (lane : ℕ) (s : Model) → 2 ≤ lane → ValueRepresents lane state.old s → result ≡ makes_due s.cpu.fast now }
 {
     match state {
         LaneState::Cpu(lane) => lane.fast.mix(v1, v2, now),
@@ -147,11 +147,11 @@ pub(crate) fn sample(state: &mut LaneState, v1: u64, v2: u64, now: u64) -> bool
 /// What the fast pool holds for the input pool.
 pub(crate) fn dump(state: &mut LaneState, now: u64) -> Dump
     requires { IsCpuValue state.old }
-    ensures made { (lane : ℕ) (s : Model) (got : Handed) → 2 ≤ lane → ValueStands lane state.old s
-        → ValueStands lane state.new (made_of s (OfCpu (DumpEntry now)) got) }
-    ensures bytes { (lane : ℕ) (s : Model) → 2 ≤ lane → ValueStands lane state.old s
+    ensures made { (lane : ℕ) (s : Model) (got : Handed) → 2 ≤ lane → ValueRepresents lane state.old s
+        → ValueRepresents lane state.new (made_of s (OfCpu (DumpEntry now)) got) }
+    ensures bytes { (lane : ℕ) (s : Model) → 2 ≤ lane → ValueRepresents lane state.old s
         → result.bytes ≡ dump_bytes s.cpu.fast }
-    ensures bits { (lane : ℕ) (s : Model) → 2 ≤ lane → ValueStands lane state.old s
+    ensures bits { (lane : ℕ) (s : Model) → 2 ≤ lane → ValueRepresents lane state.old s
         → result.bits ≡ dump_bits s.cpu.fast }
 {
     match state {
@@ -163,8 +163,8 @@ pub(crate) fn dump(state: &mut LaneState, now: u64) -> Dump
 /// The CPU comes online.
 pub(crate) fn online(state: &mut LaneState)
     requires { IsCpuValue state.old }
-    ensures { (lane : ℕ) (s : Model) (got : Handed) → 2 ≤ lane → ValueStands lane state.old s
-        → ValueStands lane state.new (made_of s (OfCpu Online) got) }
+    ensures { (lane : ℕ) (s : Model) (got : Handed) → 2 ≤ lane → ValueRepresents lane state.old s
+        → ValueRepresents lane state.new (made_of s (OfCpu Online) got) }
 {
     match state {
         LaneState::Cpu(lane) => lane.fast.online(),
@@ -175,8 +175,8 @@ pub(crate) fn online(state: &mut LaneState)
 /// The CPU is about to come online: its key counts as old, and its batches as used up.
 pub(crate) fn prepare(state: &mut LaneState)
     requires { IsCpuValue state.old }
-    ensures { (lane : ℕ) (s : Model) (got : Handed) → 2 ≤ lane → ValueStands lane state.old s
-        → ValueStands lane state.new (made_of s (OfCpu Prepare) got) }
+    ensures { (lane : ℕ) (s : Model) (got : Handed) → 2 ≤ lane → ValueRepresents lane state.old s
+        → ValueRepresents lane state.new (made_of s (OfCpu Prepare) got) }
 {
     match state {
         LaneState::Cpu(lane) => {

@@ -3,9 +3,9 @@ ghost use Rattle.std.specs.Prelude.{◌≡◌, ◌<◌, [], length};
 ghost use Rattle.key_names.specs.declared.events.Event.TheVariants.{Prepare as PrepareEvent, Online as OnlineEvent};
 ghost use Rattle.key_names.specs.declared.events.Answer.TheVariants.{Ok as Done};
 ghost use Rattle.key_names.specs.SeenLine.{no_data};
-ghost use Rattle.lane_table.specs.Hands.{Has};
-ghost use Rattle.rng_core.specs.Told.{moment};
-ghost use Rattle.rng_core.specs.Did.{Did, Fulfils, setting_of};
+ghost use Rattle.lane_table.specs.Hands.{HoldsLanes};
+ghost use Rattle.rng_core.specs.Traces.{moment};
+ghost use Rattle.rng_core.specs.Makes.{Makes, IsOutcomeOf, setting_of};
 
 use crate::cpu_values;
 use crate::setting::Setting;
@@ -23,11 +23,11 @@ pub fn prepare<R: Wait>(
     set: &Setting,
     cpu: u32,
 )
-    requires has { Has lanes.now set.now.caller [] pass.old }
+    requires has { HoldsLanes lanes.now set.now.caller [] pass.old }
     requires cpu { cpu < lanes.now.cpus }
     requires room { length trace.old < 20 }
-    ensures has { Has lanes.now set.entry.now.caller [] pass.new }
-    ensures did { Did (Fulfils (setting_of set.entry.now) (PrepareEvent cpu) Done no_data) set.entry.now
+    ensures has { HoldsLanes lanes.now set.entry.now.caller [] pass.new }
+    ensures did { Makes (IsOutcomeOf (setting_of set.entry.now) (PrepareEvent cpu) Done no_data) set.entry.now
         (moment pass.old trace.old) (moment pass.new trace.new) }
 {
     let mut held = enter(rt, lanes, pass, trace, set, LaneId::Cpu(cpu));
@@ -52,11 +52,11 @@ pub fn online<R: Wait>(
     set: &Setting,
     cpu: u32,
 )
-    requires has { Has lanes.now set.now.caller [] pass.old }
+    requires has { HoldsLanes lanes.now set.now.caller [] pass.old }
     requires cpu { cpu < lanes.now.cpus }
     requires room { length trace.old < 20 }
-    ensures has { Has lanes.now set.entry.now.caller [] pass.new }
-    ensures did { Did (Fulfils (setting_of set.entry.now) (OnlineEvent cpu) Done no_data) set.entry.now
+    ensures has { HoldsLanes lanes.now set.entry.now.caller [] pass.new }
+    ensures did { Makes (IsOutcomeOf (setting_of set.entry.now) (OnlineEvent cpu) Done no_data) set.entry.now
         (moment pass.old trace.old) (moment pass.new trace.new) }
 {
     let mut held = enter(rt, lanes, pass, trace, set, LaneId::Cpu(cpu));

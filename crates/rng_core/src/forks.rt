@@ -4,9 +4,9 @@ ghost use Rattle.key_names.specs.declared.entries.BaseEntry.TheVariants.{Fork};
 ghost use Rattle.key_names.specs.declared.names.Mark.{Mark};
 ghost use Rattle.key_names.specs.declared.names.Step.TheVariants.{Visit};
 ghost use Rattle.key_names.specs.Forms.{BaseOnly};
-ghost use Rattle.lane_table.specs.Hands.{Has};
-ghost use Rattle.rng_core.specs.Told.{moment};
-ghost use Rattle.rng_core.specs.Did.{Did};
+ghost use Rattle.lane_table.specs.Hands.{HoldsLanes};
+ghost use Rattle.rng_core.specs.Traces.{moment};
+ghost use Rattle.rng_core.specs.Makes.{Makes};
 ghost use Rattle.rng_core.specs.Forks.{Forked};
 
 use crate::lane_values;
@@ -25,12 +25,12 @@ fn tell<R: Wait>(
     set: &Setting,
     child: u32,
 )
-    requires has { Has lanes.now set.now.caller [] pass.old }
+    requires has { HoldsLanes lanes.now set.now.caller [] pass.old }
     requires room { length trace.old < 20 }
-    ensures has { Has lanes.now set.entry.now.caller [] pass.new }
+    ensures has { HoldsLanes lanes.now set.entry.now.caller [] pass.new }
     ensures room { length trace.new ≡ length trace.old + 1 }
     ensures visit { (mark : Mark) × (trace.new ≡ trace.old ++ Visit mark ∷ []) }
-    ensures did { Did (BaseOnly (Fork child)) set.entry.now (moment pass.old trace.old) (moment pass.new trace.new) }
+    ensures did { Makes (BaseOnly (Fork child)) set.entry.now (moment pass.old trace.old) (moment pass.new trace.new) }
 {
     let mut base = enter(rt, lanes, pass, trace, set, LaneId::Base);
     lane_values::up(base.state_mut());
@@ -48,10 +48,10 @@ pub fn fork<R: Wait>(
     set: &Setting,
     child: u32,
 ) -> Pass
-    requires has { Has lanes.now set.now.caller [] pass.old }
+    requires has { HoldsLanes lanes.now set.now.caller [] pass.old }
     requires room { length trace.old < 20 }
-    ensures has { Has lanes.now set.entry.now.caller [] pass.new }
-    ensures child { Has lanes.now child [] result }
+    ensures has { HoldsLanes lanes.now set.entry.now.caller [] pass.new }
+    ensures child { HoldsLanes lanes.now child [] result }
     ensures room { length trace.new ≡ length trace.old + 1 }
     ensures forked { Forked set.entry.now (moment pass.old trace.old) trace.new child pass.new result }
 {

@@ -5,16 +5,16 @@ ghost use Rattle.key_names.specs.SeenLine.{bytes_or_none};
 ghost use Rattle.key_names.specs.VgetrandomState.{state_left};
 ghost use Rattle.key_names.specs.VreadSteps.{published_by};
 ghost use Rattle.lane_table.specs.Calls.{view};
-ghost use Rattle.lane_table.specs.Hands.{Has};
-ghost use Rattle.lane_table.specs.Went.{floor};
+ghost use Rattle.lane_table.specs.Hands.{HoldsLanes};
+ghost use Rattle.lane_table.specs.Advances.{floor};
 ghost use Rattle.rng_core.specs.declared.attempt.Attempt.TheVariants.{Before};
-ghost use Rattle.rng_core.specs.Told.{moment};
-ghost use Rattle.rng_core.specs.Did.{result_answer, given};
-ghost use Rattle.rng_core.specs.VreadDid.{done_of, Called};
+ghost use Rattle.rng_core.specs.Traces.{moment};
+ghost use Rattle.rng_core.specs.Makes.{result_answer, given};
+ghost use Rattle.rng_core.specs.VreadMakes.{done_of, Called};
 ghost use Rattle.rng_core.specs.Hosted.{stand};
 ghost use Rattle.rng_core.specs.Acts.{asks_of, outcomes_of};
 ghost use Rattle.rng_core.specs.Acting.{act_stand, InsideRan};
-ghost use Rattle.rng_core.specs.InsideDid.{IsFresh, InsideDid};
+ghost use Rattle.rng_core.specs.InsideMakes.{IsFresh, InsideMakes};
 ghost use Rattle.rng_core.specs.Hosting.{hosting, standing, SameLoans};
 
 use crate::acts::run_acts;
@@ -94,13 +94,13 @@ pub(crate) fn call_host<R: Wait>(
     requires before { host.old.attempt ≡ Before }
     requires fresh { AllByRecursion IsFresh host.old.acts.now }
     ensures loans { SameLoans host.old host.new }
-    ensures has { Has host.old.lanes.now host.old.set.now.caller [] host.new.pass.now }
+    ensures has { HoldsLanes host.old.lanes.now host.old.set.now.caller [] host.new.pass.now }
     ensures current { st.new.generation ≤ published_by (floor (view host.new.pass.now)) }
     ensures asks { asks_of host.new.acts.now ≡ asks_of host.old.acts.now }
     ensures called { length host.old.acts.now ≡ 0 → Called (length buf.old) flags st.old st.new
         (result_answer result) (bytes_or_none (given result buf.new)) host.old.set.now
         (moment host.old.pass.now host.old.trace.now) (moment host.new.pass.now host.new.trace.now) }
-    ensures did { 0 < length host.old.acts.now → InsideDid (length buf.old) flags st.old st.new
+    ensures did { 0 < length host.old.acts.now → InsideMakes (length buf.old) flags st.old st.new
         (result_answer result) (bytes_or_none (given result buf.new)) host.old.set.now
         (moment host.old.pass.now host.old.trace.now) (moment host.new.pass.now host.new.trace.now)
         (asks_of host.old.acts.now) (outcomes_of host.new.acts.now host.new.out.now) }

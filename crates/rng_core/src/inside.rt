@@ -4,15 +4,15 @@ ghost use Rattle.std.specs.List.{AllByRecursion};
 ghost use Rattle.key_names.specs.VreadSteps.{published_by};
 ghost use Rattle.key_names.specs.SeenLine.{bytes_or_none};
 ghost use Rattle.lane_table.specs.Calls.{view};
-ghost use Rattle.lane_table.specs.Hands.{Has};
-ghost use Rattle.lane_table.specs.Went.{floor};
+ghost use Rattle.lane_table.specs.Hands.{HoldsLanes};
+ghost use Rattle.lane_table.specs.Advances.{floor};
 ghost use Rattle.rng_core.specs.declared.attempt.Attempt.TheVariants.{Before};
-ghost use Rattle.rng_core.specs.Told.{moment};
-ghost use Rattle.rng_core.specs.Did.{result_answer, given};
+ghost use Rattle.rng_core.specs.Traces.{moment};
+ghost use Rattle.rng_core.specs.Makes.{result_answer, given};
 ghost use Rattle.rng_core.specs.Hosted.{stand};
 ghost use Rattle.rng_core.specs.Acting.{act_stand, InsideRan};
 ghost use Rattle.rng_core.specs.Acts.{asks_of, all_wanted, outcomes_of};
-ghost use Rattle.rng_core.specs.InsideDid.{IsFresh, InsideDid};
+ghost use Rattle.rng_core.specs.InsideMakes.{IsFresh, InsideMakes};
 
 use crate::acts::Bound;
 use crate::host_call::call_host;
@@ -48,7 +48,7 @@ pub fn vread_inside<R: Wait>(
     acts: &mut [Bound],
     out: &mut [u8],
 ) -> Result<(), Errno>
-    requires has { Has lanes.now set.now.caller [] pass.old }
+    requires has { HoldsLanes lanes.now set.now.caller [] pass.old }
     requires cpu { set.now.cpu < lanes.now.cpus }
     requires moment { set.now.now < 2 ^ 40 }
     requires current { st.old.generation ≤ published_by (floor (view pass.old)) }
@@ -57,10 +57,10 @@ pub fn vread_inside<R: Wait>(
     requires some { 0 < length acts.old }
     requires fresh { AllByRecursion IsFresh acts.old }
     requires fits { length out.old ≡ all_wanted (asks_of acts.old) }
-    ensures has { Has lanes.now set.entry.now.caller [] pass.new }
+    ensures has { HoldsLanes lanes.now set.entry.now.caller [] pass.new }
     ensures current { st.new.generation ≤ published_by (floor (view pass.new)) }
     ensures asks { asks_of acts.new ≡ asks_of acts.old }
-    ensures did { InsideDid (length buf.old) flags st.old st.new
+    ensures did { InsideMakes (length buf.old) flags st.old st.new
         (result_answer result) (bytes_or_none (given result buf.new)) set.entry.now
         (moment pass.old trace.old) (moment pass.new trace.new) (asks_of acts.old) (outcomes_of acts.new out.new) }
     ensures ran { InsideRan (length buf.old) flags st.old st.new

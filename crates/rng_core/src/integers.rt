@@ -5,17 +5,17 @@ ghost use Rattle.key_names.specs.declared.events.Answer.TheVariants.{Ok as Done}
 ghost use Rattle.key_names.specs.SeenLine.{bytes_or_none};
 ghost use Rattle.key_names.specs.Batches.{must_fill};
 ghost use Rattle.lane_table.specs.declared.view.LaneEntry.TheVariants.{Cpu as OfCpu};
-ghost use Rattle.lane_table.specs.Meaning.{ValueStands, got_of, hand as handing};
+ghost use Rattle.lane_table.specs.Meaning.{ValueRepresents, got_of, hand as handing};
 ghost use Rattle.lane_table.specs.WorldRule.{known_of};
 ghost use Rattle.lane_table.specs.Calls.{view};
-ghost use Rattle.lane_table.specs.Hands.{Has, hand, model};
-ghost use Rattle.lane_table.specs.Went.{floor};
-ghost use Rattle.rng_core.specs.Told.{moment};
-ghost use Rattle.rng_core.specs.Did.{Did, Serving, Served, Fulfils, setting_of};
+ghost use Rattle.lane_table.specs.Hands.{HoldsLanes, hand, model};
+ghost use Rattle.lane_table.specs.Advances.{floor};
+ghost use Rattle.rng_core.specs.Traces.{moment};
+ghost use Rattle.rng_core.specs.Makes.{Makes, Serving, Served, IsOutcomeOf, setting_of};
 ghost use Rattle.rng_core.specs.Integers.{IsWidth, BatchedForm, int_event};
 
 use crate::cpu_values;
-use crate::keys::{HandedOver, refill};
+use crate::keys::{KeyHandoff, refill};
 use crate::reads::read_behind;
 use crate::setting::Setting;
 use crate::visits::{enter, leave, look, look_holding};
@@ -34,9 +34,9 @@ fn serve(
     filled: bool,
     out: &mut [u8],
 )
-    requires has { Has lanes.now set.now.caller (hand cpu.turn None 0 ∷ []) pass.old }
+    requires has { HoldsLanes lanes.now set.now.caller (hand cpu.turn None 0 ∷ []) pass.old }
     requires lane { cpu.turn.lane ≡ set.now.cpu + 2 }
-    requires value { ValueStands (set.now.cpu + 2) cpu.state (model pass.old (set.now.cpu + 2)) }
+    requires value { ValueRepresents (set.now.cpu + 2) cpu.state (model pass.old (set.now.cpu + 2)) }
     requires known { 1 ≤ look }
     requires not_back { (model pass.old (set.now.cpu + 2)).cpu.cpu.generation ≤ look }
     requires fills { filled ≡ must_fill look (length out.old)
@@ -45,7 +45,7 @@ fn serve(
     requires width { IsWidth (length out.old) }
     requires room { length trace.old < 20 }
     requires early { pass.old.stamp < 2 ^ 62 }
-    ensures has { Has lanes.now set.entry.now.caller [] pass.new }
+    ensures has { HoldsLanes lanes.now set.entry.now.caller [] pass.new }
     ensures served { Served set.entry.now (moment pass.old trace.old) (moment pass.new trace.new)
         (set.entry.now.cpu + 2) cpu.turn.place (OfCpu (Int look None (length out.old) filled)) out.new }
 {
@@ -68,12 +68,12 @@ fn serve_refilled(
     set: &Setting,
     mut cpu: Held,
     look: u64,
-    base: &HandedOver,
+    base: &KeyHandoff,
     out: &mut [u8],
 )
-    requires has { Has lanes.now set.now.caller (hand cpu.turn (Some base.now.place) 0 ∷ []) pass.old }
+    requires has { HoldsLanes lanes.now set.now.caller (hand cpu.turn (Some base.now.place) 0 ∷ []) pass.old }
     requires lane { cpu.turn.lane ≡ set.now.cpu + 2 }
-    requires value { ValueStands (set.now.cpu + 2) cpu.state (model pass.old (set.now.cpu + 2)) }
+    requires value { ValueRepresents (set.now.cpu + 2) cpu.state (model pass.old (set.now.cpu + 2)) }
     requires handed { got_of (Some base.now.place) (known_of (view pass.old) 1) ≡ handing base.now.key
         base.now.generation }
     requires known { 1 ≤ look }
@@ -85,7 +85,7 @@ fn serve_refilled(
     requires width { IsWidth (length out.old) }
     requires room { length trace.old < 20 }
     requires early { pass.old.stamp ≤ 2 ^ 62 }
-    ensures has { Has lanes.now set.entry.now.caller [] pass.new }
+    ensures has { HoldsLanes lanes.now set.entry.now.caller [] pass.new }
     ensures served { Served set.entry.now (moment pass.old trace.old) (moment pass.new trace.new)
         (set.entry.now.cpu + 2) cpu.turn.place (OfCpu (Int look (Some base.now.place) (length out.old) true)) out.new }
 {
@@ -109,13 +109,13 @@ fn serve_batched<R: Wait>(
     set: &Setting,
     out: &mut [u8],
 )
-    requires has { Has lanes.now set.now.caller [] pass.old }
+    requires has { HoldsLanes lanes.now set.now.caller [] pass.old }
     requires cpu { set.now.cpu < lanes.now.cpus }
     requires ready { 1 ≤ floor (view pass.old) }
     requires width { IsWidth (length out.old) }
     requires room { length trace.old < 18 }
-    ensures has { Has lanes.now set.entry.now.caller [] pass.new }
-    ensures did { Did (Serving (BatchedForm (setting_of set.entry.now) (length out.old)) out.new) set.entry.now
+    ensures has { HoldsLanes lanes.now set.entry.now.caller [] pass.new }
+    ensures did { Makes (Serving (BatchedForm (setting_of set.entry.now) (length out.old)) out.new) set.entry.now
         (moment pass.old trace.old) (moment pass.new trace.new) }
 {
     let cpu = enter(rt, lanes, pass, trace, set, LaneId::Cpu(set.cpu));
@@ -142,12 +142,12 @@ pub fn int<R: Wait>(
     set: &Setting,
     out: &mut [u8],
 )
-    requires has { Has lanes.now set.now.caller [] pass.old }
+    requires has { HoldsLanes lanes.now set.now.caller [] pass.old }
     requires cpu { set.now.cpu < lanes.now.cpus }
     requires width { IsWidth (length out.old) }
     requires room { length trace.old < 17 }
-    ensures has { Has lanes.now set.entry.now.caller [] pass.new }
-    ensures did { Did (Fulfils (setting_of set.entry.now) (int_event (length out.old)) Done (bytes_or_none out.new))
+    ensures has { HoldsLanes lanes.now set.entry.now.caller [] pass.new }
+    ensures did { Makes (IsOutcomeOf (setting_of set.entry.now) (int_event (length out.old)) Done (bytes_or_none out.new))
         set.entry.now (moment pass.old trace.old) (moment pass.new trace.new) }
 {
     let found = look(lanes, pass, trace, set);

@@ -5,9 +5,9 @@ ghost use Rattle.key_names.specs.declared.events.Answer.TheVariants.{Ok as Done}
 ghost use Rattle.key_names.specs.SeenLine.{no_data};
 ghost use Rattle.lane_table.specs.WorldRule.{known_of};
 ghost use Rattle.lane_table.specs.Calls.{view};
-ghost use Rattle.lane_table.specs.Hands.{Has};
-ghost use Rattle.rng_core.specs.Told.{moment};
-ghost use Rattle.rng_core.specs.Did.{DidIn, Fulfils, setting_of};
+ghost use Rattle.lane_table.specs.Hands.{HoldsLanes};
+ghost use Rattle.rng_core.specs.Traces.{moment};
+ghost use Rattle.rng_core.specs.Makes.{MakesIn, IsOutcomeOf, setting_of};
 ghost use Rattle.rng_core.specs.SampleDeeds.{DumpStands, Sampled};
 
 use crate::cpu_values;
@@ -20,12 +20,12 @@ use std::sync::Wait;
 
 // A dump that is due: what the fast pool holds goes into the input pool (`mix_interrupt_randomness`).
 fn dump<R: Wait>(rt: &R, lanes: &Lanes, pass: &mut Pass, trace: &mut Trace, set: &Setting)
-    requires has { Has lanes.now set.now.caller [] pass.old }
+    requires has { HoldsLanes lanes.now set.now.caller [] pass.old }
     requires cpu { set.now.cpu < lanes.now.cpus }
     requires moment { set.now.now < 2 ^ 40 }
     requires room { length trace.old < 17 }
-    ensures has { Has lanes.now set.entry.now.caller [] pass.new }
-    ensures did { DidIn (DumpStands (setting_of set.entry.now)
+    ensures has { HoldsLanes lanes.now set.entry.now.caller [] pass.new }
+    ensures did { MakesIn (DumpStands (setting_of set.entry.now)
         (length (known_of (view pass.old) (set.entry.now.cpu + 2)))) set.entry.now (moment pass.old trace.old)
         (moment pass.new trace.new) }
 {
@@ -53,12 +53,12 @@ pub fn irq<R: Wait>(
     v1: u64,
     v2: u64,
 )
-    requires has { Has lanes.now set.now.caller [] pass.old }
+    requires has { HoldsLanes lanes.now set.now.caller [] pass.old }
     requires cpu { set.now.cpu < lanes.now.cpus }
     requires moment { set.now.now < 2 ^ 40 }
     requires room { length trace.old < 16 }
-    ensures has { Has lanes.now set.entry.now.caller [] pass.new }
-    ensures did { DidIn (Sampled (Fulfils (setting_of set.entry.now) (IrqEvent v1 v2) Done no_data)) set.entry.now
+    ensures has { HoldsLanes lanes.now set.entry.now.caller [] pass.new }
+    ensures did { MakesIn (Sampled (IsOutcomeOf (setting_of set.entry.now) (IrqEvent v1 v2) Done no_data)) set.entry.now
         (moment pass.old trace.old) (moment pass.new trace.new) }
 {
     let mut cpu = enter(rt, lanes, pass, trace, set, LaneId::Cpu(set.cpu));

@@ -6,9 +6,9 @@ ghost use Rattle.lane_table.specs.declared.view.LaneEntry.TheVariants.{Pool as O
 ghost use Rattle.lane_table.specs.Meaning.{Model, nothing, got_of, hand as handing};
 ghost use Rattle.lane_table.specs.WorldRule.{known_of};
 ghost use Rattle.lane_table.specs.Calls.{view};
-ghost use Rattle.lane_table.specs.Hands.{Has, hand, model};
-ghost use Rattle.lane_table.specs.Went.{floor};
-ghost use Rattle.rng_core.specs.Told.{Visited, moment};
+ghost use Rattle.lane_table.specs.Hands.{HoldsLanes, hand, model};
+ghost use Rattle.lane_table.specs.Advances.{floor};
+ghost use Rattle.rng_core.specs.Traces.{Visited, moment};
 
 use crate::lane_values;
 use crate::setting::Setting;
@@ -33,10 +33,10 @@ pub(crate) fn extract<R: Wait>(
     set: &Setting,
     base: &Held,
 ) -> Root
-    requires has { Has lanes.now set.now.caller (hand base.now.turn None 0 ∷ []) pass.old }
+    requires has { HoldsLanes lanes.now set.now.caller (hand base.now.turn None 0 ∷ []) pass.old }
     requires lane { base.now.turn.lane ≡ 1 }
     requires room { length trace.old < 20 }
-    ensures has { Has lanes.now set.entry.now.caller (hand base.now.turn (Some result.place) 0 ∷ []) pass.new }
+    ensures has { HoldsLanes lanes.now set.entry.now.caller (hand base.now.turn (Some result.place) 0 ∷ []) pass.new }
     ensures kept { model pass.new 1 ≡ model pass.old 1 }
     ensures root { (got_of (Some result.place) (known_of (view pass.new) 0)).key ≡ result.key }
     ensures seen { (view pass.new).seen ≡ (view pass.old).seen }
@@ -57,7 +57,7 @@ pub(crate) fn extract<R: Wait>(
 
 /// What the base hands over to a CPU, and the place of that in the base's list.
 #[derive(Clone, Copy)]
-pub(crate) struct HandedOver {
+pub(crate) struct KeyHandoff {
     pub(crate) key: [u8; 32],
     pub(crate) generation: u64,
     pub(crate) place: u64,
@@ -71,12 +71,12 @@ pub(crate) fn refill<R: Wait>(
     trace: &mut Trace,
     set: &Setting,
     cpu: &Held,
-) -> HandedOver
-    requires has { Has lanes.now set.now.caller (hand cpu.now.turn None 0 ∷ []) pass.old }
+) -> KeyHandoff
+    requires has { HoldsLanes lanes.now set.now.caller (hand cpu.now.turn None 0 ∷ []) pass.old }
     requires lane { cpu.now.turn.lane ≡ set.now.cpu + 2 }
     requires ready { 1 ≤ (view pass.old).seen }
     requires room { length trace.old < 20 }
-    ensures has { Has lanes.now set.entry.now.caller (hand cpu.now.turn (Some result.place) 0 ∷ []) pass.new }
+    ensures has { HoldsLanes lanes.now set.entry.now.caller (hand cpu.now.turn (Some result.place) 0 ∷ []) pass.new }
     ensures kept { model pass.new (set.entry.now.cpu + 2) ≡ model pass.old (set.entry.now.cpu + 2) }
     ensures handed { got_of (Some result.place) (known_of (view pass.new) 1) ≡ handing result.key result.generation }
     ensures fresh { (view pass.old).seen ≤ result.generation }
@@ -93,7 +93,7 @@ pub(crate) fn refill<R: Wait>(
         cpu_place: cpu.place(),
     };
     let place = leave_naming(lanes, pass, trace, set, cpu, base, LaneId::Base, entry);
-    HandedOver {
+    KeyHandoff {
         key,
         generation,
         place,

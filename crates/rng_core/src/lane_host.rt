@@ -41,9 +41,9 @@ pub struct LaneHost<'a, R> {
 impl<'a, R> LaneHost<'a, R> {
     ghost use Rattle.std.specs.Prelude.{[]};
     ghost use Rattle.std.specs.List.{AllByRecursion};
-    ghost use Rattle.lane_table.specs.Hands.{Has};
+    ghost use Rattle.lane_table.specs.Hands.{HoldsLanes};
     ghost use Rattle.rng_core.specs.declared.attempt.Attempt.TheVariants.{Before};
-    ghost use Rattle.rng_core.specs.InsideDid.{IsFresh};
+    ghost use Rattle.rng_core.specs.InsideMakes.{IsFresh};
 
     /// The host of one call, or of what is left of one, with 5 looks and 3 system calls.
     ///
@@ -58,7 +58,7 @@ impl<'a, R> LaneHost<'a, R> {
         acts: &'a mut [Bound],
         out: &'a mut [u8],
     ) -> LaneHost<'a, R>
-        requires has { Has lanes.now set.now.caller [] pass.old }
+        requires has { HoldsLanes lanes.now set.now.caller [] pass.old }
         requires cpu { set.now.cpu < lanes.now.cpus }
         requires moment { 0 < length acts.old → set.now.now < 2 ^ 40 }
         requires room { length trace.old ≡ 0 }

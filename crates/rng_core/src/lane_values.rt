@@ -13,7 +13,7 @@ ghost use Rattle.rng_core.specs.Reading.{taken_count};
 ghost use Rattle.key_names.specs.PoolList.{PoolState, crossing, pool_step, root_of_extraction};
 ghost use Rattle.input_pool.specs.PoolStands.{crossing_of};
 ghost use Rattle.lane_table.specs.declared.view.LaneEntry.TheVariants.{Pool as OfPool, Base as OfBase, Cpu as OfCpu};
-ghost use Rattle.lane_table.specs.Meaning.{Model, PoolLaneStands, ValueStands, made_of, nothing};
+ghost use Rattle.lane_table.specs.Meaning.{Model, PoolLaneStands, ValueRepresents, made_of, nothing};
 
 use base_gen::Phase;
 use input_pool::Crossing;
@@ -26,9 +26,9 @@ const READY_BITS: u32 = 256;
 
 /// Mixes bytes into the pool.
 pub(crate) fn mix(state: &mut LaneState, text: &[u8])
-    requires { (s : Model) × ValueStands 0 state.old s }
-    ensures { (s : Model) → ValueStands 0 state.old s
-        → ValueStands 0 state.new (made_of s (OfPool (Mix text.now 0)) nothing) }
+    requires { (s : Model) × ValueRepresents 0 state.old s }
+    ensures { (s : Model) → ValueRepresents 0 state.old s
+        → ValueRepresents 0 state.new (made_of s (OfPool (Mix text.now 0)) nothing) }
 {
     match state {
         LaneState::Pool(lane) => lane.pool.mix(text),
@@ -38,10 +38,10 @@ pub(crate) fn mix(state: &mut LaneState, text: &[u8])
 
 /// Mixes bytes into the pool, and credits bits for them.
 pub(crate) fn mix_and_credit(state: &mut LaneState, text: &[u8], bits: u32) -> Crossing
-    requires { (s : Model) × ValueStands 0 state.old s }
-    ensures made { (s : Model) → ValueStands 0 state.old s
-        → ValueStands 0 state.new (made_of s (OfPool (Mix text.now bits)) nothing) }
-    ensures crossed { (s : Model) → ValueStands 0 state.old s
+    requires { (s : Model) × ValueRepresents 0 state.old s }
+    ensures made { (s : Model) → ValueRepresents 0 state.old s
+        → ValueRepresents 0 state.new (made_of s (OfPool (Mix text.now bits)) nothing) }
+    ensures crossed { (s : Model) → ValueRepresents 0 state.old s
         → crossing_of result ≡ crossing s.pool.bits (pool_step s.pool (Mix text.now bits)).bits }
 {
     match state {
@@ -55,10 +55,10 @@ pub(crate) fn mix_and_credit(state: &mut LaneState, text: &[u8], bits: u32) -> C
 
 /// A root of the pool.
 pub(crate) fn extract(state: &mut LaneState, hw: &[u8; 32]) -> [u8; 32]
-    requires { (s : Model) × ValueStands 0 state.old s }
-    ensures made { (s : Model) (place : ℕ) → ValueStands 0 state.old s
-        → ValueStands 0 state.new (made_of s (OfPool (Extract hw.now place)) nothing) }
-    ensures root { (s : Model) → ValueStands 0 state.old s → result ≡ root_of_extraction s.pool hw.now }
+    requires { (s : Model) × ValueRepresents 0 state.old s }
+    ensures made { (s : Model) (place : ℕ) → ValueRepresents 0 state.old s
+        → ValueRepresents 0 state.new (made_of s (OfPool (Extract hw.now place)) nothing) }
+    ensures root { (s : Model) → ValueRepresents 0 state.old s → result ≡ root_of_extraction s.pool hw.now }
 {
     match state {
         LaneState::Pool(lane) => lane.pool.extract(hw),
@@ -68,8 +68,8 @@ pub(crate) fn extract(state: &mut LaneState, hw: &[u8; 32]) -> [u8; 32]
 
 /// How many bits the pool was credited.
 pub(crate) fn bits(state: &LaneState) -> u32
-    requires { (s : Model) × ValueStands 0 state.now s }
-    ensures { (s : Model) → ValueStands 0 state.now s → result ≡ s.pool.bits }
+    requires { (s : Model) × ValueRepresents 0 state.now s }
+    ensures { (s : Model) → ValueRepresents 0 state.now s → result ≡ s.pool.bits }
 {
     match state {
         LaneState::Pool(lane) => lane.pool.bits(),
@@ -79,8 +79,8 @@ pub(crate) fn bits(state: &LaneState) -> u32
 
 /// How far the core is.
 pub(crate) fn phase(state: &LaneState) -> Phase
-    requires { (s : Model) × ValueStands 1 state.now s }
-    ensures { (s : Model) → ValueStands 1 state.now s → phase_of result ≡ s.base.phase }
+    requires { (s : Model) × ValueRepresents 1 state.now s }
+    ensures { (s : Model) → ValueRepresents 1 state.now s → phase_of result ≡ s.base.phase }
 {
     match state {
         LaneState::Base(lane) => lane.base.phase(),
@@ -90,8 +90,8 @@ pub(crate) fn phase(state: &LaneState) -> Phase
 
 /// How often the base was reseeded.
 pub(crate) fn base_generation(state: &LaneState) -> u64
-    requires { (s : Model) × ValueStands 1 state.now s }
-    ensures { (s : Model) → ValueStands 1 state.now s → result ≡ s.base.generation }
+    requires { (s : Model) × ValueRepresents 1 state.now s }
+    ensures { (s : Model) → ValueRepresents 1 state.now s → result ≡ s.base.generation }
 {
     match state {
         LaneState::Base(lane) => lane.base.generation(),
@@ -101,8 +101,8 @@ pub(crate) fn base_generation(state: &LaneState) -> u64
 
 /// Whether no caller runs.
 pub(crate) fn is_idle(state: &LaneState) -> bool
-    requires { (s : Model) × ValueStands 1 state.now s }
-    ensures { (s : Model) → ValueStands 1 state.now s → IsTrue result ↔ (s.base.running ≡ 0) }
+    requires { (s : Model) × ValueRepresents 1 state.now s }
+    ensures { (s : Model) → ValueRepresents 1 state.now s → IsTrue result ↔ (s.base.running ≡ 0) }
 {
     match state {
         LaneState::Base(lane) => lane.base.idle(),
@@ -112,8 +112,8 @@ pub(crate) fn is_idle(state: &LaneState) -> bool
 
 /// Whether the reseed timer is due.
 pub(crate) fn is_due(state: &LaneState, now: u64) -> bool
-    requires { (s : Model) × ValueStands 1 state.now s }
-    ensures { (s : Model) → ValueStands 1 state.now s → IsTrue result ↔ IsDue s.base.timer now }
+    requires { (s : Model) × ValueRepresents 1 state.now s }
+    ensures { (s : Model) → ValueRepresents 1 state.now s → IsTrue result ↔ IsDue s.base.timer now }
 {
     match state {
         LaneState::Base(lane) => lane.base.due(now),
@@ -123,9 +123,9 @@ pub(crate) fn is_due(state: &LaneState, now: u64) -> bool
 
 /// One more caller runs.
 pub(crate) fn up(state: &mut LaneState)
-    requires { (s : Model) × ValueStands 1 state.old s }
-    ensures { (s : Model) → ValueStands 1 state.old s
-        → ValueStands 1 state.new (record s { base = record s.base { running = one_more s.base.running } }) }
+    requires { (s : Model) × ValueRepresents 1 state.old s }
+    ensures { (s : Model) → ValueRepresents 1 state.old s
+        → ValueRepresents 1 state.new (record s { base = record s.base { running = one_more s.base.running } }) }
 {
     match state {
         LaneState::Base(lane) => lane.base.up(),
@@ -135,9 +135,9 @@ pub(crate) fn up(state: &mut LaneState)
 
 /// One caller less runs.
 pub(crate) fn down(state: &mut LaneState)
-    requires { (s : Model) × ValueStands 1 state.old s }
-    ensures { (s : Model) → ValueStands 1 state.old s
-        → ValueStands 1 state.new (record s { base = record s.base { running = one_less s.base.running } }) }
+    requires { (s : Model) × ValueRepresents 1 state.old s }
+    ensures { (s : Model) → ValueRepresents 1 state.old s
+        → ValueRepresents 1 state.new (record s { base = record s.base { running = one_less s.base.running } }) }
 {
     match state {
         LaneState::Base(lane) => lane.base.down(),
@@ -147,9 +147,9 @@ pub(crate) fn down(state: &mut LaneState)
 
 /// Installs a root early.
 pub(crate) fn install_early(state: &mut LaneState, root: [u8; 32])
-    requires { (s : Model) × ValueStands 1 state.old s × (s.base.phase ≡ empty) }
-    ensures { (s : Model) (got : Handed) (place : ℕ) → got.key ≡ root → ValueStands 1 state.old s
-        → ValueStands 1 state.new (made_of s (OfBase (EarlyEntry (Some place))) got) }
+    requires { (s : Model) × ValueRepresents 1 state.old s × (s.base.phase ≡ empty) }
+    ensures { (s : Model) (got : Handed) (place : ℕ) → got.key ≡ root → ValueRepresents 1 state.old s
+        → ValueRepresents 1 state.new (made_of s (OfBase (EarlyEntry (Some place))) got) }
 {
     match state {
         LaneState::Base(lane) => lane.base.install_early(root),
@@ -159,10 +159,10 @@ pub(crate) fn install_early(state: &mut LaneState, root: [u8; 32])
 
 /// Installs a root, and reseeds with it.
 pub(crate) fn install(state: &mut LaneState, root: [u8; 32], now: u64)
-    requires stands { (s : Model) × ValueStands 1 state.old s × (s.base.generation < 2 ^ 63) }
+    requires stands { (s : Model) × ValueRepresents 1 state.old s × (s.base.generation < 2 ^ 63) }
     requires now { now < 2 ^ 40 }
-    ensures { (s : Model) (got : Handed) (place : ℕ) → got.key ≡ root → ValueStands 1 state.old s
-        → ValueStands 1 state.new (made_of s (OfBase (Reseed place now)) got) }
+    ensures { (s : Model) (got : Handed) (place : ℕ) → got.key ≡ root → ValueRepresents 1 state.old s
+        → ValueRepresents 1 state.new (made_of s (OfBase (Reseed place now)) got) }
 {
     match state {
         LaneState::Base(lane) => lane.base.install(root, now),
@@ -172,10 +172,10 @@ pub(crate) fn install(state: &mut LaneState, root: [u8; 32], now: u64)
 
 /// Installs a root because the timer is due.
 pub(crate) fn fire(state: &mut LaneState, root: [u8; 32], now: u64)
-    requires stands { (s : Model) × ValueStands 1 state.old s × (s.base.generation < 2 ^ 63) × IsDue s.base.timer now }
+    requires stands { (s : Model) × ValueRepresents 1 state.old s × (s.base.generation < 2 ^ 63) × IsDue s.base.timer now }
     requires now { now < 2 ^ 40 }
-    ensures { (s : Model) (got : Handed) (place : ℕ) → got.key ≡ root → ValueStands 1 state.old s
-        → ValueStands 1 state.new (made_of s (OfBase (Tick now (Some place))) got) }
+    ensures { (s : Model) (got : Handed) (place : ℕ) → got.key ≡ root → ValueRepresents 1 state.old s
+        → ValueRepresents 1 state.new (made_of s (OfBase (Tick now (Some place))) got) }
 {
     match state {
         LaneState::Base(lane) => lane.base.fire(root, now),
@@ -185,11 +185,11 @@ pub(crate) fn fire(state: &mut LaneState, root: [u8; 32], now: u64)
 
 /// A read that draws from the base's key.
 pub(crate) fn draw(state: &mut LaneState, buf: &mut [u8], taken: Taken)
-    requires stands { (s : Model) × ValueStands 1 state.old s }
+    requires stands { (s : Model) × ValueRepresents 1 state.old s }
     requires count { taken_count taken ≡ length buf.old }
-    ensures made { (s : Model) (got : Handed) → ValueStands 1 state.old s
-        → ValueStands 1 state.new (made_of s (OfBase (Draw None taken)) got) }
-    ensures bytes { (s : Model) → ValueStands 1 state.old s → buf.new ≡ taken_bytes s.base.key taken }
+    ensures made { (s : Model) (got : Handed) → ValueRepresents 1 state.old s
+        → ValueRepresents 1 state.new (made_of s (OfBase (Draw None taken)) got) }
+    ensures bytes { (s : Model) → ValueRepresents 1 state.old s → buf.new ≡ taken_bytes s.base.key taken }
 {
     match state {
         LaneState::Base(lane) => match taken {
@@ -202,10 +202,10 @@ pub(crate) fn draw(state: &mut LaneState, buf: &mut [u8], taken: Taken)
 
 /// A read that draws from a root.
 pub(crate) fn draw_rooted(state: &mut LaneState, root: [u8; 32], buf: &mut [u8], taken: Taken)
-    requires stands { (s : Model) × ValueStands 1 state.old s × (s.base.phase ≡ empty) }
+    requires stands { (s : Model) × ValueRepresents 1 state.old s × (s.base.phase ≡ empty) }
     requires count { taken_count taken ≡ length buf.old }
-    ensures made { (s : Model) (got : Handed) (place : ℕ) → got.key ≡ root → ValueStands 1 state.old s
-        → ValueStands 1 state.new (made_of s (OfBase (Draw (Some place) taken)) got) }
+    ensures made { (s : Model) (got : Handed) (place : ℕ) → got.key ≡ root → ValueRepresents 1 state.old s
+        → ValueRepresents 1 state.new (made_of s (OfBase (Draw (Some place) taken)) got) }
     ensures bytes { buf.new ≡ taken_bytes root taken }
 {
     match state {
@@ -222,10 +222,10 @@ pub(crate) fn draw_rooted(state: &mut LaneState, root: [u8; 32], buf: &mut [u8],
 
 /// The key of a CPU that is refilled.
 pub(crate) fn hand_over(state: &mut LaneState) -> [u8; 32]
-    requires { (s : Model) × ValueStands 1 state.old s }
-    ensures made { (s : Model) (got : Handed) (cpu place : ℕ) → ValueStands 1 state.old s
-        → ValueStands 1 state.new (made_of s (OfBase (Refill cpu place)) got) }
-    ensures key { (s : Model) → ValueStands 1 state.old s → result ≡ keystream s.base.key 32 32 }
+    requires { (s : Model) × ValueRepresents 1 state.old s }
+    ensures made { (s : Model) (got : Handed) (cpu place : ℕ) → ValueRepresents 1 state.old s
+        → ValueRepresents 1 state.new (made_of s (OfBase (Refill cpu place)) got) }
+    ensures key { (s : Model) → ValueRepresents 1 state.old s → result ≡ keystream s.base.key 32 32 }
 {
     match state {
         LaneState::Base(lane) => lane.base.call_key(),
@@ -235,9 +235,9 @@ pub(crate) fn hand_over(state: &mut LaneState) -> [u8; 32]
 
 /// Mixes a device's word and bytes into the pool.
 pub(crate) fn mix_device(state: &mut LaneState, word: u64, text: &[u8])
-    requires { (s : Model) × ValueStands 0 state.old s }
-    ensures { (s : Model) → ValueStands 0 state.old s
-        → ValueStands 0 state.new (made_of s (OfPool (Mix (to_le_bytes w64 word ++ text.now) 0)) nothing) }
+    requires { (s : Model) × ValueRepresents 0 state.old s }
+    ensures { (s : Model) → ValueRepresents 0 state.old s
+        → ValueRepresents 0 state.new (made_of s (OfPool (Mix (to_le_bytes w64 word ++ text.now) 0)) nothing) }
 {
     match state {
         LaneState::Pool(lane) => {
@@ -276,11 +276,11 @@ pub(crate) fn mix_input(
     value: u8,
     now: u64,
 ) -> Crossing
-    requires stands { (s : Model) × ValueStands 0 state.old s }
+    requires stands { (s : Model) × ValueRepresents 0 state.old s }
     requires moment { now < 2 ^ 40 }
-    ensures made { (s : Model) → ValueStands 0 state.old s
-        → ValueStands 0 state.new (made_of s (OfPool (InputEntry word kind code value now)) nothing) }
-    ensures crossed { (s : Model) → ValueStands 0 state.old s
+    ensures made { (s : Model) → ValueRepresents 0 state.old s
+        → ValueRepresents 0 state.new (made_of s (OfPool (InputEntry word kind code value now)) nothing) }
+    ensures crossed { (s : Model) → ValueRepresents 0 state.old s
         → crossing_of result ≡ crossing s.pool.bits (pool_step s.pool (InputEntry word kind code value now)).bits }
 {
     match state {

@@ -8,16 +8,16 @@ ghost use Rattle.key_names.specs.declared.events.Answer.TheVariants.{Ok as Done}
 ghost use Rattle.key_names.specs.SeenLine.{bytes_or_none};
 ghost use Rattle.key_names.specs.Forms.{DrawForm, CpuReadForm, ReadForm};
 ghost use Rattle.lane_table.specs.declared.view.LaneEntry.TheVariants.{Base as OfBase, Cpu as OfCpu};
-ghost use Rattle.lane_table.specs.Meaning.{ValueStands, got_of, hand as handing};
+ghost use Rattle.lane_table.specs.Meaning.{ValueRepresents, got_of, hand as handing};
 ghost use Rattle.lane_table.specs.WorldRule.{known_of};
 ghost use Rattle.lane_table.specs.Calls.{view};
-ghost use Rattle.lane_table.specs.Hands.{Has, hand, model};
-ghost use Rattle.lane_table.specs.Went.{floor};
+ghost use Rattle.lane_table.specs.Hands.{HoldsLanes, hand, model};
+ghost use Rattle.lane_table.specs.Advances.{floor};
 ghost use Rattle.rng_core.specs.Reading.{taken_count};
-ghost use Rattle.rng_core.specs.Told.{moment};
-ghost use Rattle.rng_core.specs.Did.{Did, Serving, Served, Fulfils, setting_of};
+ghost use Rattle.rng_core.specs.Traces.{moment};
+ghost use Rattle.rng_core.specs.Makes.{Makes, Serving, Served, IsOutcomeOf, setting_of};
 
-use crate::keys::{HandedOver, extract, refill};
+use crate::keys::{KeyHandoff, extract, refill};
 use crate::setting::Setting;
 use crate::visits::{enter, give_back, leave, look, look_holding};
 use crate::{cpu_values, lane_values};
@@ -37,15 +37,15 @@ fn draw_rooted<R: Wait>(
     buf: &mut [u8],
     taken: Taken,
 )
-    requires has { Has lanes.now set.now.caller (hand base.turn None 0 ∷ []) pass.old }
+    requires has { HoldsLanes lanes.now set.now.caller (hand base.turn None 0 ∷ []) pass.old }
     requires lane { base.turn.lane ≡ 1 }
-    requires value { ValueStands 1 base.state (model pass.old 1) }
+    requires value { ValueRepresents 1 base.state (model pass.old 1) }
     requires unseeded { (model pass.old 1).base.phase ≡ empty }
     requires count { taken_count taken ≡ length buf.old }
     requires room { length trace.old < 19 }
-    ensures has { Has lanes.now set.entry.now.caller [] pass.new }
+    ensures has { HoldsLanes lanes.now set.entry.now.caller [] pass.new }
     ensures room { length trace.new ≡ length trace.old + 2 }
-    ensures did { Did (Serving (DrawForm (setting_of set.entry.now) taken) buf.new) set.entry.now
+    ensures did { Makes (Serving (DrawForm (setting_of set.entry.now) taken) buf.new) set.entry.now
         (moment pass.old trace.old) (moment pass.new trace.new) }
 {
     let root = extract(rt, lanes, pass, trace, set, &base);
@@ -67,16 +67,16 @@ fn draw_early(
     buf: &mut [u8],
     taken: Taken,
 )
-    requires has { Has lanes.now set.now.caller (hand base.turn None 0 ∷ []) pass.old }
+    requires has { HoldsLanes lanes.now set.now.caller (hand base.turn None 0 ∷ []) pass.old }
     requires lane { base.turn.lane ≡ 1 }
-    requires value { ValueStands 1 base.state (model pass.old 1) }
+    requires value { ValueRepresents 1 base.state (model pass.old 1) }
     requires seeded { (model pass.old 1).base.phase ≡ early }
     requires count { taken_count taken ≡ length buf.old }
     requires room { length trace.old < 20 }
     requires early { pass.old.stamp < 2 ^ 62 }
-    ensures has { Has lanes.now set.entry.now.caller [] pass.new }
+    ensures has { HoldsLanes lanes.now set.entry.now.caller [] pass.new }
     ensures room { length trace.new ≡ length trace.old + 1 }
-    ensures did { Did (Serving (DrawForm (setting_of set.entry.now) taken) buf.new) set.entry.now
+    ensures did { Makes (Serving (DrawForm (setting_of set.entry.now) taken) buf.new) set.entry.now
         (moment pass.old trace.old) (moment pass.new trace.new) }
 {
     lane_values::draw(base.state_mut(), buf, taken);
@@ -102,16 +102,16 @@ fn read_fresh(
     buf: &mut [u8],
     taken: Taken,
 )
-    requires has { Has lanes.now set.now.caller (hand cpu.turn None 0 ∷ []) pass.old }
+    requires has { HoldsLanes lanes.now set.now.caller (hand cpu.turn None 0 ∷ []) pass.old }
     requires lane { cpu.turn.lane ≡ set.now.cpu + 2 }
-    requires value { ValueStands (set.now.cpu + 2) cpu.state (model pass.old (set.now.cpu + 2)) }
+    requires value { ValueRepresents (set.now.cpu + 2) cpu.state (model pass.old (set.now.cpu + 2)) }
     requires known { 1 ≤ look }
     requires fresh { look ≡ (model pass.old (set.now.cpu + 2)).cpu.cpu.generation }
     requires count { taken_count taken ≡ length buf.old }
     requires some { 0 < length buf.old }
     requires room { length trace.old < 20 }
     requires early { pass.old.stamp < 2 ^ 62 }
-    ensures has { Has lanes.now set.entry.now.caller [] pass.new }
+    ensures has { HoldsLanes lanes.now set.entry.now.caller [] pass.new }
     ensures room { length trace.new ≡ length trace.old + 1 }
     ensures served { Served set.entry.now (moment pass.old trace.old) (moment pass.new trace.new)
         (set.entry.now.cpu + 2) cpu.turn.place (OfCpu (Read look None taken)) buf.new }
@@ -133,13 +133,13 @@ fn read_refilled(
     set: &Setting,
     mut cpu: Held,
     look: u64,
-    base: &HandedOver,
+    base: &KeyHandoff,
     buf: &mut [u8],
     taken: Taken,
 )
-    requires has { Has lanes.now set.now.caller (hand cpu.turn (Some base.now.place) 0 ∷ []) pass.old }
+    requires has { HoldsLanes lanes.now set.now.caller (hand cpu.turn (Some base.now.place) 0 ∷ []) pass.old }
     requires lane { cpu.turn.lane ≡ set.now.cpu + 2 }
-    requires value { ValueStands (set.now.cpu + 2) cpu.state (model pass.old (set.now.cpu + 2)) }
+    requires value { ValueRepresents (set.now.cpu + 2) cpu.state (model pass.old (set.now.cpu + 2)) }
     requires handed { got_of (Some base.now.place) (known_of (view pass.old) 1) ≡ handing base.now.key
         base.now.generation }
     requires known { 1 ≤ look }
@@ -150,7 +150,7 @@ fn read_refilled(
     requires some { 0 < length buf.old }
     requires room { length trace.old < 20 }
     requires early { pass.old.stamp ≤ 2 ^ 62 }
-    ensures has { Has lanes.now set.entry.now.caller [] pass.new }
+    ensures has { HoldsLanes lanes.now set.entry.now.caller [] pass.new }
     ensures room { length trace.new ≡ length trace.old + 1 }
     ensures served { Served set.entry.now (moment pass.old trace.old) (moment pass.new trace.new)
         (set.entry.now.cpu + 2) cpu.turn.place (OfCpu (Read look (Some base.now.place) taken)) buf.new }
@@ -174,15 +174,15 @@ pub(crate) fn read_cpu<R: Wait>(
     buf: &mut [u8],
     taken: Taken,
 )
-    requires has { Has lanes.now set.now.caller [] pass.old }
+    requires has { HoldsLanes lanes.now set.now.caller [] pass.old }
     requires cpu { set.now.cpu < lanes.now.cpus }
     requires ready { 1 ≤ floor (view pass.old) }
     requires count { taken_count taken ≡ length buf.old }
     requires some { 0 < length buf.old }
     requires room { length trace.old < 18 }
-    ensures has { Has lanes.now set.entry.now.caller [] pass.new }
+    ensures has { HoldsLanes lanes.now set.entry.now.caller [] pass.new }
     ensures room { length trace.new ≤ length trace.old + 3 }
-    ensures did { Did (Serving (CpuReadForm (setting_of set.entry.now) taken) buf.new) set.entry.now
+    ensures did { Makes (Serving (CpuReadForm (setting_of set.entry.now) taken) buf.new) set.entry.now
         (moment pass.old trace.old) (moment pass.new trace.new) }
 {
     let cpu = enter(rt, lanes, pass, trace, set, LaneId::Cpu(set.cpu));
@@ -206,16 +206,16 @@ fn draw<R: Wait>(
     buf: &mut [u8],
     taken: Taken,
 )
-    requires has { Has lanes.now set.now.caller (hand base.turn None 0 ∷ []) pass.old }
+    requires has { HoldsLanes lanes.now set.now.caller (hand base.turn None 0 ∷ []) pass.old }
     requires lane { base.turn.lane ≡ 1 }
-    requires value { ValueStands 1 base.state (model pass.old 1) }
+    requires value { ValueRepresents 1 base.state (model pass.old 1) }
     requires unready { (model pass.old 1).base.phase ≢ ready }
     requires count { taken_count taken ≡ length buf.old }
     requires room { length trace.old < 19 }
     requires early { pass.old.stamp < 2 ^ 62 }
-    ensures has { Has lanes.now set.entry.now.caller [] pass.new }
+    ensures has { HoldsLanes lanes.now set.entry.now.caller [] pass.new }
     ensures room { length trace.new ≤ length trace.old + 2 }
-    ensures did { Did (Serving (DrawForm (setting_of set.entry.now) taken) buf.new) set.entry.now
+    ensures did { Makes (Serving (DrawForm (setting_of set.entry.now) taken) buf.new) set.entry.now
         (moment pass.old trace.old) (moment pass.new trace.new) }
 {
     match lane_values::phase(base.state()) {
@@ -236,15 +236,15 @@ pub(crate) fn read_behind<R: Wait>(
     buf: &mut [u8],
     taken: Taken,
 )
-    requires has { Has lanes.now set.now.caller [] pass.old }
+    requires has { HoldsLanes lanes.now set.now.caller [] pass.old }
     requires cpu { set.now.cpu < lanes.now.cpus }
     requires looked { look ≤ floor (view pass.old) }
     requires count { taken_count taken ≡ length buf.old }
     requires some { 0 < length buf.old }
     requires room { length trace.old < 18 }
-    ensures has { Has lanes.now set.entry.now.caller [] pass.new }
+    ensures has { HoldsLanes lanes.now set.entry.now.caller [] pass.new }
     ensures room { length trace.new ≤ length trace.old + 3 }
-    ensures did { Did (Serving (ReadForm (setting_of set.entry.now) taken look) buf.new) set.entry.now
+    ensures did { Makes (Serving (ReadForm (setting_of set.entry.now) taken look) buf.new) set.entry.now
         (moment pass.old trace.old) (moment pass.new trace.new) }
 {
     if look != 0 {
@@ -269,12 +269,12 @@ pub fn kernel_read<R: Wait>(
     set: &Setting,
     buf: &mut [u8],
 )
-    requires has { Has lanes.now set.now.caller [] pass.old }
+    requires has { HoldsLanes lanes.now set.now.caller [] pass.old }
     requires cpu { set.now.cpu < lanes.now.cpus }
     requires short { length buf.old ≤ 2 ^ 20 }
     requires room { length trace.old < 17 }
-    ensures has { Has lanes.now set.entry.now.caller [] pass.new }
-    ensures did { Did (Fulfils (setting_of set.entry.now) (Kread (length buf.old)) Done (bytes_or_none buf.new))
+    ensures has { HoldsLanes lanes.now set.entry.now.caller [] pass.new }
+    ensures did { Makes (IsOutcomeOf (setting_of set.entry.now) (Kread (length buf.old)) Done (bytes_or_none buf.new))
         set.entry.now (moment pass.old trace.old) (moment pass.new trace.new) }
 {
     if buf.is_empty() {
@@ -294,12 +294,12 @@ pub fn urandom_file<R: Wait>(
     set: &Setting,
     buf: &mut [u8],
 )
-    requires has { Has lanes.now set.now.caller [] pass.old }
+    requires has { HoldsLanes lanes.now set.now.caller [] pass.old }
     requires cpu { set.now.cpu < lanes.now.cpus }
     requires short { length buf.old ≤ 2 ^ 20 }
     requires room { length trace.old < 17 }
-    ensures has { Has lanes.now set.entry.now.caller [] pass.new }
-    ensures did { Did (Fulfils (setting_of set.entry.now) (Uread (length buf.old)) Done (bytes_or_none buf.new))
+    ensures has { HoldsLanes lanes.now set.entry.now.caller [] pass.new }
+    ensures did { Makes (IsOutcomeOf (setting_of set.entry.now) (Uread (length buf.old)) Done (bytes_or_none buf.new))
         set.entry.now (moment pass.old trace.old) (moment pass.new trace.new) }
 {
     if buf.is_empty() {

@@ -7,12 +7,12 @@ ghost use Rattle.key_names.specs.SeenLine.{no_data};
 ghost use Rattle.key_names.specs.declared.entries.BaseEntry.TheVariants.{Tick as TickEntry};
 ghost use Rattle.key_names.specs.BaseList.{IsDue, empty};
 ghost use Rattle.key_names.specs.PoolList.{early};
-ghost use Rattle.lane_table.specs.Meaning.{ValueStands};
+ghost use Rattle.lane_table.specs.Meaning.{ValueRepresents};
 ghost use Rattle.lane_table.specs.Calls.{view};
-ghost use Rattle.lane_table.specs.Hands.{Has, hand, model};
+ghost use Rattle.lane_table.specs.Hands.{HoldsLanes, hand, model};
 ghost use Rattle.input_pool.specs.PoolStands.{crossing_of};
-ghost use Rattle.rng_core.specs.Told.{moment};
-ghost use Rattle.rng_core.specs.Did.{Did, Fulfils, setting_of, result_answer, tick_result};
+ghost use Rattle.rng_core.specs.Traces.{moment};
+ghost use Rattle.rng_core.specs.Makes.{Makes, IsOutcomeOf, setting_of, result_answer, tick_result};
 
 use crate::keys::extract;
 use crate::lane_values;
@@ -32,11 +32,11 @@ pub(crate) fn reseed_base<R: Wait>(
     trace: &mut Trace,
     set: &Setting,
 )
-    requires has { Has lanes.now set.now.caller [] pass.old }
+    requires has { HoldsLanes lanes.now set.now.caller [] pass.old }
     requires moment { set.now.now < 2 ^ 40 }
     requires room { length trace.old < 19 }
-    ensures has { Has lanes.now set.entry.now.caller [] pass.new }
-    ensures did { Did (Rooted (setting_of set.entry.now) (λ r. Reseed r set.entry.now.now)) set.entry.now
+    ensures has { HoldsLanes lanes.now set.entry.now.caller [] pass.new }
+    ensures did { Makes (Rooted (setting_of set.entry.now) (λ r. Reseed r set.entry.now.now)) set.entry.now
         (moment pass.old trace.old) (moment pass.new trace.new) }
 {
     let mut base = enter(rt, lanes, pass, trace, set, LaneId::Base);
@@ -63,11 +63,11 @@ pub fn reseed<R: Wait>(
     trace: &mut Trace,
     set: &Setting,
 ) -> Result<(), Errno>
-    requires has { Has lanes.now set.now.caller [] pass.old }
+    requires has { HoldsLanes lanes.now set.now.caller [] pass.old }
     requires moment { set.now.now < 2 ^ 40 }
     requires room { length trace.old < 18 }
-    ensures has { Has lanes.now set.entry.now.caller [] pass.new }
-    ensures did { Did (Fulfils (setting_of set.entry.now) ReseedEvent (result_answer result) no_data) set.entry.now
+    ensures has { HoldsLanes lanes.now set.entry.now.caller [] pass.new }
+    ensures did { Makes (IsOutcomeOf (setting_of set.entry.now) ReseedEvent (result_answer result) no_data) set.entry.now
         (moment pass.old trace.old) (moment pass.new trace.new) }
 {
     if look(lanes, pass, trace, set) == 0 {
@@ -86,16 +86,16 @@ fn fire<R: Wait>(
     set: &Setting,
     mut base: Held,
 )
-    requires has { Has lanes.now set.now.caller (hand base.turn None 0 ∷ []) pass.old }
+    requires has { HoldsLanes lanes.now set.now.caller (hand base.turn None 0 ∷ []) pass.old }
     requires lane { base.turn.lane ≡ 1 }
-    requires value { ValueStands 1 base.state (model pass.old 1) }
+    requires value { ValueRepresents 1 base.state (model pass.old 1) }
     requires due { IsDue (model pass.old 1).base.timer set.now.now }
     requires low { (model pass.old 1).base.generation < 2 ^ 62 }
     requires fresh { (view pass.old).seen ≤ (model pass.old 1).base.generation }
     requires moment { set.now.now < 2 ^ 40 }
     requires room { length trace.old < 19 }
-    ensures has { Has lanes.now set.entry.now.caller [] pass.new }
-    ensures did { Did (Rooted (setting_of set.entry.now) (λ r. TickEntry set.entry.now.now (Some r))) set.entry.now
+    ensures has { HoldsLanes lanes.now set.entry.now.caller [] pass.new }
+    ensures did { Makes (Rooted (setting_of set.entry.now) (λ r. TickEntry set.entry.now.now (Some r))) set.entry.now
         (moment pass.old trace.old) (moment pass.new trace.new) }
 {
     let root = extract(rt, lanes, pass, trace, set, &base);
@@ -117,11 +117,11 @@ pub fn tick<R: Wait>(
     trace: &mut Trace,
     set: &Setting,
 ) -> bool
-    requires has { Has lanes.now set.now.caller [] pass.old }
+    requires has { HoldsLanes lanes.now set.now.caller [] pass.old }
     requires moment { set.now.now < 2 ^ 40 }
     requires room { length trace.old < 19 }
-    ensures has { Has lanes.now set.entry.now.caller [] pass.new }
-    ensures did { Did (Fulfils (setting_of set.entry.now) TickEvent (tick_result result) no_data) set.entry.now
+    ensures has { HoldsLanes lanes.now set.entry.now.caller [] pass.new }
+    ensures did { Makes (IsOutcomeOf (setting_of set.entry.now) TickEvent (tick_result result) no_data) set.entry.now
         (moment pass.old trace.old) (moment pass.new trace.new) }
 {
     let base = enter(rt, lanes, pass, trace, set, LaneId::Base);
@@ -146,13 +146,13 @@ fn seed_early<R: Wait>(
     set: &Setting,
     mut base: Held,
 )
-    requires has { Has lanes.now set.now.caller (hand base.turn None 0 ∷ []) pass.old }
+    requires has { HoldsLanes lanes.now set.now.caller (hand base.turn None 0 ∷ []) pass.old }
     requires lane { base.turn.lane ≡ 1 }
-    requires value { ValueStands 1 base.state (model pass.old 1) }
+    requires value { ValueRepresents 1 base.state (model pass.old 1) }
     requires unseeded { (model pass.old 1).base.phase ≡ empty }
     requires room { length trace.old < 19 }
-    ensures has { Has lanes.now set.entry.now.caller [] pass.new }
-    ensures did { Did (Rooted (setting_of set.entry.now) (λ r. EarlyEntry (Some r))) set.entry.now
+    ensures has { HoldsLanes lanes.now set.entry.now.caller [] pass.new }
+    ensures did { Makes (Rooted (setting_of set.entry.now) (λ r. EarlyEntry (Some r))) set.entry.now
         (moment pass.old trace.old) (moment pass.new trace.new) }
 {
     let root = extract(rt, lanes, pass, trace, set, &base);
@@ -165,10 +165,10 @@ fn seed_early<R: Wait>(
 
 // Half of what readiness asks was gathered.
 fn cross_early<R: Wait>(rt: &R, lanes: &Lanes, pass: &mut Pass, trace: &mut Trace, set: &Setting)
-    requires has { Has lanes.now set.now.caller [] pass.old }
+    requires has { HoldsLanes lanes.now set.now.caller [] pass.old }
     requires room { length trace.old < 19 }
-    ensures has { Has lanes.now set.entry.now.caller [] pass.new }
-    ensures did { Did (Cross (setting_of set.entry.now) early) set.entry.now (moment pass.old trace.old)
+    ensures has { HoldsLanes lanes.now set.entry.now.caller [] pass.new }
+    ensures did { Makes (Cross (setting_of set.entry.now) early) set.entry.now (moment pass.old trace.old)
         (moment pass.new trace.new) }
 {
     let base = enter(rt, lanes, pass, trace, set, LaneId::Base);
@@ -196,11 +196,11 @@ pub(crate) fn cross<R: Wait>(
     set: &Setting,
     crossing: Crossing,
 )
-    requires has { Has lanes.now set.now.caller [] pass.old }
+    requires has { HoldsLanes lanes.now set.now.caller [] pass.old }
     requires moment { set.now.now < 2 ^ 40 }
     requires room { length trace.old < 19 }
-    ensures has { Has lanes.now set.entry.now.caller [] pass.new }
-    ensures did { Did (Cross (setting_of set.entry.now) (crossing_of crossing)) set.entry.now
+    ensures has { HoldsLanes lanes.now set.entry.now.caller [] pass.new }
+    ensures did { Makes (Cross (setting_of set.entry.now) (crossing_of crossing)) set.entry.now
         (moment pass.old trace.old) (moment pass.new trace.new) }
 {
     match crossing {

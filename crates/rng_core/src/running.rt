@@ -3,10 +3,10 @@ ghost use Rattle.std.specs.Prelude.{◌≡◌, ◌+◌, ◌<◌, ◌≤◌, [], 
 ghost use Rattle.key_names.specs.declared.entries.BaseEntry.TheVariants.{Stall, Unstall, End};
 ghost use Rattle.key_names.specs.Forms.{BaseOnly};
 ghost use Rattle.lane_table.specs.Calls.{view};
-ghost use Rattle.lane_table.specs.Hands.{Has, model};
-ghost use Rattle.lane_table.specs.Went.{floor};
-ghost use Rattle.rng_core.specs.Told.{moment};
-ghost use Rattle.rng_core.specs.Did.{Did};
+ghost use Rattle.lane_table.specs.Hands.{HoldsLanes, model};
+ghost use Rattle.lane_table.specs.Advances.{floor};
+ghost use Rattle.rng_core.specs.Traces.{moment};
+ghost use Rattle.rng_core.specs.Makes.{Makes};
 
 use crate::lane_values;
 use crate::setting::Setting;
@@ -17,11 +17,11 @@ use std::sync::Wait;
 
 /// The caller waits for a thread.
 pub fn stall<R: Wait>(rt: &R, lanes: &Lanes, pass: &mut Pass, trace: &mut Trace, set: &Setting)
-    requires has { Has lanes.now set.now.caller [] pass.old }
+    requires has { HoldsLanes lanes.now set.now.caller [] pass.old }
     requires room { length trace.old < 20 }
-    ensures has { Has lanes.now set.entry.now.caller [] pass.new }
+    ensures has { HoldsLanes lanes.now set.entry.now.caller [] pass.new }
     ensures room { length trace.new ≡ length trace.old + 1 }
-    ensures did { Did (BaseOnly Stall) set.entry.now (moment pass.old trace.old) (moment pass.new trace.new) }
+    ensures did { Makes (BaseOnly Stall) set.entry.now (moment pass.old trace.old) (moment pass.new trace.new) }
 {
     let mut base = enter(rt, lanes, pass, trace, set, LaneId::Base);
     lane_values::down(base.state_mut());
@@ -38,11 +38,11 @@ pub fn stall<R: Wait>(rt: &R, lanes: &Lanes, pass: &mut Pass, trace: &mut Trace,
 
 /// The caller goes on.
 pub fn unstall<R: Wait>(rt: &R, lanes: &Lanes, pass: &mut Pass, trace: &mut Trace, set: &Setting)
-    requires has { Has lanes.now set.now.caller [] pass.old }
+    requires has { HoldsLanes lanes.now set.now.caller [] pass.old }
     requires room { length trace.old < 20 }
-    ensures has { Has lanes.now set.entry.now.caller [] pass.new }
+    ensures has { HoldsLanes lanes.now set.entry.now.caller [] pass.new }
     ensures room { length trace.new ≡ length trace.old + 1 }
-    ensures did { Did (BaseOnly Unstall) set.entry.now (moment pass.old trace.old) (moment pass.new trace.new) }
+    ensures did { Makes (BaseOnly Unstall) set.entry.now (moment pass.old trace.old) (moment pass.new trace.new) }
 {
     let mut base = enter(rt, lanes, pass, trace, set, LaneId::Base);
     lane_values::up(base.state_mut());
@@ -59,11 +59,11 @@ pub fn unstall<R: Wait>(rt: &R, lanes: &Lanes, pass: &mut Pass, trace: &mut Trac
 
 /// The caller ends. All that its pass has seen of the generation is then in the base's list.
 pub fn end<R: Wait>(rt: &R, lanes: &Lanes, pass: &mut Pass, trace: &mut Trace, set: &Setting)
-    requires has { Has lanes.now set.now.caller [] pass.old }
+    requires has { HoldsLanes lanes.now set.now.caller [] pass.old }
     requires room { length trace.old < 20 }
-    ensures has { Has lanes.now set.entry.now.caller [] pass.new }
+    ensures has { HoldsLanes lanes.now set.entry.now.caller [] pass.new }
     ensures reached { floor (view pass.new) ≤ (model pass.new 1).base.generation }
-    ensures did { Did (BaseOnly End) set.entry.now (moment pass.old trace.old) (moment pass.new trace.new) }
+    ensures did { Makes (BaseOnly End) set.entry.now (moment pass.old trace.old) (moment pass.new trace.new) }
 {
     let mut base = enter(rt, lanes, pass, trace, set, LaneId::Base);
     lane_values::down(base.state_mut());

@@ -4,9 +4,9 @@ ghost use Rattle.std.specs.Int.{w64, to_le_bytes};
 ghost use Rattle.key_names.specs.declared.events.Event.TheVariants.{Write as WriteEvent, Device as DeviceEvent, Add as AddEvent, Bits as BitsEvent, Input as InputEvent, Vmfork as VmforkEvent};
 ghost use Rattle.key_names.specs.declared.events.Answer.TheVariants.{Ok as Done};
 ghost use Rattle.key_names.specs.SeenLine.{count, no_data};
-ghost use Rattle.lane_table.specs.Hands.{Has};
-ghost use Rattle.rng_core.specs.Told.{moment};
-ghost use Rattle.rng_core.specs.Did.{Did, Fulfils, setting_of};
+ghost use Rattle.lane_table.specs.Hands.{HoldsLanes};
+ghost use Rattle.rng_core.specs.Traces.{moment};
+ghost use Rattle.rng_core.specs.Makes.{Makes, IsOutcomeOf, setting_of};
 
 use crate::lane_values;
 use crate::reseeds::{cross, reseed};
@@ -25,10 +25,10 @@ pub fn mix<R: Wait>(
     set: &Setting,
     text: &[u8],
 )
-    requires has { Has lanes.now set.now.caller [] pass.old }
+    requires has { HoldsLanes lanes.now set.now.caller [] pass.old }
     requires room { length trace.old < 20 }
-    ensures has { Has lanes.now set.entry.now.caller [] pass.new }
-    ensures did { Did (Fulfils (setting_of set.entry.now) (WriteEvent text.now) Done no_data) set.entry.now
+    ensures has { HoldsLanes lanes.now set.entry.now.caller [] pass.new }
+    ensures did { Makes (IsOutcomeOf (setting_of set.entry.now) (WriteEvent text.now) Done no_data) set.entry.now
         (moment pass.old trace.old) (moment pass.new trace.new) }
 {
     let mut pool = enter(rt, lanes, pass, trace, set, LaneId::Pool);
@@ -47,11 +47,11 @@ pub fn device<R: Wait>(
     word: u64,
     text: &[u8],
 )
-    requires has { Has lanes.now set.now.caller [] pass.old }
+    requires has { HoldsLanes lanes.now set.now.caller [] pass.old }
     requires room { length trace.old < 20 }
-    ensures has { Has lanes.now set.entry.now.caller [] pass.new }
+    ensures has { HoldsLanes lanes.now set.entry.now.caller [] pass.new }
     ensures room { length trace.new ≡ length trace.old + 1 }
-    ensures did { Did (Fulfils (setting_of set.entry.now) (DeviceEvent word text.now) Done no_data) set.entry.now
+    ensures did { Makes (IsOutcomeOf (setting_of set.entry.now) (DeviceEvent word text.now) Done no_data) set.entry.now
         (moment pass.old trace.old) (moment pass.new trace.new) }
 {
     let mut pool = enter(rt, lanes, pass, trace, set, LaneId::Pool);
@@ -70,11 +70,11 @@ pub fn add<R: Wait>(
     text: &[u8],
     bits: u32,
 )
-    requires has { Has lanes.now set.now.caller [] pass.old }
+    requires has { HoldsLanes lanes.now set.now.caller [] pass.old }
     requires moment { set.now.now < 2 ^ 40 }
     requires room { length trace.old < 18 }
-    ensures has { Has lanes.now set.entry.now.caller [] pass.new }
-    ensures did { Did (Fulfils (setting_of set.entry.now) (AddEvent text.now bits) Done no_data) set.entry.now
+    ensures has { HoldsLanes lanes.now set.entry.now.caller [] pass.new }
+    ensures did { Makes (IsOutcomeOf (setting_of set.entry.now) (AddEvent text.now bits) Done no_data) set.entry.now
         (moment pass.old trace.old) (moment pass.new trace.new) }
 {
     let mut pool = enter(rt, lanes, pass, trace, set, LaneId::Pool);
@@ -97,11 +97,11 @@ pub fn input<R: Wait>(
     code: u16,
     value: u8,
 )
-    requires has { Has lanes.now set.now.caller [] pass.old }
+    requires has { HoldsLanes lanes.now set.now.caller [] pass.old }
     requires moment { set.now.now < 2 ^ 40 }
     requires room { length trace.old < 18 }
-    ensures has { Has lanes.now set.entry.now.caller [] pass.new }
-    ensures did { Did (Fulfils (setting_of set.entry.now) (InputEvent word kind code value) Done no_data) set.entry.now
+    ensures has { HoldsLanes lanes.now set.entry.now.caller [] pass.new }
+    ensures did { Makes (IsOutcomeOf (setting_of set.entry.now) (InputEvent word kind code value) Done no_data) set.entry.now
         (moment pass.old trace.old) (moment pass.new trace.new) }
 {
     let mut pool = enter(rt, lanes, pass, trace, set, LaneId::Pool);
@@ -125,10 +125,10 @@ pub fn bits<R: Wait>(
     trace: &mut Trace,
     set: &Setting,
 ) -> u32
-    requires has { Has lanes.now set.now.caller [] pass.old }
+    requires has { HoldsLanes lanes.now set.now.caller [] pass.old }
     requires room { length trace.old < 20 }
-    ensures has { Has lanes.now set.entry.now.caller [] pass.new }
-    ensures did { Did (Fulfils (setting_of set.entry.now) BitsEvent Done (count result)) set.entry.now
+    ensures has { HoldsLanes lanes.now set.entry.now.caller [] pass.new }
+    ensures did { Makes (IsOutcomeOf (setting_of set.entry.now) BitsEvent Done (count result)) set.entry.now
         (moment pass.old trace.old) (moment pass.new trace.new) }
 {
     let pool = enter(rt, lanes, pass, trace, set, LaneId::Pool);
@@ -147,11 +147,11 @@ pub fn vmfork<R: Wait>(
     word: u64,
     text: &[u8],
 )
-    requires has { Has lanes.now set.now.caller [] pass.old }
+    requires has { HoldsLanes lanes.now set.now.caller [] pass.old }
     requires moment { set.now.now < 2 ^ 40 }
     requires room { length trace.old < 16 }
-    ensures has { Has lanes.now set.entry.now.caller [] pass.new }
-    ensures did { Did (Fulfils (setting_of set.entry.now) (VmforkEvent word text.now) Done no_data) set.entry.now
+    ensures has { HoldsLanes lanes.now set.entry.now.caller [] pass.new }
+    ensures did { Makes (IsOutcomeOf (setting_of set.entry.now) (VmforkEvent word text.now) Done no_data) set.entry.now
         (moment pass.old trace.old) (moment pass.new trace.new) }
 {
     device(rt, lanes, pass, trace, set, word, text);

@@ -2,15 +2,15 @@
 ghost use Rattle.std.specs.Prelude.{◌≡◌, ◌≢◌, ◌<◌, ◌≤◌, ◌+◌, ◌^◌, ◌∷◌, [], ℕ, ◌==◌, ◌&&◌, not, false, if◌then◌else◌, None, length};
 ghost use Rattle.key_names.specs.declared.entries.BaseEntry.TheVariants.{Wait as WaitEntry, Resume, Interrupt};
 ghost use Rattle.key_names.specs.Forms.{BaseOnly};
-ghost use Rattle.lane_table.specs.Meaning.{ValueStands};
+ghost use Rattle.lane_table.specs.Meaning.{ValueRepresents};
 ghost use Rattle.lane_table.specs.Calls.{view};
-ghost use Rattle.lane_table.specs.Hands.{Has, hand, model};
-ghost use Rattle.lane_table.specs.Went.{floor};
-ghost use Rattle.rng_core.specs.Told.{moment, BeginsWithLook};
+ghost use Rattle.lane_table.specs.Hands.{HoldsLanes, hand, model};
+ghost use Rattle.lane_table.specs.Advances.{floor};
+ghost use Rattle.rng_core.specs.Traces.{moment, BeginsWithLook};
 ghost use Rattle.key_names.specs.declared.events.Event.TheVariants.{Read, Dread};
 ghost use Rattle.key_names.specs.Flags.{is_bad, is_nonblock, is_insecure};
 ghost use Rattle.key_names.specs.SeenLine.{bytes_or_none};
-ghost use Rattle.rng_core.specs.Did.{Did, Serving, Fulfils, setting_of, result_answer, given};
+ghost use Rattle.rng_core.specs.Makes.{Makes, Serving, IsOutcomeOf, setting_of, result_answer, given};
 ghost use Rattle.rng_core.specs.Waits.{Waits, waiting};
 
 use crate::lane_values;
@@ -25,11 +25,11 @@ use std::sync::Wait;
 
 // The caller stops running.
 fn wait<R: Wait>(rt: &R, lanes: &Lanes, pass: &mut Pass, trace: &mut Trace, set: &Setting)
-    requires has { Has lanes.now set.now.caller [] pass.old }
+    requires has { HoldsLanes lanes.now set.now.caller [] pass.old }
     requires room { length trace.old < 20 }
-    ensures has { Has lanes.now set.entry.now.caller [] pass.new }
+    ensures has { HoldsLanes lanes.now set.entry.now.caller [] pass.new }
     ensures room { length trace.new ≡ length trace.old + 1 }
-    ensures did { Did (BaseOnly WaitEntry) set.entry.now (moment pass.old trace.old) (moment pass.new trace.new) }
+    ensures did { Makes (BaseOnly WaitEntry) set.entry.now (moment pass.old trace.old) (moment pass.new trace.new) }
 {
     let mut base = enter(rt, lanes, pass, trace, set, LaneId::Base);
     lane_values::down(base.state_mut());
@@ -38,16 +38,16 @@ fn wait<R: Wait>(rt: &R, lanes: &Lanes, pass: &mut Pass, trace: &mut Trace, set:
 
 // The caller runs again, since the core is ready.
 fn resume(lanes: &Lanes, pass: &mut Pass, trace: &mut Trace, set: &Setting, mut base: Held)
-    requires has { Has lanes.now set.now.caller (hand base.turn None 0 ∷ []) pass.old }
+    requires has { HoldsLanes lanes.now set.now.caller (hand base.turn None 0 ∷ []) pass.old }
     requires lane { base.turn.lane ≡ 1 }
-    requires value { ValueStands 1 base.state (model pass.old 1) }
+    requires value { ValueRepresents 1 base.state (model pass.old 1) }
     requires ready { 1 ≤ (model pass.old 1).base.generation }
     requires room { length trace.old < 20 }
     requires early { pass.old.stamp < 2 ^ 62 }
-    ensures has { Has lanes.now set.entry.now.caller [] pass.new }
+    ensures has { HoldsLanes lanes.now set.entry.now.caller [] pass.new }
     ensures ready { 1 ≤ floor (view pass.new) }
     ensures room { length trace.new ≡ length trace.old + 1 }
-    ensures did { Did (Serving (BaseOnly Resume) []) set.entry.now (moment pass.old trace.old)
+    ensures did { Makes (Serving (BaseOnly Resume) []) set.entry.now (moment pass.old trace.old)
         (moment pass.new trace.new) }
 {
     lane_values::up(base.state_mut());
@@ -64,16 +64,16 @@ fn resume(lanes: &Lanes, pass: &mut Pass, trace: &mut Trace, set: &Setting, mut 
 
 // The caller runs again, since nobody runs who could make the core ready.
 fn interrupt(lanes: &Lanes, pass: &mut Pass, trace: &mut Trace, set: &Setting, mut base: Held)
-    requires has { Has lanes.now set.now.caller (hand base.turn None 0 ∷ []) pass.old }
+    requires has { HoldsLanes lanes.now set.now.caller (hand base.turn None 0 ∷ []) pass.old }
     requires lane { base.turn.lane ≡ 1 }
-    requires value { ValueStands 1 base.state (model pass.old 1) }
+    requires value { ValueRepresents 1 base.state (model pass.old 1) }
     requires unready { (model pass.old 1).base.generation ≡ 0 }
     requires idle { (model pass.old 1).base.running ≡ 0 }
     requires room { length trace.old < 20 }
     requires early { pass.old.stamp < 2 ^ 62 }
-    ensures has { Has lanes.now set.entry.now.caller [] pass.new }
+    ensures has { HoldsLanes lanes.now set.entry.now.caller [] pass.new }
     ensures room { length trace.new ≡ length trace.old + 1 }
-    ensures did { Did (Serving (BaseOnly Interrupt) []) set.entry.now (moment pass.old trace.old)
+    ensures did { Makes (Serving (BaseOnly Interrupt) []) set.entry.now (moment pass.old trace.old)
         (moment pass.new trace.new) }
 {
     lane_values::up(base.state_mut());
@@ -96,9 +96,9 @@ fn wait_ready<R: Wait>(
     trace: &mut Trace,
     set: &Setting,
 ) -> Result<(), Errno>
-    requires has { Has lanes.now set.now.caller [] pass.old }
+    requires has { HoldsLanes lanes.now set.now.caller [] pass.old }
     requires room { length trace.old < 20 }
-    ensures has { Has lanes.now set.entry.now.caller [] pass.new }
+    ensures has { HoldsLanes lanes.now set.entry.now.caller [] pass.new }
     ensures waited { Waits result set.entry.now (moment pass.old trace.old) (moment pass.new trace.new)
         (floor (view pass.new)) }
     ensures room { length trace.new ≡ length trace.old + 1 }
@@ -148,14 +148,14 @@ pub fn getrandom<R: Wait>(
     buf: &mut [u8],
     flags: u32,
 ) -> Result<(), Errno>
-    requires has { Has lanes.now set.now.caller [] pass.old }
+    requires has { HoldsLanes lanes.now set.now.caller [] pass.old }
     requires cpu { set.now.cpu < lanes.now.cpus }
     requires short { length buf.old ≤ 2 ^ 20 }
     requires room { length trace.old + 4 + waiting (view pass.old) ≤ 20 }
-    ensures has { Has lanes.now set.entry.now.caller [] pass.new }
+    ensures has { HoldsLanes lanes.now set.entry.now.caller [] pass.new }
     ensures room { length trace.new + waiting (view pass.new) ≤ length trace.old + 4 + waiting (view pass.old) }
     ensures begins { is_bad flags ≡ false → BeginsWithLook trace.old trace.new }
-    ensures did { Did (Fulfils (setting_of set.entry.now) (Read (length buf.old) flags) (result_answer result)
+    ensures did { Makes (IsOutcomeOf (setting_of set.entry.now) (Read (length buf.old) flags) (result_answer result)
         (bytes_or_none (given result buf.new))) set.entry.now (moment pass.old trace.old) (moment pass.new trace.new) }
 {
     if are_bad(flags) {
@@ -208,12 +208,12 @@ pub fn random_file<R: Wait>(
     buf: &mut [u8],
     nonblock: bool,
 ) -> Result<(), Errno>
-    requires has { Has lanes.now set.now.caller [] pass.old }
+    requires has { HoldsLanes lanes.now set.now.caller [] pass.old }
     requires cpu { set.now.cpu < lanes.now.cpus }
     requires short { length buf.old ≤ 2 ^ 20 }
     requires room { length trace.old < 15 }
-    ensures has { Has lanes.now set.entry.now.caller [] pass.new }
-    ensures did { Did (Fulfils (setting_of set.entry.now) (Dread (length buf.old) (if nonblock then 1 else 0))
+    ensures has { HoldsLanes lanes.now set.entry.now.caller [] pass.new }
+    ensures did { Makes (IsOutcomeOf (setting_of set.entry.now) (Dread (length buf.old) (if nonblock then 1 else 0))
         (result_answer result) (bytes_or_none (given result buf.new))) set.entry.now (moment pass.old trace.old)
         (moment pass.new trace.new) }
 {

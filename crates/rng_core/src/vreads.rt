@@ -3,11 +3,11 @@ ghost use Rattle.std.specs.Prelude.{◌≡◌, ◌<◌, ◌≤◌, ◌^◌, [], 
 ghost use Rattle.key_names.specs.VreadSteps.{published_by};
 ghost use Rattle.key_names.specs.SeenLine.{bytes_or_none};
 ghost use Rattle.lane_table.specs.Calls.{view};
-ghost use Rattle.lane_table.specs.Hands.{Has};
-ghost use Rattle.lane_table.specs.Went.{floor};
-ghost use Rattle.rng_core.specs.Told.{moment};
-ghost use Rattle.rng_core.specs.Did.{result_answer, given};
-ghost use Rattle.rng_core.specs.VreadDid.{LocalRead, VreadDid};
+ghost use Rattle.lane_table.specs.Hands.{HoldsLanes};
+ghost use Rattle.lane_table.specs.Advances.{floor};
+ghost use Rattle.rng_core.specs.Traces.{moment};
+ghost use Rattle.rng_core.specs.Makes.{result_answer, given};
+ghost use Rattle.rng_core.specs.VreadMakes.{LocalRead, VreadMakes};
 
 use crate::host_call::call_host;
 use crate::lane_host::{LaneHost, publish};
@@ -32,10 +32,10 @@ pub fn vread_local(
     buf: &mut [u8],
     flags: u32,
 ) -> Local
-    requires has { Has lanes.now set.now.caller [] pass.old }
+    requires has { HoldsLanes lanes.now set.now.caller [] pass.old }
     requires current { st.old.generation ≤ published_by (floor (view pass.old)) }
     requires room { length trace.old < 20 }
-    ensures has { Has lanes.now set.entry.now.caller [] pass.new }
+    ensures has { HoldsLanes lanes.now set.entry.now.caller [] pass.new }
     ensures current { st.new.generation ≤ published_by (floor (view pass.new)) }
     ensures read { LocalRead result (length buf.old) flags st.old st.new buf.new set.entry.now
         (moment pass.old trace.old) (moment pass.new trace.new) }
@@ -71,14 +71,14 @@ pub fn vread<R: Wait>(
     buf: &mut [u8],
     flags: u32,
 ) -> Result<(), Errno>
-    requires has { Has lanes.now set.now.caller [] pass.old }
+    requires has { HoldsLanes lanes.now set.now.caller [] pass.old }
     requires cpu { set.now.cpu < lanes.now.cpus }
     requires current { st.old.generation ≤ published_by (floor (view pass.old)) }
     requires short { length buf.old ≤ 2 ^ 20 }
     requires room { length trace.old ≡ 0 }
-    ensures has { Has lanes.now set.entry.now.caller [] pass.new }
+    ensures has { HoldsLanes lanes.now set.entry.now.caller [] pass.new }
     ensures current { st.new.generation ≤ published_by (floor (view pass.new)) }
-    ensures did { VreadDid (length buf.old) flags st.old st.new
+    ensures did { VreadMakes (length buf.old) flags st.old st.new
         (result_answer result) (bytes_or_none (given result buf.new)) set.entry.now
         (moment pass.old trace.old) (moment pass.new trace.new) }
 {

@@ -10,7 +10,7 @@ use Rattle.key_names.specs.declared.names.Step.{Step}
 use Rattle.key_names.specs.declared.point.Point.{Point}
 use Rattle.key_names.specs.declared.point.Point.TheVariants.{Start, Written, Serve, End}
 use Rattle.key_names.specs.Book.{Lists}
-use Rattle.key_names.specs.Calls.{Setting as Told}
+use Rattle.key_names.specs.Calls.{Setting as CallSetting}
 use Rattle.key_names.specs.Deeds.{deeds_of}
 use Rattle.key_names.specs.FastPool.{FastPool}
 use Rattle.key_names.specs.IsTranscript.{EachAct}
@@ -22,9 +22,9 @@ use Rattle.lane_table.specs.declared.view.Visit.{Visit}
 use Rattle.lane_table.specs.BookLists.{StateLists, book_lists}
 use Rattle.lane_table.specs.BookLaws.{Continues}
 use Rattle.rng_core.specs.declared.setting.Setting.{Setting}
-use Rattle.rng_core.specs.Did.{setting_of, result_answer, given}
+use Rattle.rng_core.specs.Makes.{setting_of, result_answer, given}
 use Rattle.rng_core.specs.Acts.{Ask, ActOutcome, done_line}
-use Rattle.rng_core.specs.InsideDid.{act_line, bound_acts, outcome_line}
+use Rattle.rng_core.specs.InsideMakes.{act_line, bound_acts, outcome_line}
 use Rattle.key_names.specs.LineSamples.{SamplesStand}
 use Rattle.rng_core.specs.SampleDeeds.{fast_in}
 use Rattle.rng_core.proofs.ActRuns.{Meant, AllMeant}
@@ -96,7 +96,7 @@ module _ (set : Setting) (w : View) where
     none_stand : (steps : List Step) → steps ≡ [] → Stand steps
     none_stand steps none = subst Stand (sym none) (inl tt)
 
-    act_samples : (told : Told) (act : InsideAct) (m : LineMeaning) → ActMeans told act m → SamplesStand fast m.deeds
+    act_samples : (told : CallSetting) (act : InsideAct) (m : LineMeaning) → ActMeans told act m → SamplesStand fast m.deeds
     act_samples told Wipe m k = subst (λ (l : LineMeaning). SamplesStand fast l.deeds) (sym k) (inl tt)
     act_samples told (Vread n) m k = inl (sys fast told n 0 m.deeds k.0)
     act_samples told Reseed m k = form_samples fast told ReseedEvent m.deeds tt k.0

@@ -15,18 +15,18 @@ use Rattle.lane_table.specs.declared.view.Visit.{Visit}
 use Rattle.lane_table.specs.declared.view.View.{View}
 use Rattle.lane_table.specs.BookLists.{StateLists, book_lists}
 use Rattle.lane_table.specs.BookLaws.{Continues}
-use Rattle.lane_table.specs.Went.{Deal, step_of, Went}
-use Rattle.caller_run.specs.Doings.{doings_from, items_of}
+use Rattle.lane_table.specs.Advances.{MadeStep, step_of, Advances}
+use Rattle.caller_run.specs.NumberedSteps.{numbered_steps_from, items_of}
 use Rattle.key_names.specs.LineSamples.{SamplesStand}
 use Rattle.rng_core.specs.SampleDeeds.{fast_in}
 use Rattle.caller_run.specs.Done.{CallDone}
 use Rattle.caller_run.proofs.Orders.Chains.{items_from_doings, ran_nothing, ran_went}
 
 -- the call of a line went from v to w by these deals, which are the line's steps
-module _ (caller : ℕ) (v w : View) (s : CallerState) (line : SeenLine) (deals : List Deal)
-    (went : Went caller line.event 0 v w deals) (steps : line.steps ≡ map step_of deals) where
-  order : items_of (doings_from line.event 0 deals) ≡ items_from line.event 0 line.steps
-  order = items_from_doings line.event 0 deals ∙ ap (λ (l : List Step). items_from line.event 0 l) (sym steps)
+module _ (caller : ℕ) (v w : View) (s : CallerState) (line : SeenLine) (made_steps : List MadeStep)
+    (went : Advances caller line.event 0 v w made_steps) (steps : line.steps ≡ map step_of made_steps) where
+  order : items_of (numbered_steps_from line.event 0 made_steps) ≡ items_from line.event 0 line.steps
+  order = items_from_doings line.event 0 made_steps ∙ ap (λ (l : List Step). items_from line.event 0 l) (sym steps)
 
   abbrev InTheEnd : ((ℕ → List Visit) → Lists → Type 0) → Type 0
   InTheEnd P = (lanes : ℕ) (visits : ℕ → List Visit) (callers : StateLists) → Continues lanes w visits →
@@ -41,8 +41,8 @@ module _ (caller : ℕ) (v w : View) (s : CallerState) (line : SeenLine) (deals 
       × (line.shown ≡ shown_of event (deeds_of lists line.steps))) →
       Sampled → CallDone caller v w s (caller_after s event) (alone event line)
   alone_done event told sampled = record {
-    doings = doings_from line.event 0 deals;
-    ran = ran_went caller line.event 0 v w deals went;
+    numbered_steps = numbered_steps_from line.event 0 made_steps;
+    ran = ran_went caller line.event 0 v w made_steps went;
     order = order;
     points = tt;
     meant = λ lanes visits callers c. let t = told lanes visits callers c in record {
@@ -70,8 +70,8 @@ module _ (caller : ℕ) (v w : View) (s : CallerState) (line : SeenLine) (deals 
   pub ending_done : InTheEnd (λ visits lists. EndForm (deeds_of lists line.steps)) → line.answer ≡ Done →
       line.shown ≡ no_data → Sampled → CallDone caller v w s s (ending line)
   ending_done told answer shown sampled = record {
-    doings = doings_from line.event 0 deals;
-    ran = ran_went caller line.event 0 v w deals went;
+    numbered_steps = numbered_steps_from line.event 0 made_steps;
+    ran = ran_went caller line.event 0 v w made_steps went;
     order = order;
     points = tt;
     meant = λ lanes visits callers c. record {
@@ -107,7 +107,7 @@ module _ (caller : ℕ) (v w : View) (s : CallerState) (line : SeenLine) (deals 
 pub unbound_done : (caller : ℕ) (v : View) (s : CallerState) (bound : BoundAct) → bound.line.steps ≡ [] →
     bound.line.answer ≡ Unused → bound.line.shown ≡ no_data → CallDone caller v v s s (unbound bound)
 unbound_done caller v s bound none answer shown = record {
-  doings = [];
+  numbered_steps = [];
   ran = ran_nothing caller v;
   order = ap (λ (l : List Step). items_from bound.line.event 0 l) (sym none);
   points = tt;

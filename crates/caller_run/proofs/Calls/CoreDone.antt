@@ -6,7 +6,7 @@ use Rattle.key_names.specs.declared.events.Event.{Event}
 use Rattle.key_names.specs.declared.events.Word.{Word}
 use Rattle.key_names.specs.declared.names.Step.{Step}
 use Rattle.key_names.specs.declared.entries.BaseEntry.TheVariants.{End}
-use Rattle.key_names.specs.Calls.{Setting as Told, alone, ending}
+use Rattle.key_names.specs.Calls.{Setting as CallSetting, alone, ending}
 use Rattle.key_names.specs.Deeds.{deeds_of}
 use Rattle.key_names.specs.Forms.{Form, BaseOnly, EndForm}
 use Rattle.key_names.specs.Meaning.{CallerState, caller_after}
@@ -15,10 +15,10 @@ use Rattle.lane_table.specs.declared.view.View.{View}
 use Rattle.lane_table.specs.declared.view.Visit.{Visit}
 use Rattle.lane_table.specs.BookLists.{StateLists, book_lists}
 use Rattle.lane_table.specs.BookLaws.{Continues}
-use Rattle.lane_table.specs.Went.{step_of}
+use Rattle.lane_table.specs.Advances.{step_of}
 use Rattle.rng_core.specs.declared.setting.Setting.{Setting}
-use Rattle.rng_core.specs.Told.{Moment}
-use Rattle.rng_core.specs.Did.{Did, Fulfils, setting_of}
+use Rattle.rng_core.specs.Traces.{Moment}
+use Rattle.rng_core.specs.Makes.{Makes, IsOutcomeOf, setting_of}
 use Rattle.key_names.specs.LineSamples.{SamplesStand}
 use Rattle.rng_core.specs.SampleDeeds.{Sampled, fast_in}
 use Rattle.caller_run.specs.Calling.{Does}
@@ -50,24 +50,24 @@ module _ (set : Setting) (v w : View) (s : CallerState) where
         steps = steps;
         shown = shown;
       })
-      d.deals d.told.went d.told.trace event
+      d.made_steps d.told.went d.told.trace event
       (λ lanes visits callers c. let h = (line_stands lanes visits callers c).holds in (
-        subst (λ (x : Told). Form x event (deeds_of (book_lists lanes visits callers) steps)) (sym same) h.form,
+        subst (λ (x : CallSetting). Form x event (deeds_of (book_lists lanes visits callers) steps)) (sym same) h.form,
         h.answers,
         h.shows,
       ))
       (λ lanes visits callers c. (line_stands lanes visits callers c).samples)
     where
       line_stands : (lanes : ℕ) (visits : ℕ → List Visit) (callers : StateLists) → Continues lanes w visits →
-          Sampled (Fulfils (setting_of set) event answer shown) visits
+          Sampled (IsOutcomeOf (setting_of set) event answer shown) visits
           (deeds_of (book_lists lanes visits callers) steps)
       line_stands lanes visits callers c =
-          subst (λ (l : List Step). Sampled (Fulfils (setting_of set) event answer shown) visits
+          subst (λ (l : List Step). Sampled (IsOutcomeOf (setting_of set) event answer shown) visits
           (deeds_of (book_lists lanes visits callers) l))
           (sym d.told.trace) (d.stands lanes visits callers c)
 
   -- the end
-  pub end_done : (word : Word) (steps : List Step) → Did (BaseOnly End) set (since v []) (since w steps) →
+  pub end_done : (word : Word) (steps : List Step) → Makes (BaseOnly End) set (since v []) (since w steps) →
       CallDone set.caller v w s s (ending (record {
         caller = set.caller;
         event = set.event;
@@ -85,7 +85,7 @@ module _ (set : Setting) (v w : View) (s : CallerState) where
         steps = steps;
         shown = no_data;
       })
-      d.deals d.told.went d.told.trace
+      d.made_steps d.told.went d.told.trace
       (λ lanes visits callers c.
       subst (λ (l : List Step). EndForm (deeds_of (book_lists lanes visits callers) l)) (sym d.told.trace)
       (d.stands lanes visits callers c))
@@ -93,5 +93,5 @@ module _ (set : Setting) (v w : View) (s : CallerState) where
       (λ lanes visits callers c.
       subst (λ (l : List Step). SamplesStand (fast_in visits) (deeds_of (book_lists lanes visits callers) l))
       (sym d.told.trace)
-      (end_samples (fast_in visits) (deeds_of (book_lists lanes visits callers) (map step_of d.deals))
+      (end_samples (fast_in visits) (deeds_of (book_lists lanes visits callers) (map step_of d.made_steps))
       (d.stands lanes visits callers c)))

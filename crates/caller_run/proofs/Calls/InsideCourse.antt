@@ -10,7 +10,7 @@ use Rattle.key_names.specs.VreadSteps.{published_by}
 use Rattle.lane_table.specs.declared.view.View.{View}
 use Rattle.lane_table.specs.WorldRule.{Consistent, known_of}
 use Rattle.lane_table.specs.BookLaws.{Continues}
-use Rattle.lane_table.specs.Went.{step_of, floor}
+use Rattle.lane_table.specs.Advances.{step_of, floor}
 use Rattle.lane_table.proofs.Book.BookEnds.{continues_before, known_lanes}
 use Rattle.lane_table.proofs.Lists.VisitLists.{begins_refl}
 use Rattle.vdso_state.specs.Host.{DoesAll}
@@ -19,11 +19,11 @@ use Rattle.rng_core.specs.declared.attempt.Attempt.TheVariants.{Before, First}
 use Rattle.rng_core.specs.declared.setting.Setting.{Setting}
 use Rattle.rng_core.specs.Acts.{Ask}
 use Rattle.rng_core.specs.Acting.{acting, ActPublished, ActPassed}
-use Rattle.rng_core.specs.InsideDid.{bound_acts}
+use Rattle.rng_core.specs.InsideMakes.{bound_acts}
 use Rattle.rng_core.proofs.ActRuns.{Onward, onward_then, acts_onward, did_onward}
-use Rattle.rng_core.proofs.Doing.{did_look}
+use Rattle.rng_core.proofs.Makings.{did_look}
 use Rattle.caller_run.specs.Items.{Item, vread_items}
-use Rattle.caller_run.proofs.Calls.ActDoings.{Untouched, untouched_items}
+use Rattle.caller_run.proofs.Calls.ActSteps.{Untouched, untouched_items}
 use Rattle.caller_run.proofs.Calls.CallShapes.{Behind, Copies, Rekeys, Fails, Writes, Tries, call_shape}
 use Rattle.caller_run.proofs.Orders.InsideOrder.{kept_then, kept_own, kept_at, Course, course_part, quiet_part}
 use Rattle.caller_run.proofs.Calls.KeyCuts.{key_cut, plain_cut, key_call}
@@ -179,16 +179,16 @@ module _ (set : Setting) (asks : List Ask) where
             ended = d.ended;
             first = k.first;
             second = k.second;
-            rekey = next_items set asks written (map step_of did.deals);
+            rekey = next_items set asks written (map step_of did.made_steps);
             rest = d.items;
             looks = k.looks;
             start = k.start;
             write = write;
-            key = own_told set asks written call.0 did.deals did.told call.1.acts.outcomes;
+            key = own_told set asks written call.0 did.made_steps did.told call.1.acts.outcomes;
             serve = d.serve;
             end = d.end;
             goes_on = d.own;
-            cut = inl (key_cut set.event (length written.moment.steps) (map step_of did.deals) d.items keys d.unmarked);
+            cut = inl (key_cut set.event (length written.moment.steps) (map step_of did.made_steps) d.items keys d.unmarked);
           }
 
       -- where there was none to be had

@@ -17,10 +17,10 @@ use Rattle.lane_table.specs.BookLists.{StateLists, book_lists}
 use Rattle.lane_table.specs.BookLaws.{Continues}
 use Rattle.rng_core.specs.declared.attempt.Attempt.TheVariants.{Before}
 use Rattle.rng_core.specs.declared.setting.Setting.{Setting}
-use Rattle.rng_core.specs.Did.{setting_of}
+use Rattle.rng_core.specs.Makes.{setting_of}
 use Rattle.rng_core.specs.Acts.{Ask, ActOutcome}
 use Rattle.rng_core.specs.Acting.{act_stand, InsideRan}
-use Rattle.rng_core.specs.InsideDid.{bound_acts, inside_meaning, InsideDid}
+use Rattle.rng_core.specs.InsideMakes.{bound_acts, inside_meaning, InsideMakes}
 use Rattle.key_names.specs.LineSamples.{SamplesStand}
 use Rattle.rng_core.specs.SampleDeeds.{fast_in}
 use Rattle.rng_core.proofs.ActRuns.{AllMeant}
@@ -28,7 +28,7 @@ use Rattle.rng_core.proofs.Acting.{acted_meant}
 use Rattle.rng_core.proofs.InsideCalls.{IsUndone, undone_meant}
 use Rattle.caller_run.specs.Done.{CallDone}
 use Rattle.caller_run.specs.Items.{line_items, vread_items}
-use Rattle.caller_run.proofs.Calls.ActDoings.{all_untouched}
+use Rattle.caller_run.proofs.Calls.ActSteps.{all_untouched}
 use Rattle.caller_run.proofs.Calls.ActsMeant.{points_fit, each_act, act_deeds, act_answer, act_shown, acts_samples}
 use Rattle.caller_run.proofs.Calls.InsideCourse.{inside_part}
 use Rattle.caller_run.proofs.Orders.PartItems.{Part}
@@ -39,7 +39,7 @@ module _ (set : Setting) (v w : View) (s : CallerState) (n flags : ℕ) (t : Vge
     (shown : Shown)
     (word : Word) (steps : List Step) (asks : List Ask) (xs zs : List ActOutcome) (same : s.setting ≡ setting_of set)
     (fresh : AllByRecursion IsUndone xs) (long : length xs ≡ length asks) (two : 1 < length v.lanes)
-    (did : InsideDid n flags (current_state s) t answer shown set (record { view = v; steps = [] })
+    (did : InsideMakes n flags (current_state s) t answer shown set (record { view = v; steps = [] })
     (record { view = w; steps = steps }) asks zs)
     (ran : InsideRan n flags (current_state s) t
     (act_stand (record { set = set; moment = record { view = v; steps = [] } }) Before asks xs)
@@ -76,7 +76,7 @@ module _ (set : Setting) (v w : View) (s : CallerState) (n flags : ℕ) (t : Vge
 
   pub inside_done : CallDone set.caller v w s (with_state s t) (vread_call n flags line acts)
   inside_done = record {
-    doings = part.doings;
+    numbered_steps = part.numbered_steps;
     ran = part.ran;
     order = part.order;
     points = points_fit set asks zs;

@@ -9,7 +9,7 @@ use Rattle.key_names.specs.declared.names.LaneId.TheVariants.{Pool as PoolLane, 
 use Rattle.key_names.specs.declared.names.Step.{Step}
 use Rattle.key_names.specs.declared.names.Step.TheVariants.{Look, Visit as Marked}
 use Rattle.key_names.specs.Book.{Lists, cpu_list}
-use Rattle.key_names.specs.Calls.{Setting as Told}
+use Rattle.key_names.specs.Calls.{Setting as CallSetting}
 use Rattle.key_names.specs.Deeds.{Deed, looked as look_deed, at_pool, at_base, at_cpu, nothing_there, pool_visit, base_visit, cpu_visit, deed_or, deed_at, deeds_of}
 use Rattle.key_names.specs.Flags.{is_insecure}
 use Rattle.key_names.specs.Forms.{CpuReadForm, WaitedInVain, Waited, ReadForm}
@@ -19,10 +19,10 @@ use Rattle.lane_table.specs.declared.view.Visit.{Visit}
 use Rattle.lane_table.specs.declared.view.View.{View}
 use Rattle.lane_table.specs.BookLists.{book_lists}
 use Rattle.lane_table.specs.BookLaws.{Continues}
-use Rattle.lane_table.specs.Went.{Deal, looked, visited, step_of, Sees, floor}
+use Rattle.lane_table.specs.Advances.{MadeStep, looked, visited, step_of, Sees, floor}
 use Rattle.rng_core.specs.declared.setting.Setting.{Setting}
-use Rattle.rng_core.specs.Told.{Moment}
-use Rattle.rng_core.specs.Did.{Did, setting_of}
+use Rattle.rng_core.specs.Traces.{Moment}
+use Rattle.rng_core.specs.Makes.{Makes, setting_of}
 use Rattle.rng_core.specs.Hosted.{SystemCall}
 use Rattle.caller_run.specs.Items.{Item, items_from, cut_items, cut_rekey}
 use Rattle.caller_run.proofs.Orders.OwnSteps.{BeginsUnmarked}
@@ -135,7 +135,7 @@ module _ (lists : Lists) where
       (cc e, all_marks steps (subst (AllByRecursion (λ b. b ≡ true)) (sym rest) all))
 
   -- a read from a CPU behind a look
-  read_steps : (set : Told) (steps : List Step) (g : ℕ) (rest : List Deed) → deeds_of lists steps ≡ look_deed g ∷ rest →
+  read_steps : (set : CallSetting) (steps : List Step) (g : ℕ) (rest : List Deed) → deeds_of lists steps ≡ look_deed g ∷ rest →
       CpuReadForm set (User 32) rest → IsKeySteps steps
   read_steps set steps g rest e (inl f) =
       key_marks steps [] (marks_are steps ∙ ap (map is_visit) e
@@ -146,39 +146,39 @@ module _ (lists : Lists) where
       (refl, tt)
 
   -- its look is no less than what was seen before it
-  look_seen : (w : View) (low high g : ℕ) (rest : List Deed) (deals : List Deal) → Sees w low deals high →
-      deeds_of lists (map step_of deals) ≡ look_deed g ∷ rest → low ≤ g
+  look_seen : (w : View) (low high g : ℕ) (rest : List Deed) (made_steps : List MadeStep) → Sees w low made_steps high →
+      deeds_of lists (map step_of made_steps) ≡ look_deed g ∷ rest → low ≤ g
   look_seen w low high g rest [] sees e = absurd (cc e)
-  look_seen w low high g rest (looked h ∷ deals) sees e =
+  look_seen w low high g rest (looked h ∷ made_steps) sees e =
       let same : look_deed h ≡ look_deed g = cc e in let found : h ≡ g = cc same in let a = sees.0 in omega arith
-  look_seen w low high g rest (visited mark entry ∷ deals) sees e =
+  look_seen w low high g rest (visited mark entry ∷ made_steps) sees e =
       let no : true ≡ false = sym (visit_at mark.lane mark.place)
       ∙ ap (λ (l : List Deed). elim l as (λ _. Bool) [ [] ↦ true | d ∷ ds ↦ is_visit d ]) e in absurd (cc no)
 
 -- where a generation was seen, a system call for a new key reads from the CPU
 pub key_call : (set : Setting) (answer : SystemAnswer) (l m : Moment)
-    (k : Did (SystemCall (setting_of set) 32 0 answer) set l m)
+    (k : Makes (SystemCall (setting_of set) 32 0 answer) set l m)
     (lanes : ℕ) (visits : ℕ → List Visit) → Continues lanes m.view visits → 1 ≤ floor l.view →
-    IsKeySteps (map step_of k.deals)
+    IsKeySteps (map step_of k.made_steps)
 key_call set answer l m k lanes visits c seen =
     let lists : Lists = book_lists lanes visits [] in
     let f = (k.stands lanes visits [] c).form in
-    let above = look_seen lists m.view (floor l.view) (floor m.view) f.0 f.1 k.deals k.told.went.sees f.2 in
+    let above = look_seen lists m.view (floor l.view) (floor m.view) f.0 f.1 k.made_steps k.told.went.sees f.2 in
     go lists f.0 f.1 (omega arith) f.2 (f.0 == 0 && not (is_insecure 0)) refl f.3
   where
     no_zero : (g : ℕ) → 1 ≤ g → (g == 0 && not (is_insecure 0)) ≡ true → ⊥
     no_zero g low e = let zero_is = eqb-true g 0 (and_parts (g == 0) (not (is_insecure 0)) e).0 in absurd (omega arith)
 
     reads : (lists : Lists) (g : ℕ) (rest : List Deed) → 1 ≤ g →
-        deeds_of lists (map step_of k.deals) ≡ look_deed g ∷ rest →
-        ReadForm (setting_of set) (User 32) g rest → IsKeySteps (map step_of k.deals)
+        deeds_of lists (map step_of k.made_steps) ≡ look_deed g ∷ rest →
+        ReadForm (setting_of set) (User 32) g rest → IsKeySteps (map step_of k.made_steps)
     reads lists g rest low e (inl f) = let zero_is = f.0 in absurd (omega arith)
-    reads lists g rest low e (inr f) = read_steps lists (setting_of set) (map step_of k.deals) g rest e f
+    reads lists g rest low e (inr f) = read_steps lists (setting_of set) (map step_of k.made_steps) g rest e f
 
     go : (lists : Lists) (g : ℕ) (rest : List Deed) → 1 ≤ g →
-        deeds_of lists (map step_of k.deals) ≡ look_deed g ∷ rest →
+        deeds_of lists (map step_of k.made_steps) ≡ look_deed g ∷ rest →
         (b : Bool) → (g == 0 && not (is_insecure 0)) ≡ b →
         MatchBool b (WaitedInVain rest ⊎ Waited (setting_of set) 32 rest) (ReadForm (setting_of set) (User 32) g rest) →
-        IsKeySteps (map step_of k.deals)
+        IsKeySteps (map step_of k.made_steps)
     go lists g rest low e true b h = absurd (no_zero g low b)
     go lists g rest low e false b h = reads lists g rest low e h

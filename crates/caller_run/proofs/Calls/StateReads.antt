@@ -12,8 +12,8 @@ use Rattle.key_names.specs.SeenLine.{Shown, bytes_or_none}
 use Rattle.key_names.specs.Texts.TranscriptGrammar.{StepFits}
 use Rattle.key_names.specs.VgetrandomState.{VgetrandomState, wiped_state}
 use Rattle.lane_table.specs.Calls.{view}
-use Rattle.lane_table.specs.Went.{Deal, step_of, floor}
-use Rattle.lane_table.specs.Hands.{Has}
+use Rattle.lane_table.specs.Advances.{MadeStep, step_of, floor}
+use Rattle.lane_table.specs.Hands.{HoldsLanes}
 use Rattle.lane_table.specs.declared.lanes.Lanes.{Lanes}
 use Rattle.key_names.specs.Meaning.{CallerState}
 use Rattle.key_names.specs.VreadSteps.{published_by}
@@ -26,16 +26,16 @@ use Rattle.rng_core.specs.declared.acts.Bound.{Bound}
 use Rattle.rng_core.specs.declared.attempt.Attempt.TheVariants.{Before}
 use Rattle.rng_core.specs.Acting.{act_stand, InsideRan}
 use Rattle.rng_core.specs.Acts.{Ask, asks_of, outcomes_of}
-use Rattle.rng_core.specs.Did.{result_answer, given}
+use Rattle.rng_core.specs.Makes.{result_answer, given}
 use Rattle.rng_core.specs.Hosted as core
-use Rattle.rng_core.specs.InsideDid.{IsFresh, bound_acts, InsideDid}
-use Rattle.rng_core.specs.Told.{moment}
-use Rattle.rng_core.specs.VreadDid.{VreadDid}
+use Rattle.rng_core.specs.InsideMakes.{IsFresh, bound_acts, InsideMakes}
+use Rattle.rng_core.specs.Traces.{moment}
+use Rattle.rng_core.specs.VreadMakes.{VreadMakes}
 use Rattle.caller_run.specs.Calling.{stand}
 use Rattle.caller_run.specs.Done.{CallDone}
 use Rattle.caller_run.specs.Says.{shown_by, line_of}
 use Rattle.caller_run.specs.declared.caller.Caller.{Caller}
-use Rattle.caller_run.specs.declared.said.Said.{Said}
+use Rattle.caller_run.specs.declared.reply.Reply.{Reply}
 use Rattle.caller_run.proofs.Calls.InsideDone.{inside_done}
 use Rattle.caller_run.proofs.Calls.VreadDone.{vread_done}
 
@@ -46,10 +46,10 @@ current_is states i other low = sym (ap (λ (o : Option VgetrandomState). unwrap
     (slice_get-get_or states i other low))
 
 -- d is c behind a read out of this state, which left that one
-pub record IsBehind (t : Lanes) (c d : Caller) (said : Said) (served : List ℕ) (before : List Step)
+pub record IsBehind (t : Lanes) (c d : Caller) (said : Reply) (served : List ℕ) (before : List Step)
     (st left : VgetrandomState)
     (ended : Result (Unit {0}) Errno) : Type 0 where
-  pub has : Has t d.set.caller [] d.pass
+  pub has : HoldsLanes t d.set.caller [] d.pass
   pub set : d.set ≡ c.set
   pub stands : stand d ≡ with_state (stand c) left
   pub published : left.generation ≤ published_by (floor (view d.pass))
@@ -59,7 +59,7 @@ pub record IsBehind (t : Lanes) (c d : Caller) (said : Said) (served : List ℕ)
   pub shows : shown_by served said.shows ≡ bytes_or_none (given ended served)
   pub bytes : IsNoCount said.shows
 
-module _ {t : Lanes} {c d : Caller} {said : Said} {served : List ℕ} {before : List Step} {st left : VgetrandomState}
+module _ {t : Lanes} {c d : Caller} {said : Reply} {served : List ℕ} {before : List Step} {st left : VgetrandomState}
     {ended : Result (Unit {0}) Errno} (b : IsBehind t c d said served before st left ended) where
   -- as the line tells it
   told_by : (P : VgetrandomState → Answer → Shown → List Step → Type 0) →
@@ -71,10 +71,10 @@ module _ {t : Lanes} {c d : Caller} {said : Said} {served : List ℕ} {before : 
       (subst (λ (a : Answer). P st a (shown_by served said.shows) before) (sym b.answers)
       (subst (λ (x : Shown). P st (result_answer ended) x before) (sym b.shows) here)))
 
-  steps_fit : {steps : List Step} (deals : List Deal) → steps ≡ before ++ map step_of deals →
-      AllByRecursion StepFits (map step_of deals) → AllByRecursion StepFits steps
-  steps_fit deals trace fits = subst (AllByRecursion StepFits)
-      (sym (trace ∙ ap (λ (l : List Step). l ++ map step_of deals) b.new)) fits
+  steps_fit : {steps : List Step} (made_steps : List MadeStep) → steps ≡ before ++ map step_of made_steps →
+      AllByRecursion StepFits (map step_of made_steps) → AllByRecursion StepFits steps
+  steps_fit made_steps trace fits = subst (AllByRecursion StepFits)
+      (sym (trace ∙ ap (λ (l : List Step). l ++ map step_of made_steps) b.new)) fits
 
   module _ {n flags : ℕ} {steps : List Step} where
     -- a read is told by what it did
@@ -101,7 +101,7 @@ module _ {t : Lanes} {c d : Caller} {said : Said} {served : List ℕ} {before : 
 
     -- with no act inside
     pub read_alone : (acts : List Bound) (out : List ℕ) → acts ≡ [] →
-        VreadDid n flags st left (result_answer ended) (bytes_or_none (given ended served)) c.set (moment c.pass before)
+        VreadMakes n flags st left (result_answer ended) (bytes_or_none (given ended served)) c.set (moment c.pass before)
         (moment d.pass steps) →
         StateRead t n flags c d said served steps (asks_of acts) (outcomes_of acts out)
     read_alone acts out none did =
@@ -110,14 +110,14 @@ module _ {t : Lanes} {c d : Caller} {said : Said} {served : List ℕ} {before : 
         (read_by [] []
         (vread_done c.set (view c.pass) (view d.pass) (stand c) n flags left said.answer (shown_by served said.shows)
         VreadWord steps refl
-        (told_by (λ s a x l. VreadDid n flags s left a x c.set (moment c.pass l) (moment d.pass steps)) did))
-        refl (steps_fit did.did.deals did.did.told.trace did.did.told.fits) tt)
+        (told_by (λ s a x l. VreadMakes n flags s left a x c.set (moment c.pass l) (moment d.pass steps)) did))
+        refl (steps_fit did.did.made_steps did.did.told.trace did.did.told.fits) tt)
 
     -- with these acts inside, which then were those
     pub read_inside : (acts after : List Bound) (out out_after : List ℕ) → AllByRecursion IsFresh acts →
         1 < length (view c.pass).lanes →
         asks_of after ≡ asks_of acts →
-        InsideDid n flags st left (result_answer ended) (bytes_or_none (given ended served)) c.set
+        InsideMakes n flags st left (result_answer ended) (bytes_or_none (given ended served)) c.set
         (moment c.pass before)
         (moment d.pass steps)
         (asks_of acts) (outcomes_of after out_after) →
@@ -132,7 +132,7 @@ module _ {t : Lanes} {c d : Caller} {said : Said} {served : List ℕ} {before : 
         VreadWord steps
         (asks_of acts)
         (outcomes_of acts out) zs refl (fresh_undone acts out fresh) (outcomes_long acts out) two
-        (told_by (λ s a x l. InsideDid n flags s left a x c.set (moment c.pass l) (moment d.pass steps) (asks_of acts)
+        (told_by (λ s a x l. InsideMakes n flags s left a x c.set (moment c.pass l) (moment d.pass steps) (asks_of acts)
         zs) did)
         (told_by (λ s a x l. InsideRan n flags s left (act_stand (core.stand c.set c.pass l) Before (asks_of acts)
         (outcomes_of acts out))
@@ -140,4 +140,4 @@ module _ {t : Lanes} {c d : Caller} {said : Said} {served : List ℕ} {before : 
         (subst (λ (l : List Ask). InsideRan n flags st left
         (act_stand (core.stand c.set c.pass before) Before (asks_of acts) (outcomes_of acts out))
         (λ last. act_stand (core.stand c.set d.pass steps) last l zs)) asks ran)))
-        (outcomes_long after out_after ∙ ap length asks) (steps_fit did.deals did.trace did.fits) did.acts_fit
+        (outcomes_long after out_after ∙ ap length asks) (steps_fit did.made_steps did.trace did.fits) did.acts_fit

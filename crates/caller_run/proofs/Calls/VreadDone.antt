@@ -6,7 +6,7 @@ use Rattle.key_names.specs.declared.events.Answer.{Answer}
 use Rattle.key_names.specs.declared.events.Word.{Word}
 use Rattle.key_names.specs.declared.names.Step.{Step}
 use Rattle.key_names.specs.BatchCopy.{serves_locally}
-use Rattle.key_names.specs.Calls.{Setting as Told, vread_call, BoundAct}
+use Rattle.key_names.specs.Calls.{Setting as CallSetting, vread_call, BoundAct}
 use Rattle.key_names.specs.Deeds.{Deed, looked, deeds_of}
 use Rattle.key_names.specs.FastPool.{FastPool}
 use Rattle.key_names.specs.Forms.{Looked}
@@ -20,12 +20,12 @@ use Rattle.lane_table.specs.declared.view.LaneView.{LaneView}
 use Rattle.lane_table.specs.declared.view.View.{View}
 use Rattle.lane_table.specs.WorldRule.{at, blank, known_of}
 use Rattle.lane_table.specs.BookLists.{book_lists}
-use Rattle.lane_table.specs.Went.{step_of}
+use Rattle.lane_table.specs.Advances.{step_of}
 use Rattle.rng_core.specs.declared.setting.Setting.{Setting}
-use Rattle.rng_core.specs.Did.{setting_of}
-use Rattle.rng_core.specs.VreadDid.{VreadDid, vread_meaning}
+use Rattle.rng_core.specs.Makes.{setting_of}
+use Rattle.rng_core.specs.VreadMakes.{VreadMakes, vread_meaning}
 use Rattle.rng_core.proofs.Readings.{Stayed, stayed}
-use Rattle.caller_run.specs.Doings.{doings_from}
+use Rattle.caller_run.specs.NumberedSteps.{numbered_steps_from}
 use Rattle.caller_run.specs.Items.{items_from}
 use Rattle.caller_run.specs.Ran.{Ran}
 use Rattle.key_names.specs.LineSamples.{IsQuiet}
@@ -58,7 +58,7 @@ module _ (fast : ℕ → ℕ → FastPool) where
   are : (xs ys : List Deed) → xs ≡ ys → Quiet ys → Quiet xs
   are xs ys same quiet = subst Quiet (sym same) quiet
 
-  shows_quiet : (set : Told) (steps : List HostStep) (deeds : List Deed) → Shows set steps deeds → Quiet deeds
+  shows_quiet : (set : CallSetting) (steps : List HostStep) (deeds : List Deed) → Shows set steps deeds → Quiet deeds
   shows_quiet set [] deeds k = are deeds [] k tt
   shows_quiet set (publishes g ∷ steps) deeds k = are deeds (looked k.0 ∷ k.1) k.2 (tt, shows_quiet set steps k.1 k.3.1)
   shows_quiet set (system_call n flags answer ∷ steps) deeds k =
@@ -92,7 +92,7 @@ module _ (fast : ℕ → ℕ → FastPool) where
 module _ (set : Setting) (v w : View) (s : CallerState) (n flags : ℕ) (t : VgetrandomState) (answer : Answer)
     (shown : Shown)
     (word : Word) (steps : List Step) (same : s.setting ≡ setting_of set)
-    (k : VreadDid n flags (current_state s) t answer shown set (record { view = v; steps = [] })
+    (k : VreadMakes n flags (current_state s) t answer shown set (record { view = v; steps = [] })
     (record { view = w; steps = steps })) where
   abbrev line : SeenLine
   line = record { caller = set.caller; event = set.event; word = word; answer = answer; steps = steps; shown = shown }
@@ -102,12 +102,12 @@ module _ (set : Setting) (v w : View) (s : CallerState) (n flags : ℕ) (t : Vge
 
   pub vread_done : CallDone set.caller v w s (with_state s t) (vread_call n flags line [])
   vread_done = record {
-    doings = doings_from set.event 0 k.did.deals;
-    ran = ran_then set.caller 0 0 v k.looked w [] (doings_from set.event 0 k.did.deals)
+    numbered_steps = numbered_steps_from set.event 0 k.did.made_steps;
+    ran = ran_then set.caller 0 0 v k.looked w [] (numbered_steps_from set.event 0 k.did.made_steps)
         (ran_glanced set.caller v k.looked (stayed n flags (current_state s) t answer shown set
         (record { view = v; steps = [] }) (record { view = w; steps = steps }) k))
-        (ran_went set.caller set.event 0 k.looked w k.did.deals k.did.told.went);
-    order = items_from_doings set.event 0 k.did.deals
+        (ran_went set.caller set.event 0 k.looked w k.did.made_steps k.did.told.went);
+    order = items_from_doings set.event 0 k.did.made_steps
         ∙ ap (λ (l : List Step). items_from set.event 0 l) (sym k.did.told.trace)
         ∙ sym (own_items (items_from set.event 0 steps) [] (λ p. refl));
     points = tt;
@@ -128,7 +128,7 @@ module _ (set : Setting) (v w : View) (s : CallerState) (n flags : ℕ) (t : Vge
           (deeds_of (book_lists lanes visits callers) l))
           (sym k.did.told.trace)
           (vread_quiet (fast_in visits) n flags [] (meaning_by
-          (deeds_of (book_lists lanes visits callers) (map step_of k.did.deals)))
+          (deeds_of (book_lists lanes visits callers) (map step_of k.did.made_steps)))
           (k.did.stands lanes visits callers c s same refl))),
       tt,
     );

@@ -13,20 +13,20 @@ use Rattle.rng_core.specs.declared.setting.Setting.{Setting}
 use Rattle.rng_core.specs.declared.acts.Bound.{Bound}
 use Rattle.transcript_text.specs.Gathered.{Gathered}
 use Rattle.rng_core.specs.Acts.{Ask, ActOutcome, all_wanted, asks_of}
-use Rattle.rng_core.specs.InsideDid.{bound_acts}
+use Rattle.rng_core.specs.InsideMakes.{bound_acts}
 use Rattle.caller_run.specs.declared.caller.Caller.{Caller}
-use Rattle.caller_run.specs.declared.said.Said.{Said}
+use Rattle.caller_run.specs.declared.reply.Reply.{Reply}
 use Rattle.caller_run.specs.Calling.{stand, StateRead}
 use Rattle.caller_run.specs.Done.{CallDone}
 use Rattle.caller_run.specs.Says.{line_of}
 use Rattle.caller_run.specs.Waiting.{told_anew, act_lines, all_bound, CallsSoFar}
-use Rattle.caller_run.specs.Standing.{CanGoWith, Start, HasGone}
+use Rattle.caller_run.specs.Standing.{CanAdvanceWith, Start, HasAdvanced}
 use Rattle.caller_run.proofs.Orders.LoopCalls.{so_far_vread}
 use Rattle.caller_run.proofs.Law.Seeing.{read_kept}
 use Rattle.caller_run.proofs.Plans.LogFills.{Fills, fills_read}
-use Rattle.caller_run.proofs.Calls.CanGo.{GoesOn, can_next}
+use Rattle.caller_run.proofs.Calls.CanAdvance.{GoesOn, can_next}
 use Rattle.caller_run.proofs.Orders.ToldAnew.{anew_long, fit_anew, lines_long, bound_same}
-use Rattle.caller_run.proofs.Forks.HasGone.{gone_by, fit_more, own_line}
+use Rattle.caller_run.proofs.Forks.HasAdvanced.{gone_by, fit_more, own_line}
 
 -- d read out of c's current state for this event, with the acts inside that waited for it, and e goes on: these are the
 -- lines and the acts that wait, before it and behind it
@@ -35,7 +35,7 @@ pub record HasRead (t : Lanes) (event : Event) (c d e : Caller) (before after : 
   pub len : ℕ
   pub flags : ℕ
   pub event_is : event ≡ Vread len flags
-  pub said : Said
+  pub said : Reply
   pub served : List ℕ
   pub steps : List Step
   pub zs : List ActOutcome
@@ -60,8 +60,8 @@ module _ {t : Lanes} {event : Event} {c d e : Caller} {before after : Gathered} 
   abbrev told : List SeenLine
   told = act_lines d.set asks k.zs
 
-  pub can_read : {m inside : ℕ} {rest : List Event} → CanGoWith t c before acts m inside (event ∷ rest) →
-      CanGoWith t e after left m inside rest
+  pub can_read : {m inside : ℕ} {rest : List Event} → CanAdvanceWith t c before acts m inside (event ∷ rest) →
+      CanAdvanceWith t e after left m inside rest
   can_read g =
       let kept = read_kept k.read in
       let long = ap length k.lines ∙ length-append (told_anew before.lines asks told) (line ∷ []) in
@@ -71,17 +71,17 @@ module _ {t : Lanes} {event : Event} {c d e : Caller} {before after : Gathered} 
       (fills_read (omega arith) k.line_room k.step_room k.byte_room k.none)) g
 
   pub gone_read : (begun : Start) (events rest : List Event) (kids : List Start) →
-      HasGone begun events (event ∷ rest) c before.lines asks kids →
-      HasGone begun events rest e after.lines (asks_of left) kids
+      HasAdvanced begun events (event ∷ rest) c before.lines asks kids →
+      HasAdvanced begun events rest e after.lines (asks_of left) kids
   gone_read begun events rest kids gone =
       let set = k.read.set in
       let bound : bound_acts c.set asks k.zs ≡ all_bound asks told =
       sym (ap (λ (s : Setting). all_bound asks (act_lines s asks k.zs)) set ∙ bound_same c.set asks k.zs) in
-      let g : HasGone begun events (Vread k.len k.flags ∷ rest) c before.lines asks kids =
-      subst (λ (x : Event). HasGone begun events (x ∷ rest) c before.lines asks kids) k.event_is gone in
+      let g : HasAdvanced begun events (Vread k.len k.flags ∷ rest) c before.lines asks kids =
+      subst (λ (x : Event). HasAdvanced begun events (x ∷ rest) c before.lines asks kids) k.event_is gone in
       let on : GoesOn (Vread k.len k.flags) d e = subst (λ (x : Event). GoesOn x d e) k.event_is k.on in
-      subst (λ (ls : List SeenLine). HasGone begun events rest e ls (asks_of left) kids) (sym k.lines)
-      (subst (λ (bs : List Bound). HasGone begun events rest e (told_anew before.lines asks told ++ line ∷ [])
+      subst (λ (ls : List SeenLine). HasAdvanced begun events rest e ls (asks_of left) kids) (sym k.lines)
+      (subst (λ (bs : List Bound). HasAdvanced begun events rest e (told_anew before.lines asks told ++ line ∷ [])
       (asks_of bs) kids) (sym k.none)
       (gone_by d g set on (vread_call k.len k.flags line (all_bound asks told))
       (told_anew before.lines asks told ++ line ∷ []) [] []

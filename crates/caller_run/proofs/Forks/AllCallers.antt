@@ -14,10 +14,10 @@ use Rattle.lane_table.specs.declared.lanes.Pass.{Pass}
 use Rattle.lane_table.specs.declared.view.LaneView.{LaneView}
 use Rattle.lane_table.specs.declared.view.Plan.{Plan as TablePlan}
 use Rattle.lane_table.specs.declared.view.View.{View}
-use Rattle.lane_table.specs.Steps.{Seated, newcomer}
+use Rattle.lane_table.specs.Steps.{Seated, first_view}
 use Rattle.lane_table.specs.WorldRule.{blank}
 use Rattle.lane_table.specs.Calls.{view, count_of, Ended}
-use Rattle.lane_table.specs.Hands.{Has}
+use Rattle.lane_table.specs.Hands.{HoldsLanes}
 use Rattle.rng_core.specs.declared.setting.Setting.{Setting}
 use Rattle.transcript_text.specs.Gathered.{Gathered}
 use Rattle.caller_run.specs.Families.{SameShare, RunsIn}
@@ -61,7 +61,7 @@ whole_share v w same whole =
     ∙ mul_comm (2 ^ v.halvings) (2 ^ w.halvings))
 
 pub can_caller : (t : Lanes) (script : Script) (set : Setting) (caller : ℕ) (p : Pass) (a : Plot) →
-    Has t caller [] p → (set.cpu < t.cpus) × (set.now < 2 ^ 40) → WellFormed script → t.cpus ≡ script.cpus →
+    HoldsLanes t caller [] p → (set.cpu < t.cpus) × (set.now < 2 ^ 40) → WellFormed script → t.cpus ≡ script.cpus →
     IsReady script.callers caller a → CanRun t script (record set { caller = caller; event = 0 }) p a
 can_caller t script set caller p a has fits well cpus room = record {
   has = has;
@@ -76,7 +76,7 @@ can_caller t script set caller p a has fits well cpus room = record {
   ready = room.ready;
 }
 
-pub can_all : (t : Lanes) (script : Script) (p : Pass) (a : Plot) (slots : List Gathered) → Has t 0 [] p →
+pub can_all : (t : Lanes) (script : Script) (p : Pass) (a : Plot) (slots : List Gathered) → HoldsLanes t 0 [] p →
     WellFormed script → t.cpus ≡ script.cpus → IsPlanned script a slots → CanRun t script root_set p a
 can_all t script p a slots has well cpus planned =
     can_caller t script root_set 0 p a has (let some = well.cpus.0 in (omega arith, omega arith)) well cpus planned.root
@@ -147,7 +147,7 @@ module _ (t : Lanes) (script : Script) (p : Pass) (a : Plot) (q : Pass) (b : Plo
         })
 
 -- a new table's pass has done nothing, and has the whole share
-pub new_first : (plan : TablePlan) → IsFirst (newcomer plan)
+pub new_first : (plan : TablePlan) → IsFirst (first_view plan)
 new_first plan = record {
   places = λ lane. ap (λ (a : LaneView). a.places) (blank_at plan.count lane);
   made = λ lane. ap (λ (a : LaneView). a.made) (blank_at plan.count lane);
@@ -158,8 +158,8 @@ new_first plan = record {
     blank_at (suc n) zero = refl
     blank_at (suc n) (suc lane) = blank_at n lane
 
-module _ (plan : TablePlan) (p : Pass) (seat : p.seat.me ≡ (newcomer plan, [])) where
-  seen_so : view p ≡ newcomer plan
+module _ (plan : TablePlan) (p : Pass) (seat : p.seat.me ≡ (first_view plan, [])) where
+  seen_so : view p ≡ first_view plan
   seen_so = ap (λ (m : Seated). m.0) seat
 
   pub starts_first : IsFirst (view p)

@@ -21,14 +21,14 @@ use Rattle.lane_table.specs.WorldRule.{at, known_of}
 use Rattle.lane_table.specs.Steps.{halved}
 use Rattle.lane_table.specs.BookLists.{StateLists, book_lists}
 use Rattle.lane_table.specs.BookLaws.{Continues}
-use Rattle.lane_table.specs.Went.{Deal, step_of, floor}
+use Rattle.lane_table.specs.Advances.{MadeStep, step_of, floor}
 use Rattle.lane_table.proofs.Book.BookEnds.{continues_before}
 use Rattle.rng_core.specs.declared.setting.Setting.{Setting}
-use Rattle.rng_core.specs.Told.{Moment}
-use Rattle.rng_core.specs.Told as told
-use Rattle.rng_core.specs.Did.{Did, setting_of}
+use Rattle.rng_core.specs.Traces.{Moment}
+use Rattle.rng_core.specs.Traces as told
+use Rattle.rng_core.specs.Makes.{Makes, setting_of}
 use Rattle.rng_core.specs.SampleDeeds.{fast_in}
-use Rattle.caller_run.specs.Doings.{doings_from, item_of}
+use Rattle.caller_run.specs.NumberedSteps.{numbered_steps_from, item_of}
 use Rattle.caller_run.specs.Done.{CallDoneBy}
 use Rattle.caller_run.specs.Items.{Item, items_from}
 use Rattle.caller_run.specs.Ran.{RanBy}
@@ -45,27 +45,27 @@ use Rattle.lane_table.specs.Calls.{view}
 use Rattle.lane_table.specs.Steps.{child as split_off}
 use Rattle.rng_core.specs.Acts.{Ask}
 use Rattle.caller_run.specs.declared.caller.Caller.{Caller}
-use Rattle.caller_run.specs.declared.said.Shows.TheVariants.{Nothing}
+use Rattle.caller_run.specs.declared.reply.Shows.TheVariants.{Nothing}
 use Rattle.caller_run.specs.Calling.{caller_at, stand}
 use Rattle.caller_run.specs.Done.{CallsDone}
 use Rattle.caller_run.specs.Items.{steps_of, calls_items}
 use Rattle.caller_run.specs.Says.{line_of}
-use Rattle.caller_run.specs.Standing.{Start, Forked, HasGone}
+use Rattle.caller_run.specs.Standing.{Start, Forked, HasAdvanced}
 use Rattle.caller_run.proofs.Orders.CallChains.{calls_done_then}
-use Rattle.caller_run.proofs.Calls.CanGo.{GoesOn}
+use Rattle.caller_run.proofs.Calls.CanAdvance.{GoesOn}
 use Rattle.caller_run.proofs.Forks.HasForked.{forked_more}
-use Rattle.caller_run.proofs.Forks.HasGone.{gone_on, fit_more}
+use Rattle.caller_run.proofs.Forks.HasAdvanced.{gone_on, fit_more}
 use Rattle.caller_run.proofs.Orders.ItemSteps.{same_steps}
 use Rattle.caller_run.proofs.Orders.LoopCalls.{so_far_alone}
 use Rattle.caller_run.proofs.Orders.ToldAnew.{idle_more}
 
-pub tells_told : (set : Setting) (m n : Moment) (deals : List Deal) → told.Told set m n deals →
-    Tells set 0 m n (map step_of deals)
-tells_told set m n deals t = record {
+pub tells_told : (set : Setting) (m n : Moment) (made_steps : List MadeStep) → told.TraceRecords set m n made_steps →
+    Tells set 0 m n (map step_of made_steps)
+tells_told set m n made_steps t = record {
   trace = t.trace;
-  doings = doings_from set.event (length m.steps) deals;
-  ran = ran_went set.caller set.event (length m.steps) m.view n.view deals t.went;
-  order = items_from_doings set.event (length m.steps) deals;
+  numbered_steps = numbered_steps_from set.event (length m.steps) made_steps;
+  ran = ran_went set.caller set.event (length m.steps) m.view n.view made_steps t.went;
+  order = items_from_doings set.event (length m.steps) made_steps;
 }
 
 -- a split
@@ -86,7 +86,7 @@ cut m = record { view = halved m.view; steps = m.steps }
 
 pub tells_split : (set : Setting) (m : Moment) → Tells set 1 m (cut m) []
 tells_split set m =
-    record { trace = sym (append-nil m.steps); doings = []; ran = ran_halved set.caller m.view; order = refl }
+    record { trace = sym (append-nil m.steps); numbered_steps = []; ran = ran_halved set.caller m.view; order = refl }
 
 pub tells_then : (set : Setting) (a b : ℕ) (l m n : Moment) (xs ys : List Step) → Tells set a l m xs →
     Tells set b m n ys → Tells set (a + b) l n (xs ++ ys)
@@ -94,20 +94,20 @@ tells_then set a b l m n xs ys p q =
     let long : length m.steps ≡ length xs + length l.steps =
     (let e = ap length p.trace in omega (arith, length-append l.steps xs)) in record {
       trace = q.trace ∙ ap (λ (s : List Step). s ++ ys) p.trace ∙ append_assoc l.steps xs ys;
-      doings = p.doings ++ q.doings;
-      ran = ran_then set.caller a b l.view m.view n.view p.doings q.doings p.ran q.ran;
-      order = map-append item_of p.doings q.doings
+      numbered_steps = p.numbered_steps ++ q.numbered_steps;
+      ran = ran_then set.caller a b l.view m.view n.view p.numbered_steps q.numbered_steps p.ran q.ran;
+      order = map-append item_of p.numbered_steps q.numbered_steps
           ∙ (λ i. p.order i ++ (q.order ∙ ap (λ (k : ℕ). items_from set.event k ys) long) i)
           ∙ sym (items_append set.event (length l.steps) xs ys);
     }
 
 -- the visit of the fork
 module _ (set : Setting) (child : ℕ) (v u : View) (mark : Mark)
-    (did : Did (BaseOnly (Forks child)) set (since v []) (since u (Marked mark ∷ []))) where
+    (did : Makes (BaseOnly (Forks child)) set (since v []) (since u (Marked mark ∷ []))) where
   first_tells : Tells set 0 (since v []) (since u (Marked mark ∷ [])) (Marked mark ∷ [])
   first_tells =
       subst (λ (l : List Step). Tells set 0 (since v []) (since u (Marked mark ∷ [])) l) (sym did.told.trace)
-      (tells_told set (since v []) (since u (Marked mark ∷ [])) did.deals did.told)
+      (tells_told set (since v []) (since u (Marked mark ∷ [])) did.made_steps did.told)
 
   first_form : (lanes : ℕ) (visits : ℕ → List Visit) (callers : StateLists) → Continues lanes u visits →
       BaseOnly (Forks child) (deeds_of (book_lists lanes visits callers) (Marked mark ∷ []))
@@ -129,19 +129,19 @@ module _ (set : Setting) (child : ℕ) (v u : View) (mark : Mark)
 
   -- the child ran here, between two more visits
   module _ (x w : View) (before steps : List Step)
-      (stall : Did (BaseOnly Stall) set (since (halved u) (Marked mark ∷ [])) (since x before))
-      (unstall : Did (BaseOnly Unstall) set (since x before) (since w steps)) where
+      (stall : Makes (BaseOnly Stall) set (since (halved u) (Marked mark ∷ [])) (since x before))
+      (unstall : Makes (BaseOnly Unstall) set (since x before) (since w steps)) where
     abbrev xs : List Step
-    xs = map step_of stall.deals
+    xs = map step_of stall.made_steps
 
     abbrev ys : List Step
-    ys = map step_of unstall.deals
+    ys = map step_of unstall.made_steps
 
     waits : Tells set 0 (since (halved u) (Marked mark ∷ [])) (since x before) xs
-    waits = tells_told set (since (halved u) (Marked mark ∷ [])) (since x before) stall.deals stall.told
+    waits = tells_told set (since (halved u) (Marked mark ∷ [])) (since x before) stall.made_steps stall.told
 
     goes_on : Tells set 0 (since x before) (since w steps) ys
-    goes_on = tells_told set (since x before) (since w steps) unstall.deals unstall.told
+    goes_on = tells_told set (since x before) (since w steps) unstall.made_steps unstall.told
 
     behind_all : Tells set 1 (since u (Marked mark ∷ [])) (since w steps) (xs ++ ys)
     behind_all =
@@ -196,7 +196,7 @@ module _ (set : Setting) (v u w : View) (s : CallerState) (child : ℕ) (line : 
 
   pub fork_done : CallDoneBy set.caller 1 v w s (caller_after s (Fork child)) (alone (Fork child) line)
   fork_done = record {
-    doings = all_steps.doings;
+    numbered_steps = all_steps.numbered_steps;
     ran = all_steps.ran;
     order = all_steps.order ∙ ap (λ (n : ℕ). items_from n 0 line.steps) (sym event);
     points = tt;
@@ -237,7 +237,7 @@ module _ (set : Setting) (v u w : View) (s : CallerState) (child : ℕ) (line : 
 -- its pass was split off behind the first visit
 module _ {begun : Start} {events rest : List Event} {child : ℕ} {c e : Caller} {lines : List SeenLine}
     {asks : List Ask} {kids : List Start} (d : Caller) (u : View) (steps : List Step)
-    (g : HasGone begun events (Fork child ∷ rest) c lines asks kids) (set : d.set ≡ c.set)
+    (g : HasAdvanced begun events (Fork child ∷ rest) c lines asks kids) (set : d.set ≡ c.set)
     (states : d.states ≡ c.states) (on : GoesOn (Fork child) d e) (above : begun.caller < child)
     (t : Took c.set child (view c.pass) u (view d.pass) steps) where
   abbrev line : SeenLine
@@ -252,8 +252,8 @@ module _ {begun : Start} {events rest : List Event} {child : ℕ} {c e : Caller}
       (alone (Fork child) line)) g.own
       (fork_done c.set (view c.pass) u (view d.pass) (stand c) child line refl refl refl t)
 
-  first : RanBy begun.caller 0 (view c.pass) u t.first.doings
-  first = subst (λ (n : ℕ). RanBy n 0 (view c.pass) u t.first.doings) g.own t.first.ran
+  first : RanBy begun.caller 0 (view c.pass) u t.first.numbered_steps
+  first = subst (λ (n : ℕ). RanBy n 0 (view c.pass) u t.first.numbered_steps) g.own t.first.ran
 
   stands : stand d ≡ stand c
   stands = (λ i. caller_at (setting_of (set i)) (states i))
@@ -267,9 +267,9 @@ module _ {begun : Start} {events rest : List Event} {child : ℕ} {c e : Caller}
     above = above;
     splits = length kids + 0;
     middle = u;
-    doings = g.done.doings ++ t.first.doings;
-    ran = ran_then begun.caller (length kids) 0 begun.view (view c.pass) u g.done.doings t.first.doings g.done.ran first;
-    order = ap steps_of (map-append item_of g.done.doings t.first.doings
+    numbered_steps = g.done.numbered_steps ++ t.first.numbered_steps;
+    ran = ran_then begun.caller (length kids) 0 begun.view (view c.pass) u g.done.numbered_steps t.first.numbered_steps g.done.ran first;
+    order = ap steps_of (map-append item_of g.done.numbered_steps t.first.numbered_steps
         ∙ (λ i. g.done.order i ++ t.first.order i))
         ∙ map-append (λ (item : Item). item.step) (calls_items g.calls) (items_from c.set.event 0 (Marked t.mark ∷ []))
         ∙ (λ i. same_steps g.calls i ++ ap through_visit (sym t.steps_are) i);
@@ -279,7 +279,7 @@ module _ {begun : Start} {events rest : List Event} {child : ℕ} {c e : Caller}
     set_is = g.settings;
   }
 
-  pub gone_fork : HasGone begun events rest e (lines ++ line ∷ []) asks (kids ++ kid ∷ [])
+  pub gone_fork : HasAdvanced begun events rest e (lines ++ line ∷ []) asks (kids ++ kid ∷ [])
   gone_fork =
       let many : length kids + 1 ≡ length (kids ++ kid ∷ []) = omega (arith, length-append kids (kid ∷ [])) in
       gone_on d g set on (g.calls ++ alone (Fork child) line ∷ []) (lines ++ line ∷ []) asks g.waiting

@@ -17,7 +17,7 @@ use Rattle.lane_table.specs.Steps.{Grows}
 use Rattle.lane_table.specs.Calls.{Ended}
 use Rattle.caller_run.specs.Families.{RunsIn, Family, marked_by}
 use Rattle.caller_run.specs.Laws.{Run, HasRun, Began, IsOneOf, lines_of_all, marked, RanAll}
-use Rattle.caller_run.specs.Standing.{Start, HasEnded}
+use Rattle.caller_run.specs.Standing.{Start, RunEnded}
 use Rattle.caller_run.proofs.Orders.InOrder.{number, AllOnce, first_once, rest_once, one_of, in_order, in_order_all, in_order_of, same_sum}
 use Rattle.caller_run.proofs.Plans.Parents.{each_of}
 
@@ -62,7 +62,7 @@ module _ (script : Script) (root : Start) (runs : List Run) (family : Family scr
       let same : runs_in.events ≡ e = (let a = runs_in.there in cc) in (
         record {
           own = one.own;
-          ended = subst (λ (es : List Event). HasEnded r.begun es r.end r.lines r.kids) same runs_in.has.ended;
+          ended = subst (λ (es : List Event). RunEnded r.begun es r.end r.lines r.kids) same runs_in.has.ended;
           seen = runs_in.has.seen;
         },
         each_from es (suc k) (rest_once (length es) k runs once)

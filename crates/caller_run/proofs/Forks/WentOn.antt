@@ -21,17 +21,17 @@ use Rattle.lane_table.specs.declared.lanes.Lanes.{Lanes}
 use Rattle.lane_table.specs.declared.lanes.Pass.{Pass}
 use Rattle.lane_table.specs.declared.view.View.{View}
 use Rattle.lane_table.specs.Calls.{view, slots, IsSamePass}
-use Rattle.lane_table.specs.Hands.{Has, model}
+use Rattle.lane_table.specs.Hands.{HoldsLanes, model}
 use Rattle.lane_table.specs.Steps.{halved, both_of}
-use Rattle.lane_table.specs.Went.{floor, step_of}
+use Rattle.lane_table.specs.Advances.{floor, step_of}
 use Rattle.lane_table.proofs.Calls.HandLemmas.{has_joined}
 use Rattle.rng_core.specs.declared.setting.Setting.{Setting}
 use Rattle.rng_core.specs.declared.acts.Bound.{Bound}
 use Rattle.rng_core.specs.Acts.{Ask, asks_of, all_wanted}
-use Rattle.rng_core.specs.Did.{Did, setting_of}
-use Rattle.rng_core.specs.InsideDid.{IsFresh}
-use Rattle.rng_core.specs.Told.{Moment, moment}
-use Rattle.rng_core.proofs.Doing.{did_floor}
+use Rattle.rng_core.specs.Makes.{Makes, setting_of}
+use Rattle.rng_core.specs.InsideMakes.{IsFresh}
+use Rattle.rng_core.specs.Traces.{Moment, moment}
+use Rattle.rng_core.proofs.Makings.{did_floor}
 use Rattle.transcript_text.specs.Gathered.{Gathered}
 use Rattle.caller_run.specs.declared.caller.Caller.{Caller}
 use Rattle.caller_run.specs.declared.rooms.Room.{Room}
@@ -46,12 +46,12 @@ use Rattle.caller_run.specs.Kinds.{ForksNobody}
 use Rattle.caller_run.specs.Laws.{Run}
 use Rattle.caller_run.specs.Plots.{plot, plot_by}
 use Rattle.caller_run.specs.Says.{most_shown}
-use Rattle.caller_run.specs.Standing.{Start, CanGoWith, CanGo, HasGone, HasEnded, waiting_in}
+use Rattle.caller_run.specs.Standing.{Start, CanAdvanceWith, CanAdvance, HasAdvanced, RunEnded, waiting_in}
 use Rattle.caller_run.specs.Took.{since, Took}
-use Rattle.caller_run.specs.Ways.{IsNewSheet, ArePrepared, kids_of, child_set, start_of, CanGoIn, GoneIn, AreAbove, CanRun, CanGoOn, CanTell, RanPlain, AtFork, RanHere, TookFrom, kid_of, numbered, Returned, WentOn, SameKids, Past, WentBeside}
-use Rattle.caller_run.proofs.Calls.CanGo.{GoesOn, can_next}
+use Rattle.caller_run.specs.Ways.{IsNewSheet, ArePrepared, kids_of, child_set, start_of, CanAdvanceIn, GoneIn, AreAbove, CanRun, CanAdvanceOn, CanTell, RanPlain, AtFork, RanHere, TookFrom, kid_of, numbered, Returned, WentOn, SameKids, Past, WentBeside}
+use Rattle.caller_run.proofs.Calls.CanAdvance.{GoesOn, can_next}
 use Rattle.caller_run.proofs.Forks.Forking.{took_thread, took_here}
-use Rattle.caller_run.proofs.Forks.HasGone.{gone_nothing}
+use Rattle.caller_run.proofs.Forks.HasAdvanced.{gone_nothing}
 use Rattle.caller_run.proofs.Plans.Groves.{prepared_none, grove_pushed}
 use Rattle.caller_run.proofs.Plans.LogFills.{Fills}
 use Rattle.caller_run.proofs.Forks.Runs.{low, ran_end, ran_fork, ran_so}
@@ -70,7 +70,7 @@ as_slices P a b c d first second here = subst (λ (n : ℕ). P n d) (sym first) 
 
 -- nobody was forked between two moments
 gone_halves : {begun : Start} {events es rest : List Event} {c d : Caller} {ls ls' : List SeenLine} {xs ys : List Ask}
-    {kids : List Start} → HasGone begun events es c ls xs kids → HasGone begun events rest d ls' ys kids →
+    {kids : List Start} → HasAdvanced begun events es c ls xs kids → HasAdvanced begun events rest d ls' ys kids →
     SameHalves (view c.pass) (view d.pass)
 gone_halves g h = record {
   share = h.done.ran.same.share ∙ sym g.done.ran.same.share;
@@ -78,7 +78,7 @@ gone_halves g h = record {
 }
 
 ended_halves : {begun : Start} {events es : List Event} {c : Caller} {w : View} {ls ls' : List SeenLine} {xs : List Ask}
-    {kids : List Start} → HasGone begun events es c ls xs kids → HasEnded begun events w ls' kids →
+    {kids : List Start} → HasAdvanced begun events es c ls xs kids → RunEnded begun events w ls' kids →
     SameHalves (view c.pass) w
 ended_halves g h = record {
   share = h.done.ran.same.share ∙ sym g.done.ran.same.share;
@@ -94,11 +94,11 @@ same_kids x y is = record {
 
 -- a caller that forks nobody more
 module _ (t : Lanes) (script : Script) {events : List Event} {x m : Way} (y : Way) where
-  pub went_end : CanGoOn t script events x → RanPlain t events x [] m → y.kids ≡ m.kids →
-      y.caller.set ≡ m.caller.set → Has t y.caller.set.caller [] y.caller.pass →
+  pub went_end : CanAdvanceOn t script events x → RanPlain t events x [] m → y.kids ≡ m.kids →
+      y.caller.set ≡ m.caller.set → HoldsLanes t y.caller.set.caller [] y.caller.pass →
       floor (view y.caller.pass) ≤ (model y.caller.pass 1).base.generation →
       ((begun : Start) (all : List Event) (kids : List Start) → GoneIn begun all [] m.caller m kids →
-      HasEnded begun all (view y.caller.pass) y.sheet.log.lines.lines kids) → WentOn t script events x y
+      RunEnded begun all (view y.caller.pass) y.sheet.log.lines.lines kids) → WentOn t script events x y
   went_end can plain kept set has reached ended = record {
     has = has;
     same = same_kids x y (kept ∙ plain.kids);
@@ -109,7 +109,7 @@ module _ (t : Lanes) (script : Script) {events : List Event} {x m : Way} (y : Wa
           starts = [];
           runs = [];
           ran = ran_end script (view x.caller.pass) (view y.caller.pass) (ended_halves gone e);
-          ended = subst (HasEnded begun all (view y.caller.pass) y.sheet.log.lines.lines) (sym (append-nil kids)) e;
+          ended = subst (RunEnded begun all (view y.caller.pass) y.sheet.log.lines.lines) (sym (append-nil kids)) e;
           seen = reached;
           told = ap (λ ks. told_in (grove_of (map plot ks.items))) (kept ∙ plain.kids)
               ∙ prepared_none script.callers (kids_of x)
@@ -123,8 +123,8 @@ module _ (m w : Caller) (steps : List Step) (child : ℕ) (theirs : Pass) (at : 
   abbrev u : View
   u = at.forked.before
 
-  did : Did (BaseOnly (Forks child)) m.set (since (view m.pass) []) (since u (Marked at.forked.mark ∷ []))
-  did = subst (λ (l : List Step). Did (BaseOnly (Forks child)) m.set (since (view m.pass) []) (since u l))
+  did : Makes (BaseOnly (Forks child)) m.set (since (view m.pass) []) (since u (Marked at.forked.mark ∷ []))
+  did = subst (λ (l : List Step). Makes (BaseOnly (Forks child)) m.set (since (view m.pass) []) (since u l))
       at.forked.visit at.forked.did
 
   pub thread_took : TookFrom m w child u steps
@@ -142,24 +142,24 @@ module _ (m w : Caller) (steps : List Step) (child : ℕ) (theirs : Pass) (at : 
     set = at.set;
     states = at.states;
     took = took_here m.set child (view m.pass) u at.forked.mark did here.middle.view (view p) here.middle.steps after
-        (subst (λ (l : List Step). Did (BaseOnly Stall) m.set (since (halved u) l) here.middle) at.forked.visit
-        (subst (λ (v : View). Did (BaseOnly Stall) m.set (since v steps) here.middle) at.forked.pass_is
-        (subst (λ (s : Setting). Did (BaseOnly Stall) s (moment w.pass steps) here.middle) at.set here.stall)))
-        (subst (λ (s : Setting). Did (BaseOnly Unstall) s here.middle (moment p after)) at.set here.unstall);
+        (subst (λ (l : List Step). Makes (BaseOnly Stall) m.set (since (halved u) l) here.middle) at.forked.visit
+        (subst (λ (v : View). Makes (BaseOnly Stall) m.set (since v steps) here.middle) at.forked.pass_is
+        (subst (λ (s : Setting). Makes (BaseOnly Stall) s (moment w.pass steps) here.middle) at.set here.stall)))
+        (subst (λ (s : Setting). Makes (BaseOnly Unstall) s here.middle (moment p after)) at.set here.unstall);
   }
 
 -- ---- what a caller may do next
 
 -- a pass that saw more
 pub can_still : (t : Lanes) (c d : Caller) (log : Log) {served inside : ℕ} {rest : List Event} → d.set ≡ c.set →
-    d.states ≡ c.states → Has t d.set.caller [] d.pass → floor (view c.pass) ≤ floor (view d.pass) →
-    CanGo t c log served inside rest → CanGo t d log served inside rest
+    d.states ≡ c.states → HoldsLanes t d.set.caller [] d.pass → floor (view c.pass) ≤ floor (view d.pass) →
+    CanAdvance t c log served inside rest → CanAdvance t d log served inside rest
 can_still t c d log {served = served} {inside = inside} {rest = rest} set states has up can =
-    subst (λ (e : Caller). CanGo t e log served inside rest)
+    subst (λ (e : Caller). CanAdvance t e log served inside rest)
     (λ i. record { pass = d.pass; set = sym set i; states = sym states i }) (record {
       goes = record {
         ready = record {
-          has = subst (λ (s : Setting). Has t s.caller [] d.pass) set has;
+          has = subst (λ (s : Setting). HoldsLanes t s.caller [] d.pass) set has;
           cpu = can.goes.ready.cpu;
           moment = can.goes.ready.moment;
         };
@@ -198,9 +198,9 @@ module _ (set : Setting) (m n : Moment) (here : RanHere set m n) where
   pub here_fits : AllByRecursion StepFits m.steps → AllByRecursion StepFits n.steps
   here_fits fits =
       subst (AllByRecursion StepFits) (sym here.unstall.told.trace)
-      (each_append StepFits here.middle.steps (map step_of here.unstall.deals)
+      (each_append StepFits here.middle.steps (map step_of here.unstall.made_steps)
       (subst (AllByRecursion StepFits) (sym here.stall.told.trace)
-      (each_append StepFits m.steps (map step_of here.stall.deals) fits here.stall.told.fits)) here.unstall.told.fits)
+      (each_append StepFits m.steps (map step_of here.stall.made_steps) fits here.stall.told.fits)) here.unstall.told.fits)
 
 -- the line of a fork
 module _ (before after : Gathered) (line : SeenLine) (lines : after.lines ≡ before.lines ++ line ∷ [])
@@ -221,18 +221,18 @@ module _ (before after : Gathered) (line : SeenLine) (lines : after.lines ≡ be
   }
 
   pub can_past : (t : Lanes) (child : ℕ) (c e : Caller) (log : Log) {served inside : ℕ} {rest : List Event} →
-      log.lines ≡ before → GoesOn (Fork child) c e → CanGo t c log served inside (Fork child ∷ rest) →
-      CanGo t e (record log { lines = after }) served inside rest
+      log.lines ≡ before → GoesOn (Fork child) c e → CanAdvance t c log served inside (Fork child ∷ rest) →
+      CanAdvance t e (record log { lines = after }) served inside rest
   can_past t child c e log {served = served} {inside = inside} {rest = rest} is on can =
-      let goes : CanGoWith t c before log.acts.items served inside (Fork child ∷ rest) =
-      subst (λ (l : Gathered). CanGoWith t c l log.acts.items served inside (Fork child ∷ rest)) is can.goes in
+      let goes : CanAdvanceWith t c before log.acts.items served inside (Fork child ∷ rest) =
+      subst (λ (l : Gathered). CanAdvanceWith t c l log.acts.items served inside (Fork child ∷ rest)) is can.goes in
       record {
         goes = can_next c refl goes.ready.has goes.states on (fills_fork child log.acts.items goes.fresh goes.told) goes;
         act_room = can.act_room;
       }
 
 pub can_on : (t : Lanes) (script : Script) (child : ℕ) (rest : List Event) (w z : Way) (steps : List Step) →
-    CanTell t script child rest w steps → z.kids ≡ w.kids → CanGoIn t z rest → CanGoOn t script rest z
+    CanTell t script child rest w steps → z.kids ≡ w.kids → CanAdvanceIn t z rest → CanAdvanceOn t script rest z
 can_on t script child rest w z steps tell kids can = record {
   can = can;
   well = tell.well;
@@ -273,7 +273,7 @@ module _ (t : Lanes) (script : Script) (child : ℕ) {events rest : List Event} 
   went_fork plain at sheet took space beside set filled same joined pushed longer log =
       let put : kids_of z ≡ plant (plot back) (kids_of y) = grove_pushed z.kids.items y.kids.items back pushed in
       record {
-        has = subst (λ (s : Setting). Has t s.caller [] z.caller.pass) (sym set)
+        has = subst (λ (s : Setting). HoldsLanes t s.caller [] z.caller.pass) (sym set)
             (has_joined t y.caller.set.caller (view q) y.caller.pass z.caller.pass
             (beside.has.pass.sized ∙ sym beside.of_child.has.pass.sized) beside.has same joined);
         same = record {
@@ -290,7 +290,7 @@ module _ (t : Lanes) (script : Script) (child : ℕ) {events rest : List Event} 
             let first = (thread_took m.caller w.caller steps child theirs at).took.first.ran.same in
             let to_m : SameHalves (view x.caller.pass) (view m.caller.pass) = gone_halves gone g in
             let gw : GoneIn begun all (Fork child ∷ rest) m.caller w kids =
-            subst (λ (s : Sheet). HasGone begun all (Fork child ∷ rest) m.caller s.log.lines.lines
+            subst (λ (s : Sheet). HasAdvanced begun all (Fork child ∷ rest) m.caller s.log.lines.lines
             (waiting_in s.log) kids) (sym sheet) g in
             let p = beside.goes begun all kids m.caller at high.0 high.1 gw in
             let new : Start = kid_of m.caller child u in
@@ -316,9 +316,9 @@ module _ (t : Lanes) (script : Script) (child : ℕ) {events rest : List Event} 
                   p.after p.went.ran refl theirs_ran
                   (sym theirs_ran.joined.sized ∙ beside.of_child.has.pass.sized ∙ sym beside.has.pass.sized
                   ∙ p.went.ran.joined.sized));
-              ended = subst (HasEnded begun all p.went.end z.sheet.log.lines.lines)
+              ended = subst (RunEnded begun all p.went.end z.sheet.log.lines.lines)
                   (append_assoc kids (new ∷ []) p.went.starts)
-                  (subst (λ (s : Sheet). HasEnded begun all p.went.end s.log.lines.lines
+                  (subst (λ (s : Sheet). RunEnded begun all p.went.end s.log.lines.lines
                   ((kids ++ new ∷ []) ++ p.went.starts)) (sym filled) p.went.ended);
               seen = p.went.seen;
               told = ap told_in put
@@ -376,11 +376,11 @@ module _ (t : Lanes) (script : Script) (set : Setting) (p : Pass) (a : Plot) (sh
   new = subst (λ (s : Sheet). IsNewSheet s events) (is ∙ sym filled)
       (subst (IsNewSheet a.sheet) listed can.new)
 
-  starts_well : CanGoIn t x events
+  starts_well : CanAdvanceIn t x events
   starts_well = record {
     goes = record {
       ready = record {
-        has = subst (λ (c : Caller). Has t c.set.caller [] c.pass) (sym begins) can.has;
+        has = subst (λ (c : Caller). HoldsLanes t c.set.caller [] c.pass) (sym begins) can.has;
         cpu = subst (λ (c : Caller). c.set.cpu < t.cpus) (sym begins) can.cpu;
         moment = subst (λ (c : Caller). c.set.now < 2 ^ 40) (sym begins) can.now';
       };
@@ -416,7 +416,7 @@ module _ (t : Lanes) (script : Script) (set : Setting) (p : Pass) (a : Plot) (sh
       Seen' : Caller → Type 0
       Seen' c = StatesStand c
 
-  pub can_start : CanGoOn t script events x
+  pub can_start : CanAdvanceOn t script events x
   can_start = record {
     can = starts_well;
     well = can.well;
@@ -430,12 +430,12 @@ module _ (t : Lanes) (script : Script) (set : Setting) (p : Pass) (a : Plot) (sh
       WentOn t script events x y → Returned t script (start_of set p) a y.caller.pass b
   returned y b put on =
       let begun : Start = start_of set p in
-      let none : HasGone begun events events x.caller [] [] [] =
-      subst (λ (c : Caller). HasGone begun events events c [] [] []) (sym begins)
+      let none : HasAdvanced begun events events x.caller [] [] [] =
+      subst (λ (c : Caller). HasAdvanced begun events events c [] [] []) (sym begins)
       (gone_nothing begun events (newly p set) refl can.none_yet refl refl) in
       let gone : GoneIn begun events events x.caller x [] =
-      subst (λ (l : List SeenLine). HasGone begun events events x.caller l (waiting_in x.sheet.log) []) (sym new.lines)
-      (subst (λ (l : List Bound). HasGone begun events events x.caller [] (asks_of l) []) (sym new.acts) none) in
+      subst (λ (l : List SeenLine). HasAdvanced begun events events x.caller l (waiting_in x.sheet.log) []) (sym new.lines)
+      (subst (λ (l : List Bound). HasAdvanced begun events events x.caller [] (asks_of l) []) (sym new.acts) none) in
       let high : AreAbove set.caller events =
       subst (λ (n : ℕ). AreAbove n events) (let q : set.caller + 0 ≡ set.caller = omega arith in q)
       (above_number 0 script.callers set.caller events own_there can.well.above) in
@@ -448,7 +448,7 @@ module _ (t : Lanes) (script : Script) (set : Setting) (p : Pass) (a : Plot) (sh
       } in
       let from : view x.caller.pass ≡ view p = ap (λ (c : Caller). view c.pass) begins in
       record {
-        has = subst (λ (n : ℕ). Has t n [] y.caller.pass) w.own on.has;
+        has = subst (λ (n : ℕ). HoldsLanes t n [] y.caller.pass) w.own on.has;
         own = own;
         runs = w.runs;
         ran = ran_so script begun (view y.caller.pass) own w.runs refl (record {

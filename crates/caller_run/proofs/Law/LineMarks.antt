@@ -15,8 +15,8 @@ use Rattle.caller_run.specs.Items.{Item, items_from, line_items}
 use Rattle.key_names.specs.SeenLine.{SeenLine}
 use Rattle.key_names.specs.IsTranscript.{LinesFit, MarkBy, marks_from, line_marks, all_marks, is_same_lane, lane_marks}
 use Rattle.lane_table.specs.LaneNumbers.{index_of}
-use Rattle.lane_table.specs.Went.{Deal, looked, visited, step_of, maker, places_in}
-use Rattle.caller_run.specs.Doings.{Doing, deals_of, item_of, items_of}
+use Rattle.lane_table.specs.Advances.{MadeStep, looked, visited, step_of, maker, places_in}
+use Rattle.caller_run.specs.NumberedSteps.{NumberedStep, made_steps_of, item_of, items_of}
 use Rattle.caller_run.proofs.Orders.CallSteps.{lines_items}
 use Rattle.caller_run.proofs.Plans.Sums.{sum_flat, sum_one}
 
@@ -102,38 +102,38 @@ module _ (w : ℕ → ℕ) where
           ∙ ap (λ n. w by.mark.place + n) rest
       go false rest = omega arith
 
-  deals_sum : (lane : LaneId) (caller : ℕ) (doings : List Doing) →
-      sum_by w (places_in (index_of lane) (deals_of doings))
-      ≡ sum_by (λ item. sum_by (in_lane lane) (mark_of caller item)) (items_of doings)
+  deals_sum : (lane : LaneId) (caller : ℕ) (numbered_steps : List NumberedStep) →
+      sum_by w (places_in (index_of lane) (made_steps_of numbered_steps))
+      ≡ sum_by (λ item. sum_by (in_lane lane) (mark_of caller item)) (items_of numbered_steps)
   deals_sum lane caller [] = refl
-  deals_sum lane caller (d ∷ doings) =
-      go d.deal (deals_sum lane caller doings)
-      ∙ sym (sum_by-cons (λ item. sum_by (in_lane lane) (mark_of caller item)) (item_of d) (items_of doings))
+  deals_sum lane caller (d ∷ numbered_steps) =
+      go d.made_step (deals_sum lane caller numbered_steps)
+      ∙ sym (sum_by-cons (λ item. sum_by (in_lane lane) (mark_of caller item)) (item_of d) (items_of numbered_steps))
     where
       here : (b : Bool) (place : ℕ) (more : List ℕ) →
           sum_by w (cond b (place ∷ more) more) ≡ cond b (w place) 0 + sum_by w more
       here true place more = sum_by-cons w place more
       here false place more = omega arith
 
-      go : (deal : Deal) → sum_by w (places_in (index_of lane) (deals_of doings))
-          ≡ sum_by (λ item. sum_by (in_lane lane) (mark_of caller item)) (items_of doings) →
-          sum_by w (places_in (index_of lane) (deal ∷ deals_of doings))
-          ≡ sum_by (in_lane lane) (mark_by caller d.event d.number (step_of deal))
-          + sum_by (λ item. sum_by (in_lane lane) (mark_of caller item)) (items_of doings)
+      go : (made_step : MadeStep) → sum_by w (places_in (index_of lane) (made_steps_of numbered_steps))
+          ≡ sum_by (λ item. sum_by (in_lane lane) (mark_of caller item)) (items_of numbered_steps) →
+          sum_by w (places_in (index_of lane) (made_step ∷ made_steps_of numbered_steps))
+          ≡ sum_by (in_lane lane) (mark_by caller d.event d.number (step_of made_step))
+          + sum_by (λ item. sum_by (in_lane lane) (mark_of caller item)) (items_of numbered_steps)
       go (looked g) same = same ∙ omega arith
       go (visited mark e) same =
-          here (index_of mark.lane == index_of lane) mark.place (places_in (index_of lane) (deals_of doings))
+          here (index_of mark.lane == index_of lane) mark.place (places_in (index_of lane) (made_steps_of numbered_steps))
           ∙ (λ i. sym (sum_one (in_lane lane) (record { mark = mark; who = maker caller d.event d.number })) i + same i)
 
   -- the places of a lane weigh the same in the marks and in what was done
-  pub lane_weight : (lane : LaneId) (caller : ℕ) (lines : List SeenLine) (doings : List Doing) →
+  pub lane_weight : (lane : LaneId) (caller : ℕ) (lines : List SeenLine) (numbered_steps : List NumberedStep) →
       AllByRecursion (IsOfCaller caller) lines →
-      ((f : Item → ℕ) → sum_by f (items_of doings) ≡ sum_by f (lines_items lines)) →
+      ((f : Item → ℕ) → sum_by f (items_of numbered_steps) ≡ sum_by f (lines_items lines)) →
       sum_by w (map place_of (lane_marks lane (all_marks (lines ∷ []))))
-      ≡ sum_by w (places_in (index_of lane) (deals_of doings))
-  lane_weight lane caller lines doings own same =
+      ≡ sum_by w (places_in (index_of lane) (made_steps_of numbered_steps))
+  lane_weight lane caller lines numbered_steps own same =
       lane_sum lane (all_marks (lines ∷ []))
       ∙ ap (sum_by (in_lane lane)) (marks_are caller lines own)
       ∙ sum_flat (in_lane lane) (mark_of caller) (lines_items lines)
       ∙ sym (same (λ item. sum_by (in_lane lane) (mark_of caller item)))
-      ∙ sym (deals_sum lane caller doings)
+      ∙ sym (deals_sum lane caller numbered_steps)

@@ -22,7 +22,7 @@ use Rattle.lane_table.specs.Meaning.{replay}
 use Rattle.lane_table.specs.WorldRule.{known_of}
 use Rattle.lane_table.specs.BookLists.{StateLists, book_lists}
 use Rattle.lane_table.specs.BookLaws.{ClosedLanes}
-use Rattle.lane_table.specs.Went.{Deal, looked, visited, step_of, Sees, generation_of}
+use Rattle.lane_table.specs.Advances.{MadeStep, looked, visited, step_of, Sees, generation_of}
 use Rattle.lane_table.proofs.Rule.Sights.{AllKnown, sees_up}
 use Rattle.lane_table.proofs.Lists.Places.{fold_next}
 use Rattle.lane_table.proofs.Book.BookValues.{base_before}
@@ -91,21 +91,21 @@ seen_more before deed = fold-append seen_after 0 before (deed ∷ [])
 
 -- the looks among what was done, each visit of which is known in the end
 pub looks_stand : (w : View) (callers : StateLists) → ClosedLanes (length w.lanes) (known_of w) →
-    (deals : List Deal) (low high reseeds : ℕ) (before : List Deed) → AllKnown w deals →
-    Sees w low deals high → seen before ≤ low → high ≤ reseeds →
-    LooksStand reseeds before (deeds_of (book_lists (length w.lanes) (known_of w) callers) (map step_of deals))
+    (made_steps : List MadeStep) (low high reseeds : ℕ) (before : List Deed) → AllKnown w made_steps →
+    Sees w low made_steps high → seen before ≤ low → high ≤ reseeds →
+    LooksStand reseeds before (deeds_of (book_lists (length w.lanes) (known_of w) callers) (map step_of made_steps))
 looks_stand w callers ok [] low high reseeds before known s from to = tt
-looks_stand w callers ok (looked g ∷ deals) low high reseeds before known s from to = (
-  (let a = s.0 in omega arith, (let b = sees_up w g high deals s.1 in omega arith)),
-  looks_stand w callers ok deals g high reseeds (before ++ see g ∷ []) known s.1
+looks_stand w callers ok (looked g ∷ made_steps) low high reseeds before known s from to = (
+  (let a = s.0 in omega arith, (let b = sees_up w g high made_steps s.1 in omega arith)),
+  looks_stand w callers ok made_steps g high reseeds (before ++ see g ∷ []) known s.1
       (let a = s.0 in let e : seen (before ++ see g ∷ []) ≡ max (seen before) g = seen_more before (see g) in
       omega arith) to,
 )
-looks_stand w callers ok (visited mark e ∷ deals) low high reseeds before known s from to =
+looks_stand w callers ok (visited mark e ∷ made_steps) low high reseeds before known s from to =
     let deed : Deed = deed_of (book_lists (length w.lanes) (known_of w) callers) (Marked mark) in
     let p = passes (length w.lanes) (known_of w) callers ok mark.lane mark.place reseeds (seen before) s.0 known.0
     known.1 (let a = s.1 in omega arith) s.2 in (
       p.0,
-      looks_stand w callers ok deals s.0 high reseeds (before ++ deed ∷ []) known.2 s.3
+      looks_stand w callers ok made_steps s.0 high reseeds (before ++ deed ∷ []) known.2 s.3
           (subst (λ (n : ℕ). n ≤ s.0) (sym (seen_more before deed)) p.1) to,
     )

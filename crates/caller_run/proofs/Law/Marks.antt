@@ -31,9 +31,9 @@ use Rattle.caller_run.proofs.Plans.Sums.{each_flat, sum_range, sum_none, sum_sam
 use Rattle.std.proofs.lemmas.Bool.{eqb-true}
 use Rattle.caller_run.specs.Items.{Item}
 use Rattle.lane_table.specs.declared.view.Visit.{Visit}
-use Rattle.lane_table.specs.Went.{Deal, looked, visited}
+use Rattle.lane_table.specs.Advances.{MadeStep, looked, visited}
 use Rattle.lane_table.proofs.Lists.Places.{stands_at}
-use Rattle.caller_run.specs.Doings.{Doing, item_of, items_of}
+use Rattle.caller_run.specs.NumberedSteps.{NumberedStep, item_of, items_of}
 use Rattle.caller_run.specs.Ran.{Stood}
 
 -- what some marks have of a lane
@@ -72,16 +72,16 @@ none_beyond lanes visits lane (by ∷ marks) beyond all =
     go false is here rest = rest
 
 -- a caller that did this, and knows all lists in the end
-module _ (caller : ℕ) (w : View) (doings : List Doing) (stood : AllByRecursion (Stood w caller) doings) where
+module _ (caller : ℕ) (w : View) (numbered_steps : List NumberedStep) (stood : AllByRecursion (Stood w caller) numbered_steps) where
   -- each of its marks is that of a visit
   abbrev Visits : Item → Type 0
   Visits item = AllByRecursion (MarksVisit (length w.lanes) (known_of w)) (mark_of caller item)
 
-  pub items_visit : AllByRecursion Visits (items_of doings)
-  items_visit = all doings stood
+  pub items_visit : AllByRecursion Visits (items_of numbered_steps)
+  items_visit = all numbered_steps stood
     where
-      one : (d : Doing) (deal : Deal) → Stood w caller (record { event = d.event; number = d.number; deal = deal }) →
-          Visits (item_of (record { event = d.event; number = d.number; deal = deal }))
+      one : (d : NumberedStep) (made_step : MadeStep) → Stood w caller (record { event = d.event; number = d.number; made_step = made_step }) →
+          Visits (item_of (record { event = d.event; number = d.number; made_step = made_step }))
       one d (looked g) here = tt
       one d (visited mark e) here = (
         (
@@ -93,9 +93,9 @@ module _ (caller : ℕ) (w : View) (doings : List Doing) (stood : AllByRecursion
         tt,
       )
 
-      all : (doings : List Doing) → AllByRecursion (Stood w caller) doings → AllByRecursion Visits (items_of doings)
+      all : (numbered_steps : List NumberedStep) → AllByRecursion (Stood w caller) numbered_steps → AllByRecursion Visits (items_of numbered_steps)
       all [] stood = tt
-      all (d ∷ doings) stood = (one d d.deal stood.0, all doings stood.1)
+      all (d ∷ numbered_steps) stood = (one d d.made_step stood.0, all numbered_steps stood.1)
 
 -- all lines as one list
 
@@ -151,9 +151,9 @@ run_visits : (w : View) (caller : ℕ) (events : List Event) (r : Run) → HasRu
     AllByRecursion (MarksVisit (length w.lanes) (known_of w)) (flat_map line_marks r.lines)
 run_visits w caller events r has sized grows =
     let c = r.begun.caller in let done = has.ended.done in let fit = has.ended.fit in
-    let stood = stood_grown r.end w c done.doings sized grows done.ran.stood in
+    let stood = stood_grown r.end w c done.numbered_steps sized grows done.ran.stood in
     let items = calls_each (λ item. AllByRecursion (MarksVisit (length w.lanes) (known_of w)) (mark_of c item)) c events
-    r.lines fit done.points (subst (AllByRecursion _) done.order (items_visit c w done.doings stood)) in
+    r.lines fit done.points (subst (AllByRecursion _) done.order (items_visit c w done.numbered_steps stood)) in
     let all : AllByRecursion (MarksVisit (length w.lanes) (known_of w)) (all_marks (r.lines ∷ [])) =
     subst (AllByRecursion (MarksVisit (length w.lanes) (known_of w)))
     (sym (marks_are c r.lines (fit_own c 0 events r.lines fit)))

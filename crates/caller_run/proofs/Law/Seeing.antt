@@ -12,21 +12,21 @@ use Rattle.key_names.specs.VreadSteps.{published_by}
 use Rattle.key_names.proofs.Lists.Each.{each_set, each_weaker}
 use Rattle.lane_table.specs.declared.lanes.Lanes.{Lanes}
 use Rattle.lane_table.specs.Calls.{view}
-use Rattle.lane_table.specs.Hands.{Has}
-use Rattle.lane_table.specs.Went.{floor}
-use Rattle.rng_core.specs.Told.{moment}
-use Rattle.rng_core.specs.Did.{setting_of}
+use Rattle.lane_table.specs.Hands.{HoldsLanes}
+use Rattle.lane_table.specs.Advances.{floor}
+use Rattle.rng_core.specs.Traces.{moment}
+use Rattle.rng_core.specs.Makes.{setting_of}
 use Rattle.rng_core.proofs.Hosting.{published_more}
 use Rattle.std.proofs.lemmas.List.Elements.{recursion_from_All, All-replicate}
-use Rattle.rng_core.proofs.Doing.{did_floor}
+use Rattle.rng_core.proofs.Makings.{did_floor}
 use Rattle.caller_run.proofs.Calls.Callings.{no_count}
 use Rattle.lane_table.proofs.Rule.Sights.{sees_up}
 use Rattle.rng_core.specs.Acts.{Ask, ActOutcome}
 use Rattle.caller_run.specs.Calling.{caller_at, stand, Seen, StatesStand, Called, StateRead}
-use Rattle.caller_run.specs.Doings.{deals_of}
+use Rattle.caller_run.specs.NumberedSteps.{made_steps_of}
 use Rattle.caller_run.specs.Says.{ShowsFit}
 use Rattle.caller_run.specs.declared.caller.Caller.{Caller}
-use Rattle.caller_run.specs.declared.said.Said.{Said}
+use Rattle.caller_run.specs.declared.reply.Reply.{Reply}
 
 -- at the start
 pub seen_start : (found : ℕ) (set : calls.Setting) → Seen found (caller_start set)
@@ -70,13 +70,13 @@ seen_after version cpus found s event range k = record { many = k.many; current 
 -- a call of any event
 
 -- what holds behind each, c being the caller before it, and d behind it
-pub record Kept (t : Lanes) (event : Event) (c d : Caller) (said : Said) : Type 0 where
-  pub has : Has t d.set.caller [] d.pass
+pub record Kept (t : Lanes) (event : Event) (c d : Caller) (said : Reply) : Type 0 where
+  pub has : HoldsLanes t d.set.caller [] d.pass
   pub set : d.set ≡ c.set
   pub states : StatesStand c → StatesStand d
   pub shows : ShowsFit (event_word event) said.shows
 
-module _ {t : Lanes} {event : Event} {c d : Caller} {said : Said} {served : List ℕ} {steps : List Step} where
+module _ {t : Lanes} {event : Event} {c d : Caller} {said : Reply} {served : List ℕ} {steps : List Step} where
   pub same_stand : Called t event c d said served steps → stand d ≡ stand c
   same_stand k = (λ i. caller_at (setting_of (k.set i)) (k.states i))
 
@@ -90,7 +90,7 @@ module _ {t : Lanes} {event : Event} {c d : Caller} {said : Said} {served : List
     shows = k.shows;
   }
 
-pub read_kept : {t : Lanes} {n flags : ℕ} {c d : Caller} {said : Said} {served : List ℕ} {steps : List Step}
+pub read_kept : {t : Lanes} {n flags : ℕ} {c d : Caller} {said : Reply} {served : List ℕ} {steps : List Step}
     {asks : List Ask}
     {zs : List ActOutcome} → StateRead t n flags c d said served steps asks zs → Kept t (Vread n flags) c d said
 read_kept {t = t} {c = c} {d = d} {said = said} k = record {
@@ -99,6 +99,6 @@ read_kept {t = t} {c = c} {d = d} {said = said} k = record {
   states = λ s. subst (Seen (floor (view d.pass))) (sym k.stands)
       (seen_with (floor (view d.pass)) (stand c) k.left k.published
       (seen_up (floor (view c.pass)) (floor (view d.pass)) (stand c)
-      (sees_up (view d.pass) (floor (view c.pass)) (floor (view d.pass)) (deals_of k.done.doings) k.done.ran.sees) s));
+      (sees_up (view d.pass) (floor (view c.pass)) (floor (view d.pass)) (made_steps_of k.done.numbered_steps) k.done.ran.sees) s));
   shows = no_count _ said.shows (λ same. cc) k.shows;
 }

@@ -24,7 +24,7 @@ use Rattle.lane_table.specs.Meaning.{replay}
 use Rattle.lane_table.specs.WorldRule.{known_of}
 use Rattle.lane_table.specs.Steps.{Grows}
 use Rattle.lane_table.specs.Calls.{Ended}
-use Rattle.lane_table.specs.Went.{Deal, looked, visited, step_of, stamps_in, floor, Climbs}
+use Rattle.lane_table.specs.Advances.{MadeStep, looked, visited, step_of, stamps_in, floor, Climbs}
 use Rattle.lane_table.specs.BookLists.{StateLists, book_of, book_lists}
 use Rattle.lane_table.specs.BookLaws.{ClosedLanes, Continues}
 use Rattle.lane_table.proofs.Book.BookEnds.{ended_lanes, ended_lawful}
@@ -89,10 +89,10 @@ module _ (P Q : SeenLine → LineMeaning → Type 0) (weaker : (line : SeenLine)
     lines_weaker (call ∷ calls) [] all = absurd all
     lines_weaker (call ∷ calls) (m ∷ ms) all = (call_weaker call m all.0, lines_weaker calls ms all.1)
 
-stamps_are : (deals : List Deal) → stamps_of (map step_of deals) ≡ stamps_in deals
+stamps_are : (made_steps : List MadeStep) → stamps_of (map step_of made_steps) ≡ stamps_in made_steps
 stamps_are [] = refl
-stamps_are (looked g ∷ deals) = stamps_are deals
-stamps_are (visited mark e ∷ deals) = ap (λ (l : List ℕ). mark.stamp ∷ l) (stamps_are deals)
+stamps_are (looked g ∷ made_steps) = stamps_are made_steps
+stamps_are (visited mark e ∷ made_steps) = ap (λ (l : List ℕ). mark.stamp ∷ l) (stamps_are made_steps)
 
 long_calls : (k : ℕ) (callers : List (List Event)) (runs : List Run) → EachCaller HasRun k callers runs →
     length (all_calls callers (lines_of_all runs)) ≡ length callers
@@ -234,7 +234,7 @@ module _ (script : Script) (runs : List Run) (w : View) (ok : WellFormed script)
       let done = has.ended.done in
       subst (λ (l : List Step). Course w r.end (before ++ l)) (ap steps_of done.order ∙ same_steps (calls_of events
       r.lines))
-      (course_more w r.begun.view r.end r.begun.caller _ done.doings before done.ran (as_long r here) (grown r here)
+      (course_more w r.begun.view r.end r.begun.caller _ done.numbered_steps before done.ran (as_long r here) (grown r here)
       course)
 
   module _ (P : List Step → Type 0)
@@ -286,13 +286,13 @@ module _ (script : Script) (runs : List Run) (w : View) (ok : WellFormed script)
   rise : AllByRecursion (λ order. Rises (stamps_of order)) (caller_orders callers)
   rise = all_orders (λ order. Rises (stamps_of order))
       (λ r here most steps c. subst (λ (l : List Step). Rises (stamps_of l)) c.steps_are
-      (subst Rises (sym (stamps_are c.deals)) (climbs_rise c.first r.end.stamp (stamps_in c.deals) c.climbs)))
+      (subst Rises (sym (stamps_are c.made_steps)) (climbs_rise c.first r.end.stamp (stamps_in c.made_steps) c.climbs)))
       below_reseeds
 
   seen : AllByRecursion (λ order. LooksStand reseeds [] (deeds_of (lists_of book) order)) (caller_orders callers)
   seen = all_orders (λ order. LooksStand reseeds [] (deeds_of (lists_of book) order))
       (λ r here most steps c. subst (λ (l : List Step). LooksStand reseeds [] (deeds_of (lists_of book) l)) c.steps_are
-      (looks_stand w states closed c.deals 0 (floor r.end) reseeds [] c.known c.sees (omega arith) most))
+      (looks_stand w states closed c.made_steps 0 (floor r.end) reseeds [] c.known c.sees (omega arith) most))
       below_reseeds
 
   -- Marks and samples

@@ -12,7 +12,7 @@ use Rattle.key_names.proofs.Lists.Each.{each_more}
 use Rattle.lane_table.specs.declared.view.View.{View}
 use Rattle.lane_table.specs.BookLists.{book_lists}
 use Rattle.lane_table.proofs.Book.BookEnds.{continues_before}
-use Rattle.caller_run.specs.Doings.{item_of}
+use Rattle.caller_run.specs.NumberedSteps.{item_of}
 use Rattle.caller_run.specs.Done.{PointsFit, CallMeant, CallSamples, CallDone, CallDoneBy, state_reached, CallsMeant, CallsDone}
 use Rattle.rng_core.specs.SampleDeeds.{fast_in}
 use Rattle.caller_run.proofs.Orders.Chains.{ran_nothing, ran_then}
@@ -51,7 +51,7 @@ meant_more lists s t u calls call a b = record {
 -- no call
 pub calls_done_nothing : (caller : ℕ) (v : View) (s : CallerState) → CallsDone caller 0 v v s s []
 calls_done_nothing caller v s = record {
-  doings = [];
+  numbered_steps = [];
   ran = ran_nothing caller v;
   order = refl;
   points = tt;
@@ -71,9 +71,9 @@ pub calls_done_then : (caller m n : ℕ) (u v w : View) (s t r : CallerState) (c
     CallsDone caller m u v s t calls → CallDoneBy caller n v w t r call →
     CallsDone caller (m + n) u w s r (calls ++ call ∷ [])
 calls_done_then caller m n u v w s t r calls call a b = record {
-  doings = a.doings ++ b.doings;
-  ran = ran_then caller m n u v w a.doings b.doings a.ran b.ran;
-  order = map-append item_of a.doings b.doings ∙ (λ i. a.order i ++ b.order i)
+  numbered_steps = a.numbered_steps ++ b.numbered_steps;
+  ran = ran_then caller m n u v w a.numbered_steps b.numbered_steps a.ran b.ran;
+  order = map-append item_of a.numbered_steps b.numbered_steps ∙ (λ i. a.order i ++ b.order i)
       ∙ sym (flat_map-append call_items calls (call ∷ [])
       ∙ ap (λ l. calls_items calls ++ l) (append-nil (call_items call)));
   points = each_more PointsFit calls call a.points b.points;

@@ -8,52 +8,52 @@ use Rattle.lane_table.specs.declared.view.Visit.{Visit}
 use Rattle.lane_table.specs.declared.view.View.{View}
 use Rattle.lane_table.specs.WorldRule.{at, known_of}
 use Rattle.lane_table.specs.Steps.{Grows}
-use Rattle.lane_table.specs.Went.{Deal, looked, visited, step_of, maker, AllStand, places_in, stamps_in, Climbs, Sees, Went, floor}
+use Rattle.lane_table.specs.Advances.{MadeStep, looked, visited, step_of, maker, AllStand, places_in, stamps_in, Climbs, Sees, Advances, floor}
 use Rattle.lane_table.specs.LaneNumbers.{index_of}
 use Rattle.lane_table.proofs.Lists.Lists.{at_below}
 use Rattle.lane_table.proofs.Rule.Sights.{AllKnown, sees_append, sees_grown}
-use Rattle.lane_table.proofs.Calls.WentLemmas.{mark_grown, stamps_append, places_append, climbs_append}
-use Rattle.caller_run.specs.Doings.{Doing, doings_from, deal_of, deals_of, items_of}
+use Rattle.lane_table.proofs.Calls.AdvanceLemmas.{mark_grown, stamps_append, places_append, climbs_append}
+use Rattle.caller_run.specs.NumberedSteps.{NumberedStep, numbered_steps_from, made_step_of, made_steps_of, items_of}
 use Rattle.lane_table.specs.Calls.{SameView}
 use Rattle.caller_run.specs.Ran.{Stood, SplitView, RanBy, Ran}
 
 -- what was done in one event
 
-pub deals_from : (event n : ℕ) (deals : List Deal) → deals_of (doings_from event n deals) ≡ deals
+pub deals_from : (event n : ℕ) (made_steps : List MadeStep) → made_steps_of (numbered_steps_from event n made_steps) ≡ made_steps
 deals_from event n [] = refl
-deals_from event n (deal ∷ deals) = ap (λ (l : List Deal). deal ∷ l) (deals_from event (suc n) deals)
+deals_from event n (made_step ∷ made_steps) = ap (λ (l : List MadeStep). made_step ∷ l) (deals_from event (suc n) made_steps)
 
-pub items_from_doings : (event n : ℕ) (deals : List Deal) →
-    items_of (doings_from event n deals) ≡ items_from event n (map step_of deals)
+pub items_from_doings : (event n : ℕ) (made_steps : List MadeStep) →
+    items_of (numbered_steps_from event n made_steps) ≡ items_from event n (map step_of made_steps)
 items_from_doings event n [] = refl
-items_from_doings event n (deal ∷ deals) =
-    ap (λ (l : List Item). record { event = event; number = n; step = step_of deal } ∷ l)
-    (items_from_doings event (suc n) deals)
+items_from_doings event n (made_step ∷ made_steps) =
+    ap (λ (l : List Item). record { event = event; number = n; step = step_of made_step } ∷ l)
+    (items_from_doings event (suc n) made_steps)
 
-stood_from : (w : View) (caller event n : ℕ) (deals : List Deal) → AllStand w caller event n deals →
-    AllByRecursion (Stood w caller) (doings_from event n deals)
+stood_from : (w : View) (caller event n : ℕ) (made_steps : List MadeStep) → AllStand w caller event n made_steps →
+    AllByRecursion (Stood w caller) (numbered_steps_from event n made_steps)
 stood_from w caller event n [] stand = tt
-stood_from w caller event n (looked g ∷ deals) stand = (tt, stood_from w caller event (suc n) deals stand)
-stood_from w caller event n (visited mark e ∷ deals) stand =
-    (stand.0, stood_from w caller event (suc n) deals stand.1)
+stood_from w caller event n (looked g ∷ made_steps) stand = (tt, stood_from w caller event (suc n) made_steps stand)
+stood_from w caller event n (visited mark e ∷ made_steps) stand =
+    (stand.0, stood_from w caller event (suc n) made_steps stand.1)
 
 pub unsplit : (v w : View) → SameView v w → SplitView 0 v w
 unsplit v w k =
     record { first = k.first; share = k.share; halvings = (let e = k.halvings in omega arith); sized = k.sized }
 
-pub ran_went : (caller event n : ℕ) (v w : View) (deals : List Deal) → Went caller event n v w deals →
-    Ran caller v w (doings_from event n deals)
-ran_went caller event n v w deals went = let same = deals_from event n deals in record {
+pub ran_went : (caller event n : ℕ) (v w : View) (made_steps : List MadeStep) → Advances caller event n v w made_steps →
+    Ran caller v w (numbered_steps_from event n made_steps)
+ran_went caller event n v w made_steps went = let same = deals_from event n made_steps in record {
   same = unsplit v w went.same;
   grows = went.grows;
   places = λ lane low. went.places lane low
-      ∙ ap (λ (l : List Deal). (at lane v).places ++ places_in lane l) (sym same);
+      ∙ ap (λ (l : List MadeStep). (at lane v).places ++ places_in lane l) (sym same);
   made = λ lane low. went.made lane low
-      ∙ ap (λ (l : List Deal). (at lane v).made + length (places_in lane l)) (sym same);
+      ∙ ap (λ (l : List MadeStep). (at lane v).made + length (places_in lane l)) (sym same);
   heard = went.heard;
-  climbs = subst (λ (l : List Deal). Climbs v.stamp (stamps_in l) w.stamp) (sym same) went.climbs;
-  sees = subst (λ (l : List Deal). Sees w (floor v) l (floor w)) (sym same) went.sees;
-  stood = stood_from w caller event n deals went.stand;
+  climbs = subst (λ (l : List MadeStep). Climbs v.stamp (stamps_in l) w.stamp) (sym same) went.climbs;
+  sees = subst (λ (l : List MadeStep). Sees w (floor v) l (floor w)) (sym same) went.sees;
+  stood = stood_from w caller event n made_steps went.stand;
 }
 
 -- nothing
@@ -71,31 +71,31 @@ ran_nothing caller v = record {
 
 -- and one part after another
 
-pub stood_grown : (v w : View) (caller : ℕ) (doings : List Doing) → length w.lanes ≡ length v.lanes → Grows v w →
-    AllByRecursion (Stood v caller) doings → AllByRecursion (Stood w caller) doings
-stood_grown v w caller doings sized grows stood =
-    each_weaker (Stood v caller) (Stood w caller) doings (λ d here. go d d.deal here) stood
+pub stood_grown : (v w : View) (caller : ℕ) (numbered_steps : List NumberedStep) → length w.lanes ≡ length v.lanes → Grows v w →
+    AllByRecursion (Stood v caller) numbered_steps → AllByRecursion (Stood w caller) numbered_steps
+stood_grown v w caller numbered_steps sized grows stood =
+    each_weaker (Stood v caller) (Stood w caller) numbered_steps (λ d here. go d d.made_step here) stood
   where
-    go : (d : Doing) (deal : Deal) → Stood v caller (record { event = d.event; number = d.number; deal = deal }) →
-        Stood w caller (record { event = d.event; number = d.number; deal = deal })
+    go : (d : NumberedStep) (made_step : MadeStep) → Stood v caller (record { event = d.event; number = d.number; made_step = made_step }) →
+        Stood w caller (record { event = d.event; number = d.number; made_step = made_step })
     go d (looked g) here = tt
     go d (visited mark e) here = mark_grown v w mark (maker caller d.event d.number) e sized grows here
 
-pub stood_known : (v : View) (caller : ℕ) (doings : List Doing) → AllByRecursion (Stood v caller) doings →
-    AllKnown v (deals_of doings)
+pub stood_known : (v : View) (caller : ℕ) (numbered_steps : List NumberedStep) → AllByRecursion (Stood v caller) numbered_steps →
+    AllKnown v (made_steps_of numbered_steps)
 stood_known v caller [] stood = tt
-stood_known v caller (d ∷ doings) stood = go d.deal stood.0 (stood_known v caller doings stood.1)
+stood_known v caller (d ∷ numbered_steps) stood = go d.made_step stood.0 (stood_known v caller numbered_steps stood.1)
   where
-    go : (deal : Deal) → Stood v caller (record { event = d.event; number = d.number; deal = deal }) →
-        AllKnown v (deals_of doings) → AllKnown v (deal ∷ deals_of doings)
+    go : (made_step : MadeStep) → Stood v caller (record { event = d.event; number = d.number; made_step = made_step }) →
+        AllKnown v (made_steps_of numbered_steps) → AllKnown v (made_step ∷ made_steps_of numbered_steps)
     go (looked g) here rest = rest
     go (visited mark e) here rest =
         (here.near, at_below (known_of v (index_of mark.lane)) mark.place here.visit here.there, rest)
 
-module _ (caller m n : ℕ) (u v w : View) (xs ys : List Doing) (a : RanBy caller m u v xs) (b : RanBy caller n v w ys)
+module _ (caller m n : ℕ) (u v w : View) (xs ys : List NumberedStep) (a : RanBy caller m u v xs) (b : RanBy caller n v w ys)
   where
-    both : deals_of (xs ++ ys) ≡ deals_of xs ++ deals_of ys
-    both = map-append deal_of xs ys
+    both : made_steps_of (xs ++ ys) ≡ made_steps_of xs ++ made_steps_of ys
+    both = map-append made_step_of xs ys
 
     near : (lane : ℕ) → lane < length u.lanes → lane < length v.lanes
     near lane low = let s = a.same.sized in omega arith
@@ -108,36 +108,36 @@ module _ (caller m n : ℕ) (u v w : View) (xs ys : List Doing) (a : RanBy calle
         (f.0 ++ g.0, g.1 ∙ ap (λ (l : List Visit). l ++ g.0) f.1 ∙ append_assoc (known_of u lane) f.0 g.0)
 
     places_both : (lane : ℕ) →
-        places_in lane (deals_of (xs ++ ys)) ≡ places_in lane (deals_of xs) ++ places_in lane (deals_of ys)
-    places_both lane = ap (places_in lane) both ∙ places_append lane (deals_of xs) (deals_of ys)
+        places_in lane (made_steps_of (xs ++ ys)) ≡ places_in lane (made_steps_of xs) ++ places_in lane (made_steps_of ys)
+    places_both lane = ap (places_in lane) both ∙ places_append lane (made_steps_of xs) (made_steps_of ys)
 
     placed : (lane : ℕ) → lane < length u.lanes →
-        (at lane w).places ≡ (at lane u).places ++ places_in lane (deals_of (xs ++ ys))
+        (at lane w).places ≡ (at lane u).places ++ places_in lane (made_steps_of (xs ++ ys))
     placed lane low =
         b.places lane (near lane low)
-        ∙ ap (λ (l : List ℕ). l ++ places_in lane (deals_of ys)) (a.places lane low)
-        ∙ append_assoc (at lane u).places (places_in lane (deals_of xs)) (places_in lane (deals_of ys))
+        ∙ ap (λ (l : List ℕ). l ++ places_in lane (made_steps_of ys)) (a.places lane low)
+        ∙ append_assoc (at lane u).places (places_in lane (made_steps_of xs)) (places_in lane (made_steps_of ys))
         ∙ ap (λ (l : List ℕ). (at lane u).places ++ l) (sym (places_both lane))
 
     counted : (lane : ℕ) → lane < length u.lanes →
-        (at lane w).made ≡ (at lane u).made + length (places_in lane (deals_of (xs ++ ys)))
+        (at lane w).made ≡ (at lane u).made + length (places_in lane (made_steps_of (xs ++ ys)))
     counted lane low =
         let e = a.made lane low in
         let f = b.made lane (near lane low) in
         let g = ap length (places_both lane) in
-        omega (arith, length-append (places_in lane (deals_of xs)) (places_in lane (deals_of ys)))
+        omega (arith, length-append (places_in lane (made_steps_of xs)) (places_in lane (made_steps_of ys)))
 
-    climbed : Climbs u.stamp (stamps_in (deals_of (xs ++ ys))) w.stamp
+    climbed : Climbs u.stamp (stamps_in (made_steps_of (xs ++ ys))) w.stamp
     climbed =
         subst (λ (l : List ℕ). Climbs u.stamp l w.stamp)
-        (sym (ap stamps_in both ∙ stamps_append (deals_of xs) (deals_of ys)))
-        (climbs_append u.stamp v.stamp w.stamp (stamps_in (deals_of xs)) (stamps_in (deals_of ys)) a.climbs b.climbs)
+        (sym (ap stamps_in both ∙ stamps_append (made_steps_of xs) (made_steps_of ys)))
+        (climbs_append u.stamp v.stamp w.stamp (stamps_in (made_steps_of xs)) (stamps_in (made_steps_of ys)) a.climbs b.climbs)
 
-    seen : Sees w (floor u) (deals_of (xs ++ ys)) (floor w)
+    seen : Sees w (floor u) (made_steps_of (xs ++ ys)) (floor w)
     seen =
-        subst (λ (l : List Deal). Sees w (floor u) l (floor w)) (sym both)
-        (sees_append w (floor u) (floor v) (floor w) (deals_of xs) (deals_of ys)
-        (sees_grown v w (floor u) (floor v) (deals_of xs) b.grows (stood_known v caller xs a.stood) a.sees) b.sees)
+        subst (λ (l : List MadeStep). Sees w (floor u) l (floor w)) (sym both)
+        (sees_append w (floor u) (floor v) (floor w) (made_steps_of xs) (made_steps_of ys)
+        (sees_grown v w (floor u) (floor v) (made_steps_of xs) b.grows (stood_known v caller xs a.stood) a.sees) b.sees)
 
     pub ran_then : RanBy caller (m + n) u w (xs ++ ys)
     ran_then = record {

@@ -11,9 +11,9 @@ use Rattle.lane_table.specs.declared.view.View.{View}
 use Rattle.lane_table.specs.LaneNumbers.{index_of}
 use Rattle.lane_table.specs.WorldRule.{at, blank}
 use Rattle.lane_table.specs.Steps.{told, child as split_off}
-use Rattle.lane_table.specs.Went.{places_in}
+use Rattle.lane_table.specs.Advances.{places_in}
 use Rattle.lane_table.proofs.Lists.Lists.{sum_by-map}
-use Rattle.caller_run.specs.Doings.{Doing, deals_of, items_of}
+use Rattle.caller_run.specs.NumberedSteps.{NumberedStep, made_steps_of, items_of}
 use Rattle.caller_run.specs.Items.{Item}
 use Rattle.caller_run.specs.Laws.{Run, HasRun}
 use Rattle.caller_run.specs.Families.{marked_by}
@@ -36,29 +36,29 @@ made_nothing v = record {
 
 module _ (caller : ℕ) (events : List Event) (r : Run) (has : HasRun caller events r) (new : MadeNothing r.begun.view)
   where
-    abbrev doings : List Doing
-    doings = has.ended.done.doings
+    abbrev numbered_steps : List NumberedStep
+    numbered_steps = has.ended.done.numbered_steps
 
-    same : (f : Item → ℕ) → sum_by f (items_of doings) ≡ sum_by f (lines_items r.lines)
+    same : (f : Item → ℕ) → sum_by f (items_of numbered_steps) ≡ sum_by f (lines_items r.lines)
     same f = ap (sum_by f) has.ended.done.order
         ∙ calls_weight f r.begun.caller events r.lines has.ended.fit has.ended.done.points
 
     near : (lane : ℕ) → lane < length r.end.lanes → lane < length r.begun.view.lanes
     near lane low = let s = has.ended.done.ran.same.sized in omega arith
 
-    in_marks : (f : ℕ → ℕ) (lane : LaneId) → marked_by f lane r ≡ sum_by f (places_in (index_of lane) (deals_of doings))
+    in_marks : (f : ℕ → ℕ) (lane : LaneId) → marked_by f lane r ≡ sum_by f (places_in (index_of lane) (made_steps_of numbered_steps))
     in_marks f lane =
         sym (sum_by-map f (λ (mark : Mark). mark.place) (lane_marks lane (all_marks (r.lines ∷ []))))
-        ∙ lane_weight f lane r.begun.caller r.lines doings (fit_own r.begun.caller 0 events r.lines has.ended.fit) same
+        ∙ lane_weight f lane r.begun.caller r.lines numbered_steps (fit_own r.begun.caller 0 events r.lines has.ended.fit) same
 
     pub own_places : OwnPlaces r
     own_places = record {
       placed = λ f lane low.
           ap (sum_by f) (has.ended.done.ran.places (index_of lane) (near (index_of lane) low)
-          ∙ ap (λ (l : List ℕ). l ++ places_in (index_of lane) (deals_of doings)) (new.places (index_of lane)))
+          ∙ ap (λ (l : List ℕ). l ++ places_in (index_of lane) (made_steps_of numbered_steps)) (new.places (index_of lane)))
           ∙ sym (in_marks f lane);
       made = λ lane low.
           (let a = has.ended.done.ran.made (index_of lane) (near (index_of lane) low) in
           let b = new.made (index_of lane) in let c = in_marks (λ p. 1) lane in
-          let d = sum_ones (places_in (index_of lane) (deals_of doings)) in omega arith);
+          let d = sum_ones (places_in (index_of lane) (made_steps_of numbered_steps)) in omega arith);
     }

@@ -10,17 +10,17 @@ use Rattle.key_names.specs.History.{is_mark}
 use Rattle.key_names.specs.Vgetrandom.{SystemAnswer, HostStep, publishes, system_call, at_point}
 use Rattle.key_names.specs.VreadSteps.{number_of}
 use Rattle.lane_table.specs.declared.view.View.{View}
-use Rattle.lane_table.specs.Went.{Deal, looked, step_of}
+use Rattle.lane_table.specs.Advances.{MadeStep, looked, step_of}
 use Rattle.vdso_state.specs.Host.{DoesAll}
 use Rattle.rng_core.specs.declared.attempt.Attempt.{Attempt}
 use Rattle.rng_core.specs.declared.attempt.Attempt.TheVariants.{First, Later}
 use Rattle.rng_core.specs.declared.setting.Setting.{Setting}
-use Rattle.rng_core.specs.Told.{Moment, Told, BeginsWithLook}
+use Rattle.rng_core.specs.Traces.{Moment, TraceRecords, BeginsWithLook}
 use Rattle.rng_core.specs.Acts.{Ask, ActOutcome, ActsAt}
 use Rattle.rng_core.specs.Acting.{attempt_at, is_first, acting, act_stand, ActStand, ActPublished, ActAnswered, ActPassed}
 use Rattle.caller_run.specs.Items.{Item, items_from}
 use Rattle.caller_run.proofs.Orders.PartItems.{Part, part_nothing, part_then, part_went, items_append}
-use Rattle.caller_run.proofs.Calls.ActDoings.{Untouched, act_items, untouched_items, acts_part, acts_elsewhere}
+use Rattle.caller_run.proofs.Calls.ActSteps.{Untouched, act_items, untouched_items, acts_part, acts_elsewhere}
 
 -- what a pass knows, the steps so far, and what came of the acts
 pub record Spot : Type 0 where
@@ -134,13 +134,13 @@ module _ (set : Setting) (asks : List Ask) where
   abbrev pub next_items : Spot → List Step → List Item
   next_items s steps = items_from set.event (length s.moment.steps) steps
 
-  pub own_told : (s t : Spot) (deals : List Deal) → Told set s.moment t.moment deals → t.outcomes ≡ s.outcomes →
-      OwnSteps s t (next_items s (map step_of deals))
-  own_told s t deals told same =
+  pub own_told : (s t : Spot) (made_steps : List MadeStep) → TraceRecords set s.moment t.moment made_steps → t.outcomes ≡ s.outcomes →
+      OwnSteps s t (next_items s (map step_of made_steps))
+  own_told s t made_steps told same =
       let e : length s.moment.steps + 0 ≡ length s.moment.steps = omega arith in record {
-        line = ap (items_from set.event 0) told.trace ∙ items_append set.event 0 s.moment.steps (map step_of deals)
-            ∙ ap (λ (n : ℕ). line_of s ++ items_from set.event n (map step_of deals)) e;
-        part = part_went set.caller set.event (length s.moment.steps) (view_at s) (view_at t) deals told.went;
+        line = ap (items_from set.event 0) told.trace ∙ items_append set.event 0 s.moment.steps (map step_of made_steps)
+            ∙ ap (λ (n : ℕ). line_of s ++ items_from set.event n (map step_of made_steps)) e;
+        part = part_went set.caller set.event (length s.moment.steps) (view_at s) (view_at t) made_steps told.went;
         outcomes = same;
       }
 
@@ -154,12 +154,12 @@ module _ (set : Setting) (asks : List Ask) where
     pub own : OwnSteps s t items
     pub begins : LooksFirst steps → BeginsUnmarked items
 
-  looks : (s : Spot) (deals : List Deal) (rest : List Item) (after : List Step) →
-      after ≡ s.moment.steps ++ map step_of deals →
-      BeginsWithLook s.moment.steps after → BeginsUnmarked (next_items s (map step_of deals) ++ rest)
-  looks s deals rest after trace k =
+  looks : (s : Spot) (made_steps : List MadeStep) (rest : List Item) (after : List Step) →
+      after ≡ s.moment.steps ++ map step_of made_steps →
+      BeginsWithLook s.moment.steps after → BeginsUnmarked (next_items s (map step_of made_steps) ++ rest)
+  looks s made_steps rest after trace k =
       subst (λ (l : List Step). BeginsUnmarked (next_items s l ++ rest))
-      (sym (append_cancel_left s.moment.steps (map step_of deals) (Look k.look ∷ k.rest) (sym trace ∙ k.is))) refl
+      (sym (append_cancel_left s.moment.steps (map step_of made_steps) (Look k.look ∷ k.rest) (sym trace ∙ k.is))) refl
 
   pub quietly : (steps : List HostStep) (attempt : Attempt) (s : Spot) (end : Attempt) (t : Spot) →
       Quiet attempt steps →
@@ -178,10 +178,10 @@ module _ (set : Setting) (asks : List Ask) where
       let k = goes_answered attempt s steps (at end t) n flags answer does in
       let rest = quietly steps attempt k.0 end t quiet k.2 in
       let did = k.1.core.did in record {
-        items = next_items s (map step_of did.deals) ++ rest.items;
-        own = own_then s k.0 t (next_items s (map step_of did.deals)) rest.items
-            (own_told s k.0 did.deals did.told k.1.acts.outcomes) rest.own;
-        begins = λ first. looks s did.deals rest.items k.0.moment.steps did.told.trace (k.1.begins first);
+        items = next_items s (map step_of did.made_steps) ++ rest.items;
+        own = own_then s k.0 t (next_items s (map step_of did.made_steps)) rest.items
+            (own_told s k.0 did.made_steps did.told k.1.acts.outcomes) rest.own;
+        begins = λ first. looks s did.made_steps rest.items k.0.moment.steps did.told.trace (k.1.begins first);
       }
   quietly (at_point point wiped ∷ steps) attempt s end t quiet does =
       let k = goes_passed attempt s steps (at end t) point wiped does in

@@ -15,7 +15,7 @@ use Rattle.key_names.specs.declared.events.Word.{Word}
 use Rattle.key_names.proofs.Lists.Each.{each_weaker}
 use Rattle.rng_core.specs.declared.setting.Setting.{Setting}
 use Rattle.rng_core.specs.Acts.{Ask, ActOutcome}
-use Rattle.rng_core.specs.InsideDid.{act_line, bound_acts}
+use Rattle.rng_core.specs.InsideMakes.{act_line, bound_acts}
 use Rattle.caller_run.specs.Waiting.{told_anew, act_lines, bound_by, all_bound}
 use Rattle.caller_run.specs.Standing.{HasLine}
 use Rattle.std.proofs.Math.Seq.{set-append_seam}

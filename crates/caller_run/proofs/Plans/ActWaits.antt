@@ -13,8 +13,8 @@ use Rattle.key_names.specs.IsTranscript.{LineIs, LinesFit}
 use Rattle.key_names.specs.Texts.ScriptGrammar.{InRange}
 use Rattle.key_names.specs.SeenLine.{SeenLine, no_data}
 use Rattle.caller_run.proofs.Plans.LogFills.{Fills, fills_act, new_bound}
-use Rattle.caller_run.proofs.Forks.HasGone.{gone_on}
-use Rattle.caller_run.proofs.Calls.CanGo.{can_next}
+use Rattle.caller_run.proofs.Forks.HasAdvanced.{gone_on}
+use Rattle.caller_run.proofs.Calls.CanAdvance.{can_next}
 use Rattle.key_names.specs.VreadSteps.{number_of}
 use Rattle.key_names.proofs.Lists.Each.{each_more}
 use Rattle.lane_table.specs.declared.lanes.Lanes.{Lanes}
@@ -25,13 +25,13 @@ use Rattle.rng_core.specs.Acts.{Ask, asks_of, ask_of}
 use Rattle.caller_run.specs.declared.caller.Caller.{Caller}
 use Rattle.caller_run.specs.Calling.{stand}
 use Rattle.caller_run.specs.Waiting.{bound_by}
-use Rattle.caller_run.specs.Standing.{CanGoWith, HasLine, Start, HasGone}
+use Rattle.caller_run.specs.Standing.{CanAdvanceWith, HasLine, Start, HasAdvanced}
 use Rattle.caller_run.proofs.Calls.AloneDone.{unbound_done}
 use Rattle.caller_run.proofs.Orders.LoopCalls.{so_far_idle, so_far_waits}
 use Rattle.key_names.specs.declared.point.Point.{Point}
-use Rattle.caller_run.proofs.Calls.CanGo.{GoesOn}
+use Rattle.caller_run.proofs.Calls.CanAdvance.{GoesOn}
 use Rattle.caller_run.proofs.Orders.ToldAnew.{idle_more}
-use Rattle.caller_run.proofs.Forks.HasGone.{gone_by, fit_more}
+use Rattle.caller_run.proofs.Forks.HasAdvanced.{gone_by, fit_more}
 
 -- what c tells of an act that is not done
 abbrev pub idle_line : Caller → SeenLine
@@ -72,8 +72,8 @@ module _ {event : Event} {c e : Caller} {before after : Gathered} {acts left : L
   abbrev x : Ask
   x = ask_of (new_bound k.point k.act c.set.event)
 
-  pub can_keep : {t : Lanes} {m inside : ℕ} {rest : List Event} → CanGoWith t c before acts m inside (event ∷ rest) →
-      CanGoWith t e after left m inside rest
+  pub can_keep : {t : Lanes} {m inside : ℕ} {rest : List Event} → CanAdvanceWith t c before acts m inside (event ∷ rest) →
+      CanAdvanceWith t e after left m inside rest
   can_keep {t = t} g =
       let range = subst (InRange g.range.0 t.cpus) k.event_is g.range.1.0 in
       can_next c refl g.ready.has g.states k.on
@@ -83,7 +83,7 @@ module _ {event : Event} {c e : Caller} {before after : Gathered} {acts left : L
       g.told))) g
 
   module _ (at : c.set.event ≡ length before.lines) (begun : Start) (events rest : List Event) (kids : List Start)
-      (g : HasGone begun events (Inside (number_of k.point) k.act ∷ rest) c before.lines asks kids)
+      (g : HasAdvanced begun events (Inside (number_of k.point) k.act ∷ rest) c before.lines asks kids)
       (on : GoesOn (Inside (number_of k.point) k.act) c e) where
     line_is : LineIs begun.caller c.set.event InsideWord line
     line_is = record { caller = g.own; event = refl; word_is = refl }
@@ -101,14 +101,14 @@ module _ {event : Event} {c e : Caller} {before after : Gathered} {acts left : L
     fit = fit_more begun.caller c.set.event events (Inside (number_of k.point) k.act) rest before.lines line line_is g.fit
 
     -- no vread follows, so the act is a call of its own
-    gone_idle : has_vread rest ≡ false → HasGone begun events rest e (before.lines ++ line ∷ []) (asks ++ x ∷ []) kids
+    gone_idle : has_vread rest ≡ false → HasAdvanced begun events rest e (before.lines ++ line ∷ []) (asks ++ x ∷ []) kids
     gone_idle none =
         gone_by c g refl on (unbound (bound_by x line)) (before.lines ++ line ∷ []) (asks ++ x ∷ []) g.waiting
         (unbound_done c.set.caller (view c.pass) (stand c) (bound_by x line) refl refl refl) refl
         (λ has. let b : false ≡ true = sym none ∙ has in absurd (cc b))
         (so_far_idle events rest before.lines g.waiting g.calls x line none g.so_far) fit idle
 
-    gone_waits : has_vread rest ≡ true → HasGone begun events rest e (before.lines ++ line ∷ []) (asks ++ x ∷ []) kids
+    gone_waits : has_vread rest ≡ true → HasAdvanced begun events rest e (before.lines ++ line ∷ []) (asks ++ x ∷ []) kids
     gone_waits has =
         gone_on c g refl on g.calls (before.lines ++ line ∷ []) (asks ++ x ∷ []) (g.waiting ++ x ∷ []) kids g.done
         g.settings g.forked
@@ -116,17 +116,17 @@ module _ {event : Event} {c e : Caller} {before after : Gathered} {acts left : L
         (so_far_waits events rest before.lines g.waiting g.calls x line has at g.so_far) fit idle
 
     gone_either : (b : Bool) → has_vread rest ≡ b →
-        HasGone begun events rest e (before.lines ++ line ∷ []) (asks ++ x ∷ []) kids
+        HasAdvanced begun events rest e (before.lines ++ line ∷ []) (asks ++ x ∷ []) kids
     gone_either true has = gone_waits has
     gone_either false none = gone_idle none
 
   pub gone_keep : c.set.event ≡ length before.lines → (begun : Start) (events rest : List Event)
-      (kids : List Start) → HasGone begun events (event ∷ rest) c before.lines asks kids →
-      HasGone begun events rest e after.lines (asks_of left) kids
+      (kids : List Start) → HasAdvanced begun events (event ∷ rest) c before.lines asks kids →
+      HasAdvanced begun events rest e after.lines (asks_of left) kids
   gone_keep at begun events rest kids g =
-      subst (λ (ls : List SeenLine). HasGone begun events rest e ls (asks_of left) kids) (sym k.lines)
-      (subst (λ (l : List Ask). HasGone begun events rest e (before.lines ++ line ∷ []) l kids)
+      subst (λ (ls : List SeenLine). HasAdvanced begun events rest e ls (asks_of left) kids) (sym k.lines)
+      (subst (λ (l : List Ask). HasAdvanced begun events rest e (before.lines ++ line ∷ []) l kids)
       (sym (ap asks_of k.kept ∙ map-append ask_of acts (new_bound k.point k.act c.set.event ∷ [])))
-      (gone_either at begun events rest kids (subst (λ (y : Event). HasGone begun events (y ∷ rest) c before.lines
+      (gone_either at begun events rest kids (subst (λ (y : Event). HasAdvanced begun events (y ∷ rest) c before.lines
       asks kids) k.event_is g)
       (subst (λ (y : Event). GoesOn y c e) k.event_is k.on) (has_vread rest) refl))

@@ -20,11 +20,11 @@ use Rattle.lane_table.specs.LaneNumbers.{index_of}
 use Rattle.lane_table.specs.Meaning.{replay}
 use Rattle.lane_table.specs.WorldRule.{blank, known_of}
 use Rattle.lane_table.specs.Steps.{Grows, told, child as split_off}
-use Rattle.lane_table.specs.Went.{Deal, looked, visited, step_of, stamps_in, Climbs, Sees, floor}
+use Rattle.lane_table.specs.Advances.{MadeStep, looked, visited, step_of, stamps_in, Climbs, Sees, floor}
 use Rattle.lane_table.proofs.Rule.Sights.{AllKnown, sees_append, sees_grown}
 use Rattle.lane_table.proofs.Lists.VisitLists.{begins_trans}
-use Rattle.lane_table.proofs.Calls.WentLemmas.{stamps_append, climbs_append}
-use Rattle.caller_run.specs.Doings.{Doing, deals_of, items_of}
+use Rattle.lane_table.proofs.Calls.AdvanceLemmas.{stamps_append, climbs_append}
+use Rattle.caller_run.specs.NumberedSteps.{NumberedStep, made_steps_of, items_of}
 use Rattle.caller_run.specs.Items.{steps_of}
 use Rattle.caller_run.specs.Laws.{Run, HasRun, Began, IsOneOf, lines_of_all}
 use Rattle.caller_run.specs.Ran.{RanBy}
@@ -55,51 +55,51 @@ long_settings callers (suc n) =
 -- these steps are those of deals that all callers of the order made, up to where a pass knows v; w knows all visits in
 -- the end
 pub record Course (w v : View) (steps : List Step) : Type 0 where
-  pub deals : List Deal
+  pub made_steps : List MadeStep
   pub first : ℕ
-  pub steps_are : map step_of deals ≡ steps
-  pub climbs : Climbs first (stamps_in deals) v.stamp
-  pub sees : Sees w 0 deals (floor v)
-  pub known : AllKnown w deals
+  pub steps_are : map step_of made_steps ≡ steps
+  pub climbs : Climbs first (stamps_in made_steps) v.stamp
+  pub sees : Sees w 0 made_steps (floor v)
+  pub known : AllKnown w made_steps
 
 pub course_start : (w v : View) → Course w v []
 course_start w v =
-    record { deals = []; first = v.stamp; steps_are = refl; climbs = refl; sees = omega arith; known = tt }
+    record { made_steps = []; first = v.stamp; steps_are = refl; climbs = refl; sees = omega arith; known = tt }
 
-known_append : (w : View) (xs ys : List Deal) → AllKnown w xs → AllKnown w ys → AllKnown w (xs ++ ys)
+known_append : (w : View) (xs ys : List MadeStep) → AllKnown w xs → AllKnown w ys → AllKnown w (xs ++ ys)
 known_append w [] ys a b = b
 known_append w (looked g ∷ xs) ys a b = known_append w xs ys a b
 known_append w (visited mark e ∷ xs) ys a b = (a.0, a.1, known_append w xs ys a.2 b)
 
-known_grown : (v w : View) (deals : List Deal) → length w.lanes ≡ length v.lanes → Grows v w → AllKnown v deals →
-    AllKnown w deals
+known_grown : (v w : View) (made_steps : List MadeStep) → length w.lanes ≡ length v.lanes → Grows v w → AllKnown v made_steps →
+    AllKnown w made_steps
 known_grown v w [] sized grows a = tt
-known_grown v w (looked g ∷ deals) sized grows a = known_grown v w deals sized grows a
-known_grown v w (visited mark e ∷ deals) sized grows a =
+known_grown v w (looked g ∷ made_steps) sized grows a = known_grown v w made_steps sized grows a
+known_grown v w (visited mark e ∷ made_steps) sized grows a =
     let lane : ℕ = index_of mark.lane in let more = grows lane a.0 in let long = ap length more.1 in (
       (let n = a.0 in omega arith),
       (let n = a.1 in omega (arith, length-append (known_of v lane) more.0)),
-      known_grown v w deals sized grows a.2,
+      known_grown v w made_steps sized grows a.2,
     )
 
-pub steps_of_doings : (doings : List Doing) → map step_of (deals_of doings) ≡ steps_of (items_of doings)
+pub steps_of_doings : (numbered_steps : List NumberedStep) → map step_of (made_steps_of numbered_steps) ≡ steps_of (items_of numbered_steps)
 steps_of_doings [] = refl
-steps_of_doings (d ∷ doings) = ap (λ (l : List Step). step_of d.deal ∷ l) (steps_of_doings doings)
+steps_of_doings (d ∷ numbered_steps) = ap (λ (l : List Step). step_of d.made_step ∷ l) (steps_of_doings numbered_steps)
 
-pub course_more : (w u v : View) (caller n : ℕ) (doings : List Doing) (steps : List Step) →
-    RanBy caller n u v doings → length w.lanes ≡ length v.lanes → Grows v w → Course w u steps →
-    Course w v (steps ++ steps_of (items_of doings))
-course_more w u v caller n doings steps ran sized grows c =
-    let here = stood_known v caller doings ran.stood in record {
-      deals = c.deals ++ deals_of doings;
+pub course_more : (w u v : View) (caller n : ℕ) (numbered_steps : List NumberedStep) (steps : List Step) →
+    RanBy caller n u v numbered_steps → length w.lanes ≡ length v.lanes → Grows v w → Course w u steps →
+    Course w v (steps ++ steps_of (items_of numbered_steps))
+course_more w u v caller n numbered_steps steps ran sized grows c =
+    let here = stood_known v caller numbered_steps ran.stood in record {
+      made_steps = c.made_steps ++ made_steps_of numbered_steps;
       first = c.first;
-      steps_are = map-append step_of c.deals (deals_of doings) ∙ (λ i. c.steps_are i ++ steps_of_doings doings i);
-      climbs = subst (λ (l : List ℕ). Climbs c.first l v.stamp) (sym (stamps_append c.deals (deals_of doings)))
-          (climbs_append c.first u.stamp v.stamp (stamps_in c.deals) (stamps_in (deals_of doings)) c.climbs
+      steps_are = map-append step_of c.made_steps (made_steps_of numbered_steps) ∙ (λ i. c.steps_are i ++ steps_of_doings numbered_steps i);
+      climbs = subst (λ (l : List ℕ). Climbs c.first l v.stamp) (sym (stamps_append c.made_steps (made_steps_of numbered_steps)))
+          (climbs_append c.first u.stamp v.stamp (stamps_in c.made_steps) (stamps_in (made_steps_of numbered_steps)) c.climbs
           ran.climbs);
-      sees = sees_append w 0 (floor u) (floor v) c.deals (deals_of doings) c.sees
-          (sees_grown v w (floor u) (floor v) (deals_of doings) grows here ran.sees);
-      known = known_append w c.deals (deals_of doings) c.known (known_grown v w (deals_of doings) sized grows here);
+      sees = sees_append w 0 (floor u) (floor v) c.made_steps (made_steps_of numbered_steps) c.sees
+          (sees_grown v w (floor u) (floor v) (made_steps_of numbered_steps) grows here ran.sees);
+      known = known_append w c.made_steps (made_steps_of numbered_steps) c.known (known_grown v w (made_steps_of numbered_steps) sized grows here);
     }
 
 -- a pass that was split off has seen as much
@@ -108,11 +108,11 @@ floor_child v = ap (λ (a : LaneView). max v.seen (replay a.known).base.generati
 
 pub course_child : (w v : View) (steps : List Step) → Course w v steps → Course w (split_off v) steps
 course_child w v steps c = record {
-  deals = c.deals;
+  made_steps = c.made_steps;
   first = c.first;
   steps_are = c.steps_are;
   climbs = c.climbs;
-  sees = subst (Sees w 0 c.deals) (sym (floor_child v)) c.sees;
+  sees = subst (Sees w 0 c.made_steps) (sym (floor_child v)) c.sees;
   known = c.known;
 }
 
@@ -206,13 +206,13 @@ module _ (script : Script) (runs : List Run) (w : View) (ok : WellFormed script)
           let low : q.begun.caller < n = (let a = f.above in omega arith) in
           let long = each_of (λ r. length w.lanes ≡ length r.end.lanes) q runs sized child.1 in
           let more = each_of (λ r. Grows r.end w) q runs grows child.1 in
-          let all : Course w f.middle (list_at earlier q.begun.caller ++ steps_of (items_of f.doings)) =
-          course_more w q.begun.view f.middle q.begun.caller f.splits f.doings (list_at earlier q.begun.caller) f.ran
+          let all : Course w f.middle (list_at earlier q.begun.caller ++ steps_of (items_of f.numbered_steps)) =
+          course_more w q.begun.view f.middle q.begun.caller f.splits f.numbered_steps (list_at earlier q.begun.caller) f.ran
           (long ∙ f.sized)
           (λ lane near. begins_trans (known_of f.middle lane) (known_of q.end lane) (known_of w lane)
           (f.grows lane near) (more lane (let e = f.sized in omega arith)))
           (before q child.1 low) in
-          let is_so : list_at earlier q.begun.caller ++ steps_of (items_of f.doings)
+          let is_so : list_at earlier q.begun.caller ++ steps_of (items_of f.numbered_steps)
           ≡ inherited_steps earlier (parent_from n 0 callers) =
           ap (λ (l : List Step). list_at earlier q.begun.caller ++ l) f.order
           ∙ sym (append_assoc (list_at earlier q.begun.caller) (calls_steps f.before) (through_visit f.line.steps))

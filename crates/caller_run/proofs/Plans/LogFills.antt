@@ -13,7 +13,7 @@ use Rattle.key_names.specs.SeenLine.{SeenLine}
 use Rattle.key_names.proofs.Lists.Each.{each_more}
 use Rattle.rng_core.specs.declared.acts.Bound.{Bound}
 use Rattle.rng_core.specs.Acts.{Ask, wants, all_wanted, ask_of, asks_of}
-use Rattle.rng_core.specs.InsideDid.{IsFresh}
+use Rattle.rng_core.specs.InsideMakes.{IsFresh}
 use Rattle.caller_run.specs.Kinds.{IsCall}
 use Rattle.caller_run.specs.Says.{most_shown}
 use Rattle.transcript_text.specs.Gathered.{Gathered}

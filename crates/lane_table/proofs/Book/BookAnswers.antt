@@ -16,14 +16,14 @@ use Rattle.lane_table.specs.BookLists.{StateLists, base_entry, cpu_entry, book_l
 use Rattle.lane_table.specs.BookLaws.{ClosedLanes}
 use Rattle.lane_table.proofs.Lists.Places.{stands_at, element_at}
 use Rattle.lane_table.proofs.Book.BookEntries.{VisitAt, MadeAt, lane_at, made_at, one_kind, entries_length, pool_kind, base_kind, cpu_kind}
-use Rattle.lane_table.proofs.Book.BookValues.{Beside}
+use Rattle.lane_table.proofs.Book.BookValues.{SameHeldLane}
 use Rattle.lane_table.proofs.Book.BookWhole.{beside, parent_cpu, cpu_listed, forward_lawful}
 
 module _ (lanes : ℕ) (visits : ℕ → List Visit) (callers : StateLists) (ok : ClosedLanes lanes visits) where
   abbrev book : Lists
   book = book_lists lanes visits callers
 
-  sides : Beside lanes (visits 0) (visits 1)
+  sides : SameHeldLane lanes (visits 0) (visits 1)
   sides = beside lanes visits callers ok
 
   -- a visit that names an entry behind it answers that entry in the book

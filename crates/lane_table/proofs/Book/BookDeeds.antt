@@ -27,7 +27,7 @@ use Rattle.lane_table.specs.BookLists.{StateLists, entries, cpu_entry, book_list
 use Rattle.lane_table.specs.BookLaws.{bare, ClosedLanes, CpuReplays, BatchReplays}
 use Rattle.lane_table.specs.VisitsMet.{PoolMet, BaseMet, CpuMet, IsIntOfBatch, FitsBatch, cpu_serving}
 use Rattle.lane_table.proofs.Book.BookEntries.{pool_kind, entered_at}
-use Rattle.lane_table.proofs.Book.BookValues.{Beside, pool_before, base_before, base_entered, base_used, root_handed}
+use Rattle.lane_table.proofs.Book.BookValues.{SameHeldLane, pool_before, base_before, base_entered, base_used, root_handed}
 use Rattle.lane_table.proofs.Book.BookCpus.{CpuLane, RefillHanded, cpu_entered_at, cpu_used_before, state_before}
 use Rattle.lane_table.proofs.Book.BookBatches.{not_used_up}
 use Rattle.lane_table.proofs.Book.BookLawful.{fits_before}
@@ -114,7 +114,7 @@ module _ (lanes : ℕ) (visits : ℕ → List Visit) (callers : StateLists) (ok 
   abbrev book : Lists
   book = book_lists lanes visits callers
 
-  sides : Beside lanes (visits 0) (visits 1)
+  sides : SameHeldLane lanes (visits 0) (visits 1)
   sides = beside lanes visits callers ok
 
   -- a visit of the pool

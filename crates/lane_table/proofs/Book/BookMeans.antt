@@ -15,7 +15,7 @@ use Rattle.lane_table.specs.Meaning.{replay, gave_of, call_key}
 use Rattle.lane_table.specs.BookLists.{StateLists, book_lists}
 use Rattle.lane_table.specs.BookLaws.{ClosedLanes, CpuReplays, LanesReplay, VisitsGive}
 use Rattle.lane_table.proofs.Book.BookEntries.{VisitAt, pool_kind, base_kind, cpu_kind, whole}
-use Rattle.lane_table.proofs.Book.BookValues.{Beside, pool_before, pool_gave, base_before, base_gave_key, base_gave_generation}
+use Rattle.lane_table.proofs.Book.BookValues.{SameHeldLane, pool_before, pool_gave, base_before, base_gave_key, base_gave_generation}
 use Rattle.lane_table.proofs.Book.BookCpus.{CpuLane, cpu_visit_at}
 use Rattle.lane_table.proofs.Book.BookReplays.{cpu_replays, cpu_used_here}
 use Rattle.lane_table.proofs.Book.BookWhole.{beside, cpu_lane_of}
@@ -24,7 +24,7 @@ module _ (lanes : ℕ) (visits : ℕ → List Visit) (callers : StateLists) (ok 
   abbrev book : Lists
   book = book_lists lanes visits callers
 
-  sides : Beside lanes (visits 0) (visits 1)
+  sides : SameHeldLane lanes (visits 0) (visits 1)
   sides = beside lanes visits callers ok
 
   -- each CPU's model before a place

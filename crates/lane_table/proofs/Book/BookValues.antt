@@ -65,12 +65,12 @@ refill_gives b got (Refill cpu place) named h = refl
 refill_gives b got _ named h = cc
 
 -- the base's list beside the pool's
-pub record Beside (lanes : ℕ) (behind xs : List Visit) : Type 0 where
+pub record SameHeldLane (lanes : ℕ) (behind xs : List Visit) : Type 0 where
   pub pool : LawfulLane lanes 0 behind
   pub base : LawfulLane lanes 1 xs
   pub pointed : Pointed 1 behind xs
 
-module _ (lanes : ℕ) (behind xs : List Visit) (ok : Beside lanes behind xs) where
+module _ (lanes : ℕ) (behind xs : List Visit) (ok : SameHeldLane lanes behind xs) where
   abbrev pool : List PoolEntry
   pool = entries pool_entry behind
 

@@ -24,7 +24,7 @@ use Rattle.lane_table.specs.BookLists.{StateLists, book_visits, entries, cpu_ent
 use Rattle.lane_table.specs.BookLaws.{ClosedLanes}
 use Rattle.lane_table.proofs.Lists.Places.{stands_at, element_at}
 use Rattle.lane_table.proofs.Book.BookEntries.{VisitAt, pool_kind, base_kind}
-use Rattle.lane_table.proofs.Book.BookValues.{Beside, pool_at, base_visit_at, base_before, base_gave_key, base_gave_generation}
+use Rattle.lane_table.proofs.Book.BookValues.{SameHeldLane, pool_at, base_visit_at, base_before, base_gave_key, base_gave_generation}
 use Rattle.lane_table.proofs.Book.BookCpus.{CpuLane}
 use Rattle.lane_table.proofs.Book.BookLawful.{lawful_base, lawful_cpu}
 
@@ -83,7 +83,7 @@ module _ (lanes : ℕ) (visits : ℕ → List Visit) (callers : StateLists) (ok 
   pub pool_lawful : LawfulLane lanes 0 (visits 0)
   pool_lawful = ok.lawful 0 (omega arith)
 
-  pub beside : Beside lanes (visits 0) (visits 1)
+  pub beside : SameHeldLane lanes (visits 0) (visits 1)
   beside = record {
     pool = pool_lawful;
     base = ok.lawful 1 (omega arith);

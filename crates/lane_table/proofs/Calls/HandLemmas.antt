@@ -16,13 +16,13 @@ use Rattle.lane_table.specs.declared.lanes.Pass.{Pass}
 use Rattle.lane_table.specs.declared.lanes.Held.{Held}
 use Rattle.lane_table.specs.WorldRule.{at, blank, last_stamp}
 use Rattle.lane_table.specs.Meaning.{ahead_of}
-use Rattle.lane_table.specs.Steps.{Seated, both_of, child, halved, newcomer, told}
+use Rattle.lane_table.specs.Steps.{Seated, both_of, child, halved, first_view, told}
 use Rattle.lane_table.specs.Calls.{view, slots, count_of, IsPassOf, IsSamePass, IsAway, IsIdle, SameView, Taken, Tried, Added, Left, Looked, Raised}
-use Rattle.lane_table.specs.Hands.{Hand, hand, IsInHand, NotIn, AllInHand, Has}
+use Rattle.lane_table.specs.Hands.{HeldLane, hand, IsInHand, NotIn, AllInHand, HoldsLanes}
 use Rattle.lane_table.proofs.Rule.Shares.{merged_at}
 
 -- what is held as before is in the hands as before
-held_same : (v w : View) (h : Hand) → at h.lane w ≡ at h.lane v → SameView v w → IsInHand v h → IsInHand w h
+held_same : (v w : View) (h : HeldLane) → at h.lane w ≡ at h.lane v → SameView v w → IsInHand v h → IsInHand w h
 held_same v w h e same k = record {
   near = (let n = k.near in let s = same.sized in omega arith);
   stage = ap (λ (a : LaneView). a.stage) e ∙ k.stage;
@@ -34,7 +34,7 @@ held_same v w h e same k = record {
 }
 
 -- so are all hands, where each other lane that is held is as before
-all_same : (lane : ℕ) (v w : View) (hands : List Hand) →
+all_same : (lane : ℕ) (v w : View) (hands : List HeldLane) →
     ((j u : ℕ) → j < length v.lanes → j ≢ lane → (at j v).stage ≡ Holding u → at j w ≡ at j v)
     → SameView v w → NotIn lane hands → AllInHand v hands → AllInHand w hands
 all_same lane v w [] keeps same not all = tt
@@ -45,7 +45,7 @@ all_same lane v w (h ∷ hands) keeps same not all = (
 )
 
 -- and where no lane changed but one, and maybe one more
-all_but : (one two : ℕ) (v w : View) (hands : List Hand) → ((j : ℕ) → j ≢ one → j ≢ two → at j w ≡ at j v) →
+all_but : (one two : ℕ) (v w : View) (hands : List HeldLane) → ((j : ℕ) → j ≢ one → j ≢ two → at j w ≡ at j v) →
     SameView v w → NotIn one hands → NotIn two hands → AllInHand v hands → AllInHand w hands
 all_but one two v w [] keeps same not₁ not₂ all = tt
 all_but one two v w (h ∷ hands) keeps same not₁ not₂ all = (
@@ -62,11 +62,11 @@ pub names_one : (e : Option (ℕ × ℕ)) (l b l' b' : ℕ) → e ≡ Some (l, b
 names_one e l b l' b' first second = let f : ◌≡◌ {A = Option (ℕ × ℕ)} (Some (l', b')) (Some (l, b)) =
     sym second ∙ first in let g : (l', b') ≡ (l, b) = cc f in ap (λ (z : ℕ × ℕ). z.0) g
 
-pub has_taken : (t : Lanes) (caller : ℕ) (hands : List Hand) (lane : ℕ) (h : Held) (p p' : Pass) → lane < count_of t →
-    NotIn lane hands → Has t caller hands p → IsSamePass t p p' → Taken lane h p.seat.me p'.seat.me
-    → Has t caller (hand h.turn None 0 ∷ hands) p'
+pub has_taken : (t : Lanes) (caller : ℕ) (hands : List HeldLane) (lane : ℕ) (h : Held) (p p' : Pass) → lane < count_of t →
+    NotIn lane hands → HoldsLanes t caller hands p → IsSamePass t p p' → Taken lane h p.seat.me p'.seat.me
+    → HoldsLanes t caller (hand h.turn None 0 ∷ hands) p'
 has_taken t caller hands lane h p p' near not k is taken =
-    subst (λ (l : ℕ). Has t caller (record {
+    subst (λ (l : ℕ). HoldsLanes t caller (record {
       lane = l;
       ticket = h.turn.ticket;
       place = h.turn.place;
@@ -92,8 +92,8 @@ has_taken t caller hands lane h p p' near not k is taken =
       away = λ j low no. (taken.aside j (let a = k.pass.sized in omega arith) no.0).stage ∙ k.away j low no.1;
     }
 
-pub has_tried : (t : Lanes) (caller : ℕ) (hands : List Hand) (lane : ℕ) (p p' : Pass) → NotIn lane hands →
-    Has t caller hands p → IsSamePass t p p' → Tried lane p.seat.me p'.seat.me → Has t caller hands p'
+pub has_tried : (t : Lanes) (caller : ℕ) (hands : List HeldLane) (lane : ℕ) (p p' : Pass) → NotIn lane hands →
+    HoldsLanes t caller hands p → IsSamePass t p p' → Tried lane p.seat.me p'.seat.me → HoldsLanes t caller hands p'
 has_tried t caller hands lane p p' not k is tried = record {
   pass = is.pass;
   own = is.caller ∙ k.own;
@@ -102,8 +102,8 @@ has_tried t caller hands lane p p' not k is tried = record {
   away = λ j low no. (tried.aside j (let a = k.pass.sized in omega arith)).stage ∙ k.away j low no;
 }
 
-pub has_looked : (t : Lanes) (caller : ℕ) (hands : List Hand) (g : ℕ) (p p' : Pass) → Has t caller hands p →
-    IsSamePass t p p' → Looked g p.seat.me p'.seat.me → Has t caller hands p'
+pub has_looked : (t : Lanes) (caller : ℕ) (hands : List HeldLane) (g : ℕ) (p p' : Pass) → HoldsLanes t caller hands p →
+    IsSamePass t p p' → Looked g p.seat.me p'.seat.me → HoldsLanes t caller hands p'
 has_looked t caller hands g p p' k is looked = let same : (j : ℕ) → at j (view p') ≡ at j (view p) =
     λ j. ap (λ (l : List LaneView). get_or l j blank) looked.lanes in record {
       pass = is.pass;
@@ -113,7 +113,7 @@ has_looked t caller hands g p p' k is looked = let same : (j : ℕ) → at j (vi
       away = λ j low no. ap (λ (a : LaneView). a.stage) (same j) ∙ k.away j low no;
     }
   where
-    every : ((j : ℕ) → at j (view p') ≡ at j (view p)) → (hs : List Hand) → AllInHand (view p) hs →
+    every : ((j : ℕ) → at j (view p') ≡ at j (view p)) → (hs : List HeldLane) → AllInHand (view p) hs →
         AllInHand (view p') hs
     every same [] all = tt
     every same (x ∷ xs) all = (
@@ -123,9 +123,9 @@ has_looked t caller hands g p p' k is looked = let same : (j : ℕ) → at j (vi
     )
 
 -- the lane that was taken last was visited, and its entry names none ahead
-pub has_put : (t : Lanes) (caller : ℕ) (h : Hand) (hands : List Hand) (x : Visit) (p p' : Pass) →
-    ahead_of x.entry ≡ None → Has t caller (h ∷ hands) p → IsSamePass t p p' → Added h.lane x p.seat.me p'.seat.me →
-    Has t caller hands p'
+pub has_put : (t : Lanes) (caller : ℕ) (h : HeldLane) (hands : List HeldLane) (x : Visit) (p p' : Pass) →
+    ahead_of x.entry ≡ None → HoldsLanes t caller (h ∷ hands) p → IsSamePass t p p' → Added h.lane x p.seat.me p'.seat.me →
+    HoldsLanes t caller hands p'
 has_put t caller h hands x p p' none k is added = let others : (j : ℕ) → j ≢ h.lane → at j (view p') ≡ at j (view p) =
     λ j ne. added.others j ne (λ l b e. absurd (names_none (ahead_of x.entry) l b none e)) in record {
       pass = is.pass;
@@ -138,10 +138,10 @@ has_put t caller h hands x p p' none k is added = let others : (j : ℕ) → j �
     }
 
 -- its entry names the place of the lane that was taken before it
-pub has_put_naming : (t : Lanes) (caller : ℕ) (h o : Hand) (hands : List Hand) (x : Visit) (b : ℕ) (p p' : Pass) →
-    ahead_of x.entry ≡ Some (o.lane, b) → Has t caller (h ∷ o ∷ hands) p → IsSamePass t p p' →
+pub has_put_naming : (t : Lanes) (caller : ℕ) (h o : HeldLane) (hands : List HeldLane) (x : Visit) (b : ℕ) (p p' : Pass) →
+    ahead_of x.entry ≡ Some (o.lane, b) → HoldsLanes t caller (h ∷ o ∷ hands) p → IsSamePass t p p' →
     Added h.lane x p.seat.me p'.seat.me
-    → Has t caller (record o { owes = Some h.place } ∷ hands) p'
+    → HoldsLanes t caller (record o { owes = Some h.place } ∷ hands) p'
 has_put_naming t caller h o hands x b p p' names k is added =
     let others : (j : ℕ) → j ≢ h.lane → j ≢ o.lane → at j (view p') ≡ at j (view p) =
     λ j ne no. added.others j ne (λ l z e q. no (q ∙ names_one (ahead_of x.entry) o.lane b l z names e)) in
@@ -169,8 +169,8 @@ has_put_naming t caller h o hands x b p p' names k is added =
     }
 
 -- the generation was raised while the base alone is held
-pub has_raised : (t : Lanes) (caller : ℕ) (h : Hand) (g : ℕ) (p p' : Pass) → h.lane ≡ 1 → Has t caller (h ∷ []) p →
-    IsSamePass t p p' → Raised g p.seat.me p'.seat.me → Has t caller (record h { raised = 1 } ∷ []) p'
+pub has_raised : (t : Lanes) (caller : ℕ) (h : HeldLane) (g : ℕ) (p p' : Pass) → h.lane ≡ 1 → HoldsLanes t caller (h ∷ []) p →
+    IsSamePass t p p' → Raised g p.seat.me p'.seat.me → HoldsLanes t caller (record h { raised = 1 } ∷ []) p'
 has_raised t caller h g p p' base k is raised =
     let here : at h.lane (view p') ≡ record (at h.lane (view p)) { raised = 1 } =
     subst (λ (z : ℕ). at z (view p') ≡ record (at z (view p)) { raised = 1 }) (sym base) raised.here in let outer =
@@ -193,8 +193,8 @@ has_raised t caller h g p p' base k is raised =
       away = λ j low no. ap (λ (a : LaneView). a.stage) (raised.others j (λ e. no.0 (e ∙ sym base))) ∙ k.away j low no;
     }
 
-pub has_left : (t : Lanes) (caller : ℕ) (h : Hand) (hands : List Hand) (p p' : Pass) → Has t caller (h ∷ hands) p →
-    IsSamePass t p p' → Left h.lane p.seat.me p'.seat.me → Has t caller hands p'
+pub has_left : (t : Lanes) (caller : ℕ) (h : HeldLane) (hands : List HeldLane) (p p' : Pass) → HoldsLanes t caller (h ∷ hands) p →
+    IsSamePass t p p' → Left h.lane p.seat.me p'.seat.me → HoldsLanes t caller hands p'
 has_left t caller h hands p p' k is left = record {
   pass = is.pass;
   own = is.caller ∙ k.own;
@@ -209,7 +209,7 @@ has_left t caller h hands p p' k is left = record {
 
 -- a new table's pass
 pub has_new : (t : Lanes) (caller : ℕ) (plan : Plan) (p : Pass) → IsPassOf t p → p.caller ≡ caller →
-    p.seat.me ≡ (newcomer plan, []) → Has t caller [] p
+    p.seat.me ≡ (first_view plan, []) → HoldsLanes t caller [] p
 has_new t caller plan p is own e = let long : length (view p).lanes ≡ plan.count =
     ap (λ (m : Seated). length m.0.lanes) e ∙ length-replicate plan.count blank in record {
       pass = is;
@@ -221,8 +221,8 @@ has_new t caller plan p is own e = let long : length (view p).lanes ≡ plan.cou
     }
 
 -- a pass with empty hands that another one was split off from
-pub has_halved : (t : Lanes) (caller : ℕ) (p p' : Pass) → Has t caller [] p → IsSamePass t p p' →
-    p'.seat.me ≡ (halved (view p), slots p) → Has t caller [] p'
+pub has_halved : (t : Lanes) (caller : ℕ) (p p' : Pass) → HoldsLanes t caller [] p → IsSamePass t p p' →
+    p'.seat.me ≡ (halved (view p), slots p) → HoldsLanes t caller [] p'
 has_halved t caller p p' k is e = record {
   pass = is.pass;
   own = is.caller ∙ k.own;
@@ -233,7 +233,7 @@ has_halved t caller p p' k is e = record {
 
 -- and that other one
 pub has_child : (t : Lanes) (caller : ℕ) (v : View) (p : Pass) → IsPassOf t p → p.caller ≡ caller →
-    p.seat.me ≡ (child v, []) → Has t caller [] p
+    p.seat.me ≡ (child v, []) → HoldsLanes t caller [] p
 has_child t caller v p is own e = record {
   pass = is;
   own = own;
@@ -245,7 +245,7 @@ has_child t caller v p is own e = record {
 
 -- a pass with empty hands that took in another one
 pub has_joined : (t : Lanes) (caller : ℕ) (w : View) (p p' : Pass) → length (view p).lanes ≡ length w.lanes →
-    Has t caller [] p → IsSamePass t p p' → p'.seat.me ≡ (both_of (view p) w, slots p) → Has t caller [] p'
+    HoldsLanes t caller [] p → IsSamePass t p p' → p'.seat.me ≡ (both_of (view p) w, slots p) → HoldsLanes t caller [] p'
 has_joined t caller w p p' long k is e = record {
   pass = is.pass;
   own = is.caller ∙ k.own;
@@ -262,6 +262,6 @@ beyond (x ∷ xs) zero h = absurd (omega arith)
 beyond (x ∷ xs) (suc j) h = beyond xs j (omega arith)
 
 -- with empty hands a pass is idle
-pub idle_of : (t : Lanes) (caller : ℕ) (p : Pass) → Has t caller [] p → IsIdle (view p)
+pub idle_of : (t : Lanes) (caller : ℕ) (p : Pass) → HoldsLanes t caller [] p → IsIdle (view p)
 idle_of t caller p k j = dite (dec_le (j + 1) (count_of t)) (λ low. k.away j (omega arith) tt)
     (λ high. ap (λ (a : LaneView). a.stage) (beyond (view p).lanes j (let s = k.pass.sized in omega arith)))

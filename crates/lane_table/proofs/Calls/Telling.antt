@@ -13,11 +13,11 @@ use Rattle.lane_table.specs.declared.lanes.Held.{Held}
 use Rattle.lane_table.specs.declared.lanes.Lanes.{Lanes}
 use Rattle.lane_table.specs.declared.lanes.Pass.{Pass}
 use Rattle.lane_table.specs.declared.values.LaneState.{LaneState}
-use Rattle.lane_table.specs.Meaning.{replay, model_step, ahead_of, ValueStands}
+use Rattle.lane_table.specs.Meaning.{replay, model_step, ahead_of, ValueRepresents}
 use Rattle.lane_table.specs.References.{Pointed}
 use Rattle.lane_table.specs.WorldRule.{Begins, Consistent, Replays, at, blank, known_of, last_stamp, raises}
 use Rattle.lane_table.specs.Steps.{Got, Grows, KeepsHeld, MayName, NamesHeld, Seated, after, holder, learn, learn_from, learned, left, owing, raised, raising, saw, staged, visited, with_at, with_stamp}
-use Rattle.lane_table.specs.Calls.{Added, Aside, Beside, IsPassOf, IsSamePass, Left, Looked, Raised, SameView, Taken, Tried, view}
+use Rattle.lane_table.specs.Calls.{Added, SameOtherLane, SameHeldLane, IsPassOf, IsSamePass, Left, Looked, Raised, SameView, Taken, Tried, view}
 use Rattle.lane_table.proofs.Lists.VisitLists.{begins_push, begins_refl, last_push, place_below, raises_few}
 use Rattle.lane_table.proofs.Lists.LawfulLists.{base_generation, cpu_below, replay_push}
 use Rattle.lane_table.proofs.Rule.Naming.{parent_below, parent_cpu, same_pair}
@@ -105,7 +105,7 @@ module _ {i t : ℕ} {m m₁ m₂ m₃ : Seated} {c : Content} (near : i < lengt
     consistent = got_consistent;
     same = got_same;
     stands = record {
-      value = subst (λ (z : LaneState × List Visit). ValueStands i z.0 (replay z.1))
+      value = subst (λ (z : LaneState × List Visit). ValueRepresents i z.0 (replay z.1))
           (λ q. (sym state q, sym got_known q)) got_replays.value;
       place = list.0 ∙ got_replays.place ∙ ap length (sym got_known);
       stamp = list.1 ∙ got_stamp;
@@ -170,7 +170,7 @@ module _ {i t : ℕ} {m m₁ m₂ m₃ : Seated} {c : Content} (near : i < lengt
         };
         keeps = λ j u low ne hold. there j ne ∙ got_keeps j u low ne hold;
         aside = λ j low. dite (ℕ_discrete j i)
-            (λ q. subst (λ (k : ℕ). Aside k m.0 m₄.0) (sym q) record {
+            (λ q. subst (λ (k : ℕ). SameOtherLane k m.0 m₄.0) (sym q) record {
               stage = ap (λ (a : LaneView). a.stage) here ∙ sym away;
               owed = ap (λ (a : LaneView). a.owes) (here ∙ ap (staged Away) (got_here ∙ ap (holder got.log t) mine))
                   ∙ r.owed;
@@ -275,7 +275,7 @@ added_is i x m m' near names later e consistent = let v : View = m.0 in let a = 
     ap (λ (z : Seated). z.0) e ∙ owing_rest o place u in
     let at' : (j : ℕ) → at j m'.0 ≡ at j (owing o place u) = λ j. ap (λ (z : Seated). at j z.0) e in
     let here : at i m'.0 ≡ a = at' i ∙ owing_other o place u i apart ∙ get_or-set_same v.lanes i a blank near in
-    let beside : (j : ℕ) → j ≢ i → Beside j v m'.0 = λ j ne. let e' = get_or-set_other v.lanes i j a blank ne in
+    let beside : (j : ℕ) → j ≢ i → SameHeldLane j v m'.0 = λ j ne. let e' = get_or-set_other v.lanes i j a blank ne in
     record {
       known = ap (λ (z : LaneView). z.known) (at' j)
           ∙ owing_field (λ (z : LaneView). z.known) (λ z q. refl) o place u j ∙ ap (λ (z : LaneView). z.known) e';
@@ -338,10 +338,10 @@ after_pass i x lanes p q h e table stamp caller = let u =
 
 -- the value that goes home stands for the list with the visit
 pub replays_push : (i first : ℕ) (xs : List Visit) (x : Visit) (c : Content) →
-    ValueStands i c.state (model_step (replay xs) x) → c.place ≡ length xs + 1 → c.stamp ≡ x.stamp →
+    ValueRepresents i c.state (model_step (replay xs) x) → c.place ≡ length xs + 1 → c.stamp ≡ x.stamp →
     Replays i first (xs ++ x ∷ []) c
 replays_push i first xs x c value place stamp = record {
-  value = subst (ValueStands i c.state) (sym (replay_push xs x)) value;
+  value = subst (ValueRepresents i c.state) (sym (replay_push xs x)) value;
   place = place ∙ (let e = length-append xs (x ∷ []) in omega arith);
   stamp = stamp ∙ sym (last_push first xs x);
 }

@@ -15,7 +15,7 @@ use Rattle.lane_table.specs.Meaning.{Model, replay, model_step, start_model, bas
 use Rattle.key_names.specs.LawfulList.{LawfulFrom}
 use Rattle.lane_table.specs.WorldRule.{Begins, known_of}
 use Rattle.lane_table.specs.Steps.{Grows}
-use Rattle.lane_table.specs.Went.{floor, Agrees}
+use Rattle.lane_table.specs.Advances.{floor, Agrees}
 
 up_by : (o : Option ℕ) (g : ℕ) → g ≤ generation_after o g
 up_by None g = omega arith

@@ -11,7 +11,7 @@ use Rattle.lane_table.specs.declared.view.LaneView.{LaneView}
 use Rattle.lane_table.specs.declared.view.Content.{Content}
 use Rattle.lane_table.specs.declared.view.Stage.{Stage}
 use Rattle.lane_table.specs.declared.view.Stage.TheVariants.{Away, Queued, Holding}
-use Rattle.lane_table.specs.WorldRule.{Begins, AllBegin, Rising, Replays, has_ticket, blank, Home, Stands, PassOk, Whereabouts, LaneOk, KnownWhole, times, once_below}
+use Rattle.lane_table.specs.WorldRule.{Begins, AllBegin, Rising, Replays, has_ticket, blank, Home, Stands, PassOk, IsHomeOrHeld, LaneOk, KnownWhole, times, once_below}
 use Rattle.lane_table.specs.Steps.{holder, told, merged, longer}
 use Rattle.lane_table.proofs.Lists.Lists.{at_below, sum_at_set}
 use Rattle.lane_table.proofs.Lists.VisitLists.{begins_trans, begins_length, begins_nil, begins_refl, longer_all, all_trans, all_heard}
@@ -40,7 +40,7 @@ known_set col log id a a' at same x = some_set (λ (z : LaneView). z.known ≡ l
 
 whereabouts_set : (lane first serving : ℕ) (home : Home) (col : List LaneView) (log : List Visit) (id : ℕ)
     (a a' : LaneView) → get_elem? col id ≡ some a → (a.stage ≡ Holding serving → a'.stage ≡ Holding serving)
-    → Whereabouts lane first serving home col log → Whereabouts lane first serving home (set col id a') log
+    → IsHomeOrHeld lane first serving home col log → IsHomeOrHeld lane first serving home (set col id a') log
 whereabouts_set lane first serving home col log id a a' at same (inl x) = inl x
 whereabouts_set lane first serving home col log id a a' at same (inr x) =
     inr (some_set (λ (z : LaneView). z.stage ≡ Holding serving) col id a a' at same x)
@@ -147,7 +147,7 @@ module _ {lane first ticket serving : ℕ} {home : Home} {col : List LaneView} {
     Turned = (c : Content) × (home ≡ some (some (Some c))) × Replays lane first log c
         × LaneOk lane first ticket serving (some none) (set col id (holder log serving a)) log owner
 
-    turned_at : a.stage ≡ Queued serving → Whereabouts lane first serving home col log → Turned
+    turned_at : a.stage ≡ Queued serving → IsHomeOrHeld lane first serving home col log → Turned
     turned_at waits (inl x) = let a' = holder log serving a in let stood = stands_here (Queued serving) waits in (
       x.0,
       x.1,

@@ -20,7 +20,7 @@ use Rattle.lane_table.specs.References.{Pointed}
 use Rattle.lane_table.specs.WorldRule.{Consistent, known_of}
 use Rattle.lane_table.specs.Steps.{Grows, Seated}
 use Rattle.lane_table.specs.Calls.{Added, Looked}
-use Rattle.lane_table.specs.Went.{Deal, looked, visited, AllStand, Sees, floor, generation_of}
+use Rattle.lane_table.specs.Advances.{MadeStep, looked, visited, AllStand, Sees, floor, generation_of}
 use Rattle.lane_table.proofs.Rule.Floors.{floor_grown}
 use Rattle.lane_table.proofs.Lists.LawfulLists.{base_generation, cpu_below}
 use Rattle.lane_table.proofs.Lists.Lists.{at_below}
@@ -105,12 +105,12 @@ module _ (m m' : Seated) (two : 1 < length m.0.lanes) where
 
 -- One after another
 
-pub sees_up : (w : View) (low high : ℕ) (deals : List Deal) → Sees w low deals high → low ≤ high
+pub sees_up : (w : View) (low high : ℕ) (made_steps : List MadeStep) → Sees w low made_steps high → low ≤ high
 sees_up w low high [] s = s
-sees_up w low high (looked g ∷ deals) s = let a = s.0 in let b = sees_up w g high deals s.1 in omega arith
-sees_up w low high (visited mark e ∷ deals) s = let a = s.1 in let b = sees_up w s.0 high deals s.3 in omega arith
+sees_up w low high (looked g ∷ made_steps) s = let a = s.0 in let b = sees_up w g high made_steps s.1 in omega arith
+sees_up w low high (visited mark e ∷ made_steps) s = let a = s.1 in let b = sees_up w s.0 high made_steps s.3 in omega arith
 
-pub sees_append : (w : View) (low mid high : ℕ) (xs ys : List Deal) → Sees w low xs mid → Sees w mid ys high →
+pub sees_append : (w : View) (low mid high : ℕ) (xs ys : List MadeStep) → Sees w low xs mid → Sees w mid ys high →
     Sees w low (xs ++ ys) high
 sees_append w low mid high [] [] a b = omega arith
 sees_append w low mid high [] (looked g ∷ ys) a b = (let lt = b.0 in omega arith, b.1)
@@ -120,34 +120,34 @@ sees_append w low mid high (visited mark e ∷ xs) ys a b =
     (a.0, a.1, a.2, sees_append w a.0 mid high xs ys a.3 b)
 
 -- each visit stands in a lane and below the end of what is known of it
-abbrev pub AllKnown : View → List Deal → Type 0
+abbrev pub AllKnown : View → List MadeStep → Type 0
 AllKnown v [] = ⊤
-AllKnown v (looked g ∷ deals) = AllKnown v deals
-AllKnown v (visited mark e ∷ deals) = (index_of mark.lane < length v.lanes)
-    × (mark.place < length (known_of v (index_of mark.lane))) × AllKnown v deals
+AllKnown v (looked g ∷ made_steps) = AllKnown v made_steps
+AllKnown v (visited mark e ∷ made_steps) = (index_of mark.lane < length v.lanes)
+    × (mark.place < length (known_of v (index_of mark.lane))) × AllKnown v made_steps
 
-pub stand_known : (v : View) (caller event n : ℕ) (deals : List Deal) → AllStand v caller event n deals →
-    AllKnown v deals
+pub stand_known : (v : View) (caller event n : ℕ) (made_steps : List MadeStep) → AllStand v caller event n made_steps →
+    AllKnown v made_steps
 stand_known v caller event n [] k = tt
-stand_known v caller event n (looked g ∷ deals) k = stand_known v caller event (suc n) deals k
-stand_known v caller event n (visited mark e ∷ deals) k = (
+stand_known v caller event n (looked g ∷ made_steps) k = stand_known v caller event (suc n) made_steps k
+stand_known v caller event n (visited mark e ∷ made_steps) k = (
   k.0.near,
   at_below (known_of v (index_of mark.lane)) mark.place k.0.visit k.0.there,
-  stand_known v caller event (suc n) deals k.1,
+  stand_known v caller event (suc n) made_steps k.1,
 )
 
 -- it is seen as well when more is known
-pub sees_grown : (v w : View) (low high : ℕ) (deals : List Deal) → Grows v w → AllKnown v deals →
-    Sees v low deals high → Sees w low deals high
+pub sees_grown : (v w : View) (low high : ℕ) (made_steps : List MadeStep) → Grows v w → AllKnown v made_steps →
+    Sees v low made_steps high → Sees w low made_steps high
 sees_grown v w low high [] grows known s = s
-sees_grown v w low high (looked g ∷ deals) grows known s =
-    (s.0, sees_grown v w g high deals grows known s.1)
-sees_grown v w low high (visited mark e ∷ deals) grows known s =
+sees_grown v w low high (looked g ∷ made_steps) grows known s =
+    (s.0, sees_grown v w g high made_steps grows known s.1)
+sees_grown v w low high (visited mark e ∷ made_steps) grows known s =
     let lane : ℕ = index_of mark.lane in let more = grows lane known.0 in let within = known.1 in
     let same : take (suc mark.place) (known_of w lane) ≡ take (suc mark.place) (known_of v lane) =
     ap (take (suc mark.place)) more.1 ∙ take-append-le (suc mark.place) (known_of v lane) more.0 (omega arith) in (
       s.0,
       s.1,
       subst (λ (l : List Visit). generation_of (replay l) ≤ s.0) (sym same) s.2,
-      sees_grown v w s.0 high deals grows known.2 s.3,
+      sees_grown v w s.0 high made_steps grows known.2 s.3,
     )

@@ -15,7 +15,7 @@ use Rattle.lane_table.specs.declared.view.Content.{Content}
 use Rattle.lane_table.specs.Meaning.{parent}
 use Rattle.lane_table.specs.References.{Pointed}
 use Rattle.lane_table.specs.WorldRule.{Home, LaneOk, PassOk, RaisedOk, Replays, ViewOk, WorldRule, at, blank, known_of, ticket_word, serving_word, words_of}
-use Rattle.lane_table.specs.Steps.{newcomer}
+use Rattle.lane_table.specs.Steps.{first_view}
 use Rattle.lane_table.specs.Calls.{AreStarts, plan_of}
 use Rattle.lane_table.proofs.Lists.VisitLists.{none_below}
 use Rattle.lane_table.proofs.Rule.Naming.{none_pointed, owed_none, parent_within}
@@ -52,7 +52,7 @@ module _ (first count : ℕ) (two : 2 ≤ count) where
   words = set (replicate (words_of count) first) 0 0
 
   abbrev new : View
-  new = newcomer (plan_of count first)
+  new = first_view (plan_of count first)
 
   -- each word but the first
   word_at : (k : ℕ) → k < words_of count → ¬ (k ≡ 0) → get_or words k 0 ≡ first

@@ -2,7 +2,7 @@
 ghost use Rattle.std.specs.Prelude.{◌≡◌, ◌<◌, []};
 ghost use Rattle.lane_table.specs.LaneNumbers.{index_of};
 ghost use Rattle.lane_table.specs.Calls.{count_of};
-ghost use Rattle.lane_table.specs.Hands.{Has};
+ghost use Rattle.lane_table.specs.Hands.{HoldsLanes};
 
 use super::{base, cpu, has_steps, pool};
 use crate::passes::{is_set_in_time, sees_another_queued, split_off, started};
@@ -40,7 +40,7 @@ fn visit_of<R: Wait>(
     lane: LaneId,
     is_held: &AtomicBool,
 ) -> Option<Trace>
-    requires has { Has lanes.now 0 [] pass }
+    requires has { HoldsLanes lanes.now 0 [] pass }
 {
     if !is_set_in_time(is_held) {
         return None;
@@ -66,9 +66,9 @@ fn hold<R: Wait>(
     mut watcher: Pass,
     is_held: &AtomicBool,
 ) -> bool
-    requires has { Has lanes.now 1 [] pass }
+    requires has { HoldsLanes lanes.now 1 [] pass }
     requires lane { index_of lane < count_of lanes.now }
-    requires watcher { Has lanes.now 2 [] watcher }
+    requires watcher { HoldsLanes lanes.now 2 [] watcher }
 {
     let held = lanes.take(rt, &mut pass, lane);
     is_held.store(true, Ordering::SeqCst);
@@ -92,10 +92,10 @@ fn waiting_call<R: Threads + Wait + Sync>(
     Ok(thread::join(
         rt,
         move || -> bool
-            requires { Has table.now 1 [] holder × (index_of lane < count_of table.now) × Has table.now 2 [] watcher }
+            requires { HoldsLanes table.now 1 [] holder × (index_of lane < count_of table.now) × HoldsLanes table.now 2 [] watcher }
         { hold(rt, table, holder, lane, watcher, is_held) },
         move || -> Option<Trace>
-            requires { Has table.now 0 [] pass }
+            requires { HoldsLanes table.now 0 [] pass }
         { visit_of(rt, table, pass, lane, is_held) },
     ))
 }
@@ -120,8 +120,8 @@ fn a_call_waits_for_a_lane_that_another_holds(rt: HostRuntime) -> Result<(), Fai
 
 // A read of 8 bytes out of a wiped state. Its trace is to be empty.
 fn local_read(lanes: &Lanes, pass: &mut Pass) -> Option<Local>
-    requires has { Has lanes.now 1 [] pass.old }
-    ensures has { Has lanes.now 1 [] pass.new }
+    requires has { HoldsLanes lanes.now 1 [] pass.old }
+    ensures has { HoldsLanes lanes.now 1 [] pass.new }
 {
     let mut trace = Trace::empty();
     let mut bytes = [0; 8];
@@ -138,8 +138,8 @@ fn reads_around_a_raise<R: Wait>(
     pass: &mut Pass,
     other: &mut Pass,
 ) -> [Option<Local>; 2]
-    requires has { Has lanes.now 0 [] pass.old }
-    requires other { Has lanes.now 1 [] other.old }
+    requires has { HoldsLanes lanes.now 0 [] pass.old }
+    requires other { HoldsLanes lanes.now 1 [] other.old }
 {
     let mut base = lanes.take(rt, pass, LaneId::Base);
     let (root, extracted) = rooted(rt, lanes, pass, &base);

@@ -1,6 +1,6 @@
 use Rattle.std.specs.Prelude.{[]}
-use Rattle.lane_table.specs.Hands.{Has}
+use Rattle.lane_table.specs.Hands.{HoldsLanes}
 use Rattle.bench_feeds.proofs.loops.irqs.Given as goal
 
 abbrev pub invariant-loop-feeder : goal.invariant-loop-feeder
-invariant-loop-feeder g l = Has l.lanes 0 [] l.pass
+invariant-loop-feeder g l = HoldsLanes l.lanes 0 [] l.pass

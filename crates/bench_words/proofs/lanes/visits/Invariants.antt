@@ -1,6 +1,6 @@
 use Rattle.std.proofs.Common.{[]}
-use Rattle.lane_table.specs.Hands.{Has}
+use Rattle.lane_table.specs.Hands.{HoldsLanes}
 use Rattle.bench_words.proofs.lanes.visits.Given as goal
 
 abbrev pub invariant-loop-event : goal.invariant-loop-event
-invariant-loop-event g l = Has l.lanes 0 [] l.pass
+invariant-loop-event g l = HoldsLanes l.lanes 0 [] l.pass

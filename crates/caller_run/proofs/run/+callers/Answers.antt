@@ -2,7 +2,7 @@ use Rattle.std.proofs.Common.{rules, ◌≡◌, ℕ, ◌+◌, ◌<◌, Some, len
 use Rattle.std.specs.Prelude.{slice_get}
 use Rattle.key_names.specs.Book.{list_at}
 use Rattle.lane_table.proofs.Calls.HandLemmas.{idle_of}
-use Rattle.rng_core.specs.Told.{moment}
+use Rattle.rng_core.specs.Traces.{moment}
 use Rattle.caller_run.specs.Grove.{Plot, grove_of}
 use Rattle.caller_run.specs.Plots.{plot, plot_by}
 use Rattle.caller_run.specs.Ways.{load, kids_of, SameKids, WentBeside}

@@ -1,6 +1,6 @@
 use Rattle.std.proofs.Common.{rules, ℕ, sym, subst}
 use Rattle.lane_table.specs.Calls.{view}
-use Rattle.rng_core.specs.Did.{setting_of}
+use Rattle.rng_core.specs.Makes.{setting_of}
 use Rattle.caller_run.specs.Plots.{plot}
 use Rattle.caller_run.specs.Ways.{Returned}
 use Rattle.caller_run.proofs.Forks.AllCallers.{can_caller}

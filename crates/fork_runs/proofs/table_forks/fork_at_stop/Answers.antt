@@ -1,7 +1,7 @@
 use Rattle.std.proofs.Common.{ap, arith}
 use Rattle.lane_table.specs.Calls.{view}
 use Rattle.lane_table.proofs.Calls.HandLemmas.{has_joined}
-use Rattle.rng_core.proofs.Doing.{did_floor}
+use Rattle.rng_core.proofs.Makings.{did_floor}
 use Rattle.vcall_fork.specs.declared.call.VCall.{VCall}
 use Rattle.fork_runs.proofs.Reaching.{parent_known, child_known}
 use Rattle.fork_runs.proofs.table_forks.fork_at_stop.Goals as goal

@@ -1,7 +1,7 @@
 use Rattle.std.proofs.Common.{◌≡◌, [], length}
 use Rattle.std.specs.Prelude.{vec_capacity}
 use Rattle.lane_table.specs.Calls.{view}
-use Rattle.lane_table.specs.Hands.{Has}
+use Rattle.lane_table.specs.Hands.{HoldsLanes}
 use Rattle.irq_feed.specs.Rule.{with_taken}
 use Rattle.irq_feed.specs.Passes.{known, IsPassOf}
 use Rattle.irq_feed.specs.Mixing.{Mixes}
@@ -10,7 +10,7 @@ use Rattle.irq_feed.proofs.worker.drain.Given as goal
 
 abbrev pub invariant-loop-taken : goal.invariant-loop-taken
 invariant-loop-taken g l = record {
-  has : Has l.call.lanes.now l.call.set.caller [] l.pass;
+  has : HoldsLanes l.call.lanes.now l.call.set.caller [] l.pass;
   worker : IsPassOf l.call.queue.now l.worker;
   taken : known l.worker ≡ with_taken (known l.initial.worker) (mixed_in l.mixed);
   count : length (mixed_in l.mixed) ≡ l._taken;

@@ -1,6 +1,6 @@
 use Rattle.std.proofs.Common.{◌≡◌, ℕ, ◌+◌, ◌*◌, ◌^◌, sym, ◌∙◌, ap, arith}
 use Rattle.lane_table.specs.declared.view.View.{View}
-use Rattle.lane_table.specs.Steps.{halved, child, newcomer}
+use Rattle.lane_table.specs.Steps.{halved, child, first_view}
 use Rattle.lane_table.specs.Calls.{plan_of, view}
 use Rattle.lane_table.proofs.Calls.HandLemmas.{idle_of}
 use Rattle.caller_run.specs.Families.{SameShare}
@@ -8,7 +8,7 @@ use Rattle.lane_tests.proofs.hold_tests.closed.Goals as goal
 
 -- what has the whole share
 abbrev whole : View
-whole = newcomer (plan_of 0 0)
+whole = first_view (plan_of 0 0)
 
 -- a quarter and the other quarter make a half
 quarter_left : (h p : View) → p.share * 4 ≡ 2 ^ p.halvings → h.share ≡ 1 → h.halvings ≡ 1 → SameShare (halved h) p

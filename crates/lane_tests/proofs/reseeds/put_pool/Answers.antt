@@ -3,10 +3,10 @@ use Rattle.atomic_table.specs.Table.{rest}
 use Rattle.key_names.specs.declared.entries.PoolEntry.TheVariants.{Extract}
 use Rattle.lane_table.specs.declared.view.LaneView.{LaneView}
 use Rattle.lane_table.specs.declared.view.LaneEntry.TheVariants.{Pool}
-use Rattle.lane_table.specs.Meaning.{made_of, nothing, replay, ValueStands}
+use Rattle.lane_table.specs.Meaning.{made_of, nothing, replay, ValueRepresents}
 use Rattle.lane_table.specs.WorldRule.{at, known_of}
 use Rattle.lane_table.specs.Calls.{view}
-use Rattle.lane_table.specs.Hands.{Has, hand, model}
+use Rattle.lane_table.specs.Hands.{HoldsLanes, hand, model}
 use Rattle.lane_table.proofs.Calls.HandLemmas.{has_put_naming}
 use Rattle.lane_tests.proofs.reseeds.put_pool.Goals as goal
 
@@ -22,7 +22,7 @@ put-requires-clause-entry c = let has = c.requires.has in let mine = has.held.0 
         stamp = mine.last;
       };
       kind = here;
-      makes = subst (λ (k : ℕ × ℕ). ValueStands k.0 c.args.pool.state
+      makes = subst (λ (k : ℕ × ℕ). ValueRepresents k.0 c.args.pool.state
           (made_of (model c.args.pass.now k.0) (Pool (Extract (replicate 32 0) k.1)) nothing))
           (λ q. (sym here q, sym c.place.ensures q)) c.requires.makes;
       fits = tt;
@@ -47,7 +47,7 @@ put-requires-clause-entry c = let has = c.requires.has in let mine = has.held.0 
 
 pub returns-clause-has : goal.returns-clause-has
 returns-clause-has c = let outer = c.args.base.now.turn in
-    subst (λ (p : ℕ). Has c.args.lanes.now 0 (hand outer (Some p) 0 ∷ []) c.put.new.pass) (sym c.put.ensures.place)
+    subst (λ (p : ℕ). HoldsLanes c.args.lanes.now 0 (hand outer (Some p) 0 ∷ []) c.put.new.pass) (sym c.put.ensures.place)
     (has_put_naming c.args.lanes.now 0 (hand c.args.pool.turn None 0) (hand outer None 0) [] _ outer.place
     c.args.pass.now c.put.new.pass (λ k. Some (sym c.requires.at.1 k, c.place.ensures k)) c.requires.has
     c.put.ensures.pass c.put.ensures.added)

@@ -1,13 +1,13 @@
 use Rattle.std.proofs.Common.{true, sym, subst, ◌∙◌}
 use Rattle.lane_table.specs.declared.values.LaneState.{LaneState}
-use Rattle.lane_table.specs.Meaning.{CpuModel, ValueStands, generator_of}
+use Rattle.lane_table.specs.Meaning.{CpuModel, ValueRepresents, generator_of}
 use Rattle.rng_core.proofs.IntFulfilling.{generator_is}
 use Rattle.rng_core.proofs.cpu_values.serve_refilled.Goals as goal
 
 -- the same CPU with the generator that was handed over
 pub returns-clause-made : goal.returns-clause-made
 returns-clause-made c = λ lane s got place two ek eg must h. let k =
-    subst (λ (z : LaneState). ValueStands lane z s) c.in-Cpu.is h in let m : CpuModel =
+    subst (λ (z : LaneState). ValueRepresents lane z s) c.in-Cpu.is h in let m : CpuModel =
     record s.cpu { cpu = generator_of got } in
     let e = c.serve.ensures.made m got true record {
       cpu = c.refill.ensures
@@ -22,7 +22,7 @@ returns-clause-made c = λ lane s got place two ek eg must h. let k =
 
 pub returns-clause-bytes : goal.returns-clause-bytes
 returns-clause-bytes c = λ lane s got place two ek eg must h. let k =
-    subst (λ (z : LaneState). ValueStands lane z s) c.in-Cpu.is h in let m : CpuModel =
+    subst (λ (z : LaneState). ValueRepresents lane z s) c.in-Cpu.is h in let m : CpuModel =
     record s.cpu { cpu = generator_of got } in
     c.serve.ensures.bytes m got true record {
       cpu = c.refill.ensures

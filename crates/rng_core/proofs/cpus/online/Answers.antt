@@ -1,7 +1,7 @@
 use Rattle.std.proofs.Common.{refl, arith}
 use Rattle.lane_table.specs.Meaning.{nothing}
 use Rattle.lane_table.proofs.Calls.Lent.{lent}
-use Rattle.rng_core.proofs.Doing.{formed, did_map, did_after, did_cpu, served_of}
+use Rattle.rng_core.proofs.Makings.{formed, did_map, did_after, did_cpu, served_of}
 use Rattle.rng_core.proofs.cpus.online.Goals as goal
 
 pub leave-requires-clause-makes : goal.leave-requires-clause-makes

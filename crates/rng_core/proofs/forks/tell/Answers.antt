@@ -2,7 +2,7 @@ use Rattle.std.proofs.Common.{List, [], ◌∷◌, ◌++◌, ap, ◌∙◌, appe
 use Rattle.key_names.specs.declared.names.Step.{Step}
 use Rattle.key_names.specs.declared.names.Step.TheVariants.{Visit}
 use Rattle.lane_table.proofs.Calls.Lent.{lent}
-use Rattle.rng_core.proofs.Doing.{formed, did_after, did_base, served_of}
+use Rattle.rng_core.proofs.Makings.{formed, did_after, did_base, served_of}
 use Rattle.rng_core.proofs.forks.tell.Goals as goal
 
 pub leave-requires-clause-makes : goal.leave-requires-clause-makes

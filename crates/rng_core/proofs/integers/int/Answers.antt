@@ -1,7 +1,7 @@
 use Rattle.std.proofs.Common.{length, inr, arith}
 use Rattle.key_names.specs.Forms.{IntForm}
-use Rattle.rng_core.specs.Did.{setting_of}
-use Rattle.rng_core.proofs.Doing.{did_map, serving_looked}
+use Rattle.rng_core.specs.Makes.{setting_of}
+use Rattle.rng_core.proofs.Makings.{did_map, serving_looked}
 use Rattle.rng_core.proofs.IntFulfilling.{int_unready, int_fulfils}
 use Rattle.rng_core.proofs.integers.int.Goals as goal
 

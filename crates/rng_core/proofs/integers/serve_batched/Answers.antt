@@ -1,7 +1,7 @@
 use Rattle.std.proofs.Common.{inl, inr, []}
 use Rattle.lane_table.specs.Meaning.{nothing}
 use Rattle.rng_core.proofs.TellLemmas.{told_then}
-use Rattle.rng_core.proofs.Doing.{did_map}
+use Rattle.rng_core.proofs.Makings.{did_map}
 use Rattle.rng_core.proofs.IntFulfilling.{did_batch, did_refilled_batch, fits_batch}
 use Rattle.rng_core.proofs.integers.serve_batched.Goals as goal
 

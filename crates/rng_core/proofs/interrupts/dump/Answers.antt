@@ -4,7 +4,7 @@ use Rattle.lane_table.specs.Meaning.{nothing}
 use Rattle.lane_table.specs.WorldRule.{known_of}
 use Rattle.lane_table.proofs.Calls.Lent.{lent}
 use Rattle.lane_table.proofs.Lists.VisitLists.{begins_length}
-use Rattle.rng_core.proofs.Doing.{did_map, did_in_map, did_after, did_in_then}
+use Rattle.rng_core.proofs.Makings.{did_map, did_in_map, did_after, did_in_then}
 use Rattle.rng_core.proofs.Sampling.{did_met, dump_stands}
 use Rattle.rng_core.proofs.interrupts.dump.Goals as goal
 

@@ -1,7 +1,7 @@
 use Rattle.std.proofs.Common.{sym, ◌∙◌, arith}
 use Rattle.lane_table.specs.Meaning.{nothing}
 use Rattle.lane_table.proofs.Calls.Lent.{lent}
-use Rattle.rng_core.proofs.Doing.{did_in_map, did_after, did_in_then}
+use Rattle.rng_core.proofs.Makings.{did_in_map, did_after, did_in_then}
 use Rattle.rng_core.proofs.Sampling.{did_met, sample_quiet, sample_dumped, visited_below}
 use Rattle.rng_core.proofs.interrupts.irq.Goals as goal
 

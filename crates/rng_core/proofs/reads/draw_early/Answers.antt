@@ -1,7 +1,7 @@
 use Rattle.std.proofs.Common.{inr}
 use Rattle.lane_table.specs.Meaning.{nothing}
 use Rattle.lane_table.proofs.Calls.Lent.{lent}
-use Rattle.rng_core.proofs.Doing.{did_map, did_base}
+use Rattle.rng_core.proofs.Makings.{did_map, did_base}
 use Rattle.rng_core.proofs.reads.draw_early.Goals as goal
 
 pub leave-requires-clause-makes : goal.leave-requires-clause-makes

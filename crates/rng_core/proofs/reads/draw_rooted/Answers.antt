@@ -5,7 +5,7 @@ use Rattle.lane_table.specs.Meaning.{nothing, got_of}
 use Rattle.lane_table.specs.WorldRule.{known_of}
 use Rattle.lane_table.specs.Calls.{view}
 use Rattle.lane_table.proofs.Calls.Lent.{lent, kept}
-use Rattle.rng_core.proofs.Doing.{did_map, did_rooted}
+use Rattle.rng_core.proofs.Makings.{did_map, did_rooted}
 use Rattle.rng_core.proofs.reads.draw_rooted.Goals as goal
 
 pub leave-requires-clause-makes : goal.leave-requires-clause-makes

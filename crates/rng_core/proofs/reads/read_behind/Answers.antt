@@ -1,6 +1,6 @@
 use Rattle.std.proofs.Common.{inl, inr, []}
 use Rattle.rng_core.proofs.TellLemmas.{told_then}
-use Rattle.rng_core.proofs.Doing.{did_map, did_after}
+use Rattle.rng_core.proofs.Makings.{did_map, did_after}
 use Rattle.rng_core.proofs.reads.read_behind.Goals as goal
 
 pub returns-then-look-ne0-clause-did : goal.returns-then-look-ne0-clause-did

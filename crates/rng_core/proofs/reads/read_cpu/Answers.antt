@@ -1,7 +1,7 @@
 use Rattle.std.proofs.Common.{inl, inr, []}
 use Rattle.lane_table.specs.Meaning.{nothing}
 use Rattle.rng_core.proofs.TellLemmas.{told_then}
-use Rattle.rng_core.proofs.Doing.{did_map, did_plain_read, did_refilled_read}
+use Rattle.rng_core.proofs.Makings.{did_map, did_plain_read, did_refilled_read}
 use Rattle.rng_core.proofs.reads.read_cpu.Goals as goal
 
 pub returns-then-look-cpu_generation-clause-did : goal.returns-then-look-cpu_generation-clause-did

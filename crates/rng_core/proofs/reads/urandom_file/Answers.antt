@@ -1,6 +1,6 @@
 use Rattle.std.proofs.Common.{◌<◌, length, refl, arith, rules}
-use Rattle.rng_core.specs.Did.{setting_of}
-use Rattle.rng_core.proofs.Doing.{did_nothing, did_map, serving_looked}
+use Rattle.rng_core.specs.Makes.{setting_of}
+use Rattle.rng_core.proofs.Makings.{did_nothing, did_map, serving_looked}
 use Rattle.rng_core.proofs.Fulfilling.{user_some, user_none}
 use Rattle.rng_core.proofs.reads.urandom_file.Goals as goal
 

@@ -1,5 +1,5 @@
 use Rattle.std.proofs.Common.{inl, inr}
-use Rattle.rng_core.proofs.Doing.{formed, did_map, did_after, did_base, served_of}
+use Rattle.rng_core.proofs.Makings.{formed, did_map, did_after, did_base, served_of}
 use Rattle.rng_core.proofs.reseeds.cross_early.Goals as goal
 
 pub returns-then-eq-clause-did : goal.returns-then-eq-clause-did

@@ -2,8 +2,8 @@ use Rattle.std.proofs.Common.{◌≡◌, ℕ, List, refl, arith}
 use Rattle.key_names.specs.Deeds.{Deed}
 use Rattle.key_names.specs.Forms.{Rooted}
 use Rattle.key_names.specs.declared.entries.BaseEntry.TheVariants.{Reseed}
-use Rattle.rng_core.specs.Did.{setting_of}
-use Rattle.rng_core.proofs.Doing.{did_map, did_look, did_looked}
+use Rattle.rng_core.specs.Makes.{setting_of}
+use Rattle.rng_core.proofs.Makings.{did_map, did_look, did_looked}
 use Rattle.rng_core.proofs.Fulfilling.{reseed_unready, reseed_ready}
 use Rattle.rng_core.proofs.reseeds.reseed.Goals as goal
 

@@ -2,7 +2,7 @@ use Rattle.std.proofs.Common.{ℕ}
 use Rattle.key_names.specs.declared.entries.BaseEntry.TheVariants.{Reseed}
 use Rattle.lane_table.specs.Meaning.{nothing}
 use Rattle.rng_core.proofs.TellLemmas.{visited_after}
-use Rattle.rng_core.proofs.Doing.{formed, did_after, did_rooted, served_of}
+use Rattle.rng_core.proofs.Makings.{formed, did_after, did_rooted, served_of}
 use Rattle.rng_core.proofs.reseeds.reseed_base.Goals as goal
 
 pub returns-clause-did : goal.returns-clause-did

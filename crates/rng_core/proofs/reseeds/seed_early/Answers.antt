@@ -1,7 +1,7 @@
 use Rattle.std.proofs.Common.{ℕ, Some}
 use Rattle.key_names.specs.declared.entries.BaseEntry.TheVariants.{Early}
 use Rattle.lane_table.specs.Meaning.{nothing}
-use Rattle.rng_core.proofs.Doing.{formed, did_rooted, served_of}
+use Rattle.rng_core.proofs.Makings.{formed, did_rooted, served_of}
 use Rattle.rng_core.proofs.reseeds.seed_early.Goals as goal
 
 pub returns-clause-did : goal.returns-clause-did

@@ -1,4 +1,4 @@
-use Rattle.rng_core.proofs.Doing.{formed, did_map, did_after, did_base, served_of}
+use Rattle.rng_core.proofs.Makings.{formed, did_map, did_after, did_base, served_of}
 use Rattle.rng_core.proofs.Fulfilling.{tick_idle, tick_fired}
 use Rattle.rng_core.proofs.reseeds.tick.Goals as goal
 

@@ -1,7 +1,7 @@
 use Rattle.std.proofs.Common.{refl, arith}
 use Rattle.lane_table.proofs.Rule.Floors.{generation_begun}
 use Rattle.lane_table.proofs.Calls.Lent.{lent}
-use Rattle.rng_core.proofs.Doing.{formed, did_after, did_base, served_of}
+use Rattle.rng_core.proofs.Makings.{formed, did_after, did_base, served_of}
 use Rattle.rng_core.proofs.running.end.Goals as goal
 
 pub leave-requires-clause-makes : goal.leave-requires-clause-makes

@@ -1,5 +1,5 @@
 use Rattle.lane_table.proofs.Calls.Lent.{lent}
-use Rattle.rng_core.proofs.Doing.{formed, did_after, did_base, served_of}
+use Rattle.rng_core.proofs.Makings.{formed, did_after, did_base, served_of}
 use Rattle.rng_core.proofs.running.unstall.Goals as goal
 
 pub leave-requires-clause-makes : goal.leave-requires-clause-makes

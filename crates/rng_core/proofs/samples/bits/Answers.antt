@@ -1,5 +1,5 @@
 use Rattle.lane_table.proofs.Calls.Lent.{lent}
-use Rattle.rng_core.proofs.Doing.{did_after, did_bits}
+use Rattle.rng_core.proofs.Makings.{did_after, did_bits}
 use Rattle.rng_core.proofs.samples.bits.Goals as goal
 
 pub returns-clause-did : goal.returns-clause-did

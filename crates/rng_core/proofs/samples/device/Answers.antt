@@ -1,6 +1,6 @@
 use Rattle.std.proofs.Common.{refl}
 use Rattle.lane_table.proofs.Calls.Lent.{lent}
-use Rattle.rng_core.proofs.Doing.{did_map, did_after, did_pool}
+use Rattle.rng_core.proofs.Makings.{did_map, did_after, did_pool}
 use Rattle.rng_core.proofs.samples.device.Goals as goal
 
 pub leave-requires-clause-makes : goal.leave-requires-clause-makes

@@ -1,6 +1,6 @@
 use Rattle.std.proofs.Common.{◌++◌, List, refl, ap, ◌∙◌}
 use Rattle.key_names.specs.Deeds.{Deed}
-use Rattle.rng_core.proofs.Doing.{did_map, did_then}
+use Rattle.rng_core.proofs.Makings.{did_map, did_then}
 use Rattle.rng_core.proofs.samples.vmfork.Goals as goal
 
 pub returns-clause-did : goal.returns-clause-did

@@ -6,11 +6,11 @@ use Rattle.key_names.specs.declared.events.Event.TheVariants.{Read}
 use Rattle.key_names.specs.declared.events.Answer.TheVariants.{Ok as Done}
 use Rattle.key_names.specs.SeenLine.{bytes_or_none}
 use Rattle.key_names.specs.Deeds.{Deed, looked}
-use Rattle.rng_core.specs.Did.{Did, Fulfils, setting_of, errno_answer}
+use Rattle.rng_core.specs.Makes.{Makes, IsOutcomeOf, setting_of, errno_answer}
 use Rattle.key_names.specs.declared.names.Step.{Step}
 use Rattle.key_names.specs.declared.names.Step.TheVariants.{Look}
-use Rattle.rng_core.specs.Told.{moment, BeginsWithLook}
-use Rattle.rng_core.proofs.Doing.{did_floor, did_nothing, did_map, did_look, did_behind, did_then}
+use Rattle.rng_core.specs.Traces.{moment, BeginsWithLook}
+use Rattle.rng_core.proofs.Makings.{did_floor, did_nothing, did_map, did_look, did_behind, did_then}
 use Rattle.rng_core.proofs.SysFulfilling.{sys_invalid, sys_again, sys_interrupted, sys_waited_none, sys_waited, sys_none, sys_read}
 use Rattle.rng_core.proofs.Hosting.{none_left}
 use Rattle.rng_core.proofs.system_call.getrandom.Goals as goal
@@ -58,7 +58,7 @@ pub returns-in-Err-clause-did : goal.returns-in-Err-clause-did
 returns-in-Err-clause-did g c = let good = sym c.are_bad.ensures ∙ c.if-are_bad.false in let must =
     sym c.must_wait.ensures ∙ c.if-must_wait.true in let patient =
     sym c.is_nonblock.ensures ∙ c.if-is_nonblock.false in let w = c.in-Err.ensures.waited in
-    subst (λ (e : Errno). Did (Fulfils (setting_of c.args.set.now) (Read (length c.args.buf.now) c.args.flags)
+    subst (λ (e : Errno). Makes (IsOutcomeOf (setting_of c.args.set.now) (Read (length c.args.buf.now) c.args.flags)
     (errno_answer e) (bytes_or_none [])) c.args.set.now (moment c.args.pass.now c.args.trace.now)
     (moment c.wait_ready.new.pass c.wait_ready.new.trace)) (sym w.0)
     (did_map _ _ _ (λ deeds h. sys_interrupted (setting_of c.args.set.now) (length c.args.buf.now) c.args.flags
@@ -71,7 +71,7 @@ returns-then-is_empty-clause-did g c = let good = sym c.are_bad.ensures ∙ c.if
     sym c.must_wait.ensures ∙ c.if-must_wait.true in let patient =
     sym c.is_nonblock.ensures ∙ c.if-is_nonblock.false in let w = c.in-Ok.ensures.waited in
     let none : length c.args.buf.now ≡ 0 = search rules in
-    subst (λ (z : List ℕ). Did (Fulfils (setting_of c.args.set.now) (Read (length c.args.buf.now) c.args.flags) Done
+    subst (λ (z : List ℕ). Makes (IsOutcomeOf (setting_of c.args.set.now) (Read (length c.args.buf.now) c.args.flags) Done
     (bytes_or_none z)) c.args.set.now (moment c.args.pass.now c.args.trace.now)
     (moment c.wait_ready.new.pass c.wait_ready.new.trace)) (sym (none_left c.args.buf.now none))
     (did_map _ _ _ (λ deeds h. sys_waited_none (setting_of c.args.set.now) (length c.args.buf.now) c.args.flags
@@ -95,7 +95,7 @@ returns-in-Ok-clause-did g c = let good = sym c.are_bad.ensures ∙ c.if-are_bad
 pub returns-then-is_empty-2-clause-did : goal.returns-then-is_empty-2-clause-did
 returns-then-is_empty-2-clause-did g c = let good = sym c.are_bad.ensures ∙ c.if-are_bad.false in let takes =
     sym c.must_wait.ensures ∙ c.if-must_wait.false in let none : length c.args.buf.now ≡ 0 = search rules in
-    subst (λ (z : List ℕ). Did (Fulfils (setting_of c.args.set.now) (Read (length c.args.buf.now) c.args.flags) Done
+    subst (λ (z : List ℕ). Makes (IsOutcomeOf (setting_of c.args.set.now) (Read (length c.args.buf.now) c.args.flags) Done
     (bytes_or_none z)) c.args.set.now (moment c.args.pass.now c.args.trace.now)
     (moment c.look-found.new.pass c.look-found.new.trace)) (sym (none_left c.args.buf.now none))
     (did_map _ _ _ (λ deeds e. sys_none (setting_of c.args.set.now) (length c.args.buf.now) c.args.flags

@@ -1,5 +1,5 @@
 use Rattle.lane_table.proofs.Calls.Lent.{lent}
-use Rattle.rng_core.proofs.Doing.{did_base, served_of}
+use Rattle.rng_core.proofs.Makings.{did_base, served_of}
 use Rattle.rng_core.proofs.system_call.resume.Goals as goal
 
 pub leave-requires-clause-makes : goal.leave-requires-clause-makes

@@ -1,7 +1,7 @@
 use Rattle.std.proofs.Common.{◌+◌, List, length, ap, refl, [], ◌∙◌}
 use Rattle.key_names.specs.declared.names.Step.{Step}
 use Rattle.rng_core.proofs.TellLemmas.{told_then}
-use Rattle.rng_core.proofs.Doing.{did_after}
+use Rattle.rng_core.proofs.Makings.{did_after}
 use Rattle.rng_core.proofs.system_call.wait_ready.Goals as goal
 
 pub returns-then-base_generation-ge1-clause-waited : goal.returns-then-base_generation-ge1-clause-waited

@@ -1,6 +1,6 @@
 use Rattle.std.proofs.Common.{arith, refl, []}
 use Rattle.lane_table.proofs.Rule.Floors.{agrees_lawful}
-use Rattle.lane_table.proofs.Calls.WentLemmas.{went_tried, went_taken}
+use Rattle.lane_table.proofs.Calls.AdvanceLemmas.{went_tried, went_taken}
 use Rattle.rng_core.proofs.TellLemmas.{told_then, told_idly}
 use Rattle.rng_core.proofs.visits.enter.Goals as goal
 

@@ -1,7 +1,7 @@
 use Rattle.std.proofs.Common.{arith, refl, []}
 use Rattle.lane_table.proofs.Rule.Floors.{agrees_lawful}
 use Rattle.lane_table.proofs.Calls.HandLemmas.{has_taken, has_tried}
-use Rattle.lane_table.proofs.Calls.WentLemmas.{went_tried, went_taken}
+use Rattle.lane_table.proofs.Calls.AdvanceLemmas.{went_tried, went_taken}
 use Rattle.rng_core.proofs.TellLemmas.{told_then, told_idly}
 use Rattle.rng_core.proofs.visits.enter_under.Goals as goal
 

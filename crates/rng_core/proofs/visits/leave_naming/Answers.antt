@@ -1,7 +1,7 @@
 use Rattle.std.proofs.Common.{arith, ℕ, [], ◌∷◌, Some, None, sym, ap, subst, ◌∙◌}
 use Rattle.lane_table.specs.declared.view.LaneView.{LaneView}
 use Rattle.lane_table.specs.Meaning.{behind_of, raise_of, replay}
-use Rattle.lane_table.specs.Hands.{Has, hand}
+use Rattle.lane_table.specs.Hands.{HoldsLanes, hand}
 use Rattle.lane_table.proofs.Calls.HandLemmas.{has_put_naming}
 use Rattle.rng_core.proofs.TellLemmas.{mark_fits, visited_at}
 use Rattle.rng_core.proofs.visits.leave_naming.Goals as goal
@@ -18,7 +18,7 @@ returns-clause-visited g c = let h = c.requires.has.held.0 in
 
 pub returns-clause-has : goal.returns-clause-has
 returns-clause-has g c = let e = g.E.Entry.entry c.args.entry in let outer = c.args.outer.now.turn in
-    subst (λ (p : ℕ). Has c.args.lanes.now c.args.set.now.caller (hand outer (Some p) 0 ∷ []) c.put-mark.new.pass)
+    subst (λ (p : ℕ). HoldsLanes c.args.lanes.now c.args.set.now.caller (hand outer (Some p) 0 ∷ []) c.put-mark.new.pass)
     (sym c.put-mark.ensures.place)
     (has_put_naming c.args.lanes.now c.args.set.now.caller (hand c.args.held.turn (behind_of e) (raise_of e))
     (hand outer None 0) [] _ outer.place c.args.pass.now c.put-mark.new.pass c.requires.names c.requires.has

@@ -1,5 +1,5 @@
 use Rattle.std.proofs.Common.{◌≡◌, length, ap, arith, rules}
-use Rattle.rng_core.specs.Told.{moment}
+use Rattle.rng_core.specs.Traces.{moment}
 use Rattle.rng_core.proofs.Readings.{served_read, left_read}
 use Rattle.rng_core.proofs.vreads.vread.Goals as goal
 

@@ -2,21 +2,21 @@ use Rattle.std.proofs.Common.{List, [], sym, subst, ap, refl}
 use Rattle.key_names.specs.declared.names.Step.{Step}
 use Rattle.key_names.specs.declared.entries.BaseEntry.TheVariants.{End}
 use Rattle.key_names.specs.Forms.{BaseOnly}
-use Rattle.rng_core.specs.Did.{Did}
-use Rattle.rng_core.specs.Told.{moment}
+use Rattle.rng_core.specs.Makes.{Makes}
+use Rattle.rng_core.specs.Traces.{moment}
 use Rattle.lane_table.specs.Calls.{view}
 use Rattle.caller_run.specs.Says.{shown_by}
-use Rattle.caller_run.specs.Standing.{HasEnded}
-use Rattle.caller_run.specs.declared.said.Said.{Said}
-use Rattle.caller_run.proofs.Forks.HasGone.{gone_all}
+use Rattle.caller_run.specs.Standing.{RunEnded}
+use Rattle.caller_run.specs.declared.reply.Reply.{Reply}
+use Rattle.caller_run.proofs.Forks.HasAdvanced.{gone_all}
 use Rattle.caller_run.proofs.caller.Caller.finish.Goals as goal
 
 pub returns-clause-ended : goal.returns-clause-ended
 returns-clause-ended g c begun events kids gone =
     let self = c.args.self.now in let end = c.end.new in
-    subst (λ l. HasEnded begun events (view c.end.new.pass) l kids) (sym c.tell.ensures.lines)
-    (gone_all (record self { pass = end.pass }) [] c.only-done.result end.trace refl (ap (λ (s : Said). s.answer) c.only-done.ensures)
-    (ap (λ (s : Said). shown_by [] s.shows) c.only-done.ensures)
-    (subst (λ (l : List Step). Did (BaseOnly End) self.set (moment self.pass l) (moment end.pass end.trace))
+    subst (λ l. RunEnded begun events (view c.end.new.pass) l kids) (sym c.tell.ensures.lines)
+    (gone_all (record self { pass = end.pass }) [] c.only-done.result end.trace refl (ap (λ (s : Reply). s.answer) c.only-done.ensures)
+    (ap (λ (s : Reply). shown_by [] s.shows) c.only-done.ensures)
+    (subst (λ (l : List Step). Makes (BaseOnly End) self.set (moment self.pass l) (moment end.pass end.trace))
     c.empty-trace.ensures c.end.ensures.did)
     gone)

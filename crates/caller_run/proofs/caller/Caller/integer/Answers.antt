@@ -7,7 +7,7 @@ use Rattle.key_names.specs.SeenLine.{bytes_or_none}
 use Rattle.rng_core.specs.Integers.{int_event}
 use Rattle.caller_run.specs.Kinds.{IsInteger}
 use Rattle.caller_run.specs.Says.{shown_by, most_shown}
-use Rattle.caller_run.specs.declared.said.Said.{Said}
+use Rattle.caller_run.specs.declared.reply.Reply.{Reply}
 use Rattle.caller_run.proofs.Calls.Callings.{by_does, quietly}
 use Rattle.key_names.proofs.Transcripts.QuietForms.{IsNoInterrupt}
 use Rattle.caller_run.proofs.caller.Caller.integer.Goals as goal
@@ -39,7 +39,7 @@ returns g c =
     let kind = c.requires.kind in
     let is = by_width _ _ kind c.requires.len in
     by_does _ _ _ _ _ _ _ _ _ is c.requires.new refl c.int.ensures.has
-    _ (bytes_or_none c.int.new.out) (ap (λ (s : Said). s.answer) c.done.ensures)
-    (ap (λ (s : Said). shown_by c.int.new.out s.shows) c.done.ensures)
+    _ (bytes_or_none c.int.new.out) (ap (λ (s : Reply). s.answer) c.done.ensures)
+    (ap (λ (s : Reply). shown_by c.int.new.out s.shows) c.done.ensures)
     (rw c.done.ensures (subst (λ (e : Event). event_word e ≡ Bits → ⊥) is (no_bits _ kind)))
     (quietly _ _ _ _ _ _ (subst IsNoInterrupt is (no_interrupt _ kind)) c.int.ensures.did)

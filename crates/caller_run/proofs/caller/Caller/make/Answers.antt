@@ -1,9 +1,9 @@
 use Rattle.std.proofs.Common.{length, ◌∷◌, ◌++◌, [], sym, subst, ◌∙◌, arith, rules, ◌≡◌}
 use Rattle.caller_run.specs.Says.{line_of, most_shown}
-use Rattle.caller_run.specs.Standing.{waiting_in, HasGone}
+use Rattle.caller_run.specs.Standing.{waiting_in, HasAdvanced}
 use Rattle.caller_run.proofs.Plans.LogFills.{fills_call}
-use Rattle.caller_run.proofs.Calls.CanGo.{can_next}
-use Rattle.caller_run.proofs.Forks.HasGone.{gone_call}
+use Rattle.caller_run.proofs.Calls.CanAdvance.{can_next}
+use Rattle.caller_run.proofs.Forks.HasAdvanced.{gone_call}
 use Rattle.caller_run.proofs.Law.Seeing.{called_kept}
 use Rattle.caller_run.proofs.caller.Caller.make.Goals as goal
 
@@ -23,7 +23,7 @@ returns-clause-can g c inside rest can =
 pub returns-clause-gone : goal.returns-clause-gone
 returns-clause-gone g c begun events rest kids gone =
     let call = c.call-said.new in
-    subst (λ l. HasGone begun events rest c.go_on.new.self l (waiting_in c.args.log.now) kids)
+    subst (λ l. HasAdvanced begun events rest c.go_on.new.self l (waiting_in c.args.log.now) kids)
     (sym (c.tell.ensures.lines
     ∙ (λ i. c.args.log.now.lines.lines ++ line_of call.self.set (c.word_of.ensures i) call.served c.call-said.result
     call.trace ∷ [])))

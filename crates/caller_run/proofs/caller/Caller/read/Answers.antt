@@ -4,7 +4,7 @@ use Rattle.key_names.specs.declared.events.Event.TheVariants.{Kread, Uread, Read
 use Rattle.key_names.specs.Texts.ScriptGrammar.{InRange}
 use Rattle.key_names.specs.SeenLine.{bytes_or_none}
 use Rattle.caller_run.specs.Says.{shown_by, most_shown}
-use Rattle.caller_run.specs.declared.said.Said.{Said}
+use Rattle.caller_run.specs.declared.reply.Reply.{Reply}
 use Rattle.caller_run.proofs.Calls.Callings.{by_does, no_count, quietly}
 use Rattle.caller_run.proofs.caller.Caller.read.Goals as goal
 
@@ -12,16 +12,16 @@ pub returns-in-Kread : goal.returns-in-Kread
 returns-in-Kread g c =
     by_does _ _ _ _ _ _ _ _ _ (c.in-Kread.is ∙ ap Kread (sym (c.requires.len ∙ ap most_shown c.in-Kread.is)))
     c.requires.new refl c.kernel_read.ensures.has
-    _ (bytes_or_none c.kernel_read.new.buf) (ap (λ (s : Said). s.answer) c.done.ensures)
-    (ap (λ (s : Said). shown_by c.kernel_read.new.buf s.shows) c.done.ensures)
+    _ (bytes_or_none c.kernel_read.new.buf) (ap (λ (s : Reply). s.answer) c.done.ensures)
+    (ap (λ (s : Reply). shown_by c.kernel_read.new.buf s.shows) c.done.ensures)
     (rw c.done.ensures (λ same. cc)) (quietly _ _ _ _ _ _ tt c.kernel_read.ensures.did)
 
 pub returns-in-Uread : goal.returns-in-Uread
 returns-in-Uread g c =
     by_does _ _ _ _ _ _ _ _ _ (c.in-Uread.is ∙ ap Uread (sym (c.requires.len ∙ ap most_shown c.in-Uread.is)))
     c.requires.new refl c.urandom_file.ensures.has
-    _ (bytes_or_none c.urandom_file.new.buf) (ap (λ (s : Said). s.answer) c.done-in-Uread.ensures)
-    (ap (λ (s : Said). shown_by c.urandom_file.new.buf s.shows) c.done-in-Uread.ensures)
+    _ (bytes_or_none c.urandom_file.new.buf) (ap (λ (s : Reply). s.answer) c.done-in-Uread.ensures)
+    (ap (λ (s : Reply). shown_by c.urandom_file.new.buf s.shows) c.done-in-Uread.ensures)
     (rw c.done-in-Uread.ensures (λ same. cc)) (quietly _ _ _ _ _ _ tt c.urandom_file.ensures.did)
 
 pub returns-in-Read : goal.returns-in-Read

@@ -2,7 +2,7 @@ use Rattle.std.proofs.Common.{refl, sym, ap, ◌∙◌}
 use Rattle.key_names.specs.declared.events.Event.TheVariants.{Write, Device, Add}
 use Rattle.key_names.specs.SeenLine.{count, no_data}
 use Rattle.caller_run.specs.Says.{shown_by}
-use Rattle.caller_run.specs.declared.said.Said.{Said}
+use Rattle.caller_run.specs.declared.reply.Reply.{Reply}
 use Rattle.caller_run.proofs.Calls.Callings.{as_credit, by_answer, by_does, quietly}
 use Rattle.caller_run.proofs.caller.Caller.sample.Goals as goal
 
@@ -29,14 +29,14 @@ returns-in-Credit g c served =
 pub returns-in-Irq : goal.returns-in-Irq
 returns-in-Irq g c served =
     by_does _ _ _ _ _ _ served _ _ c.in-Irq.is c.requires.new refl c.irq.ensures.has _ no_data
-    (ap (λ (s : Said). s.answer) c.only-in-Irq.ensures)
-    (ap (λ (s : Said). shown_by served s.shows) c.only-in-Irq.ensures) (rw c.only-in-Irq.ensures tt) c.irq.ensures.did
+    (ap (λ (s : Reply). s.answer) c.only-in-Irq.ensures)
+    (ap (λ (s : Reply). shown_by served s.shows) c.only-in-Irq.ensures) (rw c.only-in-Irq.ensures tt) c.irq.ensures.did
 
 pub returns-in-Bits : goal.returns-in-Bits
 returns-in-Bits g c served =
     by_does _ _ _ _ _ _ served _ _ c.in-Bits.is c.requires.new refl c.bits.ensures.has _ (count c.bits.result)
-    (ap (λ (s : Said). s.answer) c.done.ensures)
-    (ap (λ (s : Said). shown_by served s.shows) c.done.ensures) (rw c.done.ensures refl)
+    (ap (λ (s : Reply). s.answer) c.done.ensures)
+    (ap (λ (s : Reply). shown_by served s.shows) c.done.ensures) (rw c.done.ensures refl)
     (quietly _ _ _ _ _ _ tt c.bits.ensures.did)
 
 pub returns-in-Input : goal.returns-in-Input

@@ -1,7 +1,7 @@
 use Rattle.std.proofs.Common.{List, length, refl, ap, subst, arith}
 use Rattle.key_names.specs.declared.names.Step.{Step}
 use Rattle.rng_core.specs.Forks as cuts
-use Rattle.rng_core.specs.Told.{moment}
+use Rattle.rng_core.specs.Traces.{moment}
 use Rattle.caller_run.specs.declared.caller.Caller.{Caller}
 use Rattle.caller_run.specs.Forest.{forks}
 use Rattle.caller_run.specs.Plots.{plot}

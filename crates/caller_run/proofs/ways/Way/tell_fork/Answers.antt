@@ -1,7 +1,7 @@
 use Rattle.std.proofs.Common.{[], ◌∷◌, ◌++◌, ◌∙◌, refl, sym, subst, arith}
 use Rattle.key_names.specs.declared.events.Word.TheVariants.{Fork as ForkWord}
 use Rattle.caller_run.specs.Says.{line_of}
-use Rattle.caller_run.specs.Standing.{HasGone, waiting_in}
+use Rattle.caller_run.specs.Standing.{HasAdvanced, waiting_in}
 use Rattle.caller_run.specs.Ways.{kid_of}
 use Rattle.caller_run.proofs.Forks.Forking.{gone_fork}
 use Rattle.caller_run.proofs.Forks.WentOn.{can_past}
@@ -18,7 +18,7 @@ returns-clause-can c t rest can =
 pub returns-clause-gone : goal.returns-clause-gone
 returns-clause-gone c begun events rest kids m u from low gone =
     let w = c.args.self.now in
-    subst (λ l. HasGone begun events rest c.go_on.new.self l (waiting_in w.sheet.log)
+    subst (λ l. HasAdvanced begun events rest c.go_on.new.self l (waiting_in w.sheet.log)
     (kids ++ kid_of m c.args.child u ∷ []))
     (sym (c.tell.ensures.lines
     ∙ (λ i. w.sheet.log.lines.lines ++ line_of (from.set i) ForkWord [] (c.only-done.ensures i) c.args.trace.now ∷ [])))

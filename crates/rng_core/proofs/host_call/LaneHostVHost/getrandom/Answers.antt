@@ -1,12 +1,12 @@
 use Rattle.std.proofs.Common.{length, refl}
-use Rattle.rng_core.proofs.Doing.{did_floor}
+use Rattle.rng_core.proofs.Makings.{did_floor}
 use Rattle.rng_core.proofs.Hosting.{published_more, answer_by, is_answer, visit_of, system_called}
 use Rattle.rng_core.proofs.host_call.LaneHostVHost.getrandom.Goals as goal
 
 pub returns-clause-answers : goal.returns-clause-answers
 returns-clause-answers g c = let k = c.getrandom.ensures.did in (
-  answer_by c.getrandom.result c.getrandom.new.buf (visit_of k.deals),
-  is_answer c.getrandom.result c.getrandom.new.buf (visit_of k.deals),
+  answer_by c.getrandom.result c.getrandom.new.buf (visit_of k.made_steps),
+  is_answer c.getrandom.result c.getrandom.new.buf (visit_of k.made_steps),
   (
     record {
       core = record {

@@ -10,18 +10,18 @@ use Rattle.key_names.specs.Texts.ScriptGrammar.{InRange, FewActs}
 use Rattle.lane_table.specs.declared.lanes.Lanes.{Lanes}
 use Rattle.lane_table.specs.declared.lanes.Pass.{Pass}
 use Rattle.lane_table.specs.Calls.{view}
-use Rattle.lane_table.specs.Hands.{Has}
-use Rattle.lane_table.specs.Went.{floor}
+use Rattle.lane_table.specs.Hands.{HoldsLanes}
+use Rattle.lane_table.specs.Advances.{floor}
 use Rattle.rng_core.specs.declared.setting.Setting.{Setting}
 use Rattle.rng_core.specs.declared.acts.Bound.{Bound}
 use Rattle.transcript_text.specs.Gathered.{Gathered}
-use Rattle.rng_core.specs.Told.{moment}
-use Rattle.rng_core.specs.Did.{setting_of}
+use Rattle.rng_core.specs.Traces.{moment}
+use Rattle.rng_core.specs.Makes.{setting_of}
 use Rattle.caller_run.specs.declared.caller.Caller.{Caller}
 use Rattle.caller_run.specs.declared.logs.Log.{Log}
 use Rattle.caller_run.specs.Calling.{stand, Seen, StatesStand}
 use Rattle.caller_run.specs.Says.{most_shown}
-use Rattle.caller_run.specs.Standing.{read_inside, CanGoWith, CanGo}
+use Rattle.caller_run.specs.Standing.{read_inside, CanAdvanceWith, CanAdvance}
 use Rattle.caller_run.proofs.Law.Seeing.{seen_after}
 use Rattle.caller_run.proofs.Plans.LogFills.{Fills}
 
@@ -54,7 +54,7 @@ GoesOn event d e = record {
 }
 
 pub first_can : {t : Lanes} {c : Caller} {log : Log} {served inside : ℕ} {event : Event} {rest : List Event} →
-    CanGo t c log served inside (event ∷ rest) → CanGo t c log served inside (event ∷ [])
+    CanAdvance t c log served inside (event ∷ rest) → CanAdvance t c log served inside (event ∷ [])
 first_can {event = event} {rest = rest} can = let g = can.goes in record {
   goes = record {
     ready = g.ready;
@@ -82,9 +82,9 @@ first_can {event = event} {rest = rest} can = let g = can.goes in record {
 module _ {t : Lanes} {event : Event} {c e : Caller} {before after : Gathered} {acts left : List Bound}
     {served inside : ℕ}
     {rest : List Event} (d : Caller) where
-  pub can_next : d.set ≡ c.set → Has t d.set.caller [] d.pass → StatesStand d → GoesOn event d e →
+  pub can_next : d.set ≡ c.set → HoldsLanes t d.set.caller [] d.pass → StatesStand d → GoesOn event d e →
       Fills event before after acts left →
-      CanGoWith t c before acts served inside (event ∷ rest) → CanGoWith t e after left served inside rest
+      CanAdvanceWith t c before acts served inside (event ∷ rest) → CanAdvanceWith t e after left served inside rest
   can_next set has states on fills g =
       let fits : Fits t.cpus (setting_of e.set) =
       subst (Fits t.cpus) (sym (ap (λ (s : CallerState). s.setting) on.stand ∙ setting_moves (stand d) event
@@ -94,8 +94,8 @@ module _ {t : Lanes} {event : Event} {c e : Caller} {before after : Gathered} {a
       let same = ap (λ (s : Setting). s.event) set in
       record {
         ready = record {
-          has = subst (λ (n : ℕ). Has t n [] e.pass) (sym on.caller)
-              (subst (λ (p : Pass). Has t d.set.caller [] p) (sym on.pass) has);
+          has = subst (λ (n : ℕ). HoldsLanes t n [] e.pass) (sym on.caller)
+              (subst (λ (p : Pass). HoldsLanes t d.set.caller [] p) (sym on.pass) has);
           cpu = fits.cpu;
           moment = fits.moment;
         };

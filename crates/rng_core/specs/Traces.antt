@@ -16,7 +16,7 @@ use Rattle.lane_table.specs.Meaning.{Model, replay}
 use Rattle.lane_table.specs.LaneNumbers.{index_of}
 use Rattle.lane_table.specs.WorldRule.{known_of}
 use Rattle.lane_table.specs.Calls.{view}
-use Rattle.lane_table.specs.Went.{Deal, visited, step_of, Went}
+use Rattle.lane_table.specs.Advances.{MadeStep, visited, step_of, Advances}
 use Rattle.rng_core.specs.declared.setting.Setting.{Setting}
 
 -- what a pass knows, and the steps so far
@@ -28,10 +28,10 @@ abbrev pub moment : Pass → List Step → Moment
 moment pass steps = record { view = view pass; steps = steps }
 
 -- from m to n the pass did exactly this, and the trace tells it, in numbers that a transcript can have
-pub record Told (set : Setting) (m n : Moment) (deals : List Deal) : Type 0 where
-  pub trace : n.steps ≡ m.steps ++ map step_of deals
-  pub went : Went set.caller set.event (length m.steps) m.view n.view deals
-  pub fits : AllByRecursion StepFits (map step_of deals)
+pub record TraceRecords (set : Setting) (m n : Moment) (made_steps : List MadeStep) : Type 0 where
+  pub trace : n.steps ≡ m.steps ++ map step_of made_steps
+  pub went : Advances set.caller set.event (length m.steps) m.view n.view made_steps
+  pub fits : AllByRecursion StepFits (map step_of made_steps)
 
 -- what stands at a mark: the entry, with what was handed to it, and the lane's model before it
 pub record Met (v : View) (mark : Mark) (s : Model) (e : LaneEntry) (got : Handed) : Type 0 where
@@ -48,7 +48,7 @@ pub record Visited (set : Setting) (m n : Moment) (lane place : ℕ) (s : Model)
   pub mark : Mark
   pub lane_is : index_of mark.lane ≡ lane
   pub place_is : mark.place ≡ place
-  pub told : Told set m n (visited mark e ∷ [])
+  pub told : TraceRecords set m n (visited mark e ∷ [])
   pub met : Met n.view mark s e got
 
 -- the steps that were added begin with a look

@@ -1,7 +1,7 @@
 -- What a call did, in the words of the book: for all lists of visits in the end, of which the pass knows beginnings.
 use Rattle.std.specs.Prelude.{◌≡◌, ℕ, List, [], map, Bool, true, false, Result, Ok, Err}
 use Rattle.key_names.specs.declared.entries.VEntry.{VEntry}
-use Rattle.key_names.specs.Calls.{Setting as Told}
+use Rattle.key_names.specs.Calls.{Setting as CallSetting}
 use Rattle.key_names.specs.Deeds.{Deed, deeds_of}
 use Rattle.key_names.specs.declared.events.Event.{Event}
 use Rattle.key_names.specs.declared.events.Answer.{Answer}
@@ -19,25 +19,25 @@ use Rattle.lane_table.specs.Meaning.{Model}
 use Rattle.lane_table.specs.BookLists.{book_lists}
 use Rattle.lane_table.specs.BookLaws.{Continues}
 use Rattle.lane_table.specs.VisitsMet.{base_serving, cpu_serving}
-use Rattle.lane_table.specs.Went.{Deal, step_of}
-use Rattle.rng_core.specs.Told.{Moment, Visited}
-use Rattle.rng_core.specs.Told as told
+use Rattle.lane_table.specs.Advances.{MadeStep, step_of}
+use Rattle.rng_core.specs.Traces.{Moment, Visited}
+use Rattle.rng_core.specs.Traces as told
 use Rattle.rng_core.specs.declared.setting.Setting.{Setting}
 
 -- the part of the setting that a form reads
-abbrev pub setting_of : Setting → Told
+abbrev pub setting_of : Setting → CallSetting
 setting_of set = record { cpu = set.cpu; now = set.now; hw = set.hw }
 
 -- from m to n the pass did what the trace tells, and of the lists and the deeds behind its steps this holds
-pub record DidIn (P : (ℕ → List Visit) → List Deed → Type 0) (set : Setting) (m n : Moment) : Type 0 where
-  pub deals : List Deal
-  pub told : told.Told set m n deals
+pub record MakesIn (P : (ℕ → List Visit) → List Deed → Type 0) (set : Setting) (m n : Moment) : Type 0 where
+  pub made_steps : List MadeStep
+  pub told : told.TraceRecords set m n made_steps
   pub stands : (lanes : ℕ) (visits : ℕ → List Visit) (callers : List (List (List VEntry))) →
-      Continues lanes n.view visits → P visits (deeds_of (book_lists lanes visits callers) (map step_of deals))
+      Continues lanes n.view visits → P visits (deeds_of (book_lists lanes visits callers) (map step_of made_steps))
 
 -- the same, of the deeds alone
-abbrev pub Did : (List Deed → Type 0) → Setting → Moment → Moment → Type 0
-Did P set m n = DidIn (λ visits. P) set m n
+abbrev pub Makes : (List Deed → Type 0) → Setting → Moment → Moment → Type 0
+Makes P set m n = MakesIn (λ visits. P) set m n
 
 -- deeds of a form, of which the last serves these bytes
 pub record Serving (F : List Deed → Type 0) (bytes : List ℕ) (deeds : List Deed) : Type 0 where
@@ -58,7 +58,7 @@ pub record Served (set : Setting) (m n : Moment) (lane place : ℕ) (e : LaneEnt
   pub serves : bytes ≡ serving e model got
 
 -- deeds that are those of an event, with the answer and the data of its line
-pub record Fulfils (set : Told) (event : Event) (answer : Answer) (shown : Shown) (deeds : List Deed) : Type 0 where
+pub record IsOutcomeOf (set : CallSetting) (event : Event) (answer : Answer) (shown : Shown) (deeds : List Deed) : Type 0 where
   pub form : Form set event deeds
   pub answers : answer ≡ answer_of event deeds
   pub shows : shown ≡ shown_of event deeds

@@ -2,7 +2,7 @@
 ghost use Rattle.std.specs.Prelude.{◌≡◌, ◌≤◌, ℕ, List, length, if◌then◌else◌};
 ghost use Rattle.key_names.specs.declared.events.Answer.TheVariants.{Unused};
 ghost use Rattle.key_names.specs.SeenLine.{bytes_or_none, no_data};
-ghost use Rattle.rng_core.specs.Did.{errno_answer, result_answer, tick_result, given};
+ghost use Rattle.rng_core.specs.Makes.{errno_answer, result_answer, tick_result, given};
 ghost use Rattle.caller_run.specs.Says.{shown_by, IsNoCount};
 
 use key_names::{Answer, Errno};
@@ -18,7 +18,7 @@ pub(crate) enum Shows {
 
 /// What a call answered, and what its line shows.
 #[derive(Clone, Copy)]
-pub(crate) struct Said {
+pub(crate) struct Reply {
     pub(crate) answer: Answer,
     pub(crate) shows: Shows,
 }
@@ -34,60 +34,60 @@ fn answer_of(errno: Errno) -> Answer
     }
 }
 
-impl Said {
+impl Reply {
     /// An answer and nothing else.
-    pub(crate) fn only(answer: Answer) -> Said
+    pub(crate) fn only(answer: Answer) -> Reply
         ensures { result ≡ record { answer = answer; shows = Shows.Nothing } }
     {
-        Said {
+        Reply {
             answer,
             shows: Shows::Nothing,
         }
     }
 
     /// The call was done, and its line shows this.
-    pub(crate) fn done(shows: Shows) -> Said
+    pub(crate) fn done(shows: Shows) -> Reply
         ensures { result ≡ record { answer = Answer.Ok; shows = shows } }
     {
-        Said {
+        Reply {
             answer: Answer::Ok,
             shows,
         }
     }
 
     /// A call that may fail, and has no data.
-    pub(crate) fn tried(ended: Result<(), Errno>) -> Said
+    pub(crate) fn tried(ended: Result<(), Errno>) -> Reply
         ensures { result ≡ record { answer = result_answer ended; shows = Shows.Nothing } }
     {
         match ended {
-            Ok(()) => Said::only(Answer::Ok),
-            Err(errno) => Said::only(answer_of(errno)),
+            Ok(()) => Reply::only(Answer::Ok),
+            Err(errno) => Reply::only(answer_of(errno)),
         }
     }
 
     /// A read that may fail.
-    pub(crate) fn read(ended: Result<(), Errno>) -> Said
+    pub(crate) fn read(ended: Result<(), Errno>) -> Reply
         ensures answer { result.answer ≡ result_answer ended }
         ensures shows { (served : List ℕ) → shown_by served result.shows ≡ bytes_or_none (given ended served) }
         ensures bytes { IsNoCount result.shows }
     {
         match ended {
-            Ok(()) => Said::done(Shows::Served),
-            Err(errno) => Said::only(answer_of(errno)),
+            Ok(()) => Reply::done(Shows::Served),
+            Err(errno) => Reply::only(answer_of(errno)),
         }
     }
 
     /// An act inside a vread: it was not done where the call did not come to its point.
-    pub(crate) fn of_act(done: bool, ended: Result<(), Errno>) -> Said
+    pub(crate) fn of_act(done: bool, ended: Result<(), Errno>) -> Reply
         ensures answer { result.answer ≡ (if done then result_answer ended else Unused) }
         ensures shows { (served : List ℕ) → shown_by served result.shows
             ≡ (if done then bytes_or_none (given ended served) else no_data) }
         ensures bytes { IsNoCount result.shows }
     {
         if done {
-            Said::read(ended)
+            Reply::read(ended)
         } else {
-            Said::only(Answer::Unused)
+            Reply::only(Answer::Unused)
         }
     }
 
@@ -104,13 +104,13 @@ impl Said {
     }
 
     /// A tick of the reseed timer, which fired or did not.
-    pub(crate) fn ticked(fired: bool) -> Said
+    pub(crate) fn ticked(fired: bool) -> Reply
         ensures { result ≡ record { answer = tick_result fired; shows = Shows.Nothing } }
     {
         if fired {
-            Said::only(Answer::Fired)
+            Reply::only(Answer::Fired)
         } else {
-            Said::only(Answer::Idle)
+            Reply::only(Answer::Idle)
         }
     }
 }

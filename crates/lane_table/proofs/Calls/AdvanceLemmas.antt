@@ -15,8 +15,8 @@ use Rattle.lane_table.specs.Meaning.{ahead_of}
 use lib.ListN.{get_elem?}
 use Rattle.lane_table.specs.WorldRule.{at, blank, known_of}
 use Rattle.lane_table.specs.Steps.{Seated, Grows}
-use Rattle.lane_table.specs.Calls.{SameView, Still, Taken, Tried, Added, Left, Looked, Raised}
-use Rattle.lane_table.specs.Went.{Deal, looked, visited, IsMarkOf, maker, AllStand, looks_in, places_in, stamps_in, Climbs, floor, Went}
+use Rattle.lane_table.specs.Calls.{SameView, SameHistory, Taken, Tried, Added, Left, Looked, Raised}
+use Rattle.lane_table.specs.Advances.{MadeStep, looked, visited, IsMarkOf, maker, AllStand, looks_in, places_in, stamps_in, Climbs, floor, Advances}
 use Rattle.lane_table.proofs.Rule.Floors.{floor_grown}
 use Rattle.lane_table.proofs.Rule.Sights.{sees_looked, sees_put, sees_append, sees_grown, stand_known}
 use Rattle.lane_table.proofs.Calls.HandLemmas.{names_none, names_one}
@@ -24,7 +24,7 @@ use Rattle.lane_table.proofs.Calls.HandLemmas.{names_none, names_one}
 -- neither a look nor a visit
 pub went_idly : (caller event n : ℕ) (v w : View) → SameView v w → Grows v w → w.looks ≡ v.looks →
     w.stamps ≡ v.stamps → w.stamp ≡ v.stamp → 1 < length v.lanes → v.seen ≤ w.seen →
-    ((lane : ℕ) → lane < length v.lanes → Still lane v w) → Went caller event n v w []
+    ((lane : ℕ) → lane < length v.lanes → SameHistory lane v w) → Advances caller event n v w []
 went_idly caller event n v w same grows looks stamps stamp two seen still = record {
   same = same;
   grows = grows;
@@ -38,28 +38,28 @@ went_idly caller event n v w same grows looks stamps stamp two seen still = reco
   stand = tt;
 }
 
-still_same : (j : ℕ) (v w : View) → at j w ≡ at j v → Still j v w
+still_same : (j : ℕ) (v w : View) → at j w ≡ at j v → SameHistory j v w
 still_same j v w e = record {
   made = ap (λ (a : LaneView). a.made) e;
   places = ap (λ (a : LaneView). a.places) e;
   heard = ap (λ (a : LaneView). a.heard) e;
 }
 
-still_but : (lane : ℕ) (v w : View) → Still lane v w → ((j : ℕ) → j < length v.lanes → j ≢ lane → Still j v w) →
-    (j : ℕ) → j < length v.lanes → Still j v w
-still_but lane v w here others j low = dite (ℕ_discrete j lane) (λ e. subst (λ (z : ℕ). Still z v w) (sym e) here)
+still_but : (lane : ℕ) (v w : View) → SameHistory lane v w → ((j : ℕ) → j < length v.lanes → j ≢ lane → SameHistory j v w) →
+    (j : ℕ) → j < length v.lanes → SameHistory j v w
+still_but lane v w here others j low = dite (ℕ_discrete j lane) (λ e. subst (λ (z : ℕ). SameHistory z v w) (sym e) here)
     (λ ne. others j low ne)
 
 module _ (caller event n : ℕ) (m m' : Seated) (two : 1 < length m.0.lanes) where
-  pub went_taken : (lane : ℕ) (h : Held) → Taken lane h m m' → Went caller event n m.0 m'.0 []
+  pub went_taken : (lane : ℕ) (h : Held) → Taken lane h m m' → Advances caller event n m.0 m'.0 []
   went_taken lane h k = went_idly caller event n m.0 m'.0 k.same k.grows k.looks k.stamps k.stamp two
       (let e = k.seen in omega arith) (still_but lane m.0 m'.0 k.still (λ j low ne. (k.aside j low ne).still))
 
-  pub went_tried : (lane : ℕ) → Tried lane m m' → Went caller event n m.0 m'.0 []
+  pub went_tried : (lane : ℕ) → Tried lane m m' → Advances caller event n m.0 m'.0 []
   went_tried lane k = went_idly caller event n m.0 m'.0 k.same k.grows k.looks k.stamps k.stamp two
       (let e = k.seen in omega arith) (λ j low. (k.aside j low).still)
 
-  pub went_raised : (g : ℕ) → m.0.seen ≤ g → Raised g m m' → Went caller event n m.0 m'.0 []
+  pub went_raised : (g : ℕ) → m.0.seen ≤ g → Raised g m m' → Advances caller event n m.0 m'.0 []
   went_raised g above k = went_idly caller event n m.0 m'.0 k.same k.grows k.looks k.stamps k.stamp two
       (let e = k.seen in omega arith)
       (still_but 1 m.0 m'.0 (let e = k.here in record {
@@ -69,12 +69,12 @@ module _ (caller event n : ℕ) (m m' : Seated) (two : 1 < length m.0.lanes) whe
       })
       (λ j low ne. still_same j m.0 m'.0 (k.others j ne)))
 
-  pub went_left : (lane : ℕ) → Left lane m m' → Went caller event n m.0 m'.0 []
+  pub went_left : (lane : ℕ) → Left lane m m' → Advances caller event n m.0 m'.0 []
   went_left lane k = went_idly caller event n m.0 m'.0 k.same k.grows k.looks k.stamps k.stamp two
       (let e = k.seen in omega arith) (still_but lane m.0 m'.0 k.still
       (λ j low ne. still_same j m.0 m'.0 (k.others j ne)))
 
-  pub went_looked : (g : ℕ) → Looked g m m' → Went caller event n m.0 m'.0 (looked g ∷ [])
+  pub went_looked : (g : ℕ) → Looked g m m' → Advances caller event n m.0 m'.0 (looked g ∷ [])
   went_looked g k = let same : (j : ℕ) → at j m'.0 ≡ at j m.0 =
       λ j. ap (λ (l : List LaneView). get_or l j blank) k.lanes in record {
         same = k.same;
@@ -109,13 +109,13 @@ places_elsewhere lane mark e ne = ap (λ (z : Bool). cond z (mark.place ∷ []) 
 
 -- a visit leaves what was done at the other lanes as it was
 added_still : (lane : ℕ) (x : Visit) (m m' : Seated) → Added lane x m m' → (j : ℕ) → j < length m.0.lanes → j ≢ lane →
-    Still j m.0 m'.0
+    SameHistory j m.0 m'.0
 added_still lane x m m' k j low ne = either (ahead_of x.entry) refl
   where
-    either : (o : Option (ℕ × ℕ)) → ahead_of x.entry ≡ o → Still j m.0 m'.0
+    either : (o : Option (ℕ × ℕ)) → ahead_of x.entry ≡ o → SameHistory j m.0 m'.0
     either None e = still_same j m.0 m'.0 (k.others j ne (λ l b q. absurd (names_none (ahead_of x.entry) l b e q)))
     either (Some named) e = dite (ℕ_discrete j named.0)
-        (λ here. subst (λ (z : ℕ). Still z m.0 m'.0) (sym here)
+        (λ here. subst (λ (z : ℕ). SameHistory z m.0 m'.0) (sym here)
         (let q = k.ahead named.0 named.1 e (omega arith) in
         record {
           made = ap (λ (a : LaneView). a.made) q;
@@ -129,7 +129,7 @@ module _ (caller event n : ℕ) (m m' : Seated) (two : 1 < length m.0.lanes) whe
   pub went_put : (x : Visit) (mark : Mark) (e : LaneEntry) → index_of mark.lane < length m.0.lanes →
       mark.place ≡ length (known_of m.0 (index_of mark.lane)) → x.stamp ≡ mark.stamp → x.who ≡ maker caller event n →
       x.entry ≡ e
-      → Added (index_of mark.lane) x m m' → Went caller event n m.0 m'.0 (visited mark e ∷ [])
+      → Added (index_of mark.lane) x m m' → Advances caller event n m.0 m'.0 (visited mark e ∷ [])
   went_put x mark e near there stamp who is k = let lane : ℕ = index_of mark.lane in let here = k.here in record {
     same = k.same;
     grows = k.grows;
@@ -177,17 +177,17 @@ mark_grown v w mark who e sized grows k = let more = grows (index_of mark.lane) 
   is = k.is;
 }
 
-stand_grown : (v w : View) (caller event n : ℕ) (deals : List Deal) → length w.lanes ≡ length v.lanes → Grows v w →
-    AllStand v caller event n deals → AllStand w caller event n deals
+stand_grown : (v w : View) (caller event n : ℕ) (made_steps : List MadeStep) → length w.lanes ≡ length v.lanes → Grows v w →
+    AllStand v caller event n made_steps → AllStand w caller event n made_steps
 stand_grown v w caller event n [] sized grows k = tt
-stand_grown v w caller event n (looked g ∷ deals) sized grows k =
-    stand_grown v w caller event (suc n) deals sized grows k
-stand_grown v w caller event n (visited mark e ∷ deals) sized grows k = (
+stand_grown v w caller event n (looked g ∷ made_steps) sized grows k =
+    stand_grown v w caller event (suc n) made_steps sized grows k
+stand_grown v w caller event n (visited mark e ∷ made_steps) sized grows k = (
   mark_grown v w mark (maker caller event n) e sized grows k.0,
-  stand_grown v w caller event (suc n) deals sized grows k.1,
+  stand_grown v w caller event (suc n) made_steps sized grows k.1,
 )
 
-stand_append : (v : View) (caller event n : ℕ) (xs ys : List Deal) → AllStand v caller event n xs →
+stand_append : (v : View) (caller event n : ℕ) (xs ys : List MadeStep) → AllStand v caller event n xs →
     AllStand v caller event (n + length xs) ys → AllStand v caller event n (xs ++ ys)
 stand_append v caller event n [] ys h k = subst (λ (z : ℕ). AllStand v caller event z ys)
     (let e : n + 0 ≡ n = omega arith in e) k
@@ -201,12 +201,12 @@ stand_append v caller event n (visited mark e ∷ xs) ys h k = (
       (let e : n + suc (length xs) ≡ suc n + length xs = omega arith in e) k),
 )
 
-looks_append : (xs ys : List Deal) → looks_in (xs ++ ys) ≡ looks_in xs ++ looks_in ys
+looks_append : (xs ys : List MadeStep) → looks_in (xs ++ ys) ≡ looks_in xs ++ looks_in ys
 looks_append [] ys = refl
 looks_append (looked g ∷ xs) ys = ap (λ (l : List ℕ). g ∷ l) (looks_append xs ys)
 looks_append (visited mark e ∷ xs) ys = looks_append xs ys
 
-pub stamps_append : (xs ys : List Deal) → stamps_in (xs ++ ys) ≡ stamps_in xs ++ stamps_in ys
+pub stamps_append : (xs ys : List MadeStep) → stamps_in (xs ++ ys) ≡ stamps_in xs ++ stamps_in ys
 stamps_append [] ys = refl
 stamps_append (looked g ∷ xs) ys = stamps_append xs ys
 stamps_append (visited mark e ∷ xs) ys = ap (λ (l : List ℕ). mark.stamp ∷ l) (stamps_append xs ys)
@@ -216,7 +216,7 @@ front_put : (b : Bool) (x : ℕ) (whole xs ys : List ℕ) → whole ≡ xs ++ ys
 front_put true x whole xs ys e = ap (λ (l : List ℕ). x ∷ l) e
 front_put false x whole xs ys e = e
 
-pub places_append : (lane : ℕ) (xs ys : List Deal) → places_in lane (xs ++ ys) ≡ places_in lane xs ++ places_in lane ys
+pub places_append : (lane : ℕ) (xs ys : List MadeStep) → places_in lane (xs ++ ys) ≡ places_in lane xs ++ places_in lane ys
 places_append lane [] ys = refl
 places_append lane (looked g ∷ xs) ys = places_append lane xs ys
 places_append lane (visited mark e ∷ xs) ys = front_put (eqb (index_of mark.lane) lane) mark.place
@@ -228,8 +228,8 @@ climbs_append low mid high [] ys h k = subst (λ (z : ℕ). Climbs z ys high) (s
 climbs_append low mid high (x ∷ xs) ys h k = (h.0, climbs_append x mid high xs ys h.1 k)
 
 -- one after another
-pub went_then : (caller event n k : ℕ) (u v w : View) (xs ys : List Deal) → k ≡ n + length xs →
-    Went caller event n u v xs → Went caller event k v w ys → Went caller event n u w (xs ++ ys)
+pub went_then : (caller event n k : ℕ) (u v w : View) (xs ys : List MadeStep) → k ≡ n + length xs →
+    Advances caller event n u v xs → Advances caller event k v w ys → Advances caller event n u w (xs ++ ys)
 went_then caller event n k u v w xs ys next a b = record {
   same = record {
     first = b.same.first ∙ a.same.first;

@@ -21,22 +21,22 @@ use Rattle.lane_table.specs.declared.view.View.{View}
 use Rattle.lane_table.specs.Calls.{view}
 use Rattle.rng_core.specs.declared.setting.Setting.{Setting}
 use Rattle.rng_core.specs.Acts.{Ask}
-use Rattle.rng_core.specs.Told.{moment}
-use Rattle.rng_core.specs.Did.{Did}
+use Rattle.rng_core.specs.Traces.{moment}
+use Rattle.rng_core.specs.Makes.{Makes}
 use Rattle.caller_run.specs.declared.caller.Caller.{Caller}
-use Rattle.caller_run.specs.declared.said.Said.{Said}
+use Rattle.caller_run.specs.declared.reply.Reply.{Reply}
 use Rattle.caller_run.specs.Calling.{stand, Called}
 use Rattle.caller_run.specs.Done.{CallDone, CallsDone}
 use Rattle.caller_run.specs.Kinds.{IsCall}
 use Rattle.caller_run.specs.Says.{shown_by, line_of}
 use Rattle.caller_run.specs.Waiting.{IsAlone, CallsSoFar}
-use Rattle.caller_run.specs.Standing.{HasLine, Start, Forked, HasGone, HasEnded}
+use Rattle.caller_run.specs.Standing.{HasLine, Start, Forked, HasAdvanced, RunEnded}
 use Rattle.caller_run.proofs.Orders.CallChains.{calls_done_nothing, calls_done_plainly}
 use Rattle.caller_run.proofs.Forks.HasForked.{forked_more}
 use Rattle.caller_run.proofs.Calls.CoreDone.{core_done, end_done}
 use Rattle.caller_run.proofs.Orders.LoopCalls.{alone_follows, so_far_nothing, so_far_alone, so_far_end}
 use Rattle.caller_run.proofs.Law.Seeing.{same_stand}
-use Rattle.caller_run.proofs.Calls.CanGo.{GoesOn, setting_moves}
+use Rattle.caller_run.proofs.Calls.CanAdvance.{GoesOn, setting_moves}
 use Rattle.caller_run.proofs.Orders.ToldAnew.{idle_more}
 
 call_alone : (event : Event) → IsCall event → IsAlone event
@@ -56,7 +56,7 @@ fit_more caller n events event rest lines line is fit more f =
 -- an event that the caller made, c being the caller before it, d behind its call, and e where it goes on
 module _ {begun : Start} {events rest : List Event} {event : Event} {c e : Caller} {lines : List SeenLine}
     {asks : List Ask} {kids : List Start}
-    (d : Caller) (g : HasGone begun events (event ∷ rest) c lines asks kids) (set : d.set ≡ c.set)
+    (d : Caller) (g : HasAdvanced begun events (event ∷ rest) c lines asks kids) (set : d.set ≡ c.set)
     (on : GoesOn event d e) where
   -- behind it the calls are these, and these callers were forked
   pub gone_on : (calls : List Call) (after : List SeenLine) (left waiting : List Ask) (more : List Start) →
@@ -67,7 +67,7 @@ module _ {begun : Start} {events rest : List Event} {event : Event} {c e : Calle
       (has_vread rest ≡ true → waiting ≡ left) → CallsSoFar events rest after waiting calls →
       ((more : List SeenLine) → LinesFit begun.caller (suc c.set.event) rest more →
       LinesFit begun.caller 0 events (after ++ more)) →
-      AllByRecursion (HasLine begun.caller after) left → HasGone begun events rest e after left more
+      AllByRecursion (HasLine begun.caller after) left → HasAdvanced begun events rest e after left more
   gone_on calls after left waiting more done settings forked waits so_far fit idle = record {
     own = on.caller ∙ ap (λ (s : Setting). s.caller) set ∙ g.own;
     calls = calls;
@@ -96,7 +96,7 @@ module _ {begun : Start} {events rest : List Event} {event : Event} {c e : Calle
       (has_vread rest ≡ true → waiting ≡ left) → CallsSoFar events rest after waiting (g.calls ++ call ∷ []) →
       ((more : List SeenLine) → LinesFit begun.caller (suc c.set.event) rest more →
       LinesFit begun.caller 0 events (after ++ more)) →
-      AllByRecursion (HasLine begun.caller after) left → HasGone begun events rest e after left kids
+      AllByRecursion (HasLine begun.caller after) left → HasAdvanced begun events rest e after left kids
   gone_by call after left waiting done sets =
       gone_on (g.calls ++ call ∷ []) after left waiting kids
       (calls_done_plainly begun.caller (length kids) begun.view (view c.pass) (view d.pass) (caller_start begun.set)
@@ -110,7 +110,7 @@ module _ {begun : Start} {events rest : List Event} {event : Event} {c e : Calle
       g.forked)
 
   -- the line of its call is the event's
-  pub own_line : (said : Said) (served : List ℕ) (steps : List Step) →
+  pub own_line : (said : Reply) (served : List ℕ) (steps : List Step) →
       LineIs begun.caller c.set.event (event_word event) (line_of d.set (event_word event) served said steps)
   own_line said served steps =
       record {
@@ -122,11 +122,11 @@ module _ {begun : Start} {events rest : List Event} {event : Event} {c e : Calle
 -- an event whose call was one of the core
 module _ {begun : Start} {events rest : List Event} {event : Event} {t : Lanes} {c d e : Caller}
     {lines : List SeenLine}
-    {asks : List Ask} {kids : List Start} {said : Said} {served : List ℕ} {steps : List Step} (is : IsCall event)
+    {asks : List Ask} {kids : List Start} {said : Reply} {served : List ℕ} {steps : List Step} (is : IsCall event)
     (k : Called t event c d said served steps)
     (on : GoesOn event d e) where
-  pub gone_call : HasGone begun events (event ∷ rest) c lines asks kids →
-      HasGone begun events rest e (lines ++ line_of d.set (event_word event) served said steps ∷ []) asks kids
+  pub gone_call : HasAdvanced begun events (event ∷ rest) c lines asks kids →
+      HasAdvanced begun events rest e (lines ++ line_of d.set (event_word event) served said steps ∷ []) asks kids
   gone_call g =
       let line : SeenLine = line_of d.set (event_word event) served said steps in
       gone_by d g k.set on (alone event line) (lines ++ line ∷ []) asks g.waiting
@@ -146,10 +146,10 @@ module _ {begun : Start} {events rest : List Event} {event : Event} {t : Lanes} 
 -- the end
 pub gone_all : {begun : Start} {events : List Event} {c : Caller} {lines : List SeenLine} {asks : List Ask}
     {kids : List Start}
-    (d : Caller) (served : List ℕ) (said : Said) (steps : List Step) → d.set ≡ c.set → said.answer ≡ Done →
+    (d : Caller) (served : List ℕ) (said : Reply) (steps : List Step) → d.set ≡ c.set → said.answer ≡ Done →
     (line_of d.set EndWord served said steps).shown ≡ no_data →
-    Did (BaseOnly End) c.set (moment c.pass []) (moment d.pass steps) → HasGone begun events [] c lines asks kids →
-    HasEnded begun events (view d.pass) (lines ++ line_of d.set EndWord served said steps ∷ []) kids
+    Makes (BaseOnly End) c.set (moment c.pass []) (moment d.pass steps) → HasAdvanced begun events [] c lines asks kids →
+    RunEnded begun events (view d.pass) (lines ++ line_of d.set EndWord served said steps ∷ []) kids
 gone_all {begun = begun} {events = events} {c = c} {lines = lines} {kids = kids} d served said steps set answer shown
     did g =
     let line : SeenLine = line_of d.set EndWord served said steps in
@@ -194,7 +194,7 @@ gone_all {begun = begun} {events = events} {c = c} {lines = lines} {kids = kids}
 -- the start
 pub gone_nothing : (begun : Start) (events : List Event) (c : Caller) → c.set.caller ≡ begun.caller →
     c.set.event ≡ 0 → stand c ≡ caller_start begun.set → view c.pass ≡ begun.view →
-    HasGone begun events events c [] [] []
+    HasAdvanced begun events events c [] [] []
 gone_nothing begun events c own none_yet stands knows = record {
   own = own;
   calls = [];

@@ -24,39 +24,39 @@ use Rattle.lane_table.specs.declared.view.LaneEntry.TheVariants.{Pool, Base, Cpu
 use Rattle.lane_table.specs.Meaning.{Model}
 use Rattle.lane_table.specs.BookLists.{book_lists}
 use Rattle.lane_table.specs.VisitsMet.{IsIntOfBatch}
-use Rattle.lane_table.specs.Went.{Deal, visited, step_of, floor}
-use Rattle.lane_table.specs.Went as went
+use Rattle.lane_table.specs.Advances.{MadeStep, visited, step_of, floor}
+use Rattle.lane_table.specs.Advances as went
 use Rattle.lane_table.specs.WorldRule.{known_of}
 use Rattle.lane_table.proofs.Book.BookEnds.{continues_before}
 use Rattle.lane_table.proofs.Rule.Sights.{sees_up}
-use Rattle.lane_table.proofs.Calls.WentLemmas.{went_idly}
+use Rattle.lane_table.proofs.Calls.AdvanceLemmas.{went_idly}
 use Rattle.rng_core.specs.declared.setting.Setting.{Setting}
-use Rattle.rng_core.specs.Told.{Moment, Told, Visited}
-use Rattle.rng_core.specs.Did.{DidIn, Did, Serving, Served, Fulfils, setting_of, serving}
+use Rattle.rng_core.specs.Traces.{Moment, TraceRecords, Visited}
+use Rattle.rng_core.specs.Makes.{MakesIn, Makes, Serving, Served, IsOutcomeOf, setting_of, serving}
 use Rattle.rng_core.proofs.TellLemmas.{told_then, told_idly}
 use Rattle.rng_core.proofs.Finding.{found_pool, found_base, found_cpu}
 
 -- what was seen of the generation does not fall
-pub did_floor : {P : (ℕ → List Visit) → List Deed → Type 0} (set : Setting) (m n : Moment) → DidIn P set m n →
+pub did_floor : {P : (ℕ → List Visit) → List Deed → Type 0} (set : Setting) (m n : Moment) → MakesIn P set m n →
     floor m.view ≤ floor n.view
-did_floor set m n k = sees_up n.view (floor m.view) (floor n.view) k.deals k.told.went.sees
+did_floor set m n k = sees_up n.view (floor m.view) (floor n.view) k.made_steps k.told.went.sees
 
 pub did_in_map : {P Q : (ℕ → List Visit) → List Deed → Type 0} (set : Setting) (m n : Moment) →
-    ((visits : ℕ → List Visit) (deeds : List Deed) → P visits deeds → Q visits deeds) → DidIn P set m n →
-    DidIn Q set m n
+    ((visits : ℕ → List Visit) (deeds : List Deed) → P visits deeds → Q visits deeds) → MakesIn P set m n →
+    MakesIn Q set m n
 did_in_map set m n f k = record {
-  deals = k.deals;
+  made_steps = k.made_steps;
   told = k.told;
   stands = λ lanes visits callers c. f visits _ (k.stands lanes visits callers c);
 }
 
 pub did_map : {P Q : List Deed → Type 0} (set : Setting) (m n : Moment) → ((deeds : List Deed) → P deeds → Q deeds) →
-    Did P set m n → Did Q set m n
+    Makes P set m n → Makes Q set m n
 did_map set m n f k = did_in_map set m n (λ visits. f) k
 
 -- the form alone
-pub formed : {F : List Deed → Type 0} {bytes : List ℕ} (set : Setting) (m n : Moment) → Did (Serving F bytes) set m n →
-    Did F set m n
+pub formed : {F : List Deed → Type 0} {bytes : List ℕ} (set : Setting) (m n : Moment) → Makes (Serving F bytes) set m n →
+    Makes F set m n
 formed set m n k = did_map set m n (λ deeds h. h.form) k
 
 pub served_of : (set : Setting) (m n : Moment) (lane place : ℕ) (s : Model) (e : LaneEntry) (got : Handed) →
@@ -64,16 +64,16 @@ pub served_of : (set : Setting) (m n : Moment) (lane place : ℕ) (s : Model) (e
 served_of set m n lane place s e got x = record { model = s; got = got; visited = x; serves = refl }
 
 -- behind what no step tells
-pub did_after : {P : (ℕ → List Visit) → List Deed → Type 0} (set : Setting) (l m n : Moment) → Told set l m [] →
-    DidIn P set m n → DidIn P set l n
-did_after set l m n a k = record { deals = k.deals; told = told_then set l m n [] k.deals a k.told; stands = k.stands }
+pub did_after : {P : (ℕ → List Visit) → List Deed → Type 0} (set : Setting) (l m n : Moment) → TraceRecords set l m [] →
+    MakesIn P set m n → MakesIn P set l n
+did_after set l m n a k = record { made_steps = k.made_steps; told = told_then set l m n [] k.made_steps a k.told; stands = k.stands }
 
 -- behind a look
 pub did_looked : {P : ℕ → List Deed → Type 0} (set : Setting) (l m n : Moment) (g : ℕ) →
-    Told set l m (went.looked g ∷ []) → Did (P g) set m n → Did (forms.Looked P) set l n
+    TraceRecords set l m (went.looked g ∷ []) → Makes (P g) set m n → Makes (forms.Looked P) set l n
 did_looked set l m n g a k = record {
-  deals = went.looked g ∷ k.deals;
-  told = told_then set l m n (went.looked g ∷ []) k.deals a k.told;
+  made_steps = went.looked g ∷ k.made_steps;
+  told = told_then set l m n (went.looked g ∷ []) k.made_steps a k.told;
   stands = λ lanes visits callers c. (g, _, refl, k.stands lanes visits callers c);
 }
 
@@ -82,32 +82,32 @@ served_behind_look g [] = refl
 served_behind_look g (d ∷ deeds) = refl
 
 pub serving_looked : {P : ℕ → List Deed → Type 0} {bytes : List ℕ} (set : Setting) (l m n : Moment) (g : ℕ) →
-    Told set l m (went.looked g ∷ []) → Did (Serving (P g) bytes) set m n → Did (Serving (forms.Looked P) bytes) set l n
+    TraceRecords set l m (went.looked g ∷ []) → Makes (Serving (P g) bytes) set m n → Makes (Serving (forms.Looked P) bytes) set l n
 serving_looked set l m n g a k = record {
-  deals = went.looked g ∷ k.deals;
-  told = told_then set l m n (went.looked g ∷ []) k.deals a k.told;
+  made_steps = went.looked g ∷ k.made_steps;
+  told = told_then set l m n (went.looked g ∷ []) k.made_steps a k.told;
   stands = λ lanes visits callers c. let h = k.stands lanes visits callers c in
       record {
         form = (g, _, refl, h.form);
         bytes_are = h.bytes_are
-            ∙ sym (served_behind_look g (deeds_of (book_lists lanes visits callers) (map step_of k.deals)));
+            ∙ sym (served_behind_look g (deeds_of (book_lists lanes visits callers) (map step_of k.made_steps)));
       };
 }
 
 -- one visit of the pool, the base or a CPU
 pub did_pool : (set : Setting) (m n : Moment) (place : ℕ) (s : Model) (e : PoolEntry) (got : Handed) →
-    Visited set m n 0 place s (Pool e) got → Did (PoolOnly e) set m n
+    Visited set m n 0 place s (Pool e) got → Makes (PoolOnly e) set m n
 did_pool set m n place s e got x = record {
-  deals = visited x.mark (Pool e) ∷ [];
+  made_steps = visited x.mark (Pool e) ∷ [];
   told = x.told;
   stands = λ lanes visits callers c. let f = found_pool lanes visits callers set m n place s got c e x in
       record { pool = f.visit; deeds_are = ap (λ (d : Deed). d ∷ []) f.deed_is; is = f.is };
 }
 
 pub did_base : (set : Setting) (m n : Moment) (place : ℕ) (e : BaseEntry) (bytes : List ℕ) →
-    Served set m n 1 place (Base e) bytes → Did (Serving (BaseOnly e) bytes) set m n
+    Served set m n 1 place (Base e) bytes → Makes (Serving (BaseOnly e) bytes) set m n
 did_base set m n place e bytes x = record {
-  deals = visited x.visited.mark (Base e) ∷ [];
+  made_steps = visited x.visited.mark (Base e) ∷ [];
   told = x.visited.told;
   stands = λ lanes visits callers c. let f = found_base lanes visits callers set m n place x.model x.got c e x.visited
       in record {
@@ -117,9 +117,9 @@ did_base set m n place e bytes x = record {
 }
 
 pub did_cpu : (set : Setting) (m n : Moment) (cpu place : ℕ) (e : CpuEntry) (bytes : List ℕ) → IsIntOfBatch e →
-    Served set m n (cpu + 2) place (Cpu e) bytes → Did (Serving (CpuOnly cpu e) bytes) set m n
+    Served set m n (cpu + 2) place (Cpu e) bytes → Makes (Serving (CpuOnly cpu e) bytes) set m n
 did_cpu set m n cpu place e bytes fits x = record {
-  deals = visited x.visited.mark (Cpu e) ∷ [];
+  made_steps = visited x.visited.mark (Cpu e) ∷ [];
   told = x.visited.told;
   stands = λ lanes visits callers c. let f = found_cpu lanes visits callers set m n place x.model x.got c cpu e
       x.visited fits in record {
@@ -132,9 +132,9 @@ did_cpu set m n cpu place e bytes fits x = record {
 pub did_rooted : (set : Setting) (l m n : Moment) (root base : ℕ) (s : Model) (got : Handed) (entry : ℕ → BaseEntry)
     (bytes : List ℕ) → Visited set l m 0 root s (Pool (Extract set.hw base)) got →
     Served set m n 1 base (Base (entry root)) bytes
-    → Did (Serving (Rooted (setting_of set) entry) bytes) set l n
+    → Makes (Serving (Rooted (setting_of set) entry) bytes) set l n
 did_rooted set l m n root base s got entry bytes x y = record {
-  deals = visited x.mark (Pool (Extract set.hw base)) ∷ visited y.visited.mark (Base (entry root)) ∷ [];
+  made_steps = visited x.mark (Pool (Extract set.hw base)) ∷ visited y.visited.mark (Base (entry root)) ∷ [];
   told = told_then set l m n (visited x.mark (Pool (Extract set.hw base)) ∷ [])
       (visited y.visited.mark (Base (entry root)) ∷ []) x.told y.visited.told;
   stands = λ lanes visits callers c.
@@ -155,10 +155,10 @@ did_rooted set l m n root base s got entry bytes x y = record {
 
 -- a read from a CPU, behind its look
 pub did_plain_read : (set : Setting) (l m n : Moment) (g place : ℕ) (taken : Taken) (bytes : List ℕ) →
-    Told set l m (went.looked g ∷ []) → Served set m n (set.cpu + 2) place (Cpu (Read g None taken)) bytes
-    → Did (Serving (PlainRead (setting_of set) taken) bytes) set l n
+    TraceRecords set l m (went.looked g ∷ []) → Served set m n (set.cpu + 2) place (Cpu (Read g None taken)) bytes
+    → Makes (Serving (PlainRead (setting_of set) taken) bytes) set l n
 did_plain_read set l m n g place taken bytes a x = record {
-  deals = went.looked g ∷ visited x.visited.mark (Cpu (Read g None taken)) ∷ [];
+  made_steps = went.looked g ∷ visited x.visited.mark (Cpu (Read g None taken)) ∷ [];
   told = told_then set l m n (went.looked g ∷ []) (visited x.visited.mark (Cpu (Read g None taken)) ∷ []) a
       x.visited.told;
   stands = λ lanes visits callers c. let f = found_cpu lanes visits callers set m n place x.model x.got c set.cpu
@@ -169,12 +169,12 @@ did_plain_read set l m n g place taken bytes a x = record {
 }
 
 pub did_refilled_read : (set : Setting) (k l m n : Moment) (g base place : ℕ) (s : Model) (got : Handed)
-    (taken : Taken) (bytes : List ℕ) → Told set k l (went.looked g ∷ []) →
+    (taken : Taken) (bytes : List ℕ) → TraceRecords set k l (went.looked g ∷ []) →
     Visited set l m 1 base s (Base (Refill set.cpu place)) got
     → Served set m n (set.cpu + 2) place (Cpu (Read g (Some base) taken)) bytes →
-    Did (Serving (RefilledRead (setting_of set) taken) bytes) set k n
+    Makes (Serving (RefilledRead (setting_of set) taken) bytes) set k n
 did_refilled_read set k l m n g base place s got taken bytes a x y = record {
-  deals = went.looked g ∷ visited x.mark (Base (Refill set.cpu place)) ∷ visited y.visited.mark
+  made_steps = went.looked g ∷ visited x.mark (Base (Refill set.cpu place)) ∷ visited y.visited.mark
       (Cpu (Read g (Some base) taken)) ∷ [];
   told = told_then set k l n (went.looked g ∷ [])
       (visited x.mark (Base (Refill set.cpu place)) ∷ visited y.visited.mark (Cpu (Read g (Some base) taken)) ∷ []) a
@@ -200,9 +200,9 @@ did_refilled_read set k l m n g base place s got taken bytes a x y = record {
 }
 
 -- nothing at all
-pub did_nothing : {P : List Deed → Type 0} (set : Setting) (m : Moment) → 1 < length m.view.lanes → P [] → Did P set m m
+pub did_nothing : {P : List Deed → Type 0} (set : Setting) (m : Moment) → 1 < length m.view.lanes → P [] → Makes P set m m
 did_nothing set m two p = record {
-  deals = [];
+  made_steps = [];
   told = told_idly set m m refl (went_idly set.caller set.event (length m.steps) m.view m.view
       (record { first = refl; share = refl; halvings = refl; sized = refl })
       (λ lane low. ([], sym (append-nil (known_of m.view lane)))) refl refl refl two (omega arith)
@@ -211,22 +211,22 @@ did_nothing set m two p = record {
 }
 
 -- a look alone
-pub did_look : (set : Setting) (l m : Moment) (g : ℕ) → Told set l m (went.looked g ∷ []) →
-    Did (λ (deeds : List Deed). deeds ≡ looked g ∷ []) set l m
-did_look set l m g a = record { deals = went.looked g ∷ []; told = a; stands = λ lanes visits callers c. refl }
+pub did_look : (set : Setting) (l m : Moment) (g : ℕ) → TraceRecords set l m (went.looked g ∷ []) →
+    Makes (λ (deeds : List Deed). deeds ≡ looked g ∷ []) set l m
+did_look set l m g a = record { made_steps = went.looked g ∷ []; told = a; stands = λ lanes visits callers c. refl }
 
 -- a visit of the pool that credits bits, and what they cross
 pub did_credit : (set : Setting) (l m n : Moment) (place : ℕ) (s : Model) (e : PoolEntry) (got : Handed)
     (crossed : Crossing) → Visited set l m 0 place s (Pool e) got →
     crossed ≡ crossing s.pool.bits (pool_step s.pool e).bits
-    → Did (Cross (setting_of set) crossed) set m n → Did (CreditForm (setting_of set) e) set l n
+    → Makes (Cross (setting_of set) crossed) set m n → Makes (CreditForm (setting_of set) e) set l n
 did_credit set l m n place s e got crossed x is k = record {
-  deals = visited x.mark (Pool e) ∷ k.deals;
-  told = told_then set l m n (visited x.mark (Pool e) ∷ []) k.deals x.told k.told;
+  made_steps = visited x.mark (Pool e) ∷ k.made_steps;
+  told = told_then set l m n (visited x.mark (Pool e) ∷ []) k.made_steps x.told k.told;
   stands = λ lanes visits callers c.
       let f = found_pool lanes visits callers set l m place s got
       (continues_before lanes _ _ visits k.told.went.same.sized k.told.went.grows c) e x in
-      let rest = deeds_of (book_lists lanes visits callers) (map step_of k.deals) in record {
+      let rest = deeds_of (book_lists lanes visits callers) (map step_of k.made_steps) in record {
         pool = f.visit;
         rest = rest;
         deeds_are = ap (λ (d : Deed). d ∷ rest) f.deed_is;
@@ -239,9 +239,9 @@ did_credit set l m n place s e got crossed x is k = record {
 -- the bits that a visit reads
 pub did_bits : (set : Setting) (m n : Moment) (place b : ℕ) (s : Model) (got : Handed) →
     Visited set m n 0 place s (Pool Bits) got → b ≡ s.pool.bits →
-    Did (Fulfils (setting_of set) BitsEvent Done (count b)) set m n
+    Makes (IsOutcomeOf (setting_of set) BitsEvent Done (count b)) set m n
 did_bits set m n place b s got x is = record {
-  deals = visited x.mark (Pool Bits) ∷ [];
+  made_steps = visited x.mark (Pool Bits) ∷ [];
   told = x.told;
   stands = λ lanes visits callers c. let f = found_pool lanes visits callers set m n place s got c Bits x in record {
     form = record { pool = f.visit; deeds_are = ap (λ (d : Deed). d ∷ []) f.deed_is; is = f.is };
@@ -259,28 +259,28 @@ pub record After (P Q : List Deed → Type 0) (deeds : List Deed) : Type 0 where
   pub before : P first
   pub behind : Q rest
 
-pub deeds_then : (book : Lists) (xs ys : List Deal) →
+pub deeds_then : (book : Lists) (xs ys : List MadeStep) →
     deeds_of book (map step_of (xs ++ ys)) ≡ deeds_of book (map step_of xs) ++ deeds_of book (map step_of ys)
 deeds_then book xs ys = ap (deeds_of book) (map-append step_of xs ys)
     ∙ map-append (deed_of book) (map step_of xs) (map step_of ys)
 
-pub did_in_then : {P Q : (ℕ → List Visit) → List Deed → Type 0} (set : Setting) (l m n : Moment) → DidIn P set l m →
-    DidIn Q set m n → DidIn (λ visits. After (P visits) (Q visits)) set l n
+pub did_in_then : {P Q : (ℕ → List Visit) → List Deed → Type 0} (set : Setting) (l m n : Moment) → MakesIn P set l m →
+    MakesIn Q set m n → MakesIn (λ visits. After (P visits) (Q visits)) set l n
 did_in_then set l m n a b = record {
-  deals = a.deals ++ b.deals;
-  told = told_then set l m n a.deals b.deals a.told b.told;
+  made_steps = a.made_steps ++ b.made_steps;
+  told = told_then set l m n a.made_steps b.made_steps a.told b.told;
   stands = λ lanes visits callers c. let book = book_lists lanes visits callers in record {
-    first = deeds_of book (map step_of a.deals);
-    rest = deeds_of book (map step_of b.deals);
-    deeds_are = deeds_then book a.deals b.deals;
+    first = deeds_of book (map step_of a.made_steps);
+    rest = deeds_of book (map step_of b.made_steps);
+    deeds_are = deeds_then book a.made_steps b.made_steps;
     before = a.stands lanes visits callers (continues_before lanes _ _ visits b.told.went.same.sized b.told.went.grows
         c);
     behind = b.stands lanes visits callers c;
   };
 }
 
-pub did_then : {P Q : List Deed → Type 0} (set : Setting) (l m n : Moment) → Did P set l m → Did Q set m n →
-    Did (After P Q) set l n
+pub did_then : {P Q : List Deed → Type 0} (set : Setting) (l m n : Moment) → Makes P set l m → Makes Q set m n →
+    Makes (After P Q) set l n
 did_then set l m n a b = did_in_then set l m n a b
 
 -- behind a look that found g
@@ -290,12 +290,12 @@ pub record Behind (g : ℕ) (P : List Deed → Type 0) (deeds : List Deed) : Typ
   pub holds : P rest
 
 pub did_behind : {P : List Deed → Type 0} (set : Setting) (l m n : Moment) (g : ℕ) →
-    Told set l m (went.looked g ∷ []) → Did P set m n → Did (Behind g P) set l n
+    TraceRecords set l m (went.looked g ∷ []) → Makes P set m n → Makes (Behind g P) set l n
 did_behind set l m n g a k = record {
-  deals = went.looked g ∷ k.deals;
-  told = told_then set l m n (went.looked g ∷ []) k.deals a k.told;
+  made_steps = went.looked g ∷ k.made_steps;
+  told = told_then set l m n (went.looked g ∷ []) k.made_steps a k.told;
   stands = λ lanes visits callers c. record {
-    rest = deeds_of (book_lists lanes visits callers) (map step_of k.deals);
+    rest = deeds_of (book_lists lanes visits callers) (map step_of k.made_steps);
     deeds_are = refl;
     holds = k.stands lanes visits callers c;
   };

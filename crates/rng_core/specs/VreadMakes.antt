@@ -4,7 +4,7 @@ use Rattle.key_names.specs.declared.entries.VEntry.{VEntry}
 use Rattle.key_names.specs.declared.errno.Errno.{Errno}
 use Rattle.key_names.specs.declared.events.Answer.{Answer}
 use Rattle.key_names.specs.BatchCopy.{serves_locally, copy_bytes, state_after_copy}
-use Rattle.key_names.specs.Calls.{Setting as Told}
+use Rattle.key_names.specs.Calls.{Setting as CallSetting}
 use Rattle.key_names.specs.Deeds.{Deed}
 use Rattle.key_names.specs.Meaning.{CallerState, CallMeaning, VreadMeans, current_state, with_state, tries_local}
 use Rattle.key_names.specs.SeenLine.{Shown}
@@ -13,14 +13,14 @@ use Rattle.key_names.specs.VgetrandomState.{VgetrandomState}
 use Rattle.key_names.specs.VreadSteps.{Shows, WipesStand, points_of, ending_answer, ending_shown, published_by}
 use Rattle.lane_table.specs.declared.view.View.{View}
 use Rattle.lane_table.specs.Calls.{SameView}
-use Rattle.lane_table.specs.Went.{looked, floor}
+use Rattle.lane_table.specs.Advances.{looked, floor}
 use Rattle.vdso_state.specs.declared.outcome.VEnd.{VEnd}
 use Rattle.vdso_state.specs.declared.outcome.Local.{Local}
 use Rattle.vdso_state.specs.declared.outcome.Local.TheVariants.{NeedsSystem, Served}
 use Rattle.rng_core.specs.declared.setting.Setting.{Setting}
-use Rattle.rng_core.specs.Told.{Moment}
-use Rattle.rng_core.specs.Told as told
-use Rattle.rng_core.specs.Did.{Did, setting_of}
+use Rattle.rng_core.specs.Traces.{Moment}
+use Rattle.rng_core.specs.Traces as told
+use Rattle.rng_core.specs.Makes.{Makes, setting_of}
 
 -- what is returned does not tell how a call ended
 abbrev pub done_of : Result VEnd Errno → Result (Unit {0}) Errno
@@ -28,7 +28,7 @@ done_of (Ok end) = Ok tt
 done_of (Err errno) = Err errno
 
 -- from v to w the pass looked at the generation once, found this, and made no step of it
-pub record Glanced (found : ℕ) (v w : View) : Type 0 where
+pub record OnlyLooked (found : ℕ) (v w : View) : Type 0 where
   pub same : SameView v w
   pub lanes : w.lanes ≡ v.lanes
   pub stamp : w.stamp ≡ v.stamp
@@ -43,14 +43,14 @@ pub record LocallyServed (n flags : ℕ) (s t : VgetrandomState) (out : List ℕ
   pub found : ℕ
   pub tries : tries_local n flags [] ≡ true
   pub serves : serves_locally (published_by found) s n ≡ true
-  pub told : told.Told set l m (looked found ∷ [])
+  pub told : told.TraceRecords set l m (looked found ∷ [])
   pub bytes : out ≡ copy_bytes s 0 n
   pub state : t ≡ state_after_copy s 0 n
 
 -- one look, by what it found, refused the batch to the read
 pub record Refused (n : ℕ) (s : VgetrandomState) (v w : View) : Type 0 where
   pub found : ℕ
-  pub glanced : Glanced found v w
+  pub glanced : OnlyLooked found v w
   pub refuses : serves_locally (published_by found) s n ≡ false
 
 -- before its first step a read that the batch does not serve looked once where it tries the batch, and else not at all
@@ -78,7 +78,7 @@ pub record Called (n flags : ℕ) (s t : VgetrandomState) (answer : Answer) (sho
   pub answers : answer ≡ ending_answer outcome.ending
   pub shows : shown ≡ ending_shown outcome.ending
   pub wipes : WipesStand [] (points_of steps)
-  pub did : Did (Shows (setting_of set) steps) set l m
+  pub did : Makes (Shows (setting_of set) steps) set l m
 
 -- what a read without acts inside means
 abbrev pub vread_meaning : List Deed → Answer → Shown → List VEntry → CallerState → VgetrandomState → CallMeaning
@@ -91,17 +91,17 @@ vread_meaning deeds answer shown entries before t = record {
 }
 
 -- these deeds are those of a read on the state s that left the state t, wherever its caller stood
-abbrev pub VreadLine : Told → ℕ → ℕ → VgetrandomState → VgetrandomState → Answer → Shown → List VEntry → List Deed →
+abbrev pub VreadLine : CallSetting → ℕ → ℕ → VgetrandomState → VgetrandomState → Answer → Shown → List VEntry → List Deed →
     Type 0
 VreadLine set n flags s t answer shown entries deeds = (before : CallerState) → before.setting ≡ set →
     current_state before ≡ s → VreadMeans n flags [] (vread_meaning deeds answer shown entries before t)
 
 -- from l to m the caller read n bytes with these flags: out of the batch, or by what came behind this view
-pub record VreadDid (n flags : ℕ) (s t : VgetrandomState) (answer : Answer) (shown : Shown) (set : Setting)
+pub record VreadMakes (n flags : ℕ) (s t : VgetrandomState) (answer : Answer) (shown : Shown) (set : Setting)
     (l m : Moment) : Type 0 where
   pub looked : View
   pub began : ((looked ≡ l.view) × (out : List ℕ) × LocallyServed n flags s t out set l m)
       ⊎ Unserved n flags s l.view looked
   pub entries : List VEntry
-  pub did : Did (VreadLine (setting_of set) n flags s t answer shown entries) set
+  pub did : Makes (VreadLine (setting_of set) n flags s t answer shown entries) set
       (record { view = looked; steps = l.steps }) m

@@ -17,11 +17,11 @@ use Rattle.key_names.specs.VreadSteps.{number_of}
 use Rattle.lane_table.specs.declared.view.Visit.{Visit}
 use Rattle.lane_table.specs.BookLists.{StateLists, book_lists}
 use Rattle.lane_table.specs.BookLaws.{Continues}
-use Rattle.lane_table.specs.Went.{Deal, step_of}
+use Rattle.lane_table.specs.Advances.{MadeStep, step_of}
 use Rattle.rng_core.specs.declared.acts.Bound.{Bound}
 use Rattle.rng_core.specs.declared.setting.Setting.{Setting}
-use Rattle.rng_core.specs.Told.{Moment}
-use Rattle.rng_core.specs.Did.{setting_of, result_answer, given}
+use Rattle.rng_core.specs.Traces.{Moment}
+use Rattle.rng_core.specs.Makes.{setting_of, result_answer, given}
 use Rattle.rng_core.specs.Acts.{Ask, ActOutcome, wants, done_line}
 
 -- an act as it is handed to a call
@@ -66,15 +66,15 @@ inside_meaning lists deeds answer shown entries outcomes before t = record {
 
 -- from l to m the caller read n bytes with these flags out of the state s, and left t: its own steps are those in the
 -- trace, and its acts have their own
-pub record InsideDid (n flags : ℕ) (s t : VgetrandomState) (answer : Answer) (shown : Shown) (set : Setting)
+pub record InsideMakes (n flags : ℕ) (s t : VgetrandomState) (answer : Answer) (shown : Shown) (set : Setting)
     (l m : Moment) (asks : List Ask) (outcomes : List ActOutcome) : Type 0 where
   pub entries : List VEntry
-  pub deals : List Deal
-  pub trace : m.steps ≡ l.steps ++ map step_of deals
-  pub fits : AllByRecursion StepFits (map step_of deals)
+  pub made_steps : List MadeStep
+  pub trace : m.steps ≡ l.steps ++ map step_of made_steps
+  pub fits : AllByRecursion StepFits (map step_of made_steps)
   pub acts_fit : AllByRecursion (λ z. AllByRecursion StepFits z.steps) outcomes
   pub stands : (lanes : ℕ) (visits : ℕ → List Visit) (callers : StateLists) → Continues lanes m.view visits →
       (before : CallerState) → before.setting ≡ setting_of set → current_state before ≡ s →
       VreadMeans n flags (bound_acts set asks outcomes)
-      (inside_meaning (book_lists lanes visits callers) (deeds_of (book_lists lanes visits callers) (map step_of deals))
+      (inside_meaning (book_lists lanes visits callers) (deeds_of (book_lists lanes visits callers) (map step_of made_steps))
       answer shown entries outcomes before t)

@@ -9,7 +9,7 @@ use Rattle.key_names.specs.VreadSteps.{number_of}
 use Rattle.lane_table.specs.declared.view.View.{View}
 use Rattle.rng_core.specs.declared.setting.Setting.{Setting}
 use Rattle.rng_core.specs.Acts.{Ask, ActOutcome, ActRan, ActsAt}
-use Rattle.rng_core.specs.InsideDid.{act_line, bound_acts}
+use Rattle.rng_core.specs.InsideMakes.{act_line, bound_acts}
 use Rattle.rng_core.proofs.InsideCalls.{IsUndone}
 use Rattle.caller_run.specs.Items.{Item, items_from, line_items, items_at_point}
 use Rattle.caller_run.proofs.Orders.PartItems.{Part, part_nothing, part_then, part_went}
@@ -59,7 +59,7 @@ module _ (set : Setting) where
       Part set.caller v w (line_items (act_line set a y))
   act_part a v w y k =
       subst (λ (l : List Step). Part set.caller v w (items_from a.event 0 l)) (sym k.did.told.trace)
-      (part_went set.caller a.event 0 v w k.did.deals k.did.told.went)
+      (part_went set.caller a.event 0 v w k.did.made_steps k.did.told.went)
 
   module _ (point : Point) where
     -- the acts at the point, where none of them was done before

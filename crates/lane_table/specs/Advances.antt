@@ -18,11 +18,11 @@ use Rattle.lane_table.specs.LaneNumbers.{index_of}
 use Rattle.lane_table.specs.Calls.{SameView}
 
 -- a look, or a visit with its entry
-pub data Deal : Type 0 where
-  looked : ℕ → Deal
-  visited : Mark → LaneEntry → Deal
+pub data MadeStep : Type 0 where
+  looked : ℕ → MadeStep
+  visited : Mark → LaneEntry → MadeStep
 
-abbrev pub step_of : Deal → Step
+abbrev pub step_of : MadeStep → Step
 step_of (looked g) = Look g
 step_of (visited mark e) = Marked mark
 
@@ -39,27 +39,27 @@ abbrev pub maker : ℕ → ℕ → ℕ → Who
 maker caller event step = record { caller = caller; event = event; step = step }
 
 -- each visit is known and of this event of the caller, the steps being numbered from n on
-abbrev pub AllStand : View → ℕ → ℕ → ℕ → List Deal → Type 0
+abbrev pub AllStand : View → ℕ → ℕ → ℕ → List MadeStep → Type 0
 AllStand v caller event n [] = ⊤
-AllStand v caller event n (looked g ∷ deals) = AllStand v caller event (suc n) deals
-AllStand v caller event n (visited mark e ∷ deals) =
-    IsMarkOf v mark (maker caller event n) e × AllStand v caller event (suc n) deals
+AllStand v caller event n (looked g ∷ made_steps) = AllStand v caller event (suc n) made_steps
+AllStand v caller event n (visited mark e ∷ made_steps) =
+    IsMarkOf v mark (maker caller event n) e × AllStand v caller event (suc n) made_steps
 
-abbrev pub looks_in : List Deal → List ℕ
+abbrev pub looks_in : List MadeStep → List ℕ
 looks_in [] = []
-looks_in (looked g ∷ deals) = g ∷ looks_in deals
-looks_in (visited mark e ∷ deals) = looks_in deals
+looks_in (looked g ∷ made_steps) = g ∷ looks_in made_steps
+looks_in (visited mark e ∷ made_steps) = looks_in made_steps
 
-abbrev pub places_in : ℕ → List Deal → List ℕ
+abbrev pub places_in : ℕ → List MadeStep → List ℕ
 places_in lane [] = []
-places_in lane (looked g ∷ deals) = places_in lane deals
-places_in lane (visited mark e ∷ deals) =
-    if index_of mark.lane == lane then mark.place ∷ places_in lane deals else places_in lane deals
+places_in lane (looked g ∷ made_steps) = places_in lane made_steps
+places_in lane (visited mark e ∷ made_steps) =
+    if index_of mark.lane == lane then mark.place ∷ places_in lane made_steps else places_in lane made_steps
 
-abbrev pub stamps_in : List Deal → List ℕ
+abbrev pub stamps_in : List MadeStep → List ℕ
 stamps_in [] = []
-stamps_in (looked g ∷ deals) = stamps_in deals
-stamps_in (visited mark e ∷ deals) = mark.stamp ∷ stamps_in deals
+stamps_in (looked g ∷ made_steps) = stamps_in made_steps
+stamps_in (visited mark e ∷ made_steps) = mark.stamp ∷ stamps_in made_steps
 
 -- stamps that rise, from above the first number to the last
 abbrev pub Climbs : ℕ → List ℕ → ℕ → Type 0
@@ -76,25 +76,25 @@ generation_of s = max s.base.generation s.cpu.cpu.generation
 
 -- each look is at least what was seen before it, and what was seen after a visit is at least the generation that the
 -- lane then has
-abbrev pub Sees : View → ℕ → List Deal → ℕ → Type 0
+abbrev pub Sees : View → ℕ → List MadeStep → ℕ → Type 0
 Sees w low [] high = low ≤ high
-Sees w low (looked g ∷ deals) high = (low ≤ g) × Sees w g deals high
-Sees w low (visited mark e ∷ deals) high = (mid : ℕ) × (low ≤ mid)
-    × (generation_of (replay (take (suc mark.place) (known_of w (index_of mark.lane)))) ≤ mid) × Sees w mid deals high
+Sees w low (looked g ∷ made_steps) high = (low ≤ g) × Sees w g made_steps high
+Sees w low (visited mark e ∷ made_steps) high = (mid : ℕ) × (low ≤ mid)
+    × (generation_of (replay (take (suc mark.place) (known_of w (index_of mark.lane)))) ≤ mid) × Sees w mid made_steps high
 
 -- the core is ready exactly where it was reseeded
 abbrev pub Agrees : BaseValue → Type 0
 Agrees b = (b.phase ≡ ready) ↔ (1 ≤ b.generation)
 
 -- from v to w the pass did exactly this, in an event of a caller, the steps being numbered from n on
-pub record Went (caller event n : ℕ) (v w : View) (deals : List Deal) : Type 0 where
+pub record Advances (caller event n : ℕ) (v w : View) (made_steps : List MadeStep) : Type 0 where
   pub same : SameView v w
   pub grows : Grows v w
-  pub looks : w.looks ≡ v.looks ++ looks_in deals
-  pub places : (lane : ℕ) → lane < length v.lanes → (at lane w).places ≡ (at lane v).places ++ places_in lane deals
-  pub made : (lane : ℕ) → lane < length v.lanes → (at lane w).made ≡ (at lane v).made + length (places_in lane deals)
+  pub looks : w.looks ≡ v.looks ++ looks_in made_steps
+  pub places : (lane : ℕ) → lane < length v.lanes → (at lane w).places ≡ (at lane v).places ++ places_in lane made_steps
+  pub made : (lane : ℕ) → lane < length v.lanes → (at lane w).made ≡ (at lane v).made + length (places_in lane made_steps)
   pub heard : (lane : ℕ) → lane < length v.lanes → (at lane w).heard ≡ (at lane v).heard
-  pub stamps : w.stamps ≡ v.stamps ++ stamps_in deals
-  pub climbs : Climbs v.stamp (stamps_in deals) w.stamp
-  pub sees : Sees w (floor v) deals (floor w)
-  pub stand : AllStand w caller event n deals
+  pub stamps : w.stamps ≡ v.stamps ++ stamps_in made_steps
+  pub climbs : Climbs v.stamp (stamps_in made_steps) w.stamp
+  pub sees : Sees w (floor v) made_steps (floor w)
+  pub stand : AllStand w caller event n made_steps
