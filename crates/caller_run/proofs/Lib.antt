@@ -1,5 +1,5 @@
-pub mod Plans
+pub mod Planning
 pub mod Orders
 pub mod Law
-pub mod Calls
+pub mod Events
 pub mod Forks

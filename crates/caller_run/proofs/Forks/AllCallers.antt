@@ -29,11 +29,11 @@ use Rattle.caller_run.specs.Standing.{Start}
 use Rattle.caller_run.specs.Ways.{ArePrepared, CanRun, Returned, WholeRan, IsFirst, numbered, root_set, start_of}
 use Rattle.caller_run.proofs.Law.Whole.{lawful_runs}
 use Rattle.caller_run.proofs.Orders.InOrder.{number, numbers_of, AllOnce, in_order, in_order_of}
-use Rattle.caller_run.proofs.Plans.OnceEach.{times_in, below, once_each}
+use Rattle.caller_run.proofs.Planning.OnceEach.{times_in, below, once_each}
 use Rattle.caller_run.proofs.Orders.OwnPlaces.{MadeNothing}
-use Rattle.caller_run.proofs.Plans.Parents.{each_of}
+use Rattle.caller_run.proofs.Planning.Parents.{each_of}
 use Rattle.caller_run.proofs.Forks.Runs.{once, whole}
-use Rattle.caller_run.proofs.Plans.Slots.{put_all, have_slots, fit_long, last_has}
+use Rattle.caller_run.proofs.Planning.Slots.{put_all, have_slots, fit_long, last_has}
 
 prepared_forked : (callers : List (List Event)) (g : Grove) (cs : List ℕ) → ArePrepared callers g cs →
     AreForked callers (tree g) cs

@@ -52,7 +52,7 @@ use Rattle.caller_run.specs.Items.{steps_of, calls_items}
 use Rattle.caller_run.specs.Says.{line_of}
 use Rattle.caller_run.specs.Standing.{Start, Forked, HasAdvanced}
 use Rattle.caller_run.proofs.Orders.CallChains.{calls_done_then}
-use Rattle.caller_run.proofs.Calls.CanAdvance.{GoesOn}
+use Rattle.caller_run.proofs.Events.CanAdvance.{GoesOn}
 use Rattle.caller_run.proofs.Forks.HasForked.{forked_more}
 use Rattle.caller_run.proofs.Forks.HasAdvanced.{gone_on, fit_more}
 use Rattle.caller_run.proofs.Orders.ItemSteps.{same_steps}

@@ -19,7 +19,7 @@ use Rattle.caller_run.specs.Families.{RunsIn, Family, marked_by}
 use Rattle.caller_run.specs.Laws.{Run, HasRun, Began, IsOneOf, lines_of_all, marked, RanAll}
 use Rattle.caller_run.specs.Standing.{Start, RunEnded}
 use Rattle.caller_run.proofs.Orders.InOrder.{number, AllOnce, first_once, rest_once, one_of, in_order, in_order_all, in_order_of, same_sum}
-use Rattle.caller_run.proofs.Plans.Parents.{each_of}
+use Rattle.caller_run.proofs.Planning.Parents.{each_of}
 
 lane_append : (lane : LaneId) (xs ys : List MarkBy) →
     lane_marks lane (xs ++ ys) ≡ lane_marks lane xs ++ lane_marks lane ys

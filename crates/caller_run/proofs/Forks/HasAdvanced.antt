@@ -33,10 +33,10 @@ use Rattle.caller_run.specs.Waiting.{IsAlone, CallsSoFar}
 use Rattle.caller_run.specs.Standing.{HasLine, Start, Forked, HasAdvanced, RunEnded}
 use Rattle.caller_run.proofs.Orders.CallChains.{calls_done_nothing, calls_done_plainly}
 use Rattle.caller_run.proofs.Forks.HasForked.{forked_more}
-use Rattle.caller_run.proofs.Calls.CoreDone.{core_done, end_done}
+use Rattle.caller_run.proofs.Events.CoreDone.{core_done, end_done}
 use Rattle.caller_run.proofs.Orders.LoopCalls.{alone_follows, so_far_nothing, so_far_alone, so_far_end}
 use Rattle.caller_run.proofs.Law.Seeing.{same_stand}
-use Rattle.caller_run.proofs.Calls.CanAdvance.{GoesOn, setting_moves}
+use Rattle.caller_run.proofs.Events.CanAdvance.{GoesOn, setting_moves}
 use Rattle.caller_run.proofs.Orders.ToldAnew.{idle_more}
 
 call_alone : (event : Event) → IsCall event → IsAlone event

@@ -17,7 +17,7 @@ use Rattle.caller_run.specs.Standing.{Start}
 use Rattle.caller_run.proofs.Forks.Gathers.{ordered, ran_all}
 use Rattle.caller_run.proofs.Orders.InOrder.{number, numbers_of, AllOnce}
 use Rattle.caller_run.proofs.Forks.Joins.{OwnPlaces, joined_nothing, joined_then, family_both, family_own, share_both}
-use Rattle.caller_run.proofs.Plans.OnceEach.{times_in, below, once_each}
+use Rattle.caller_run.proofs.Planning.OnceEach.{times_in, below, once_each}
 use Rattle.caller_run.proofs.Orders.OwnPlaces.{MadeNothing, made_nothing, own_places}
 
 -- shares over parts without a split

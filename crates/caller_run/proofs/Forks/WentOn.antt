@@ -49,11 +49,11 @@ use Rattle.caller_run.specs.Says.{most_shown}
 use Rattle.caller_run.specs.Standing.{Start, CanAdvanceWith, CanAdvance, HasAdvanced, RunEnded, waiting_in}
 use Rattle.caller_run.specs.Took.{since, Took}
 use Rattle.caller_run.specs.Ways.{IsNewSheet, ArePrepared, kids_of, child_set, start_of, CanAdvanceIn, GoneIn, AreAbove, CanRun, CanAdvanceOn, CanTell, RanPlain, AtFork, RanHere, TookFrom, kid_of, numbered, Returned, WentOn, SameKids, Past, WentBeside}
-use Rattle.caller_run.proofs.Calls.CanAdvance.{GoesOn, can_next}
+use Rattle.caller_run.proofs.Events.CanAdvance.{GoesOn, can_next}
 use Rattle.caller_run.proofs.Forks.Forking.{took_thread, took_here}
 use Rattle.caller_run.proofs.Forks.HasAdvanced.{gone_nothing}
-use Rattle.caller_run.proofs.Plans.Groves.{prepared_none, grove_pushed}
-use Rattle.caller_run.proofs.Plans.LogFills.{Fills}
+use Rattle.caller_run.proofs.Planning.Groves.{prepared_none, grove_pushed}
+use Rattle.caller_run.proofs.Planning.LogFills.{Fills}
 use Rattle.caller_run.proofs.Forks.Runs.{low, ran_end, ran_fork, ran_so}
 use Rattle.caller_run.proofs.Law.Seeing.{seen_start, seen_up}
 use Rattle.caller_run.proofs.Orders.ToldAnew.{AreTold, told_more}

@@ -18,7 +18,7 @@ use Rattle.lane_table.specs.LaneNumbers.{index_of}
 use Rattle.lane_table.specs.Advances.{MadeStep, looked, visited, step_of, maker, places_in}
 use Rattle.caller_run.specs.NumberedSteps.{NumberedStep, made_steps_of, item_of, items_of}
 use Rattle.caller_run.proofs.Orders.CallSteps.{lines_items}
-use Rattle.caller_run.proofs.Plans.Sums.{sum_flat, sum_one}
+use Rattle.caller_run.proofs.Planning.Sums.{sum_flat, sum_one}
 
 -- the mark of a step of a caller, if it is one
 abbrev mark_by : ℕ → ℕ → ℕ → Step → List MarkBy

@@ -27,7 +27,7 @@ use Rattle.caller_run.proofs.Orders.CallWeights.{calls_each}
 use Rattle.caller_run.proofs.Orders.Chains.{stood_grown}
 use Rattle.caller_run.proofs.Law.LineMarks.{mark_of, marks_are, fit_own, lane_sum, same_lane}
 use Rattle.caller_run.proofs.Law.Members.{IsIn, Apart, each_in, in_append, same_line}
-use Rattle.caller_run.proofs.Plans.Sums.{each_flat, sum_range, sum_none, sum_same, sum_both, sum_ones, once_in_range}
+use Rattle.caller_run.proofs.Planning.Sums.{each_flat, sum_range, sum_none, sum_same, sum_both, sum_ones, once_in_range}
 use Rattle.std.proofs.lemmas.Bool.{eqb-true}
 use Rattle.caller_run.specs.Items.{Item}
 use Rattle.lane_table.specs.declared.view.Visit.{Visit}

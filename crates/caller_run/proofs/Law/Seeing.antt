@@ -19,7 +19,7 @@ use Rattle.rng_core.specs.Makes.{setting_of}
 use Rattle.rng_core.proofs.Hosting.{published_more}
 use Rattle.std.proofs.lemmas.List.Elements.{recursion_from_All, All-replicate}
 use Rattle.rng_core.proofs.Makings.{did_floor}
-use Rattle.caller_run.proofs.Calls.Callings.{no_count}
+use Rattle.caller_run.proofs.Events.Callings.{no_count}
 use Rattle.lane_table.proofs.Rule.Sights.{sees_up}
 use Rattle.rng_core.specs.Acts.{Ask, ActOutcome}
 use Rattle.caller_run.specs.Calling.{caller_at, stand, Seen, StatesStand, Called, StateRead}

@@ -37,11 +37,11 @@ use Rattle.caller_run.specs.Done.{CallsMeant}
 use Rattle.caller_run.specs.Items.{steps_of}
 use Rattle.caller_run.specs.Laws.{Run, HasRun, IsOneOf, lines_of_all, RanAll, LawfulRuns}
 use Rattle.caller_run.proofs.Law.Marks.{flat, flat_marks, apart, all_visit, all_visits, all_many, all_places}
-use Rattle.caller_run.proofs.Plans.Ancestors.{Course, course_more, starts_so, has_course}
+use Rattle.caller_run.proofs.Planning.Ancestors.{Course, course_more, starts_so, has_course}
 use Rattle.caller_run.proofs.Orders.CallWeights.{calls_lines}
 use Rattle.caller_run.proofs.Orders.ItemSteps.{same_steps}
 use Rattle.caller_run.proofs.Law.Looks.{looks_stand}
-use Rattle.caller_run.proofs.Plans.Parents.{each_of}
+use Rattle.caller_run.proofs.Planning.Parents.{each_of}
 use Rattle.caller_run.proofs.Law.SampleLaw.{samples_lawful}
 use Rattle.key_names.specs.declared.names.LaneId.TheVariants.{Pool as PoolLane, Base as BaseLane, Cpu as CpuLane}
 use Rattle.key_names.specs.declared.names.Step.TheVariants.{Look, Visit as Marked}

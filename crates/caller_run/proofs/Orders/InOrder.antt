@@ -9,8 +9,8 @@ use Rattle.std.proofs.lemmas.Bool.Decides.{nat_tests}
 use Rattle.std.proofs.lemmas.List.Sums.{sum_by-cons}
 use Rattle.key_names.proofs.Lists.Each.{each_weaker}
 use Rattle.caller_run.specs.Laws.{Run, IsOneOf}
-use Rattle.caller_run.proofs.Plans.OnceEach.{times_in}
-use Rattle.caller_run.proofs.Plans.Sums.{sum_none, sum_same, sum_both}
+use Rattle.caller_run.proofs.Planning.OnceEach.{times_in}
+use Rattle.caller_run.proofs.Planning.Sums.{sum_none, sum_same, sum_both}
 
 abbrev hit : Bool → ℕ
 hit b = cond b 1 0

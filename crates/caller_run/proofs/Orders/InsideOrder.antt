@@ -7,9 +7,9 @@ use Rattle.rng_core.specs.declared.setting.Setting.{Setting}
 use Rattle.rng_core.specs.Acts.{Ask, ActOutcome}
 use Rattle.rng_core.specs.InsideMakes.{bound_acts}
 use Rattle.caller_run.specs.Items.{Item, items_from, cut_rekey, vread_items}
-use Rattle.caller_run.proofs.Calls.ActSteps.{Untouched, act_items, untouched_items}
+use Rattle.caller_run.proofs.Events.ActSteps.{Untouched, act_items, untouched_items}
 use Rattle.caller_run.proofs.Orders.CallSteps.{no_steps, no_late, own_items}
-use Rattle.caller_run.proofs.Calls.KeyCuts.{AreParts}
+use Rattle.caller_run.proofs.Events.KeyCuts.{AreParts}
 use Rattle.caller_run.proofs.Orders.OwnSteps.{Spot, view_at, line_of, items_at, OwnSteps, Reached}
 use Rattle.caller_run.proofs.Orders.PartItems.{Part, part_then}
 

@@ -21,7 +21,7 @@ use Rattle.caller_run.proofs.Orders.CallSteps.{lines_items}
 use Rattle.caller_run.proofs.Orders.CallWeights.{calls_weight}
 use Rattle.caller_run.proofs.Law.LineMarks.{fit_own, lane_weight}
 use Rattle.caller_run.proofs.Forks.Joins.{OwnPlaces}
-use Rattle.caller_run.proofs.Plans.Sums.{sum_ones}
+use Rattle.caller_run.proofs.Planning.Sums.{sum_ones}
 
 -- a pass that made nothing yet
 pub record MadeNothing (v : View) : Type 0 where

@@ -20,7 +20,7 @@ use Rattle.rng_core.specs.Acts.{Ask, ActOutcome, ActsAt}
 use Rattle.rng_core.specs.Acting.{attempt_at, is_first, acting, act_stand, ActStand, ActPublished, ActAnswered, ActPassed}
 use Rattle.caller_run.specs.Items.{Item, items_from}
 use Rattle.caller_run.proofs.Orders.PartItems.{Part, part_nothing, part_then, part_went, items_append}
-use Rattle.caller_run.proofs.Calls.ActSteps.{Untouched, act_items, untouched_items, acts_part, acts_elsewhere}
+use Rattle.caller_run.proofs.Events.ActSteps.{Untouched, act_items, untouched_items, acts_part, acts_elsewhere}
 
 -- what a pass knows, the steps so far, and what came of the acts
 pub record Spot : Type 0 where

@@ -1,8 +1,8 @@
 use Rattle.std.proofs.Common.{◌≡◌, ◌<◌, map, length, ap, slice_set, arith}
 use Rattle.caller_run.specs.Grove.{grove_of, told_by}
 use Rattle.caller_run.specs.Plots.{plot}
-use Rattle.caller_run.proofs.Plans.Groves.{grove_pushed}
-use Rattle.caller_run.proofs.Plans.Planned.{gathered_first, gathered_next, kid_has, kid_less, kids_less}
+use Rattle.caller_run.proofs.Planning.Groves.{grove_pushed}
+use Rattle.caller_run.proofs.Planning.Planned.{gathered_first, gathered_next, kid_has, kid_less, kids_less}
 use Rattle.caller_run.proofs.plans.+gather.Goals as goal
 
 pub loop-kid-init : goal.loop-kid-init

@@ -1,7 +1,7 @@
 use Rattle.std.proofs.Common.{length, map}
 use Rattle.caller_run.specs.Grove.{grove_of, told_by, told_in}
 use Rattle.caller_run.specs.Plots.{plot}
-use Rattle.caller_run.proofs.Plans.Planned.{GatheredSoFar}
+use Rattle.caller_run.proofs.Planning.Planned.{GatheredSoFar}
 use Rattle.caller_run.proofs.plans.+gather.Given as goal
 
 abbrev pub decreases-gather : goal.decreases-gather

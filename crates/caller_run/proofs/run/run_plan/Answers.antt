@@ -6,7 +6,7 @@ use Rattle.caller_run.specs.Grove.{told_by}
 use Rattle.caller_run.specs.Plans.{lines_in}
 use Rattle.caller_run.specs.Plots.{plot}
 use Rattle.caller_run.proofs.Forks.AllCallers.{can_all, slots_there, last_there, whole_ran}
-use Rattle.caller_run.proofs.Plans.Planned.{slots_back}
+use Rattle.caller_run.proofs.Planning.Planned.{slots_back}
 use Rattle.caller_run.proofs.run.run_plan.Goals as goal
 
 pub run_family-pass-requires : goal.run_family-pass-requires

@@ -1,4 +1,4 @@
-use Rattle.caller_run.proofs.Calls.Callings.{asks_nothing}
+use Rattle.caller_run.proofs.Events.Callings.{asks_nothing}
 use Rattle.caller_run.proofs.caller.Caller.ask_nothing.Goals as goal
 
 pub returns : goal.returns

@@ -1,5 +1,5 @@
 use Rattle.std.proofs.Common.{refl}
-use Rattle.caller_run.proofs.Calls.Callings.{by_answer}
+use Rattle.caller_run.proofs.Events.Callings.{by_answer}
 use Rattle.caller_run.proofs.caller.Caller.come_online.Goals as goal
 
 pub returns-in-Prepare : goal.returns-in-Prepare

@@ -8,7 +8,7 @@ use Rattle.rng_core.specs.Integers.{int_event}
 use Rattle.caller_run.specs.Kinds.{IsInteger}
 use Rattle.caller_run.specs.Says.{shown_by, most_shown}
 use Rattle.caller_run.specs.declared.reply.Reply.{Reply}
-use Rattle.caller_run.proofs.Calls.Callings.{by_does, quietly}
+use Rattle.caller_run.proofs.Events.Callings.{by_does, quietly}
 use Rattle.key_names.proofs.Transcripts.QuietForms.{IsNoInterrupt}
 use Rattle.caller_run.proofs.caller.Caller.integer.Goals as goal
 

@@ -1,8 +1,8 @@
 use Rattle.std.proofs.Common.{length, ◌∷◌, ◌++◌, [], sym, subst, ◌∙◌, arith, rules, ◌≡◌}
 use Rattle.caller_run.specs.Says.{line_of, most_shown}
 use Rattle.caller_run.specs.Standing.{waiting_in, HasAdvanced}
-use Rattle.caller_run.proofs.Plans.LogFills.{fills_call}
-use Rattle.caller_run.proofs.Calls.CanAdvance.{can_next}
+use Rattle.caller_run.proofs.Planning.LogFills.{fills_call}
+use Rattle.caller_run.proofs.Events.CanAdvance.{can_next}
 use Rattle.caller_run.proofs.Forks.HasAdvanced.{gone_call}
 use Rattle.caller_run.proofs.Law.Seeing.{called_kept}
 use Rattle.caller_run.proofs.caller.Caller.make.Goals as goal

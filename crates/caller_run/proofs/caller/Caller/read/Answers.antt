@@ -5,7 +5,7 @@ use Rattle.key_names.specs.Texts.ScriptGrammar.{InRange}
 use Rattle.key_names.specs.SeenLine.{bytes_or_none}
 use Rattle.caller_run.specs.Says.{shown_by, most_shown}
 use Rattle.caller_run.specs.declared.reply.Reply.{Reply}
-use Rattle.caller_run.proofs.Calls.Callings.{by_does, no_count, quietly}
+use Rattle.caller_run.proofs.Events.Callings.{by_does, no_count, quietly}
 use Rattle.caller_run.proofs.caller.Caller.read.Goals as goal
 
 pub returns-in-Kread : goal.returns-in-Kread

@@ -8,8 +8,8 @@ use Rattle.key_names.specs.declared.events.Word.TheVariants.{Vread as VreadWord}
 use Rattle.key_names.specs.SeenLine.{SeenLine}
 use Rattle.caller_run.specs.Waiting.{told_anew, act_lines}
 use Rattle.caller_run.specs.Says.{most_shown, line_of}
-use Rattle.caller_run.proofs.Plans.LogFills.{wanted_few}
-use Rattle.caller_run.proofs.Calls.VreadGoes.{HasRead, can_read, gone_read}
+use Rattle.caller_run.proofs.Planning.LogFills.{wanted_few}
+use Rattle.caller_run.proofs.Events.VreadGoes.{HasRead, can_read, gone_read}
 use Rattle.caller_run.proofs.caller.Caller.read_state.Goals as goal
 use Rattle.caller_run.proofs.caller.Caller.read_state.Goals.{After-go_on}
 

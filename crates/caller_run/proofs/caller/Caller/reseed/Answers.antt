@@ -1,6 +1,6 @@
 use Rattle.std.proofs.Common.{refl, sym, ap, ◌∙◌}
 use Rattle.key_names.specs.declared.events.Event.TheVariants.{Vmfork}
-use Rattle.caller_run.proofs.Calls.Callings.{by_answer}
+use Rattle.caller_run.proofs.Events.Callings.{by_answer}
 use Rattle.caller_run.proofs.caller.Caller.reseed.Goals as goal
 
 pub returns-in-Reseed : goal.returns-in-Reseed

@@ -3,7 +3,7 @@ use Rattle.key_names.specs.declared.events.Event.TheVariants.{Write, Device, Add
 use Rattle.key_names.specs.SeenLine.{count, no_data}
 use Rattle.caller_run.specs.Says.{shown_by}
 use Rattle.caller_run.specs.declared.reply.Reply.{Reply}
-use Rattle.caller_run.proofs.Calls.Callings.{as_credit, by_answer, by_does, quietly}
+use Rattle.caller_run.proofs.Events.Callings.{as_credit, by_answer, by_does, quietly}
 use Rattle.caller_run.proofs.caller.Caller.sample.Goals as goal
 
 pub returns-in-Write : goal.returns-in-Write

@@ -2,7 +2,7 @@ use Rattle.std.proofs.Common.{rules, subst, sym}
 use Rattle.std.specs.List.{AllByRecursion}
 use Rattle.key_names.specs.Texts.TranscriptGrammar.{LineFits, StepFits}
 use Rattle.caller_run.specs.Says.{ShowsFit}
-use Rattle.caller_run.proofs.Calls.BytesFit.{bytes_fit}
+use Rattle.caller_run.proofs.Events.BytesFit.{bytes_fit}
 use Rattle.caller_run.proofs.caller.Caller.tell.Goals as goal
 
 pub push-requires-clause-fits : goal.push-requires-clause-fits

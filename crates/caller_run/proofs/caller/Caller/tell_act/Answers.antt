@@ -1,7 +1,7 @@
 use Rattle.std.proofs.Common.{rules, subst, sym}
 use Rattle.std.specs.List.{AllByRecursion}
 use Rattle.key_names.specs.Texts.TranscriptGrammar.{StepFits}
-use Rattle.caller_run.proofs.Calls.BytesFit.{bytes_fit}
+use Rattle.caller_run.proofs.Events.BytesFit.{bytes_fit}
 use Rattle.caller_run.proofs.caller.Caller.tell_act.Goals as goal
 
 pub replace-requires-clause-fits : goal.replace-requires-clause-fits

@@ -2,7 +2,7 @@ use Rattle.std.proofs.Common.{refl, length, ◌<◌, sym, arith}
 use Rattle.std.proofs.lemmas.Bool.{eqb-true}
 use Rattle.lane_table.specs.Calls.{view}
 use Rattle.rng_core.proofs.Hosting.{none_left}
-use Rattle.caller_run.proofs.Calls.StateReads.{read_alone, read_inside, current_is}
+use Rattle.caller_run.proofs.Events.StateReads.{read_alone, read_inside, current_is}
 use Rattle.caller_run.proofs.caller.Caller.vread.Goals as goal
 
 pub returns-then-is_empty-clause-read : goal.returns-then-is_empty-clause-read

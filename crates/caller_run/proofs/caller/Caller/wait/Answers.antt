@@ -3,7 +3,7 @@ use Rattle.key_names.specs.declared.events.Event.TheVariants.{Inside}
 use Rattle.key_names.specs.declared.events.Word.TheVariants.{Inside as InsideWord}
 use Rattle.rng_core.specs.declared.acts.Bound.{Bound}
 use Rattle.caller_run.specs.Says.{line_of}
-use Rattle.caller_run.proofs.Plans.ActWaits.{Keeps, can_keep, gone_keep}
+use Rattle.caller_run.proofs.Planning.ActWaits.{Keeps, can_keep, gone_keep}
 use Rattle.caller_run.proofs.caller.Caller.wait.Goals as goal
 use Rattle.caller_run.proofs.caller.Caller.wait.Goals.{After-go_on}
 

@@ -2,7 +2,7 @@ use Rattle.std.proofs.Common.{rules, ◌≡◌, ◌<◌, ◌-◌, ◌++◌, ◌�
 use Rattle.key_names.specs.declared.events.Event.TheVariants.{Fork}
 use Rattle.caller_run.specs.Grove.{grove_of}
 use Rattle.caller_run.specs.Plots.{plot}
-use Rattle.caller_run.proofs.Plans.Planned.{PreparedSoFar, prepared_none_yet, prepared_push, child_there, few_here, no_elements, prepared}
+use Rattle.caller_run.proofs.Planning.Planned.{PreparedSoFar, prepared_none_yet, prepared_push, child_there, few_here, no_elements, prepared}
 use Rattle.caller_run.proofs.rooms.Room.+prepare.Goals as goal
 
 pub for_events-requires : goal.for_events-requires

@@ -1,7 +1,7 @@
 use Rattle.std.proofs.Common.{◌-◌, length, map}
 use Rattle.caller_run.specs.Grove.{grove_of}
 use Rattle.caller_run.specs.Plots.{plot}
-use Rattle.caller_run.proofs.Plans.Planned.{PreparedSoFar}
+use Rattle.caller_run.proofs.Planning.Planned.{PreparedSoFar}
 use Rattle.caller_run.proofs.rooms.Room.+prepare.Given as goal
 
 abbrev pub decreases-prepare : goal.decreases-prepare

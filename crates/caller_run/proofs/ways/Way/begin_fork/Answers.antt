@@ -6,7 +6,7 @@ use Rattle.caller_run.specs.declared.caller.Caller.{Caller}
 use Rattle.caller_run.specs.Forest.{forks}
 use Rattle.caller_run.specs.Plots.{plot}
 use Rattle.caller_run.specs.Ways.{AtFork, kids_of}
-use Rattle.caller_run.proofs.Plans.Groves.{took_room, grove_pushed}
+use Rattle.caller_run.proofs.Planning.Groves.{took_room, grove_pushed}
 use Rattle.caller_run.proofs.Forks.WentOn.{can_still, at_floor, at_fits}
 use Rattle.caller_run.proofs.ways.Way.begin_fork.Goals as goal
 

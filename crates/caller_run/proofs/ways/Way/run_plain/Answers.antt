@@ -3,7 +3,7 @@ use Rattle.std.specs.Prelude.{vec_len}
 use Rattle.key_names.specs.declared.events.Event.{Event}
 use Rattle.caller_run.specs.Standing.{CanAdvance}
 use Rattle.caller_run.specs.Ways.{CanAdvanceIn, GoneIn, AreAbove}
-use Rattle.caller_run.proofs.Calls.CanAdvance.{first_can}
+use Rattle.caller_run.proofs.Events.CanAdvance.{first_can}
 use Rattle.caller_run.proofs.Forks.WentOn.{plain_event, as_slices}
 use Rattle.caller_run.proofs.ways.Way.run_plain.Goals as goal
 

@@ -20,9 +20,9 @@ use Rattle.caller_run.specs.Grove.{Grove, Plot, plant, grove_of, told_by, told_i
 use Rattle.caller_run.specs.Plans.{IsReady, lines_in, put_in, HaveSlots}
 use Rattle.caller_run.specs.Plots.{plot, plot_by}
 use Rattle.caller_run.specs.Ways.{IsNewSheet, ArePrepared}
-use Rattle.caller_run.proofs.Plans.Groves.{grove_pushed}
-use Rattle.caller_run.proofs.Plans.OnceEach.{itself, edge_most}
-use Rattle.caller_run.proofs.Plans.Slots.{put_long, put_append}
+use Rattle.caller_run.proofs.Planning.Groves.{grove_pushed}
+use Rattle.caller_run.proofs.Planning.OnceEach.{itself, edge_most}
+use Rattle.caller_run.proofs.Planning.Slots.{put_long, put_append}
 use Rattle.caller_run.proofs.Forks.WentOn.{list_number, above_number, few_events}
 
 -- of a caller's events these are left, and the rooms of those that the others fork are there

@@ -29,7 +29,7 @@ use Rattle.caller_run.specs.Items.{steps_of}
 use Rattle.caller_run.specs.Laws.{Run, HasRun, Began, IsOneOf, lines_of_all}
 use Rattle.caller_run.specs.Ran.{RanBy}
 use Rattle.caller_run.proofs.Orders.Chains.{stood_known}
-use Rattle.caller_run.proofs.Plans.Parents.{ParentIs, parent_is, no_parent, each_of}
+use Rattle.caller_run.proofs.Planning.Parents.{ParentIs, parent_is, no_parent, each_of}
 
 -- lists that grow at the end
 

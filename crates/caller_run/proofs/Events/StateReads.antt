@@ -36,8 +36,8 @@ use Rattle.caller_run.specs.Done.{CallDone}
 use Rattle.caller_run.specs.Says.{shown_by, line_of}
 use Rattle.caller_run.specs.declared.caller.Caller.{Caller}
 use Rattle.caller_run.specs.declared.reply.Reply.{Reply}
-use Rattle.caller_run.proofs.Calls.InsideDone.{inside_done}
-use Rattle.caller_run.proofs.Calls.VreadDone.{vread_done}
+use Rattle.caller_run.proofs.Events.InsideDone.{inside_done}
+use Rattle.caller_run.proofs.Events.VreadDone.{vread_done}
 
 -- the current one of some states
 pub current_is : (states : List VgetrandomState) (i : ℕ) (other : VgetrandomState) → i < length states →

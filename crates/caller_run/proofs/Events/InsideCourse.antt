@@ -23,10 +23,10 @@ use Rattle.rng_core.specs.InsideMakes.{bound_acts}
 use Rattle.rng_core.proofs.ActRuns.{Onward, onward_then, acts_onward, did_onward}
 use Rattle.rng_core.proofs.Makings.{did_look}
 use Rattle.caller_run.specs.Items.{Item, vread_items}
-use Rattle.caller_run.proofs.Calls.ActSteps.{Untouched, untouched_items}
-use Rattle.caller_run.proofs.Calls.CallShapes.{Behind, Copies, Rekeys, Fails, Writes, Tries, call_shape}
+use Rattle.caller_run.proofs.Events.ActSteps.{Untouched, untouched_items}
+use Rattle.caller_run.proofs.Events.CallShapes.{Behind, Copies, Rekeys, Fails, Writes, Tries, call_shape}
 use Rattle.caller_run.proofs.Orders.InsideOrder.{kept_then, kept_own, kept_at, Course, course_part, quiet_part}
-use Rattle.caller_run.proofs.Calls.KeyCuts.{key_cut, plain_cut, key_call}
+use Rattle.caller_run.proofs.Events.KeyCuts.{key_cut, plain_cut, key_call}
 use Rattle.caller_run.proofs.Orders.OwnSteps.{Spot, view_at, spot, Quiet, BeginsUnmarked, at, line_of, items_at, goes_published, goes_answered, goes_passed, OwnSteps, own_nothing, own_then, own_told, own_look, next_items, quietly, Reached, reached_not, reached_first}
 use Rattle.caller_run.proofs.Orders.PartItems.{Part}
 

@@ -23,8 +23,8 @@ use Rattle.caller_run.specs.Waiting.{told_anew, act_lines, all_bound, CallsSoFar
 use Rattle.caller_run.specs.Standing.{CanAdvanceWith, Start, HasAdvanced}
 use Rattle.caller_run.proofs.Orders.LoopCalls.{so_far_vread}
 use Rattle.caller_run.proofs.Law.Seeing.{read_kept}
-use Rattle.caller_run.proofs.Plans.LogFills.{Fills, fills_read}
-use Rattle.caller_run.proofs.Calls.CanAdvance.{GoesOn, can_next}
+use Rattle.caller_run.proofs.Planning.LogFills.{Fills, fills_read}
+use Rattle.caller_run.proofs.Events.CanAdvance.{GoesOn, can_next}
 use Rattle.caller_run.proofs.Orders.ToldAnew.{anew_long, fit_anew, lines_long, bound_same}
 use Rattle.caller_run.proofs.Forks.HasAdvanced.{gone_by, fit_more, own_line}
 

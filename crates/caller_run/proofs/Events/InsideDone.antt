@@ -28,11 +28,11 @@ use Rattle.rng_core.proofs.Acting.{acted_meant}
 use Rattle.rng_core.proofs.InsideCalls.{IsUndone, undone_meant}
 use Rattle.caller_run.specs.Done.{CallDone}
 use Rattle.caller_run.specs.Items.{line_items, vread_items}
-use Rattle.caller_run.proofs.Calls.ActSteps.{all_untouched}
-use Rattle.caller_run.proofs.Calls.ActsMeant.{points_fit, each_act, act_deeds, act_answer, act_shown, acts_samples}
-use Rattle.caller_run.proofs.Calls.InsideCourse.{inside_part}
+use Rattle.caller_run.proofs.Events.ActSteps.{all_untouched}
+use Rattle.caller_run.proofs.Events.ActsMeant.{points_fit, each_act, act_deeds, act_answer, act_shown, acts_samples}
+use Rattle.caller_run.proofs.Events.InsideCourse.{inside_part}
 use Rattle.caller_run.proofs.Orders.PartItems.{Part}
-use Rattle.caller_run.proofs.Calls.VreadDone.{vread_quiet}
+use Rattle.caller_run.proofs.Events.VreadDone.{vread_quiet}
 
 -- the read went from v to w, with these steps in its line, and with acts of which none was done before it
 module _ (set : Setting) (v w : View) (s : CallerState) (n flags : ℕ) (t : VgetrandomState) (answer : Answer)

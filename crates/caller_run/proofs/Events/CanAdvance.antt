@@ -23,7 +23,7 @@ use Rattle.caller_run.specs.Calling.{stand, Seen, StatesStand}
 use Rattle.caller_run.specs.Says.{most_shown}
 use Rattle.caller_run.specs.Standing.{read_inside, CanAdvanceWith, CanAdvance}
 use Rattle.caller_run.proofs.Law.Seeing.{seen_after}
-use Rattle.caller_run.proofs.Plans.LogFills.{Fills}
+use Rattle.caller_run.proofs.Planning.LogFills.{Fills}
 
 -- what an event by itself leaves of the setting
 

@@ -11,7 +11,7 @@ use Rattle.key_names.specs.declared.events.Event.TheVariants.{Fork}
 use Rattle.key_names.specs.Book.{list_at}
 use Rattle.key_names.specs.Texts.ScriptGrammar.{Script, WellFormed, is_fork_of, times_forked, ForksAbove, IsForkAbove}
 use Rattle.std.proofs.lemmas.Bool.{eqb-true}
-use Rattle.caller_run.proofs.Plans.Sums.{sum_none, sum_same, sum_both, sum_range}
+use Rattle.caller_run.proofs.Planning.Sums.{sum_none, sum_same, sum_both, sum_range}
 use Rattle.caller_run.specs.Forest.{Forest, no_more, more, forked_by, forks, numbers, AreForked}
 
 abbrev hit : Bool → ℕ

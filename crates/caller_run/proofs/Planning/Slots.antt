@@ -13,7 +13,7 @@ use Rattle.caller_run.specs.Laws.{Run, IsOneOf, lines_of_all}
 use Rattle.caller_run.specs.Plans.{put_in, HaveSlots}
 use Rattle.caller_run.specs.Ways.{numbered}
 use Rattle.caller_run.proofs.Orders.InOrder.{number, numbers_of, AllOnce, first_once, rest_once, one_of, in_order}
-use Rattle.caller_run.proofs.Plans.OnceEach.{times_in}
+use Rattle.caller_run.proofs.Planning.OnceEach.{times_in}
 
 abbrev hit : Bool → ℕ
 hit b = cond b 1 0

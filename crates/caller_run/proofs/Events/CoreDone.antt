@@ -23,7 +23,7 @@ use Rattle.key_names.specs.LineSamples.{SamplesStand}
 use Rattle.rng_core.specs.SampleDeeds.{Sampled, fast_in}
 use Rattle.caller_run.specs.Calling.{Does}
 use Rattle.caller_run.specs.Done.{CallDone}
-use Rattle.caller_run.proofs.Calls.AloneDone.{alone_done, ending_done}
+use Rattle.caller_run.proofs.Events.AloneDone.{alone_done, ending_done}
 use Rattle.key_names.proofs.Transcripts.QuietForms.{end_samples}
 
 abbrev since : View → List Step → Moment

@@ -12,9 +12,9 @@ use Rattle.key_names.specs.Calls.{unbound, has_vread}
 use Rattle.key_names.specs.IsTranscript.{LineIs, LinesFit}
 use Rattle.key_names.specs.Texts.ScriptGrammar.{InRange}
 use Rattle.key_names.specs.SeenLine.{SeenLine, no_data}
-use Rattle.caller_run.proofs.Plans.LogFills.{Fills, fills_act, new_bound}
+use Rattle.caller_run.proofs.Planning.LogFills.{Fills, fills_act, new_bound}
 use Rattle.caller_run.proofs.Forks.HasAdvanced.{gone_on}
-use Rattle.caller_run.proofs.Calls.CanAdvance.{can_next}
+use Rattle.caller_run.proofs.Events.CanAdvance.{can_next}
 use Rattle.key_names.specs.VreadSteps.{number_of}
 use Rattle.key_names.proofs.Lists.Each.{each_more}
 use Rattle.lane_table.specs.declared.lanes.Lanes.{Lanes}
@@ -26,10 +26,10 @@ use Rattle.caller_run.specs.declared.caller.Caller.{Caller}
 use Rattle.caller_run.specs.Calling.{stand}
 use Rattle.caller_run.specs.Waiting.{bound_by}
 use Rattle.caller_run.specs.Standing.{CanAdvanceWith, HasLine, Start, HasAdvanced}
-use Rattle.caller_run.proofs.Calls.AloneDone.{unbound_done}
+use Rattle.caller_run.proofs.Events.AloneDone.{unbound_done}
 use Rattle.caller_run.proofs.Orders.LoopCalls.{so_far_idle, so_far_waits}
 use Rattle.key_names.specs.declared.point.Point.{Point}
-use Rattle.caller_run.proofs.Calls.CanAdvance.{GoesOn}
+use Rattle.caller_run.proofs.Events.CanAdvance.{GoesOn}
 use Rattle.caller_run.proofs.Orders.ToldAnew.{idle_more}
 use Rattle.caller_run.proofs.Forks.HasAdvanced.{gone_by, fit_more}
 
