@@ -220,7 +220,7 @@ fn read_rest(alloc: Global, mut draft: Draft, text: &[u8]) -> Result<Draft, Scri
 }
 
 /// The script that a text is, its last block open.
-#[tactic(auto, unfolding(key_names::specs::ScriptFaults::script_of))]
+#[tactic(auto, unfolding(key_names::specs::Texts::ScriptFaults::script_of))]
 pub(crate) fn read_draft(alloc: Global, text: &[u8]) -> Result<Draft, ScriptError>
     ensures { GivesScript (λ d. script_of_draft (draft_as d)) result (script_of text.now) }
 {

@@ -62,7 +62,7 @@ pub fn transcript_book_is_unique()
 {}
 
 /// Answers and data have no part in it: where two transcripts differ in these alone, the steps make one book for both.
-#[tactic(auto, using(crate::proofs::BareMeanings::steps_make_the_book))]
+#[tactic(auto, using(crate::proofs::Unique::BareMeanings::steps_make_the_book))]
 pub fn steps_make_the_book()
     ensures { StepsMakeTheBook }
 {}
@@ -102,37 +102,37 @@ pub fn text_is_script_or_faulty()
 {}
 
 /// The order of a caller is what its ancestors did before it, and then its own steps.
-#[tactic(auto, using(crate::proofs::CallerOrders::order_is_start_and_own))]
+#[tactic(auto, using(crate::proofs::History::CallerOrders::order_is_start_and_own))]
 pub fn order_is_start_and_own()
     ensures { OrderIsStartAndOwn }
 {}
 
 /// A child starts with a front of its parent's order.
-#[tactic(auto, using(crate::proofs::CallerOrders::start_is_a_front))]
+#[tactic(auto, using(crate::proofs::History::CallerOrders::start_is_a_front))]
 pub fn start_is_a_front()
     ensures { StartIsAFront }
 {}
 
 /// Of what a caller did before, its looks need no more than the greatest generation that it saw.
-#[tactic(auto, using(crate::proofs::CallerOrders::looks_are_counted))]
+#[tactic(auto, using(crate::proofs::History::CallerOrders::looks_are_counted))]
 pub fn looks_are_counted()
     ensures { LooksAreCounted }
 {}
 
 /// Looks stand where they stand in two parts, the second with what the first saw.
-#[tactic(auto, using(crate::proofs::CallerOrders::looks_in_parts))]
+#[tactic(auto, using(crate::proofs::History::CallerOrders::looks_in_parts))]
 pub fn looks_in_parts()
     ensures { LooksInParts }
 {}
 
 /// The marks of a lane that are sorted by stamp stand exactly where their places count up.
-#[tactic(auto, using(crate::proofs::PlacesInOrder::places_count_up))]
+#[tactic(auto, using(crate::proofs::Transcripts::PlacesInOrder::places_count_up))]
 pub fn places_count_up()
     ensures { PlacesCountUp }
 {}
 
 /// Whether marks stand does not hang on the order in which they are told.
-#[tactic(auto, using(crate::proofs::PlacesInOrder::places_in_any_order))]
+#[tactic(auto, using(crate::proofs::Transcripts::PlacesInOrder::places_in_any_order))]
 pub fn places_in_any_order()
     ensures { PlacesInAnyOrder }
 {}

@@ -44,7 +44,7 @@ pub(crate) fn word_name(word: Word) -> &'static [u8]
 }
 
 /// The answer as it stands on a line.
-#[tactic(auto, unfolding(key_names::specs::TranscriptGrammar::answer_text))]
+#[tactic(auto, unfolding(key_names::specs::Texts::TranscriptGrammar::answer_text))]
 pub(crate) fn answer_name(answer: Answer) -> &'static [u8]
     ensures text { result.now ≡ answer_text answer }
     ensures short { length result.now ≤ 8 }

@@ -8,7 +8,7 @@ use crate::piece::Piece;
 use crate::view::LineView;
 use key_names::{LaneId, Step};
 
-#[tactic(auto, unfolding(key_names::specs::TranscriptGrammar::lane_text))]
+#[tactic(auto, unfolding(key_names::specs::Texts::TranscriptGrammar::lane_text))]
 fn append_lane(piece: &mut Piece, lane: LaneId)
     requires { length piece.old + 21 ≤ 4096 }
     ensures text { piece.new ≡ piece.old ++ lane_text lane }
@@ -24,7 +24,7 @@ fn append_lane(piece: &mut Piece, lane: LaneId)
     }
 }
 
-#[tactic(auto, unfolding(key_names::specs::TranscriptGrammar::step_text))]
+#[tactic(auto, unfolding(key_names::specs::Texts::TranscriptGrammar::step_text))]
 fn append_step(piece: &mut Piece, step: Step)
     requires { length piece.old + 63 ≤ 4096 }
     ensures text { piece.new ≡ piece.old ++ step_text step }

@@ -12,7 +12,7 @@ use key_names::{LaneId, Mark, Step, Trace};
 const MOST_NUMBERS: u64 = 1 << 63;
 
 /// The lane that a text names.
-#[tactic(auto, unfolding(key_names::specs::TranscriptGrammar::lane_text))]
+#[tactic(auto, unfolding(key_names::specs::Texts::TranscriptGrammar::lane_text))]
 fn lane_of(text: &[u8]) -> Option<LaneId>
     ensures { Reads lane_text LaneFits text.now result }
 {
@@ -41,7 +41,7 @@ fn mark_of(text: &[u8]) -> Option<Mark>
 }
 
 /// The step that a text names.
-#[tactic(auto, unfolding(key_names::specs::TranscriptGrammar::step_text))]
+#[tactic(auto, unfolding(key_names::specs::Texts::TranscriptGrammar::step_text))]
 fn step_of(text: &[u8]) -> Option<Step>
     ensures { Reads step_text StepFits text.now result }
 {

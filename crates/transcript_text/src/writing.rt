@@ -66,7 +66,7 @@ fn put_hex<K: Sink>(sink: &mut K, piece: &mut Piece, bytes: &[u8]) -> Result<(),
 }
 
 /// Puts what a line shows, and leaves the end of it in the piece.
-#[tactic(auto, using(crate::proofs::PuttingOn::stays), unfolding(key_names::specs::TranscriptGrammar::shown_text))]
+#[tactic(auto, using(crate::proofs::PuttingOn::stays), unfolding(key_names::specs::Texts::TranscriptGrammar::shown_text))]
 fn put_shown<K: Sink>(sink: &mut K, piece: &mut Piece, shown: Shown<'_>) -> Result<(), Failed>
     requires room { length piece.old ≤ 2048 }
     ensures so_far { OnOk result (PutSoFar (K.held sink.old) (K.held sink.new)
