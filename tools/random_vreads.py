@@ -5,7 +5,8 @@
 
 SEED is 1 and VREADS is 10000 where they are left out: a seed always makes the same scripts. The program is `rng` at the
 top of the repository, or the one that RNG names. Every line is compared, steps and all. A script with a difference is
-printed up to there, and the status is 1.
+printed up to there, and the status is 1. So it is where of 1000 vreads or more some act was done at none of the four
+points of a first attempt, which is the one that a script's acts are done in; tools/vread_cases has both attempts.
 """
 import os
 import random
@@ -51,10 +52,18 @@ def ran(text):
     return done.stdout.decode().splitlines()
 
 
+def done_acts(text, lines):
+    """The word and the point of each act that was done."""
+    for event, line in zip(text.splitlines()[3:], lines[1:]):
+        if event.startswith('inside ') and ' unused ' not in line:
+            yield event.split(' ')[2], event.split(' ')[1]
+
+
 def main():
     seed = int(sys.argv[1]) if len(sys.argv) > 1 else 1
     left = int(sys.argv[2]) if len(sys.argv) > 2 else 10000
-    draw, compared, inside = random.Random(seed), 0, 0
+    draw, compared, inside, met = random.Random(seed), 0, 0, set()
+    is_long = left >= 1000
     while left > 0:
         text = script(draw, min(left, IN_A_SCRIPT))
         wanted, got = list(replay.transcript(text)), ran(text)
@@ -67,7 +76,11 @@ def main():
             sys.exit('%d lines in place of %d' % (len(got), len(wanted)))
         left -= IN_A_SCRIPT
         compared += sum(' vread ' in line for line in wanted)
-        inside += sum(' inside ' in line and ' unused ' not in line for line in wanted)
+        acts_done = list(done_acts(text, wanted))
+        inside += len(acts_done)
+        met.update(acts_done)
+    if is_long and len(met) != 12:
+        sys.exit('of three acts at four points %d were met' % len(met))
     print('%d vreads with %d acts inside, as worked out' % (compared, inside))
 
 
