@@ -21,7 +21,7 @@ pub record BaseValue : Type 0 where
   pub generation : ℕ
   -- the moment at which the reseed timer is due, in milliseconds
   pub timer : Option ℕ
-  -- no reseed interval was worked out at 120 seconds or more
+  -- the system is young: no interval was taken from the 120th second on
   pub early_boot : Bool
   -- how many callers run
   pub running : ℕ

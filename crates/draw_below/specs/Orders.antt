@@ -5,7 +5,8 @@ use Rattle.std.specs.List.Sorted.{IsPermutation}
 use Rattle.draw_below.specs.declared.draws.DrawSpent.{DrawSpent}
 use Rattle.draw_below.specs.Draws.{Draws, Spends}
 
--- the item at `last` was exchanged with the item at the first number, the item before it with that at the next, and so on
+-- the item at `last` was exchanged with the item at the first number, the item before it with that at the next, and so
+-- on
 abbrev pub exchanged : ℕ → List ℕ → List ℕ → List ℕ
 exchanged last [] items = items
 exchanged last (d ∷ ds) items = exchanged (last - 1) ds (swap items last d)
@@ -47,7 +48,7 @@ abbrev pub Makes : List ℕ → List ℕ → List ℕ → Type 0
 Makes before draws after = (length draws ≡ length before - 1) × AreDraws (length before - 1) draws
     × (exchanged (length before - 1) draws before ≡ after)
 
--- each order of different items comes from exactly one list of draws
+-- to each order of different items leads one list of draws, and no other
 abbrev pub EachOrderHasItsDraws : Type 0
 EachOrderHasItsDraws = (items order : List ℕ) → AreDifferent items → IsPermutation items order →
     (draws : List ℕ) × Makes items draws order × ((others : List ℕ) → Makes items others order → others ≡ draws)

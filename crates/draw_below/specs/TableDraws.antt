@@ -50,8 +50,8 @@ AreWordCalls lists (word ∷ words) (steps ∷ calls) = IsWordCall lists word st
 abbrev pub marks_of : List (List Step) → List MarkBy
 marks_of calls = flat_map (marks_from 0 0 0) calls
 
--- a lawful book has the visits of a call that adds the bytes 0 to 31 with 256 bits, then those of a call for each word,
--- one call behind the other, and no others
+-- the visits of a lawful book are those of one `add`, which makes the core ready, and then of an integer read for each
+-- word, in order; it has no others
 pub record AreTableWords (words : List ℕ) : Type 0 where
   pub book : Book
   pub lawful : LawfulLanes (lists_of book)

@@ -21,11 +21,12 @@ fn is_accepted(c: u32, low: u32) -> bool
     low >= c || low >= c.wrapping_neg() % c
 }
 
-/// A number below `c`, and each as likely as every other where every word is, as `__get_random_u32_below` of the kernel's
-/// drivers/char/random.c makes it; for `c` 0 the next word itself.
+/// A number below `c`, and each as likely as every other where every word is, as `__get_random_u32_below` of the
+/// kernel's drivers/char/random.c makes it; for `c` 0 the next word itself.
 ///
-/// A word is accepted where the low 32 bits of `c` times the word are at least 2^32 mod `c`, and the answer is the
-/// product divided by 2^32, rounded down. `rejected` then holds the words that were taken before the accepted one.
+/// A word times `c` has 64 bits. Their high half is the answer, and their low half says whether the word is accepted:
+/// it is where that half is no less than 2^32 mod `c`. `rejected` then holds the words that were taken before the
+/// accepted one.
 ///
 /// # Errors
 ///

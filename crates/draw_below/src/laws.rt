@@ -9,7 +9,7 @@ pub fn each_value_is_as_likely()
     ensures { EachValueIsAsLikely }
 {}
 
-/// Each order of different items comes from exactly one list of draws of a shuffle.
+/// To each order of different items leads one list of a shuffle's draws, and no other.
 #[tactic(auto, using(crate::proofs::Orders::each_order_has_its_draws))]
 pub fn each_order_has_its_draws()
     ensures { EachOrderHasItsDraws }

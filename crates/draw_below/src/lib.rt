@@ -1,11 +1,11 @@
 //! Numbers below a bound out of 32-bit words, each as likely as every other where every word is, as the kernel's
 //! `__get_random_u32_below` (drivers/char/random.c) makes them.
 //!
-//! [`below`] answers the value of the first word that it accepts, and takes the words up to it and no more. [`between`] and
-//! [`shuffle`] are made of such draws. The words come out of a list, or are the integers that a caller reads by the calls
-//! of `rng_core`: [`Words`] says what a source is. [`laws`] has why this is fair: each value has as many accepted words as
-//! each other, and each order of different items comes from exactly one list of draws. That words are random is not
-//! claimed. No call takes memory, but for the table of [`draw_on_new_table`].
+//! [`below`] answers the value of the first word that it accepts, and takes the words up to it and no more. [`between`]
+//! and [`shuffle`] are made of such draws. The words come out of a list, or are the integers that a caller reads by the
+//! calls of `rng_core`: [`Words`] says what a source is. [`laws`] has why this is fair: each value has as many accepted
+//! words as each other, and to each order of different items leads one list of draws alone. That words are random is
+//! not claimed. No call takes memory, but for the table of [`draw_on_new_table`].
 #![tactic(auto)]
 
 pub mod draws;

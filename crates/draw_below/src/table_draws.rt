@@ -122,9 +122,9 @@ fn add_sample<R: Wait>(rt: &R, lanes: &Lanes, pass: &mut Pass, set: &Setting)
     add(rt, lanes, pass, &mut trace, set, &SAMPLE, SAMPLE_BITS);
 }
 
-/// Makes a table with one CPU and adds the bytes 0 to 31 with 256 bits, which make the core ready. Then it draws so
-/// many numbers below `c`, at most 1,000, out of the integers of 4 bytes that caller 0 reads. All calls have CPU 0, the
-/// moment 0 and hardware words 0.
+/// Makes a core with one CPU ready by a first sample, 32 bytes that count up from 0 and are credited with 256 bits.
+/// Then it draws so many numbers below `c`, at most 1,000, out of the integers of 4 bytes that caller 0 reads. All
+/// calls have CPU 0, the moment 0 and hardware words 0.
 ///
 /// # Errors
 ///

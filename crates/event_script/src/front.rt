@@ -5,7 +5,8 @@ ghost use Rattle.key_names.specs.Texts.ScriptFaults.{front};
 
 use crate::fields::{cut, spells};
 
-/// How many bytes the lines of a text have, up to and with the first line `end`; all bytes where there is none.
+/// How many bytes of a text belong to a script in front of it: those of its first line `end` are the last. Where no
+/// line is `end`, all of them do.
 pub(crate) fn front_len(text: &[u8]) -> usize
     ensures within { result ≤ length text.now }
     ensures front { take result text.now ≡ front text.now }

@@ -119,8 +119,8 @@ pub fn read(alloc: Global, text: &[u8]) -> Result<Script, ScriptError>
     })
 }
 
-/// Reads the script in front of a text, up to and with its first line `end`, or all of the text where it has no such
-/// line. Answers the script and how many bytes it has.
+/// Reads the script in front of a text, which its first line `end` ends. Where no line is `end`, all of the text is
+/// taken for the script. Answers the script and how many bytes it has.
 ///
 /// # Errors
 ///

@@ -34,8 +34,8 @@ first_setting caller = record { caller = caller; event = 0; cpu = 0; now = 0; hw
 abbrev pub IsShown : Lists → ℕ → List HostStep → List Step → Type 0
 IsShown lists caller steps own = Shows (setting_of (first_setting caller)) steps (deeds_of lists own)
 
--- a stop in the second attempt: the call was stopped at the point Serve of the first one too, the core was reseeded there,
--- and the call went on
+-- a stop in the second attempt: the call was stopped at the point Serve of the first one too, the core was reseeded
+-- there, and the call went on
 pub record WayBySecond (lists : Lists) (n : ℕ) (point : Point) (before : List HostStep) (calls : List (List Step))
     : Type 0 where
   pub earlier : Stop (IsCall n 0 wiped_state) n 0 First Serve
@@ -54,8 +54,8 @@ abbrev pub Way : Lists → ℕ → Turn → Point → List HostStep → List (Li
 Way lists n First point before calls = (own : List Step) × (calls ≡ own ∷ []) × IsShown lists 0 before own
 Way lists n Second point before calls = WayBySecond lists n point before calls
 
--- an end of the call: from its point on, with this in the buffer and this state, a caller came to the call's end by these
--- steps of its own, and it gave these bytes
+-- an end of the call: from its point on, with this in the buffer and this state, a caller came to the call's end by
+-- these steps of its own, and it gave these bytes
 pub record IsEnd (lists : Lists) (caller n : ℕ) (place : Place) (held : List ℕ) (s : VgetrandomState) (out : List ℕ)
     : Type 0 where
   pub steps : List HostStep
@@ -73,9 +73,9 @@ marks_of caller calls = flat_map (marks_from caller 0 0) calls
 abbrev pub stamps_of : List MarkBy → List ℕ
 stamps_of marks = map (λ by. by.mark.stamp) marks
 
--- a lawful book has the visits of a call that adds the bytes 0 to 31 with 256 bits, then those of the parent's
--- vgetrandom call to the stop, the fork's, those of the parent's rest and those of the child's, and no others. Parent and
--- child give the bytes of their ends
+-- the visits of a lawful book are those of one `add`, which makes the core ready, of the parent's vgetrandom call as
+-- far as its stop, of the fork, of what is left of the parent's call, and of the child's; it has no others. What parent
+-- and child give out are the bytes in which these two calls end
 pub record AreForkedBytes (turn : Turn) (point : Point) (n : ℕ) (parent child : List ℕ) : Type 0 where
   pub book : Book
   pub lawful : LawfulLanes (lists_of book)

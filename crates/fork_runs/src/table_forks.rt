@@ -81,8 +81,8 @@ fn reseed_once<R: Wait>(rt: &R, lanes: &Lanes, pass: &mut Pass, set: &Setting) -
     }
 }
 
-// Runs a new call to a stop in its second attempt. The core is reseeded at the point Serve of the first one, so that there
-// is a second.
+// Runs a new call to a stop in its second attempt. The core is reseeded at the point Serve of the first one, so that
+// there is a second.
 fn reach_second<R: Wait>(
     rt: &R,
     lanes: &Lanes,
@@ -246,10 +246,11 @@ fn fork_until<R: Wait>(
     unreachable!()
 }
 
-/// Makes a table with one CPU and adds the bytes 0 to 31 with 256 bits, which make the core ready. Then caller 0 calls
-/// vgetrandom for so many bytes, from 1 to 2^20, without flags, on a wiped state, stops at a point of an attempt, and
-/// forks caller 1 there; for the second attempt the core is reseeded at the point Serve of the first. Caller 0 ends its
-/// call, and then caller 1 the child's, with its own pass. All calls have CPU 0, the moment 0 and hardware words 0.
+/// Makes a core with one CPU ready by a first sample, 32 bytes that count up from 0 and are credited with 256 bits. On
+/// it caller 0, whose state is wiped, wants so many bytes of vgetrandom, from 1 to 2^20, without flags. The call is
+/// held at the point of the attempt, and caller 1 forked there. A second attempt is had by a reseed while the first one
+/// stands at Serve. First the parent's call is ended, and then the child's, by its own pass; all of it on CPU 0, at
+/// moment 0, with hardware words of zeros.
 ///
 /// A run whose call is over before the stop, or that gives no bytes, is made anew: none is known.
 ///

@@ -4,7 +4,7 @@ use std::sync::Wait;
 
 /// What stands before each event of a caller.
 pub trait Gate: Sync {
-    /// Is called before each event of the caller, at the event's place in the script, and not before its end.
+    /// Is called in front of every event of a caller, which it is given with its place; a caller's end has no call.
     fn before<R: Wait>(&self, rt: &R, caller: u32, event: u32);
 }
 

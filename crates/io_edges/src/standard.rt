@@ -84,8 +84,8 @@ impl<O: Write + Drop> Sink for StdSink<O> {
 
     ghost faults = { λ s. s.faults };
 
-    // A write that a signal interrupts is tried again. One that takes nothing of a piece that is not empty is a
-    // fault, since a caller that goes on after short puts would never end.
+    // A write that a signal interrupts is tried again. Where bytes are left and none is taken, that is a fault: who
+    // goes on after short puts would never end.
     fn put(&mut self, piece: &[u8]) -> Result<usize, Failed>
         // A fault is counted exactly where the call fails.
         ensures same { OnOk result (sink_faults self.new ≡ sink_faults self.old) }

@@ -41,7 +41,8 @@ impl Model for Feeds {
 }
 
 impl Feeds {
-    /// Of each feeder f the samples i = 0 to `each` - 1, whose words are `start` + i and f.
+    /// The samples of all feeders, `each` of every one: sample i of feeder f has the words `start` + i and f, both
+    /// counted from 0.
     ///
     /// # Errors
     ///

@@ -94,7 +94,7 @@ seen_after before nothing_there = before
 abbrev pub seen : List Deed → ℕ
 seen deeds = fold seen_after 0 deeds
 
--- a look finds at least what its caller has seen, and at most the number of reseeds
+-- what a look finds lies between the greatest generation that its caller knew and the last one of the base
 abbrev pub LookStands : ℕ → ℕ → Deed → Type 0
 LookStands reseeds before (looked g) = (before ≤ g) × (g ≤ reseeds)
 LookStands reseeds before (at_pool v) = ⊤

@@ -94,7 +94,7 @@ Rises [] = ⊤
 Rises (a ∷ []) = ⊤
 Rises (a ∷ b ∷ rest) = (a < b) × Rises (b ∷ rest)
 
--- each visit has one place, and stamps rise along each lane and along each caller's order
+-- no two visits share a place, none is left free, and stamps rise, both in a lane and in what one caller does
 pub record MarksStand (script : Script) (t : List (List SeenLine)) : Type 0 where
   pub lanes : (lane : LaneId) → PlacesStand (lane_marks lane (all_marks t))
   pub callers : AllByRecursion (λ order. Rises (stamps_of order)) (caller_orders (script_calls script t))
@@ -160,7 +160,7 @@ pub record CallerMeans (lists : Lists) (setting : Setting) (calls : List Call) (
 abbrev pub start_setting : List (List Call) → ℕ → Setting
 start_setting callers c = setting_of (first_settings callers (length callers)) c
 
--- each line's steps are a form of its word, and the lists that they make are lawful
+-- every line has steps that its word can have, and together they make lawful lists
 pub record FormsStand (script : Script) (t : List (List SeenLine)) (book : Book)
     (ms : List (List CallMeaning)) : Type 0 where
   pub cpus : length book.cpus ≡ script.cpus
@@ -182,7 +182,7 @@ abbrev pub DataStand : Script → List (List SeenLine) → List (List CallMeanin
 DataStand script t ms =
     EachCaller (λ c calls ms. EachLine (λ line m. line.shown ≡ m.shown) calls ms) 0 (script_calls script t) ms
 
--- each look is at least what its caller had seen, and at most the number of reseeds
+-- what a look finds lies between the greatest generation that its caller knew and the last one of the base
 abbrev pub SeenStands : Script → List (List SeenLine) → Lists → Type 0
 SeenStands script t lists =
     AllByRecursion (λ order. LooksStand (base_after lists.base).generation [] (deeds_of lists order))
@@ -201,7 +201,7 @@ pub record IsTranscriptBy (script : Script) (t : List (List SeenLine)) (book : B
 abbrev pub IsTranscript : Script → List (List SeenLine) → Type 0
 IsTranscript script t = (book : Book) × (ms : List (List CallMeaning)) × IsTranscriptBy script t book ms
 
--- the clauses, in the order in which they are looked at: clause 1 is the grammar of the text
+-- the clauses as they come one after another; clause 1, before these, is the grammar of the text
 pub data Clause : Type 0 where
   lines_clause marks_clause forms_clause answers_clause data_clause looks_clause : Clause
 

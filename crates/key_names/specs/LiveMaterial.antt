@@ -133,7 +133,7 @@ replayed_batch lists (state_batch caller state) =
 
 -- the book, with states that have these batches, is erased
 pub record IsErased (lists : Lists) (batch : BatchHolder → List ℕ) : Type 0 where
-  -- no live key is one that a later entry replaced
+  -- a key that some later entry replaced is live no more
   pub none_replaced : (a b : KeyHolder) (key : KeyName) → live_key lists a ≡ Some key → WasReplaced lists b key → ⊥
   -- no two live keys have one name
   pub keys_apart : (a b : KeyHolder) (key : KeyName) → live_key lists a ≡ Some key → live_key lists b ≡ Some key → a ≡ b
@@ -145,7 +145,7 @@ pub record IsErased (lists : Lists) (batch : BatchHolder → List ℕ) : Type 0 
       live_rest lists b ≡ Some y → HoldsByte x key q → HoldsByte y key q → a ≡ b
   -- the served bytes of a batch are 0
   pub served_zero : (a : BatchHolder) → take (served_len lists a) (batch a) ≡ replicate (served_len lists a) 0
-  -- a CPU's batch that is not live is all 0
+  -- of a CPU's batch that is not live every byte is 0
   pub dead_zero : (c width : ℕ) → (cpu_end lists c).fills width ≡ None → batch (cpu_batch c width) ≡ replicate 96 0
 
 -- the keys that the replay of the lists gives

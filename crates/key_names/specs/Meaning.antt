@@ -124,7 +124,7 @@ pub record EndingMeans (m : CallMeaning) : Type 0 where
   pub entries : m.entries ≡ []
   pub after : m.after ≡ m.before
 
--- an act inside a vread, with the setting of the vread: a nested read goes to the system call
+-- an act inside a vread, which has that vread's setting; a read among them is a system call
 abbrev pub ActMeans : Setting → InsideAct → LineMeaning → Type 0
 ActMeans set WipeAct m = m ≡ record { deeds = []; answer = Done; shown = no_data }
 ActMeans set (VreadAct n) m =

@@ -142,7 +142,7 @@ pub record Outcome : Type 0 where
 abbrev pub outcome_behind : List VEntry → Outcome → Outcome
 outcome_behind entries outcome = record outcome { entries = entries ++ outcome.entries }
 
--- the system call with the whole length and the flags answers
+-- the system answers the call as it was made, all its bytes and its flags
 pub record BySystem (n flags : ℕ) (s : VgetrandomState) (steps : List HostStep) (outcome : Outcome) : Type 0 where
   pub answer : SystemAnswer
   pub steps_are : steps ≡ system_call n flags answer ∷ []

@@ -22,7 +22,7 @@ use Rattle.key_names.specs.Answers.{system_answer, served_bytes}
 use Rattle.key_names.specs.Vgetrandom.{CpuPlace, SystemAnswer, read, failed, HostStep, publishes, system_call, at_point}
 use Rattle.key_names.specs.Vgetrandom.{Ending, no_bytes, by_batch, by_system}
 
--- the generation that a look publishes: 0 where the core is not ready, and otherwise one more than the look found
+-- what is published when a look finds a generation: the next number, so that 0 is left for a core that is not ready
 abbrev pub published_by : ℕ → ℕ
 published_by zero = 0
 published_by (suc g) = suc (suc g)

@@ -15,13 +15,13 @@ pub enum FaultKind {
     BadCpus,
     /// The word, or the word of an act, is unknown, or it has not this number of fields, or the line follows `end`.
     UnknownWord,
-    /// A number is misspelt or out of its range.
+    /// A field that has to be a number is none as it is spelt, or none that may stand there.
     BadNumber,
-    /// Bytes are misspelt, or those of `hw` are not 32.
+    /// A field of bytes is not spelt as such, or is no 32 of them behind `hw`.
     BadHex,
-    /// A block has another number than the next, or line 3 begins no block.
+    /// Blocks do not come in order: line 3 begins none, or one is not the next.
     BadCaller,
-    /// A fork names a number that is not above its caller's own, or one that was forked before.
+    /// A fork's number is taken, or no greater than that of who forks.
     BadFork,
     /// A block's number was not forked before, or a forked number has no block.
     Unforked,

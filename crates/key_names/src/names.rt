@@ -33,11 +33,11 @@ pub struct Who {
 
 /// The one name of a key. A place is the number of a visit in its lane's list, from 0.
 ///
-/// - `Root(p)`: the output of the extraction at pool place `p`.
+/// - `Root(p)`: what visit `p` of the pool extracted and gave out.
 /// - `Base(i)`: bytes 0 to 32 of the block that the visit at base place `i` erased with; the base's next key.
 /// - `Cpu(c, k)`: the same for CPU `c` and its place `k`.
-/// - `Call(lane, i)`: bytes 32 to 64 of the erasure's block at that place, where they become a key.
-/// - `Vdso(caller, state, n)`: the key that this vgetrandom state kept in its `n`-th batch refill, from 0.
+/// - `Call(lane, i)`: the other half of such a block, bytes 32 to 64, where somebody takes it for a key.
+/// - `Vdso(caller, state, n)`: what this vgetrandom state kept for itself when it made its `n`-th batch, from 0.
 #[derive(Clone, Copy, Debug, PartialEq, Eq)]
 pub enum KeyName {
     Root(u64),

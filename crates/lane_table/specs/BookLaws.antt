@@ -42,7 +42,7 @@ ClosedIsForwardLawful = (lanes : ℕ) (visits : ℕ → List Visit) (callers : S
     ClosedLanes lanes visits →
     ForwardLawful (book_lists lanes visits callers)
 
--- where references forwards are answered, or name a place that is not yet in its list, they are half finished
+-- half finished: a reference forwards either has its answer, or names a place that its list does not reach yet
 abbrev pub HalfAnsweredIsHalfFinished : Type 0
 HalfAnsweredIsHalfFinished = (lanes : ℕ) (visits : ℕ → List Visit) (callers : StateLists) →
     ClosedLanes lanes visits → AllHalfAnswered lanes visits →

@@ -75,7 +75,7 @@ pub record Holds (t : Lanes) (p : Pass) (h : Held) : Type 0 where
   pub place : h.turn.place ≡ length (known_of (view p) h.turn.lane)
   pub stamp : h.turn.stamp ≡ last_stamp (view p).first (known_of (view p) h.turn.lane)
 
--- the entry makes the held value of the value as taken, and may come at the held place
+-- the entry may come at the held place, and leads from what was taken to what is held
 pub record CanPut (t : Lanes) (p : Pass) (h : Held) (e : LaneEntry) : Type 0 where
   pub holds : Holds t p h
   pub kind : IsOf h.turn.lane e
@@ -84,7 +84,8 @@ pub record CanPut (t : Lanes) (p : Pass) (h : Held) (e : LaneEntry) : Type 0 whe
   pub fits : Fits (replay (known_of (view p) h.turn.lane)) (handed h.turn.lane e (view p)) e
   pub names : MayName h.turn.lane e (view p)
 
--- the value is as taken, no half-finished reference names the place, and this hold has not raised the generation
+-- nothing was done in this hold: the value is the one that was taken, no entry waits for this place, and the generation
+-- was not raised
 pub record CanLeave (t : Lanes) (p : Pass) (h : Held) : Type 0 where
   pub holds : Holds t p h
   pub value : ValueRepresents h.turn.lane h.state (replay (known_of (view p) h.turn.lane))
@@ -218,7 +219,7 @@ pub record Left (lane : ℕ) (m m' : Seated) : Type 0 where
   pub stamps : m'.0.stamps ≡ m.0.stamps
   pub drawn : m'.0.drawn ≡ m.0.drawn
 
--- a look: at least all that the pass has seen of the generation, in a look, in the base or in a CPU
+-- a look, which finds no less than any generation that the pass knows from looks, from the base or from CPUs
 pub record Looked (g : ℕ) (m m' : Seated) : Type 0 where
   pub consistent : Consistent m'.0
   pub same : SameView m.0 m'.0

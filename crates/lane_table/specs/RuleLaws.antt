@@ -79,8 +79,8 @@ pub record Counts (s : St) (logs : ℕ → List Visit) : Type 0 where
   pub whole : sum_by (weight top) s.views ≡ 2 ^ top
   pub spent : (j : ℕ) (v : View) → IsView s j v → v.share ≡ 0 → v.lanes ≡ []
 
--- stamps rise along each list, and a pass's is at least that of each visit that it made, or that was made before it was
--- split off
+-- each stamp in a list is above the one before it, and a pass has one that none of its visits is above, nor any that was
+-- made before it was split off
 pub record Stamps (first : ℕ) (s : St) (logs : ℕ → List Visit) : Type 0 where
   pub rising : (lane : ℕ) → lane < length s.homes → Rising first (logs lane)
   pub passed : (j : ℕ) (v : View) → IsView s j v → All (λ n. n ≤ v.stamp) v.stamps

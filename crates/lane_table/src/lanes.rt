@@ -57,7 +57,8 @@ pub struct Held {
 /// Why `try_take` did not get a lane. They are looked for in this order.
 #[derive(Clone, Copy, Debug, PartialEq, Eq)]
 pub enum TakeFault {
-    /// The pass's stamp, the lane's ticket word or its last stamp is 2^62 or above.
+    /// Some number that would have to grow is 2^62 or more: the lane's tickets, its last stamp, or the stamp of the
+    /// pass.
     Spent,
     /// The lane serves another: `serving` was loaded, and then the ticket word was `ticket`.
     Busy { serving: u64, ticket: u64 },

@@ -18,8 +18,8 @@ pub fn known_lists_begin()
     ensures { KnownListsBegin }
 {}
 
-/// A value that lies in its slot is the replay of its lane's list, with the list's next place and last stamp. A value
-/// that does not is with the pass that is served.
+/// Who replays a lane's list comes to the value in its slot, to its place and to its stamp. Where the slot is empty,
+/// the pass that is served has the value.
 pub fn values_are_replays()
     ensures { ValuesAreReplays }
 {}
@@ -30,7 +30,7 @@ pub fn counts_and_shares_add_up()
     ensures { CountsAndSharesAddUp }
 {}
 
-/// Stamps rise along each list, and a pass's stamp is no less than those of the visits before it.
+/// Each stamp in a list is above the one before it, and no visit before a pass has a stamp above that of the pass.
 pub fn stamps_rise()
     ensures { StampsRise }
 {}
@@ -41,8 +41,8 @@ pub fn lists_are_lawful_so_far()
     ensures { ListsAreLawfulSoFar }
 {}
 
-/// The generation word is the number of reseeds in the base's list, and one more exactly from a raise until the base is
-/// put. It is below 2^63, and no less than what any pass has seen, and than each CPU's generation.
+/// The generation word counts the reseeds in the base's list, and between a raise and the put behind it one more. It
+/// stays below 2^63, and is exceeded by no CPU's generation and by none that a pass knows.
 pub fn generation_is_the_bases()
     ensures { GenerationIsTheBases }
 {}

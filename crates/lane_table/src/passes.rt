@@ -123,7 +123,7 @@ impl Lanes {
         }
     }
 
-    /// The pass has then seen and done also what the other had, has the greater stamp, and the sum of both shares.
+    /// What the other pass knew and did is then this one's too, with the shares of both and the stamp that is greater.
     pub fn join(&self, pass: &mut Pass, other: Pass)
         requires pass { IsPassOf self.now pass.old }
         requires other { IsPassOf self.now other }
@@ -140,8 +140,8 @@ impl Lanes {
         pass.stamp = pass.stamp.max(stamp);
     }
 
-    /// Changes nothing. Where the pass has the whole share, which it has once all others were joined into it, it knows each
-    /// lane's whole list then, and made all of its visits.
+    /// Changes nothing. Where the pass has the whole share, which it has once all others were joined into it, it knows
+    /// each lane's whole list then, and made all of its visits.
     pub fn settle(&self, pass: &mut Pass)
         requires pass { IsPassOf self.now pass.old }
         requires idle { IsIdle (view pass.old) }

@@ -118,9 +118,10 @@ impl Lanes {
     ///
     /// # Errors
     ///
-    /// `Spent` exactly where the pass's stamp, the ticket word as a load or the exchange of this call found it, or, once
-    /// the lane was got, its last stamp is 2^62 or above. `Busy` where the exchange found a ticket above the serving
-    /// number that this call loaded, so that it drew none.
+    /// `Spent` exactly where a number that would have to grow is 2^62 or more: the stamp of the pass, the ticket word
+    /// as this call read it, by a load or by its exchange, or the lane's last stamp, which is read once the lane was
+    /// got. `Busy` where the exchange found a ticket above the serving number that this call loaded, so that it drew
+    /// none.
     pub fn try_take(&self, pass: &mut Pass, lane: LaneId) -> Result<Held, TakeFault>
         requires pass { IsPassOf self.now pass.old }
         requires lane { index_of lane < count_of self.now }

@@ -50,8 +50,8 @@ fn all_calls<'a>(
     Ok(calls)
 }
 
-/// Judges lines and marks: each caller has its lines, in each lane the places count up from 0, and stamps rise along each
-/// lane and along each caller's order.
+/// Judges lines and marks: no caller lacks a line or has one too many, a lane's places are 0, 1, 2 and so on, and
+/// stamps rise, both in a lane and in what one caller does behind its ancestors.
 ///
 /// # Errors
 ///

@@ -27,45 +27,40 @@ use std::alloc::Global;
 use std::sync::Wait;
 use std::thread::Threads;
 
-/// Runs a command.
+/// Runs the command that the words are.
 ///
-/// The word `run` takes the input, read to its end, as a script, and runs its callers in threads. The output is its
-/// transcript, which is lawful for the script however the callers' calls fell together. An input that is no script is
-/// answered by the line `refused LINE KIND`, its first fault.
+/// Commands without numbers read all of the input, the others nothing. A number is spelt as in a script; START is below
+/// 2^32.
 ///
-/// The word `check` takes the input, read to its end, as a script with a transcript behind it. The output is `yes` where
-/// the transcript is lawful for the script, and otherwise `no K`, K being the number of the first clause that fails. The
-/// word `replay` takes the same, and its output is the one lawful transcript with these lines, words and steps, whatever
-/// the answers and the data of the one that was read; or `no K`, where lines, marks, forms or looks fail. The script is
-/// what stands up to and with the first line `end`; its first fault is answered as in a run. No caller is started.
+/// - `run`: the input is a script, whose callers run in threads. The output is its transcript, which is lawful for the
+///   script however the callers' calls fell together; or the line `refused LINE KIND`, the first fault of what is no
+///   script.
+/// - `check`: the input is a script, which its first line `end` ends, and then a transcript. The output is `yes` where
+///   the transcript is lawful for the script, and `no K` where clause K is the first that fails. Faults of the script
+///   are told as in a run; no caller is started.
+/// - `replay`: the input is the same. The output is the one lawful transcript with these lines, words and steps,
+///   whatever answers and data were read; or `no K`, where lines, marks, forms or looks fail.
+/// - `load START CALLERS EVENTS`: the script of a load is run and its transcript checked, with 1 to 64 callers of 1 to
+///   1,000 calls each. The output is the line `callers CALLERS events V bytes B check yes`: how many events the script
+///   has, and how many bytes its lines show.
+/// - `draw C K`: 1 to 1,000 numbers below C are drawn, and written one a line. C is below 2^32, and 0 stands for 2^32.
+///   The line `spent` is the last where 128 words were all rejected.
+/// - `vfork POINT ATTEMPT N`: a vgetrandom call for N bytes, up to 2^20, is forked at one of four points of one of two
+///   attempts. The output is `parent HEX` and `child HEX`, the bytes that each gives out.
+/// - `feed START FEEDERS SAMPLES`: a CPU gets the interrupt samples of 1 to 16 threads, 1 to 10,000 of each, at moment
+///   0. The output is the line `feeders FEEDERS samples N dumps D bits B`, the same however the threads fell together:
+///   samples mixed, dumps made, and the pool's bits behind them.
 ///
-/// The words `load START CALLERS EVENTS` run the script of a load with so many callers, each of whom makes so many calls:
-/// START below 2^32, CALLERS from 1 to 64 and EVENTS from 1 to 1,000, in decimal without leading zeros. They read nothing.
-/// The output is the line `callers CALLERS events V bytes B check yes`, with the number of the script's events and that of
-/// the bytes which its lines show. The transcript was checked.
+/// The last three begin with a new table of one CPU; before draws and forks a sample of 32 bytes makes it ready.
 ///
-/// The words `draw C K` make K draws below C on a new table with one CPU, behind a sample of the bytes 0 to 31 with 256
-/// bits: C below 2^32, where 0 stands for 2^32, and K from 1 to 1,000. They read nothing. The output has the answer of each
-/// draw in decimal on a line of its own, or the line `spent` where 128 words were all rejected, which is then the last.
+/// The gate is called before each event of each caller, and not before a script is accepted; of `feed`, before each
+/// sample of each feeder.
 ///
-/// The words `vfork POINT ATTEMPT N` fork inside a vgetrandom call for N bytes, at a point of an attempt, on a new table
-/// with one CPU, behind the same sample: POINT from 1 to 4, ATTEMPT 1 or 2, and N from 1 to 1,048,576. They read nothing.
-/// The output is the line `parent HEX` with the bytes that the parent's call gives out, and the line `child HEX` with the
-/// child's.
-///
-/// The words `feed START FEEDERS SAMPLES` hand so many interrupt samples of each of so many feeders to a CPU of a new table
-/// at moment 0, each feeder in a thread: START below 2^32, FEEDERS from 1 to 16 and SAMPLES from 1 to 10,000. They read
-/// nothing. The output is the line `feeders FEEDERS samples N dumps D bits B`, the same however the feeders' samples fell
-/// together: how many samples were mixed, how many dumps they made, and the pool's bits behind them.
-///
-/// The gate is called before each event of each caller, and not before a script is accepted; of `feed`, before each sample
-/// of each feeder.
-///
-/// - `Usage`: exactly where the words are none of these. Nothing is read or written.
+/// - `Usage`: the words are no command, and nothing is read or written.
 /// - `ReadFault`: the source failed. Nothing is written.
 /// - `Refused`: the input has a fault, and the line that tells the first was written.
-/// - `WriteFault`: the sink failed at a put, or at the flush behind the last. What it got in this call is a prefix of the
-///   output.
+/// - `WriteFault`: the sink failed at a put, or at the flush behind the last. What it got in this call is a prefix of
+///   the output.
 /// - `NoMemory`: there was no memory. Nothing is written.
 /// - `No`: a clause fails, and the line that names it was written.
 /// - `Done`: the input was read to its end, if the command takes one, and the whole output was written.

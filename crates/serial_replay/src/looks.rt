@@ -1,4 +1,5 @@
-//! Whether each look stands: it finds at least what its caller had seen, and at most the number of reseeds.
+//! Whether each look stands: what it finds lies between the greatest generation that its caller knew and the base's
+//! last.
 ghost use Rattle.std.specs.Prelude.{◌≡◌, slice_get, option_map};
 ghost use Rattle.serial_replay.specs.Seen.{left_at, seen_more, seen_behind, MayLook, reseeds_in};
 
@@ -6,8 +7,8 @@ use key_names::{LaneId, Mark, Step};
 use line_orders::along::Carry;
 use list_replay::{KeptBase, KeptCpu, Lists};
 
-/// What a caller has seen goes along its order: the greatest of its looks, and of the generations that its visits of the
-/// base and of the CPUs left.
+/// What a caller has seen goes along its order: the greatest of its looks, and of the generations that its visits of
+/// the base and of the CPUs left.
 #[derive(Drop)]
 pub(crate) struct Looks<'a> {
     lists: &'a Lists,

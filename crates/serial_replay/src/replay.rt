@@ -21,7 +21,7 @@ use transcript_text::{CallerLines, LineView, Shown, Transcript};
 #[derive(Drop)]
 pub enum Replayed {
     Made(Transcript),
-    /// The first of the clauses 2, 3, 4 and 7 that fails.
+    /// Which clause fails first, of those that no answer or data has a part in: 2, 3, 4, 7.
     No(u8),
 }
 

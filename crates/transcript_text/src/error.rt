@@ -7,8 +7,8 @@ use std::alloc::AllocError;
 /// Why a text is not read as a transcript.
 #[derive(Clone, Copy, Debug, PartialEq, Eq)]
 pub enum TextError {
-    /// The number, from 1, of the first line that no transcript has there. A line that is missing, or that the end of
-    /// the text cuts off, counts as such a line.
+    /// Which line, counted from 1, is the first that cannot stand where it stands in any transcript. Where the text
+    /// ends too early, it is the line that is cut off, or that would have to follow.
     Fault { line: u32 },
     /// There was no memory for the transcript.
     NoMemory,

@@ -1,9 +1,9 @@
-//! A vgetrandom call that can be stopped at its points, and forked there.
+//! Calls of vgetrandom that stop at a point, and a fork while they stand there.
 //!
-//! A signal handler that runs inside a call of vgetrandom may fork. Parent and child then both go on with the call that
-//! was interrupted, the child on a copy of the buffer and on a state that the fork wiped (the kernel maps the states so:
-//! `VM_WIPEONFORK`). [`VCall`] is such a call: it runs to a point, is forked there, and ends in parent and child, over
-//! any host of `vdso_state`.
+//! A process can fork while one of its calls is under way, out of a signal's handler. There are two ends of the call
+//! then. The child's copy of the buffer is its own, and its state is empty, since the kernel maps states so that a fork
+//! wipes them (`VM_WIPEONFORK`). [`VCall`] is such a call: it runs to a point, is forked there, and ends in parent and
+//! child, over any host of `vdso_state`.
 //!
 //! The parent's call is the one that it would have been. The child's is a call that was wiped at the point of the fork
 //! ([`laws::forks_are_told`]). Where its bytes come out of its state, the attempt that gave them read a new key behind

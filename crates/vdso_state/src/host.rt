@@ -31,7 +31,7 @@ pub trait VHost {
     /// No generation below it is published any more.
     ghost floor: { Self → ℕ };
 
-    /// The published generation, or 0 where the core is not ready. It never falls.
+    /// What the core publishes now: a generation, no lower than any before it, or 0 before it is ready.
     fn published(&mut self) -> u64
         requires { 0 < looks_left self.old }
         ensures publishes { publishes self.old result self.new }

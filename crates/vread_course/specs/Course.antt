@@ -96,7 +96,7 @@ abbrev pub at_end : Recipe → Reached → List Seen → Option Course
 at_end recipe reached [] = Some (record { answer = Done; served = recipe; reached = reached })
 at_end recipe reached _ = None
 
--- the system call with the whole length and the flags
+-- the system's answer to the call as it was made, all its bytes and its flags
 abbrev pub by_system : ℕ → ℕ → Reached → List Seen → Option Course
 by_system n flags reached seen =
     option_map (λ c. record { answer = c.answer; served = c.served; reached = reached }) (called n flags seen)

@@ -1,4 +1,4 @@
--- A text is that of a script exactly where it has no fault.
+-- Of a script's text no fault can be told, and of every other text one can.
 use Rattle.std.proofs.Common.{◌≡◌, ℕ, List, None, ap, refl}
 use Rattle.std.specs.Prelude.{Result, Ok, Err}
 use Rattle.key_names.specs.declared.faults.ScriptFault.{ScriptFault}

@@ -383,7 +383,7 @@ first_fault text = fault_in (script_of text)
 
 -- ---- a script in front of something else
 
--- the lines up to and with the first line end, or all of them where there is none
+-- the lines of which the first one `end` is the last; where no line is `end`, all lines
 abbrev pub front_lines : List (List ℕ) → List (List ℕ)
 front_lines [] = []
 front_lines (tail ∷ []) = tail ∷ []

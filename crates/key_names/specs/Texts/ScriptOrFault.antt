@@ -1,4 +1,4 @@
--- A text is that of a script exactly where it has no fault.
+-- A text either is a script's, or has a fault, and never both.
 use Rattle.std.specs.Prelude.{ℕ, ◌≡◌, Some, None, List, Ok}
 use Rattle.key_names.specs.declared.faults.ScriptFault.{ScriptFault}
 use Rattle.key_names.specs.Texts.ScriptGrammar.{Script, IsScript}
