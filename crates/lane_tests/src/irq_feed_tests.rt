@@ -81,8 +81,7 @@ impl Seen {
     }
 }
 
-// Holds feeder 0 before its first sample until feeder 1 has come to its sample 10, and feeder 1 there until feeder 0 has
-// come to its first.
+// Feeder 0 is held before sample 0 until feeder 1 stands before sample 10, where that one waits for feeder 0 in turn.
 #[derive(Drop)]
 struct CrossedGate {
     first: Seen,
