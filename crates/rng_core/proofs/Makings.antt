@@ -55,8 +55,8 @@ pub did_map : {P Q : List Deed → Type 0} (set : Setting) (m n : Moment) → ((
 did_map set m n f k = did_in_map set m n (λ visits. f) k
 
 -- the form alone
-pub formed : {F : List Deed → Type 0} {bytes : List ℕ} (set : Setting) (m n : Moment) →
-    Makes (Serving F bytes) set m n → Makes F set m n
+pub formed : {F : List Deed → Type 0} {bytes : List ℕ} (set : Setting) (m n : Moment) → Makes (Serving F bytes) set m n →
+    Makes F set m n
 formed set m n k = did_map set m n (λ deeds h. h.form) k
 
 pub served_of : (set : Setting) (m n : Moment) (lane place : ℕ) (s : Model) (e : LaneEntry) (got : Handed) →
@@ -66,8 +66,7 @@ served_of set m n lane place s e got x = record { model = s; got = got; visited 
 -- behind what no step tells
 pub did_after : {P : (ℕ → List Visit) → List Deed → Type 0} (set : Setting) (l m n : Moment) → TraceRecords set l m [] →
     MakesIn P set m n → MakesIn P set l n
-did_after set l m n a k =
-    record { made_steps = k.made_steps; told = told_then set l m n [] k.made_steps a k.told; stands = k.stands }
+did_after set l m n a k = record { made_steps = k.made_steps; told = told_then set l m n [] k.made_steps a k.told; stands = k.stands }
 
 -- behind a look
 pub did_looked : {P : ℕ → List Deed → Type 0} (set : Setting) (l m n : Moment) (g : ℕ) →
@@ -83,8 +82,7 @@ served_behind_look g [] = refl
 served_behind_look g (d ∷ deeds) = refl
 
 pub serving_looked : {P : ℕ → List Deed → Type 0} {bytes : List ℕ} (set : Setting) (l m n : Moment) (g : ℕ) →
-    TraceRecords set l m (went.looked g ∷ []) → Makes (Serving (P g) bytes) set m n →
-    Makes (Serving (forms.Looked P) bytes) set l n
+    TraceRecords set l m (went.looked g ∷ []) → Makes (Serving (P g) bytes) set m n → Makes (Serving (forms.Looked P) bytes) set l n
 serving_looked set l m n g a k = record {
   made_steps = went.looked g ∷ k.made_steps;
   told = told_then set l m n (went.looked g ∷ []) k.made_steps a k.told;
@@ -202,8 +200,7 @@ did_refilled_read set k l m n g base place s got taken bytes a x y = record {
 }
 
 -- nothing at all
-pub did_nothing : {P : List Deed → Type 0} (set : Setting) (m : Moment) → 1 < length m.view.lanes → P [] →
-    Makes P set m m
+pub did_nothing : {P : List Deed → Type 0} (set : Setting) (m : Moment) → 1 < length m.view.lanes → P [] → Makes P set m m
 did_nothing set m two p = record {
   made_steps = [];
   told = told_idly set m m refl (went_idly set.caller set.event (length m.steps) m.view m.view

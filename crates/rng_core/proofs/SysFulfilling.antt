@@ -148,8 +148,7 @@ module _ (set : Setting) (n flags g : ℕ) (good : is_bad flags ≡ false) where
 
       pub sys_waited : 0 < n → (first second reads deeds : List Deed) (bytes : List ℕ) → BaseOnly Wait first →
           BaseOnly Resume second → Serving (CpuReadForm set (User n)) bytes reads →
-          deeds ≡ looked g ∷ (first ++ (second ++ reads)) →
-          IsOutcomeOf set (Read n flags) Done (bytes_or_none bytes) deeds
+          deeds ≡ looked g ∷ (first ++ (second ++ reads)) → IsOutcomeOf set (Read n flags) Done (bytes_or_none bytes) deeds
       sys_waited some first second reads deeds bytes w x r is = let e =
           ended_is first second deeds reads Resume w x is in let rest : List Deed =
           at_base w.base ∷ at_base x.base ∷ reads in

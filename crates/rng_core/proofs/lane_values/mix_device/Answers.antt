@@ -7,8 +7,7 @@ use Rattle.input_pool.proofs.Callers.{mixed, mixed-mixed}
 use Rattle.rng_core.proofs.lane_values.mix_device.Goals as goal
 
 pub returns : goal.returns
-returns c = λ s h. let k = subst (λ (z : LaneState). ValueRepresents 0 z s) c.in-Pool.is h in
-    let text = c.args.text.now in (
+returns c = λ s h. let k = subst (λ (z : LaneState). ValueRepresents 0 z s) c.in-Pool.is h in let text = c.args.text.now in (
   refl,
   record {
     pool = subst (λ (z : PoolState). PoolStands c.mix-in-Pool.new.self z)

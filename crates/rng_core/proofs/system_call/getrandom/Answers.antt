@@ -71,8 +71,7 @@ returns-then-is_empty-clause-did g c = let good = sym c.are_bad.ensures ∙ c.if
     sym c.must_wait.ensures ∙ c.if-must_wait.true in let patient =
     sym c.is_nonblock.ensures ∙ c.if-is_nonblock.false in let w = c.in-Ok.ensures.waited in
     let none : length c.args.buf.now ≡ 0 = search rules in
-    subst (λ (z : List ℕ). Makes
-    (IsOutcomeOf (setting_of c.args.set.now) (Read (length c.args.buf.now) c.args.flags) Done
+    subst (λ (z : List ℕ). Makes (IsOutcomeOf (setting_of c.args.set.now) (Read (length c.args.buf.now) c.args.flags) Done
     (bytes_or_none z)) c.args.set.now (moment c.args.pass.now c.args.trace.now)
     (moment c.wait_ready.new.pass c.wait_ready.new.trace)) (sym (none_left c.args.buf.now none))
     (did_map _ _ _ (λ deeds h. sys_waited_none (setting_of c.args.set.now) (length c.args.buf.now) c.args.flags
@@ -96,8 +95,7 @@ returns-in-Ok-clause-did g c = let good = sym c.are_bad.ensures ∙ c.if-are_bad
 pub returns-then-is_empty-2-clause-did : goal.returns-then-is_empty-2-clause-did
 returns-then-is_empty-2-clause-did g c = let good = sym c.are_bad.ensures ∙ c.if-are_bad.false in let takes =
     sym c.must_wait.ensures ∙ c.if-must_wait.false in let none : length c.args.buf.now ≡ 0 = search rules in
-    subst (λ (z : List ℕ). Makes
-    (IsOutcomeOf (setting_of c.args.set.now) (Read (length c.args.buf.now) c.args.flags) Done
+    subst (λ (z : List ℕ). Makes (IsOutcomeOf (setting_of c.args.set.now) (Read (length c.args.buf.now) c.args.flags) Done
     (bytes_or_none z)) c.args.set.now (moment c.args.pass.now c.args.trace.now)
     (moment c.look-found.new.pass c.look-found.new.trace)) (sym (none_left c.args.buf.now none))
     (did_map _ _ _ (λ deeds e. sys_none (setting_of c.args.set.now) (length c.args.buf.now) c.args.flags

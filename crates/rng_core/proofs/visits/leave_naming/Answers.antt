@@ -18,8 +18,8 @@ returns-clause-visited g c = let h = c.requires.has.held.0 in
 
 pub returns-clause-has : goal.returns-clause-has
 returns-clause-has g c = let e = g.E.Entry.entry c.args.entry in let outer = c.args.outer.now.turn in
-    subst (λ (p : ℕ). HoldsLanes c.args.lanes.now c.args.set.now.caller (hand outer (Some p) 0 ∷ [])
-    c.put-mark.new.pass) (sym c.put-mark.ensures.place)
+    subst (λ (p : ℕ). HoldsLanes c.args.lanes.now c.args.set.now.caller (hand outer (Some p) 0 ∷ []) c.put-mark.new.pass)
+    (sym c.put-mark.ensures.place)
     (has_put_naming c.args.lanes.now c.args.set.now.caller (hand c.args.held.turn (behind_of e) (raise_of e))
     (hand outer None 0) [] _ outer.place c.args.pass.now c.put-mark.new.pass c.requires.names c.requires.has
     c.put-mark.ensures.pass c.put-mark.ensures.added)
