@@ -58,7 +58,7 @@ module _ (caller : ℕ) where
   made_by lane n (looked g ∷ made_steps) = made_by lane (suc n) made_steps
   made_by lane n (visited mark e ∷ made_steps) =
       one_longer (nat_eq (index_of mark.lane) lane) mark.place (places_in lane made_steps) _
-          (made_by lane (suc n) made_steps)
+      (made_by lane (suc n) made_steps)
       ∙ sym (sum_by-cons (here_in lane) (record { mark = mark; who = maker caller 0 n })
       (deal_marks caller (suc n) made_steps))
 

@@ -114,7 +114,7 @@ course_of event v w steps made_steps is =
       made = λ lane low. is.went.made lane low
           ∙ ap (λ (k : ℕ). (at lane v).made + k)
           (ap length (places_by lane event 0 made_steps)
-              ∙ length_places (lane_of lane (deal_marks event 0 made_steps)));
+          ∙ length_places (lane_of lane (deal_marks event 0 made_steps)));
       placed = λ lane low. is.went.places lane low
           ∙ ap (λ (l : List ℕ). (at lane v).places ++ l) (places_by lane event 0 made_steps);
       climbs = subst (λ (l : List ℕ). Climbs v.stamp l w.stamp) (stamps_by event 0 made_steps) is.went.climbs;

@@ -81,7 +81,7 @@ Sees w low [] high = low ≤ high
 Sees w low (looked g ∷ made_steps) high = (low ≤ g) × Sees w g made_steps high
 Sees w low (visited mark e ∷ made_steps) high = (mid : ℕ) × (low ≤ mid)
     × (generation_of (replay (take (suc mark.place) (known_of w (index_of mark.lane)))) ≤ mid)
-        × Sees w mid made_steps high
+    × Sees w mid made_steps high
 
 -- the core is ready exactly where it was reseeded
 abbrev pub Agrees : BaseValue → Type 0
