@@ -1,3 +1,5 @@
+pub mod SampleCalls
+pub mod SiteBasics
 pub mod ActLines
 pub mod ActRuns
 pub mod Acting

@@ -65,7 +65,20 @@ seen_by s = floor (view s.pass.now)
 abbrev pub HasInHands : List HeldLane → Site → Type 0
 HasInHands hands s = HoldsLanes s.lanes.now s.set.caller hands s.pass.now
 
+-- the most steps that a trace has
+abbrev pub most_steps : ℕ
+most_steps = 20
+
+-- how many visits the caller knows of the CPU that it runs on
+abbrev pub own_places : Site → ℕ
+own_places s = length (known_of (view s.pass.now) (own_lane s))
+
 -- Before a call
+
+-- empty hands, and no step yet
+pub record IsNew (s : Site) : Type 0 where
+  pub has : HasInHands [] s
+  pub empty : length s.trace.now ≡ 0
 
 -- empty hands, with room for so many steps
 pub record IsIdle (steps : ℕ) (s : Site) : Type 0 where
@@ -165,6 +178,12 @@ pub record Entered (lane : ℕ) (h : Held) (m n : Site) : Type 0 where
   pub fresh : lane ≡ base_lane → (view n.pass.now).seen ≤ (lane_of n base_lane).base.generation
   pub low : lane ≡ base_lane → (lane_of n base_lane).base.generation < 2 ^ 62
   pub agrees : lane ≡ base_lane → Agrees (lane_of n base_lane).base
+
+-- only the pass moved, and the hands are empty
+pub record KeepsTrace (m n : Site) : Type 0 where
+  pub same : Same m n
+  pub trace : n.trace.now ≡ m.trace.now
+  pub has : HasInHands [] n
 
 -- a lane was given back as it was taken
 pub record GaveBack (m n : Site) : Type 0 where
