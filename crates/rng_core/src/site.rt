@@ -121,7 +121,7 @@ impl Site<'_> {
     pub(crate) fn leave_pool(&mut self, pool: Held, note: PoolNote)
         requires ready { CanLeave pool_lane pool (OfPool (entry_of note)) self.old }
         requires makes { IsMade pool_lane pool (OfPool (entry_of note)) self.old }
-        ensures { Left pool_lane pool (OfPool (entry_of note)) self.old self.new }
+        ensures { Left pool_lane pool (OfPool (entry_of note.entry)) self.old self.new }
     {
         self.leave(pool, note);
     }

@@ -1,5 +1,5 @@
 //! Keys out of the lane behind one that is held: a root for the base, and a CPU's key.
-ghost use Rattle.std.specs.Prelude.{◌≤◌, ◌<◌};
+ghost use Rattle.std.specs.Prelude.{◌≤◌, ◌<◌, ◌^◌};
 
 use crate::lane_values;
 use crate::site::Site;
