@@ -1,5 +1,5 @@
 pub mod SampleCalls
-pub mod SiteBasics
+pub mod SiteLemmas
 pub mod ActLines
 pub mod ActRuns
 pub mod Acting

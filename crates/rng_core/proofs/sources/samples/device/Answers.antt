@@ -1,7 +1,6 @@
 use Rattle.std.proofs.Common.{refl}
 use Rattle.lane_table.proofs.Calls.Lent.{lent}
-use Rattle.rng_core.proofs.SiteBasics.{does_map}
-use Rattle.rng_core.proofs.SampleCalls.{does_pool}
+use Rattle.rng_core.proofs.SiteLemmas.{does_map, does_pool}
 use Rattle.rng_core.proofs.sources.samples.device.Goals as goal
 
 pub leave_pool-requires-clause-makes : goal.leave_pool-requires-clause-makes

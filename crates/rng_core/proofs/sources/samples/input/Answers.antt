@@ -1,6 +1,6 @@
 use Rattle.std.proofs.Common.{refl}
 use Rattle.lane_table.proofs.Calls.Lent.{lent}
-use Rattle.rng_core.proofs.SiteBasics.{does_map}
+use Rattle.rng_core.proofs.SiteLemmas.{does_map}
 use Rattle.rng_core.proofs.SampleCalls.{does_credit}
 use Rattle.rng_core.proofs.sources.samples.input.Goals as goal
 

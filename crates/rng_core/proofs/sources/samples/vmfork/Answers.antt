@@ -4,8 +4,7 @@ use Rattle.key_names.specs.declared.events.Event.TheVariants.{Reseed}
 use Rattle.key_names.specs.Deeds.{Deed}
 use Rattle.key_names.specs.SeenLine.{no_data}
 use Rattle.rng_core.specs.Makes.{IsOutcomeOf, setting_of, result_answer}
-use Rattle.rng_core.proofs.SiteBasics.{does_map}
-use Rattle.rng_core.proofs.SampleCalls.{does_then}
+use Rattle.rng_core.proofs.SiteLemmas.{does_map, does_then}
 use Rattle.rng_core.proofs.sources.samples.vmfork.Goals as goal
 
 pub returns : goal.returns
@@ -21,5 +20,5 @@ returns g c =
       answers = refl;
       shows = refl;
     })
-    (does_then (λ set visits. IsOutcomeOf (setting_of set) Reseed (result_answer c.reseed.result) no_data) 1 3 _ _ _
+    (does_then (λ set. IsOutcomeOf (setting_of set) Reseed (result_answer c.reseed.result) no_data) 1 3 _ _ _
     c.device.ensures.does c.reseed.ensures)
