@@ -1,3 +1,4 @@
+pub mod ActCalls
 pub mod SampleCalls
 pub mod SiteLemmas
 pub mod ActLines

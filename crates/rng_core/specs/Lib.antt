@@ -12,3 +12,4 @@ pub mod Traces
 pub mod VreadMakes
 pub mod Waits
 pub mod Sites
+pub mod SiteWaits

@@ -9,7 +9,7 @@ ghost use Rattle.rng_core.specs.Traces.{BeginsWithLook};
 ghost use Rattle.rng_core.specs.Makes.{setting_of, result_answer, given};
 ghost use Rattle.rng_core.specs.Sites.{IsIdle, IsOnCpu, IsTimely, Does, Completes, HasInHands, most_bytes};
 ghost use Rattle.input_pool.specs.PoolStands.{crossing_of};
-ghost use Rattle.rng_core.specs.Waits.{waiting};
+ghost use Rattle.rng_core.specs.SiteWaits.{waiting_at, BeginsAndWaits};
 
 use crate::site::Site;
 use crate::{reseeds, system_call};
@@ -39,14 +39,12 @@ pub(crate) fn getrandom<R: Wait>(
     buf: &mut [u8],
     flags: u32,
 ) -> Result<(), Errno>
-    requires idle { IsIdle (4 + waiting (view site.old.pass.now)) site.old }
+    requires idle { IsIdle (4 + waiting_at site.old) site.old }
     requires cpu { IsOnCpu site.old }
     requires short { length buf.old ≤ most_bytes }
-    ensures room { length site.new.trace.now + waiting (view site.new.pass.now)
-        ≤ length site.old.trace.now + 4 + waiting (view site.old.pass.now) }
-    ensures begins { is_bad flags ≡ false → BeginsWithLook site.old.trace.now site.new.trace.now }
-    ensures completes { Completes 6 (Read (length buf.old) flags) (result_answer result) (bytes_or_none (given result buf.new))
-        site.old site.new }
+    ensures does { Completes (4 + waiting_at site.old) (Read (length buf.old) flags) (result_answer result)
+        (bytes_or_none (given result buf.new)) site.old site.new }
+    ensures begins { BeginsAndWaits flags site.old site.new }
 {
     system_call::getrandom(rt, site.lanes, site.pass, site.trace, &site.set, buf, flags)
 }
