@@ -12,5 +12,6 @@ pub mod IntFulfilling
 pub mod Parents
 pub mod Readings
 pub mod Sampling
+pub mod SiteLemmas
 pub mod SysFulfilling
 pub mod TellLemmas

@@ -4,6 +4,7 @@
 mod acts;
 mod attempt;
 mod batches;
+mod callers;
 mod cpu_values;
 mod cpus;
 mod crng;
@@ -11,6 +12,7 @@ mod forks;
 mod host_call;
 mod inside;
 mod integers;
+mod interface;
 mod interrupts;
 mod keys;
 mod lane_host;

@@ -1,0 +1,3 @@
+//! What callers do with one another: how many run, and who began from whom.
+
+pub(crate) mod running;
