@@ -13,7 +13,6 @@ use Rattle.rng_core.specs.Makes.{setting_of, result_answer, given}
 use Rattle.rng_core.specs.Sites.{IsNew, Does, Completes, at, most_steps}
 use Rattle.rng_core.specs.SiteWaits.{waiting_at}
 use Rattle.rng_core.proofs.ActLines.{wipe_done, read_done, reseed_done}
-use Rattle.rng_core.proofs.SiteLemmas.{same_site}
 
 -- what an act did, with this answer and these bytes
 abbrev pub DoesAct : InsideAct → Result (Unit {0}) Errno → List ℕ → Site → Site → Type 0
@@ -21,7 +20,7 @@ DoesAct act result out m n = Does most_steps (λ deeds. ActMeans (setting_of m.s
 
 pub does_wipe : (m : Site) (out : List ℕ) → IsNew m → length out ≡ 0 → DoesAct Wipe (Ok tt) out m m
 does_wipe m out new none = record {
-  same = same_site m;
+  same = record { lanes = refl; set = refl; pass = refl; trace = refl };
   has = new.has;
   room = omega arith;
   did = wipe_done m.set (at m) out (let a = new.has.pass.sized in let b = m.lanes.now.few in omega arith) none;

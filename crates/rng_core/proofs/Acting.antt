@@ -23,7 +23,7 @@ use Rattle.rng_core.proofs.ActRuns.{Onward, onward_same, onward_is, onward_then,
 use Rattle.rng_core.proofs.CallEnds.{PublishesUpTo}
 use Rattle.rng_core.proofs.Makings.{did_look, did_nothing}
 use Rattle.rng_core.proofs.Hosting.{published_more}
-use Rattle.rng_core.proofs.SiteLemmas.{same_site, same_then}
+use Rattle.rng_core.proofs.SiteLemmas.{same_then}
 
 step_set : (s t : ActStand) (step : HostStep) → Does acting s step t → t.core.set ≡ s.core.set
 step_set s t (publishes g) k = k.core.same
@@ -305,7 +305,11 @@ module _ {R : Type 0} where
       DoesAll acting (standing h) steps (standing last) × SameLoans h last
   host_acts [] h last does = (
     ap standing does,
-    subst (SameLoans h) does (record { site = same_site h.site; acts = refl; out = refl }),
+    subst (SameLoans h) does (record {
+      site = record { lanes = refl; set = refl; pass = refl; trace = refl };
+      acts = refl;
+      out = refl;
+    }),
   )
   host_acts (step ∷ steps) h last does =
       let first = host_step h does.0 step does.1 in

@@ -15,5 +15,6 @@ pub mod IntFulfilling
 pub mod Parents
 pub mod Readings
 pub mod Sampling
+pub mod SiteLemmas
 pub mod SysFulfilling
 pub mod TellLemmas

@@ -26,9 +26,6 @@ use Rattle.rng_core.proofs.Makings.{After, Behind, did_map, did_in_map, did_afte
 pub one_more : (xs ys : List Step) (s : Step) → ys ≡ xs ++ s ∷ [] → length ys ≡ length xs + 1
 one_more xs ys s e = ap length e ∙ (omega (arith, length-append xs (s ∷ [])))
 
-pub same_site : (s : Site) → Same s s
-same_site s = record { lanes = refl; set = refl; pass = refl; trace = refl }
-
 pub same_then : (l m n : Site) → Same l m → Same m n → Same l n
 same_then l m n a b = record {
   lanes = b.lanes ∙ a.lanes;

@@ -5,7 +5,7 @@ ghost use Rattle.key_names.specs.VreadSteps.{published_by};
 ghost use Rattle.rng_core.specs.Hosting.{hosting, CanHost, IsNewHost};
 ghost use Rattle.rng_core.specs.Sites.{seen_by};
 
-use crate::bridge::getrandom;
+use crate::interface::system_call::getrandom;
 use crate::site::Site;
 use crate::vdso::acts::{Bound, run_acts};
 use crate::vdso::attempt::Attempt;
