@@ -2,7 +2,7 @@ use Rattle.std.proofs.Common.{length, ap, ◌∙◌, arith, rules, ◌≡◌, re
 use Rattle.rng_core.specs.declared.site.Site.{Site}
 use Rattle.rng_core.specs.Sites.{at}
 use Rattle.rng_core.proofs.Hosting.{has_by}
-use Rattle.rng_core.proofs.Readings.{served_read, left_read}
+use Rattle.rng_core.proofs.Readings.{served_read, left_read, read_until}
 use Rattle.rng_core.proofs.SiteLemmas.{same_then}
 use Rattle.rng_core.proofs.vdso.vreads.vread.Goals as goal
 
@@ -27,11 +27,9 @@ returns-in-NeedsSystem g c = let l = c.vread_local.ensures in let over = c.over-
             (k.loans.site.set ∙ ap (λ (z : Site). z.set) over.site) k.has,
       );
       current = search (rules, k.current);
-      did = search (
-        rules,
-        left_read (length c.args.buf.now) (length c.vread_local.new.buf) c.args.flags c.args.st.now c.vread_local.new.st
-            c.call_host.new.st _ _ c.args.site.now.set (at c.args.site.now) (at c.vread_local.new.site)
-            (at c.call_host.new.host.site) c.requires.current (omega (arith, c.vread_local.auto.buf))
-            (rw c.in-NeedsSystem.is at l.read) (rw l.same.set at called),
-      );
+      did = read_until _ _ _ (search rules) (search rules)
+          (left_read (length c.args.buf.now) (length c.vread_local.new.buf) c.args.flags c.args.st.now c.vread_local.new.st
+          c.call_host.new.st _ _ c.args.site.now.set (at c.args.site.now) (at c.vread_local.new.site)
+          (at c.call_host.new.host.site) c.requires.current (omega (arith, c.vread_local.auto.buf))
+          (rw c.in-NeedsSystem.is at l.read) (rw l.same.set at called));
     }
