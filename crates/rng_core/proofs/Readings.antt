@@ -29,9 +29,7 @@ use Rattle.lane_table.specs.Advances.{MadeStep, looked, visited, step_of, looks_
 use Rattle.vdso_state.specs.declared.outcome.VEnd.{VEnd}
 use Rattle.vdso_state.specs.Call.{EndsAs}
 use Rattle.rng_core.specs.declared.setting.Setting.{Setting}
-use Rattle.rng_core.specs.declared.site.Site.{Site}
-use Rattle.rng_core.specs.Traces.{Moment, TraceRecords, moment}
-use Rattle.rng_core.specs.Sites.{at}
+use Rattle.rng_core.specs.Traces.{Moment, TraceRecords}
 use Rattle.rng_core.specs.Makes.{Makes, setting_of, errno_answer, result_answer, given}
 use Rattle.rng_core.specs.VreadMakes.{done_of, LocallyServed, Refused, Unserved, LeftToSystem, Called, VreadLine, VreadMakes, vread_meaning}
 use Rattle.rng_core.proofs.ActRuns.{Risen, sees_risen}
@@ -270,10 +268,3 @@ left_read n n' flags s s' t answer shown set l m o low same left k =
     (subst (λ (z : VgetrandomState). Called n flags z t answer shown set m o) left.state
     (subst (λ (z : ℕ). Called z flags s' t answer shown set m o) same k))
     left.steps
-
--- of a site whose pass and trace were lent to another one
-pub read_until : {n flags : ℕ} {s t : VgetrandomState} {answer : Answer} {shown : Shown} {set : Setting} (l : Moment)
-    (m inner : Site) → inner.pass.now ≡ m.pass.now → inner.trace.now ≡ m.trace.now →
-    VreadMakes n flags s t answer shown set l (at inner) → VreadMakes n flags s t answer shown set l (at m)
-read_until {n} {flags} {s} {t} {answer} {shown} {set} l m inner pass trace k =
-    subst (λ (z : Moment). VreadMakes n flags s t answer shown set l z) (λ i. moment (pass i) (trace i)) k
