@@ -7,6 +7,7 @@ mod cpu_values;
 mod crng;
 mod interface;
 mod lane_values;
+mod projections;
 mod setting;
 mod site;
 mod sources;

@@ -12,6 +12,7 @@ ghost use Rattle.lane_table.specs.Meaning.{Model, ValueRepresents, made_of};
 ghost use Rattle.rng_core.specs.Reading.{IsCpuValue};
 ghost use Rattle.rng_core.specs.Rests.{Asks, finished, IsBegun};
 
+use crate::projections::{with_base, with_cpu};
 use base_gen::Base;
 use chacha_blocks::Detached;
 use cpu_gen::Cpu;
@@ -87,10 +88,7 @@ pub(crate) fn read(state: &mut LaneState, buf: &mut [u8], taken: Taken) -> Rest
     ensures rest { (lane : ℕ) (s : Model) → 2 ≤ lane → ValueRepresents lane state.old s
         → finished result buf.new ≡ taken_bytes s.cpu.cpu.key taken }
 {
-    match state {
-        LaneState::Cpu(lane) => front_of_cpu(&mut lane.cpu, buf, taken),
-        _ => unreachable!(),
-    }
+    with_cpu!(state, lane => front_of_cpu(&mut lane.cpu, buf, taken))
 }
 
 /// A read of the key that the base hands over.
@@ -109,13 +107,10 @@ pub(crate) fn read_refilled(
     ensures begun { IsBegun result buf.new }
     ensures rest { finished result buf.new ≡ taken_bytes key taken }
 {
-    match state {
-        LaneState::Cpu(lane) => {
-            lane.cpu.refill(key, generation);
-            front_of_cpu(&mut lane.cpu, buf, taken)
-        }
-        _ => unreachable!(),
-    }
+    with_cpu!(state, lane => {
+        lane.cpu.refill(key, generation);
+        front_of_cpu(&mut lane.cpu, buf, taken)
+    })
 }
 
 /// A read that draws from the base's key.
@@ -127,10 +122,7 @@ pub(crate) fn draw(state: &mut LaneState, buf: &mut [u8], taken: Taken) -> Rest
     ensures begun { IsBegun result buf.new }
     ensures rest { (s : Model) → ValueRepresents 1 state.old s → finished result buf.new ≡ taken_bytes s.base.key taken }
 {
-    match state {
-        LaneState::Base(lane) => front_of_base(&mut lane.base, buf, taken),
-        _ => unreachable!(),
-    }
+    with_base!(state, lane => front_of_base(&mut lane.base, buf, taken))
 }
 
 /// A read that draws from a root.
@@ -142,11 +134,8 @@ pub(crate) fn draw_rooted(state: &mut LaneState, root: [u8; 32], buf: &mut [u8],
     ensures begun { IsBegun result buf.new }
     ensures rest { finished result buf.new ≡ taken_bytes root taken }
 {
-    match state {
-        LaneState::Base(lane) => {
-            lane.base.fill_empty(root);
-            front_of_base(&mut lane.base, buf, taken)
-        }
-        _ => unreachable!(),
-    }
+    with_base!(state, lane => {
+        lane.base.fill_empty(root);
+        front_of_base(&mut lane.base, buf, taken)
+    })
 }
