@@ -94,14 +94,19 @@ can_put_naming lane h outer e s has on kind names above parent_is owes makes fit
   makes = subst (λ (l : ℕ). IsMade l h e s) (sym on) makes;
   fits = subst (λ (l : ℕ). Fits (lane_of s l) (handed l e (view s.pass.now)) e) (sym on) fits;
   names = record {
-    ahead = inr (outer.lane, outer.place, names, record {
-      above = above;
-      near = has.held.2.0.near;
-      parent = parent_is ∙ sym on;
-      next = has.held.2.0.next;
-      holding = (outer.ticket, has.held.2.0.stage);
-      free = has.held.2.0.owed ∙ owes;
-    });
+    ahead = inr (
+      outer.lane,
+      outer.place,
+      names,
+      record {
+        above = above;
+        near = has.held.2.0.near;
+        parent = parent_is ∙ sym on;
+        next = has.held.2.0.next;
+        holding = (outer.ticket, has.held.2.0.stage);
+        free = has.held.2.0.owed ∙ owes;
+      },
+    );
     behind = sym has.held.0.owed;
     raise = has.held.0.raise;
   };

@@ -2,7 +2,6 @@
 ghost use Rattle.std.specs.Prelude.{◌≡◌, ◌≢◌, ℕ, ◌<◌, ◌≤◌, ◌+◌, ◌^◌, Bool, true, None, Some, length};
 ghost use Rattle.key_names.specs.declared.entries.CpuEntry.TheVariants.{Read, Int, Irq, Dump as DumpEntry, Prepare, Online};
 ghost use Rattle.key_names.specs.Batches.{must_fill};
-ghost use Rattle.key_names.specs.KeyInUse.{taken_bytes};
 ghost use Rattle.key_names.specs.FastPool.{makes_due, dump_bits, dump_bytes};
 ghost use Rattle.lane_table.specs.declared.view.LaneEntry.TheVariants.{Cpu as OfCpu};
 ghost use Rattle.lane_table.specs.declared.view.Handed.{Handed};
@@ -11,9 +10,8 @@ ghost use Rattle.lane_table.specs.VisitsMet.{cpu_serving};
 ghost use Rattle.rng_core.specs.Reading.{IsCpuValue};
 ghost use Rattle.rng_core.specs.Integers.{IsWidth};
 
-use crate::projections::{with_cpu};
 use crate::batches;
-use key_names::Taken;
+use crate::projections::with_cpu;
 use lane_table::LaneState;
 use sample_credit::Dump;
 

@@ -3,8 +3,7 @@ ghost use Rattle.std.specs.Prelude.{◌≡◌, ◌≢◌, ◌↔◌, ℕ, ◌<�
 ghost use Rattle.std.specs.Int.{w64, to_le_bytes};
 ghost use Rattle.key_names.specs.declared.entries.PoolEntry.{PoolEntry};
 ghost use Rattle.key_names.specs.declared.entries.PoolEntry.TheVariants.{Mix, Input as InputEntry, Bits as BitsEntry, Extract};
-ghost use Rattle.key_names.specs.declared.entries.BaseEntry.TheVariants.{Early as EarlyEntry, Reseed, Tick, Draw, Refill};
-ghost use Rattle.key_names.specs.KeyInUse.{taken_bytes};
+ghost use Rattle.key_names.specs.declared.entries.BaseEntry.TheVariants.{Early as EarlyEntry, Reseed, Tick, Refill};
 ghost use Rattle.key_names.specs.Keystream.{keystream};
 ghost use Rattle.key_names.specs.BaseList.{IsDue, empty, one_more, one_less};
 ghost use Rattle.base_gen.specs.BaseValue.{phase_of};
@@ -17,7 +16,6 @@ ghost use Rattle.lane_table.specs.Meaning.{Model, PoolLaneStands, ValueRepresent
 use crate::projections::{with_base, with_pool};
 use base_gen::Phase;
 use input_pool::Crossing;
-use key_names::Taken;
 use lane_table::{LaneState, PoolLane};
 use sample_credit::input_sample;
 

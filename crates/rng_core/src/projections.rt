@@ -30,4 +30,6 @@ macro_rules! with_cpu {
     };
 }
 
-pub(crate) use {with_base, with_cpu, with_pool};
+pub(crate) use with_base;
+pub(crate) use with_cpu;
+pub(crate) use with_pool;

@@ -21,8 +21,15 @@ use key_names::{BaseEntry, CpuEntry, LaneId, Taken};
 use lane_table::Held;
 use std::sync::Wait;
 
-// A read from a base that was never seeded: it gets a root for this read alone.
-fn draw_rooted<R: Wait>(rt: &R, site: &mut Site, mut base: Held, buf: &mut [u8], taken: Taken) -> Rest
+// A read from a base that was never seeded: it gets a root for this read alone (`crng_make_state` while `crng_init` is
+// `CRNG_EMPTY`).
+fn draw_rooted<R: Wait>(
+    rt: &R,
+    site: &mut Site,
+    mut base: Held,
+    buf: &mut [u8],
+    taken: Taken,
+) -> Rest
     requires holds { Holds base_lane base site.old }
     requires unseeded { (lane_of site.old base_lane).base.phase ≡ empty }
     requires asks { Asks taken buf.old }
@@ -40,7 +47,7 @@ fn draw_rooted<R: Wait>(rt: &R, site: &mut Site, mut base: Held, buf: &mut [u8],
     rest
 }
 
-// A read from a base that was seeded early.
+// A read from a base that was seeded early (`crng_make_state` while `crng_init` is `CRNG_EARLY`).
 fn draw_early(site: &mut Site, mut base: Held, buf: &mut [u8], taken: Taken) -> Rest
     requires holds { Holds base_lane base site.old }
     requires seeded { (lane_of site.old base_lane).base.phase ≡ early }
@@ -156,7 +163,7 @@ fn begin_behind<R: Wait>(rt: &R, site: &mut Site, look: u64, buf: &mut [u8], tak
     begin_cpu(rt, site, buf, taken)
 }
 
-/// A read from a CPU. The bytes behind the first 32 are made with empty hands.
+/// A read from a CPU (`_get_random_bytes`, `get_random_bytes_user`). The bytes behind the first 32 are made with empty hands.
 pub(crate) fn read_cpu<R: Wait>(rt: &R, site: &mut Site, buf: &mut [u8], taken: Taken)
     requires idle { IsIdle 3 site.old }
     requires cpu { IsOnCpu site.old }
@@ -195,7 +202,7 @@ pub fn kernel_read<R: Wait>(rt: &R, site: &mut Site, buf: &mut [u8])
     read_behind(rt, site, found, buf, taken);
 }
 
-/// A read of /dev/urandom, which never waits. Where no byte is wanted nothing is done.
+/// A read of /dev/urandom (`urandom_read_iter`), which never waits. Where no byte is wanted nothing is done.
 pub fn urandom_file<R: Wait>(rt: &R, site: &mut Site, buf: &mut [u8])
     requires idle { IsIdle 4 site.old }
     requires cpu { IsOnCpu site.old }

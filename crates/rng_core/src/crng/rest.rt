@@ -30,7 +30,7 @@ pub(crate) struct Rest {
 }
 
 impl Rest {
-    /// Makes the bytes that are not made yet.
+    /// Makes the bytes that are not made yet (what `_get_random_bytes` does behind `crng_make_state`).
     pub(crate) fn fill(self, buf: &mut [u8])
         requires { IsBegun self buf.old }
         ensures { buf.new ≡ finished self buf.old }
@@ -42,7 +42,7 @@ impl Rest {
     }
 }
 
-// Erases the CPU's key, and makes up to 32 bytes.
+// Erases the CPU's key, and makes up to 32 bytes (`crng_fast_key_erasure`).
 fn front_of_cpu(cpu: &mut Cpu, buf: &mut [u8], taken: Taken) -> Rest
     requires { Asks taken buf.old }
     ensures state { cpu.new ≡ erased cpu.old }
@@ -60,7 +60,7 @@ fn front_of_cpu(cpu: &mut Cpu, buf: &mut [u8], taken: Taken) -> Rest
     Rest { made, key }
 }
 
-// Erases the base's key, and makes up to 32 bytes.
+// Erases the base's key, and makes up to 32 bytes (`crng_fast_key_erasure`).
 fn front_of_base(base: &mut Base, buf: &mut [u8], taken: Taken) -> Rest
     requires { Asks taken buf.old }
     ensures state { base.new ≡ base_erased base.old }
@@ -126,7 +126,12 @@ pub(crate) fn draw(state: &mut LaneState, buf: &mut [u8], taken: Taken) -> Rest
 }
 
 /// A read that draws from a root.
-pub(crate) fn draw_rooted(state: &mut LaneState, root: [u8; 32], buf: &mut [u8], taken: Taken) -> Rest
+pub(crate) fn draw_rooted(
+    state: &mut LaneState,
+    root: [u8; 32],
+    buf: &mut [u8],
+    taken: Taken,
+) -> Rest
     requires stands { (s : Model) × ValueRepresents 1 state.old s × (s.base.phase ≡ empty) }
     requires asks { Asks taken buf.old }
     ensures made { (s : Model) (got : Handed) (place : ℕ) → got.key ≡ root → ValueRepresents 1 state.old s

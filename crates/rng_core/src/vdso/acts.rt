@@ -79,12 +79,7 @@ fn is_wipe(act: InsideAct) -> bool
 }
 
 // What an act does to the core; a wipe does nothing to it.
-fn do_act<R: Wait>(
-    rt: &R,
-    site: &mut Site,
-    act: InsideAct,
-    out: &mut [u8],
-) -> Result<(), Errno>
+fn do_act<R: Wait>(rt: &R, site: &mut Site, act: InsideAct, out: &mut [u8]) -> Result<(), Errno>
     requires new { IsNew site.old }
     requires cpu { IsOnCpu site.old }
     requires moment { IsTimely site.old }
