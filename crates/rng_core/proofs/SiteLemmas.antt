@@ -62,7 +62,8 @@ pub does_map : {P Q : List Deed → Type 0} (steps : ℕ) (m n : Site) → ((dee
 does_map steps m n f k = does_in_map steps m n (λ visits. f) k
 
 -- in more steps than were needed
-pub does_within : {P : (ℕ → List Visit) → List Deed → Type 0} (few many : ℕ) (m n : Site) → few ≤ many → DoesIn few P m n →
+pub does_within : {P : (ℕ → List Visit) → List Deed → Type 0} (few many : ℕ) (m n : Site) → few ≤ many →
+    DoesIn few P m n →
     DoesIn many P m n
 does_within few many m n less k = record {
   same = k.same;
@@ -72,7 +73,8 @@ does_within few many m n less k = record {
 }
 
 -- the form alone
-pub does_formed : {F : List Deed → Type 0} {bytes : List ℕ} (steps : ℕ) (m n : Site) → Does steps (Serving F bytes) m n →
+pub does_formed : {F : List Deed → Type 0} {bytes : List ℕ} (steps : ℕ) (m n : Site) →
+    Does steps (Serving F bytes) m n →
     Does steps F m n
 does_formed steps m n k = does_map steps m n (λ deeds h. h.form) k
 
@@ -118,7 +120,8 @@ does_looked P bytes steps g l m n a k = record {
 }
 
 -- the same, with what the look found
-pub does_found : (P : Setting → List Deed → Type 0) (steps g : ℕ) (l m n : Site) → Looked g l m → Does steps (P m.set) m n →
+pub does_found : (P : Setting → List Deed → Type 0) (steps g : ℕ) (l m n : Site) → Looked g l m →
+    Does steps (P m.set) m n →
     Does (steps + 1) (Behind g (P l.set)) l n
 does_found P steps g l m n a k = record {
   same = same_then l m n a.walked.same k.same;
@@ -147,7 +150,8 @@ does_nothing steps m idle p = record {
 
 -- one visit
 pub does_left : {P : (ℕ → List Visit) → List Deed → Type 0} (lane : ℕ) (h : Held) (e : LaneEntry) (m n : Site) →
-    Left lane h e m n → (Visited m.set (at m) (at n) lane h.turn.place (lane_of m lane) e (handed lane e (view m.pass.now)) →
+    Left lane h e m n → (Visited m.set (at m) (at n) lane h.turn.place (lane_of m lane) e
+    (handed lane e (view m.pass.now)) →
     MakesIn P m.set (at m) (at n)) → DoesIn 1 P m n
 does_left lane h e m n k f = record {
   same = k.same;

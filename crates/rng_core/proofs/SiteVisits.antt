@@ -58,7 +58,8 @@ took lane h m n same trace is has taken early hands = record {
 -- it was not got at first
 pub took_later : (lane : ℕ) (h : Held) (l m n : Site) → Same l m → m.trace.now ≡ l.trace.now →
     IsPassOf l.lanes.now l.pass.now → Tried lane l.pass.now.seat.me m.pass.now.seat.me →
-    ((hands : List HeldLane) → NotIn lane hands → HasInHands hands l → HasInHands hands m) → Took lane h m n → Took lane h l n
+    ((hands : List HeldLane) → NotIn lane hands → HasInHands hands l → HasInHands hands m) → Took lane h m n →
+    Took lane h l n
 took_later lane h l m n same trace is tried hands k = record {
   walked = walked_then l m n [] [] (record {
     same = same;
@@ -128,7 +129,8 @@ last_is xs x p e = ap (λ (q : ℕ). got_of (Some q) (xs ++ x ∷ [])) e
 
 pub named : (lane : ℕ) (h : Held) (outer : Turn) (e : LaneEntry) (m n : Site) →
     HasInHands (hand h.turn (behind_of e) (raise_of e) ∷ hand outer None 0 ∷ []) m → h.turn.lane ≡ lane →
-    ahead_of e ≡ Some (outer.lane, outer.place) → m.pass.now.stamp < last_stamp → Visits h e m n → Named lane h outer e m n
+    ahead_of e ≡ Some (outer.lane, outer.place) → m.pass.now.stamp < last_stamp → Visits h e m n →
+    Named lane h outer e m n
 named lane h outer e m n has on names early v =
     let x : Visit = filled h.turn.lane (visit_by (maker m.set.caller m.set.event (length m.trace.now)) v.stamp e)
     (view m.pass.now) in record {
@@ -146,7 +148,8 @@ named lane h outer e m n has on names early v =
     }
 
 -- a visit behind what no step tells, of an entry that is said by the setting
-pub visited_behind : (F : Setting → LaneEntry) (lane place : ℕ) (s : Model) (got : Handed) (l m n : Site) → Walked [] l m →
+pub visited_behind : (F : Setting → LaneEntry) (lane place : ℕ) (s : Model) (got : Handed) (l m n : Site) →
+    Walked [] l m →
     Visited m.set (at m) (at n) lane place s (F m.set) got → Visited l.set (at l) (at n) lane place s (F l.set) got
 visited_behind F lane place s got l m n a v = visited_after _ _ _ _ _ _ _ _ _ a.told
     (subst (λ (x : Setting). Visited x (at m) (at n) lane place s (F x) got) a.same.set v)

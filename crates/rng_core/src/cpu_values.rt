@@ -63,7 +63,8 @@ pub(crate) fn serve_refilled(
         (made_of s (OfCpu (Int look (Some place) (length out.old) true)) got) }
     ensures bytes { (lane : ℕ) (s : Model) (got : Handed) (place : ℕ) → 2 ≤ lane → got.key ≡ key
         → got.generation ≡ generation → must_fill look (length out.old) (s.cpu.fills (length out.old)) ≡ true
-        → ValueRepresents lane state.old s → out.new ≡ cpu_serving s.cpu got (Int look (Some place) (length out.old) true) }
+        → ValueRepresents lane state.old s → out.new ≡ cpu_serving s.cpu got
+        (Int look (Some place) (length out.old) true) }
 {
     with_cpu!(state, lane => {
         lane.cpu.refill(key, generation);
@@ -76,7 +77,8 @@ pub(crate) fn sample(state: &mut LaneState, v1: u64, v2: u64, now: u64) -> bool
     requires { IsCpuValue state.old }
     ensures made { (lane : ℕ) (s : Model) (got : Handed) → 2 ≤ lane → ValueRepresents lane state.old s
         → ValueRepresents lane state.new (made_of s (OfCpu (Irq v1 v2 now)) got) }
-    ensures due { (lane : ℕ) (s : Model) → 2 ≤ lane → ValueRepresents lane state.old s → result ≡ makes_due s.cpu.fast now }
+    ensures due { (lane : ℕ) (s : Model) → 2 ≤ lane → ValueRepresents lane state.old s →
+        result ≡ makes_due s.cpu.fast now }
 {
     with_cpu!(state, lane => lane.fast.mix(v1, v2, now))
 }

@@ -134,7 +134,8 @@ pub(crate) fn install(state: &mut LaneState, root: [u8; 32], now: u64)
 
 /// Installs a root because the timer is due.
 pub(crate) fn fire(state: &mut LaneState, root: [u8; 32], now: u64)
-    requires stands { (s : Model) × ValueRepresents 1 state.old s × (s.base.generation < 2 ^ 63) × IsDue s.base.timer now }
+    requires stands { (s : Model) × ValueRepresents 1 state.old s × (s.base.generation < 2 ^ 63) × IsDue s.base.timer
+        now }
     requires now { now < 2 ^ 40 }
     ensures { (s : Model) (got : Handed) (place : ℕ) → got.key ≡ root → ValueRepresents 1 state.old s
         → ValueRepresents 1 state.new (made_of s (OfBase (Tick now (Some place))) got) }

@@ -1,5 +1,5 @@
-//! Reads of random bytes, from the base while the core is not ready and from a CPU afterwards. No lane is held while the
-//! bytes behind the first 32 are made.
+//! Reads of random bytes, from the base while the core is not ready and from a CPU afterwards. No lane is held while
+//! the bytes behind the first 32 are made.
 ghost use Rattle.std.specs.Prelude.{◌≡◌, ◌≢◌, ◌≤◌, None, Some, length};
 ghost use Rattle.key_names.specs.declared.entries.CpuEntry.TheVariants.{Read};
 ghost use Rattle.key_names.specs.BaseList.{empty, early, ready};
@@ -35,7 +35,8 @@ fn draw_rooted<R: Wait>(
     requires asks { Asks taken buf.old }
     requires room { HasRoom 2 site.old }
     ensures begun { IsBegun result buf.new }
-    ensures does { Does 2 (Serving (DrawForm (setting_of site.old.set) taken) (finished result buf.new)) site.old site.new }
+    ensures does { Does 2 (Serving (DrawForm (setting_of site.old.set) taken) (finished result buf.new)) site.old
+        site.new }
 {
     let root = site.extract(rt, &base);
     let rest = rest::draw_rooted(base.state_mut(), root.key, buf, taken);
@@ -54,7 +55,8 @@ fn draw_early(site: &mut Site, mut base: Held, buf: &mut [u8], taken: Taken) -> 
     requires asks { Asks taken buf.old }
     requires room { HasRoom 1 site.old }
     ensures begun { IsBegun result buf.new }
-    ensures does { Does 1 (Serving (DrawForm (setting_of site.old.set) taken) (finished result buf.new)) site.old site.new }
+    ensures does { Does 1 (Serving (DrawForm (setting_of site.old.set) taken) (finished result buf.new)) site.old
+        site.new }
 {
     let rest = rest::draw(base.state_mut(), buf, taken);
     site.leave_base(base, BaseEntry::Draw { root: None, taken });
@@ -68,7 +70,8 @@ fn draw<R: Wait>(rt: &R, site: &mut Site, base: Held, buf: &mut [u8], taken: Tak
     requires asks { Asks taken buf.old }
     requires room { HasRoom 2 site.old }
     ensures begun { IsBegun result buf.new }
-    ensures does { Does 2 (Serving (DrawForm (setting_of site.old.set) taken) (finished result buf.new)) site.old site.new }
+    ensures does { Does 2 (Serving (DrawForm (setting_of site.old.set) taken) (finished result buf.new)) site.old
+        site.new }
 {
     match lane_values::phase(base.state()) {
         Phase::Empty => draw_rooted(rt, site, base, buf, taken),
@@ -163,7 +166,8 @@ fn begin_behind<R: Wait>(rt: &R, site: &mut Site, look: u64, buf: &mut [u8], tak
     begin_cpu(rt, site, buf, taken)
 }
 
-/// A read from a CPU (`_get_random_bytes`, `get_random_bytes_user`). The bytes behind the first 32 are made with empty hands.
+/// A read from a CPU (`_get_random_bytes`, `get_random_bytes_user`). The bytes behind the first 32 are made with empty
+/// hands.
 pub(crate) fn read_cpu<R: Wait>(rt: &R, site: &mut Site, buf: &mut [u8], taken: Taken)
     requires idle { IsIdle 3 site.old }
     requires cpu { IsOnCpu site.old }

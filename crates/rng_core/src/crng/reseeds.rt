@@ -72,7 +72,8 @@ fn fire<R: Wait>(rt: &R, site: &mut Site, mut base: Held)
     site.leave_base(base, entry);
 }
 
-/// The reseed timer's moment passes (the delayed work of `crng_reseed`). The answer is whether it was due, so that the base was reseeded.
+/// The reseed timer's moment passes (the delayed work of `crng_reseed`). The answer is whether it was due, so that the
+/// base was reseeded.
 pub fn tick<R: Wait>(rt: &R, site: &mut Site) -> bool
     requires idle { IsIdle 2 site.old }
     requires moment { IsTimely site.old }

@@ -120,7 +120,8 @@ pub(crate) fn draw(state: &mut LaneState, buf: &mut [u8], taken: Taken) -> Rest
     ensures made { (s : Model) (got : Handed) → ValueRepresents 1 state.old s
         → ValueRepresents 1 state.new (made_of s (OfBase (Draw None taken)) got) }
     ensures begun { IsBegun result buf.new }
-    ensures rest { (s : Model) → ValueRepresents 1 state.old s → finished result buf.new ≡ taken_bytes s.base.key taken }
+    ensures rest { (s : Model) → ValueRepresents 1 state.old s
+        → finished result buf.new ≡ taken_bytes s.base.key taken }
 {
     with_base!(state, lane => front_of_base(&mut lane.base, buf, taken))
 }

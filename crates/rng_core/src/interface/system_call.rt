@@ -140,8 +140,8 @@ fn file_flags(nonblock: bool) -> u32
 ///
 /// # Errors
 ///
-/// Where the core is not ready: `Again` with `nonblock`, and `Interrupted` where nobody runs who could make it ready. The
-/// buffer is unspecified then.
+/// Where the core is not ready: `Again` with `nonblock`, and `Interrupted` where nobody runs who could make it ready.
+/// The buffer is unspecified then.
 pub fn random_file<R: Wait>(
     rt: &R,
     site: &mut Site,

@@ -85,7 +85,8 @@ fn do_act<R: Wait>(rt: &R, site: &mut Site, act: InsideAct, out: &mut [u8]) -> R
     requires moment { IsTimely site.old }
     requires short { length out.old ≤ most_bytes }
     requires fits { length out.old ≡ wants act }
-    ensures { Does most_steps (λ deeds. ActMeans (setting_of site.old.set) act (done_line deeds result out.new)) site.old
+    ensures { Does most_steps (λ deeds. ActMeans (setting_of site.old.set) act (done_line deeds result out.new))
+        site.old
         site.new }
 {
     match act {

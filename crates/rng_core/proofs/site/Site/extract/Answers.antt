@@ -17,11 +17,13 @@ use Rattle.rng_core.proofs.SiteVisits.{can_put_naming, named, kept_under, visite
 use Rattle.rng_core.proofs.site.Site.extract.Goals as goal
 
 pub put-requires-clause-pass : goal.put-requires-clause-pass
-put-requires-clause-pass g c = (c.take-pool.ensures.hands _ ((λ e. (let a = c.requires.holds.lane_is in absurd (omega arith))), tt)
+put-requires-clause-pass g c = (c.take-pool.ensures.hands _
+    ((λ e. (let a = c.requires.holds.lane_is in absurd (omega arith))), tt)
     c.requires.holds.has).pass
 
 pub put-requires-clause-own : goal.put-requires-clause-own
-put-requires-clause-own g c = (c.take-pool.ensures.hands _ ((λ e. (let a = c.requires.holds.lane_is in absurd (omega arith))), tt)
+put-requires-clause-own g c = (c.take-pool.ensures.hands _
+    ((λ e. (let a = c.requires.holds.lane_is in absurd (omega arith))), tt)
     c.requires.holds.has).own
 
 pub put-requires-clause-entry : goal.put-requires-clause-entry
