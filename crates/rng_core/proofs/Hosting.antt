@@ -133,7 +133,7 @@ module _ (lanes : ℕ) (v : View) (visits : ℕ → List Visit) (callers : List 
   last_found caller event n [] stand = refl
   last_found caller event n (made_step ∷ []) stand = deal_place caller event n made_step stand
   last_found caller event n (looked g ∷ next ∷ made_steps) stand = last_found caller event (suc n) (next ∷ made_steps)
-  stand
+      stand
   last_found caller event n (visited mark e ∷ next ∷ made_steps) stand =
       last_found caller event (suc n) (next ∷ made_steps) stand.1
 
