@@ -34,7 +34,7 @@ use Rattle.rng_core.specs.VreadMakes.{done_of, Called}
 use Rattle.rng_core.specs.Hosted.{stand}
 use Rattle.rng_core.specs.Acts.{Ask, ActOutcome, wants, ask_of, asks_of, outcomes_of, is_ready, all_ready, wipes_at, done_line}
 use Rattle.rng_core.specs.Acting.{ActStand, act_stand, acting, InsideRan}
-use Rattle.rng_core.specs.Hosting.{standing, SameLoans, hosting, IsNewHost, ReadsInside, HostCalled}
+use Rattle.rng_core.specs.Hosting.{standing, SameLoans, hosting, IsNewHost, HostCalled}
 use Rattle.rng_core.specs.InsideMakes.{IsFresh, bound_acts, outcome_line, inside_meaning, InsideMakes}
 use Rattle.rng_core.proofs.ActRuns.{AllDone, AllMeant, came, Own}
 use Rattle.rng_core.proofs.Acting.{acted_asks, acted_onward, acted_up_to, acted_own, acted_wipes, acted_done, acted_meant, host_acts}

@@ -1,17 +1,15 @@
 -- Calls at a site whose visits are of the pool, and of a CPU's fast pool.
-use Rattle.std.proofs.Common.{◌≡◌, ℕ, ◌+◌, ◌<◌, ◌≤◌, List, [], length, ap, ◌∙◌, arith}
+use Rattle.std.proofs.Common.{◌≡◌, ℕ, ◌+◌, ◌<◌, ◌≤◌, length, ap, ◌∙◌, arith}
 use Rattle.key_names.specs.declared.entries.PoolEntry.{PoolEntry}
 use Rattle.key_names.specs.declared.entries.PoolEntry.TheVariants.{Bits}
 use Rattle.key_names.specs.declared.entries.CpuEntry.{CpuEntry}
 use Rattle.key_names.specs.declared.events.Event.TheVariants.{Bits as BitsEvent}
 use Rattle.key_names.specs.declared.events.Answer.TheVariants.{Ok as Done}
-use Rattle.key_names.specs.Deeds.{Deed}
 use Rattle.key_names.specs.Forms.{CreditForm, Cross}
 use Rattle.key_names.specs.PoolList.{Crossing, crossing, pool_step}
 use Rattle.key_names.specs.SeenLine.{count}
 use Rattle.lane_table.specs.declared.lanes.Held.{Held}
 use Rattle.lane_table.specs.declared.view.LaneEntry.TheVariants.{Pool, Cpu}
-use Rattle.lane_table.specs.declared.view.Visit.{Visit}
 use Rattle.lane_table.specs.Calls.{view}
 use Rattle.lane_table.specs.VisitsMet.{IsIntOfBatch}
 use Rattle.lane_table.specs.WorldRule.{known_of}

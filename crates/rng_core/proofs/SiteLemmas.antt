@@ -1,5 +1,5 @@
 -- Calls at a site, out of its visits.
-use Rattle.std.proofs.Common.{◌≡◌, ℕ, ◌+◌, List, [], ◌∷◌, ◌++◌, subst, refl, ◌∙◌, length, length-append, ap, ◌<◌, ◌≤◌, arith}
+use Rattle.std.proofs.Common.{◌≡◌, ℕ, ◌+◌, List, [], ◌∷◌, ◌++◌, subst, refl, ◌∙◌, length, length-append, ap, ◌≤◌, arith}
 use Rattle.key_names.specs.declared.entries.PoolEntry.{PoolEntry}
 use Rattle.key_names.specs.declared.entries.BaseEntry.{BaseEntry}
 use Rattle.key_names.specs.declared.entries.CpuEntry.{CpuEntry}
@@ -18,10 +18,10 @@ use Rattle.lane_table.specs.Advances.{MadeStep}
 use Rattle.rng_core.specs.declared.setting.Setting.{Setting}
 use Rattle.rng_core.specs.declared.site.Site.{Site}
 use Rattle.rng_core.specs.Traces.{TraceRecords, Visited}
-use Rattle.rng_core.specs.Makes.{Makes, MakesIn, Serving}
+use Rattle.rng_core.specs.Makes.{MakesIn, Serving}
 use Rattle.rng_core.specs.Sites.{at, Same, Walked, IsIdle, Does, DoesIn, Entered, Left, Looked, LookedIdly, lane_of}
 use Rattle.rng_core.proofs.TellLemmas.{told_then}
-use Rattle.rng_core.proofs.Makings.{After, Behind, did_map, did_in_map, did_after, did_in_then, did_behind, did_look, did_nothing, did_pool, did_base, did_cpu, serving_looked, formed, served_of}
+use Rattle.rng_core.proofs.Makings.{After, Behind, did_in_map, did_after, did_in_then, did_behind, did_look, did_nothing, did_pool, did_base, did_cpu, serving_looked, formed, served_of}
 
 pub one_more : (xs ys : List Step) (s : Step) → ys ≡ xs ++ s ∷ [] → length ys ≡ length xs + 1
 one_more xs ys s e = ap length e ∙ (omega (arith, length-append xs (s ∷ [])))

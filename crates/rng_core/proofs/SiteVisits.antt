@@ -1,8 +1,7 @@
 -- What a visit of a lane is at a site.
-use Rattle.std.proofs.Common.{◌≡◌, ◌≢◌, ℕ, ◌+◌, ◌<◌, ◌≤◌, ◌++◌, List, [], ◌∷◌, length, Option, Some, None, sym, ap, subst, inr, refl, ◌∙◌, arith}
+use Rattle.std.proofs.Common.{◌≡◌, ◌≢◌, ℕ, ◌<◌, ◌≤◌, ◌++◌, List, [], ◌∷◌, length, Option, Some, None, sym, ap, subst, inr, ◌∙◌, arith}
 use Rattle.std.proofs.Math.Seq.{get_or-append_seam}
 use Rattle.atomic_table.specs.Table.{rest}
-use Rattle.key_names.specs.declared.names.Step.{Step}
 use Rattle.lane_table.specs.declared.lanes.Held.{Held}
 use Rattle.lane_table.specs.declared.lanes.Lanes.{Lanes}
 use Rattle.lane_table.specs.declared.lanes.Turn.{Turn}
@@ -11,11 +10,11 @@ use Rattle.lane_table.specs.declared.view.LaneView.{LaneView}
 use Rattle.lane_table.specs.declared.view.LaneEntry.{LaneEntry}
 use Rattle.lane_table.specs.declared.view.Visit.{Visit}
 use Rattle.lane_table.specs.declared.view.Handed.{Handed}
-use Rattle.lane_table.specs.Calls.{CanPut, IsPassOf, IsSamePass, Taken, Tried, count_of, view, visit_by}
+use Rattle.lane_table.specs.Calls.{CanPut, IsPassOf, IsSamePass, Taken, Tried, view, visit_by}
 use Rattle.lane_table.specs.Hands.{HeldLane, HoldsLanes, NotIn, hand}
 use Rattle.lane_table.specs.Meaning.{Model, Fits, IsOf, ahead_of, behind_of, gave_of, got_of, no_visit, parent, raise_of, replay}
 use Rattle.lane_table.specs.Steps.{filled, handed}
-use Rattle.lane_table.specs.WorldRule.{at as standing, known_of}
+use Rattle.lane_table.specs.WorldRule.{known_of}
 use Rattle.lane_table.specs.Advances.{maker}
 use Rattle.lane_table.proofs.Calls.AdvanceLemmas.{went_tried, went_taken}
 use Rattle.lane_table.proofs.Calls.HandLemmas.{has_put_naming}

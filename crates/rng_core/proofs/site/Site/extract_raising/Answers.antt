@@ -1,4 +1,4 @@
-use Rattle.std.proofs.Common.{◌≡◌, ◌≢◌, ℕ, ◌≤◌, ap, refl, rules, arith}
+use Rattle.std.proofs.Common.{ap, refl, rules, arith}
 use Rattle.lane_table.specs.declared.view.LaneView.{LaneView}
 use Rattle.lane_table.proofs.Calls.AdvanceLemmas.{went_raised}
 use Rattle.lane_table.proofs.Calls.Lent.{lent}

@@ -1,7 +1,6 @@
-use Rattle.std.proofs.Common.{◌≡◌, ◌≢◌, ℕ, ◌+◌, ◌≤◌, List, ◌∷◌, [], Option, Some, None, length, ap, sym, subst, refl, ◌∙◌, arith, rules}
+use Rattle.std.proofs.Common.{◌≡◌, ℕ, ◌+◌, List, ◌∷◌, [], Some, None, length, ap, sym, subst, refl, ◌∙◌, arith}
 use Rattle.key_names.specs.declared.entries.BaseEntry.TheVariants.{Refill}
 use Rattle.key_names.specs.declared.names.Step.{Step}
-use Rattle.lane_table.specs.declared.view.Handed.{Handed}
 use Rattle.lane_table.specs.declared.view.LaneEntry.{LaneEntry}
 use Rattle.lane_table.specs.declared.view.LaneEntry.TheVariants.{Base}
 use Rattle.lane_table.specs.Calls.{view}
@@ -14,7 +13,7 @@ use Rattle.rng_core.specs.Sites.{HasInHands, HoldsWith, lane_of}
 use Rattle.rng_core.proofs.Parents.{parent_cpu}
 use Rattle.rng_core.proofs.TellLemmas.{visited_is, visited_place}
 use Rattle.rng_core.proofs.SiteLemmas.{same_then}
-use Rattle.rng_core.proofs.SiteVisits.{can_put_naming, named, kept_under, visited_behind, Named}
+use Rattle.rng_core.proofs.SiteVisits.{can_put_naming, named, kept_under, visited_behind}
 use Rattle.rng_core.proofs.site.Site.refill.Goals as goal
 
 pub put-requires-clause-pass : goal.put-requires-clause-pass
