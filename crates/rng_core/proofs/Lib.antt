@@ -1,3 +1,8 @@
+pub mod ActCalls
+pub mod SampleCalls
+pub mod SiteLemmas
+pub mod SiteReads
+pub mod SiteVisits
 pub mod ActLines
 pub mod ActRuns
 pub mod Acting

@@ -11,7 +11,7 @@ use Rattle.key_names.specs.Meaning.{LineMeaning, ActMeans}
 use Rattle.key_names.specs.SeenLine.{bytes_or_none}
 use Rattle.key_names.specs.VreadSteps.{number_of, is_wipe}
 use Rattle.lane_table.specs.declared.view.View.{View}
-use Rattle.rng_core.specs.declared.acts.Bound.{Bound}
+use Rattle.rng_core.specs.declared.vdso.acts.Bound.{Bound}
 use Rattle.rng_core.specs.declared.setting.Setting.{Setting}
 use Rattle.rng_core.specs.Makes.{Makes, setting_of, result_answer, given}
 
@@ -66,6 +66,11 @@ abbrev pub all_ready : List Bound → Bool
 all_ready [] = true
 all_ready (b ∷ bounds) = is_ready b && all_ready bounds
 
+-- acts that can still run, or have run, with a place for the bytes of each
+pub record AreReady (bounds : List Bound) (out : List ℕ) : Type 0 where
+  pub fits : length out ≡ all_wanted (asks_of bounds)
+  pub ready : all_ready bounds ≡ true
+
 -- the line of an act that was done
 abbrev pub done_line : List Deed → Result (Unit {0}) Errno → List ℕ → LineMeaning
 done_line deeds answer bytes =
@@ -77,7 +82,8 @@ at_event event set = record set { event = event }
 -- from v to w the act was done, with this outcome
 pub record ActRan (set : Setting) (ask : Ask) (v w : View) (y : ActOutcome) : Type 0 where
   pub done : y.done ≡ true
-  pub did : Makes (λ deeds. ActMeans (setting_of set) ask.act (done_line deeds y.answer y.bytes)) (at_event ask.event set)
+  pub did : Makes (λ deeds. ActMeans (setting_of set) ask.act (done_line deeds y.answer y.bytes))
+      (at_event ask.event set)
       (record { view = v; steps = [] }) (record { view = w; steps = y.steps })
 
 -- at a point an act is done that is bound to it and was not done yet

@@ -11,3 +11,6 @@ pub mod SampleDeeds
 pub mod Traces
 pub mod VreadMakes
 pub mod Waits
+pub mod Sites
+pub mod Rests
+pub mod SiteWaits

@@ -1,0 +1,33 @@
+//! A caller as the host of its own vgetrandom calls, with acts at their points.
+ghost use Rattle.std.specs.Prelude.{◌≡◌, ◌<◌, ◌≤◌, ◌+◌, ◌*◌, ◌^◌, true, length};
+ghost use Rattle.lane_table.specs.Calls.{view};
+ghost use Rattle.rng_core.specs.Acts.{asks_of, all_wanted, all_ready};
+ghost use Rattle.rng_core.specs.Hosted.{IsFree, free_props};
+ghost use Rattle.rng_core.specs.Waits.{waiting};
+
+use crate::site::Site;
+use crate::vdso::acts::Bound;
+use crate::vdso::attempt::Attempt;
+
+/// A caller as the host of a vgetrandom call: looks and system calls of the caller go into the trace of its site, and
+/// the acts are done at its points, each with a trace of its own.
+///
+/// An act is done where the call's first attempt comes to its point, in the order of the list. A read that is an act is
+/// `getrandom` without flags; its bytes stand in `out` behind those of the reads before it in the list. A wipe makes
+/// the state all zero. An act whose point is not reached is not done.
+#[derive(Drop)]
+pub struct LaneHost<'a, R> {
+    pub(crate) rt: &'a R,
+    pub(crate) site: Site<'a>,
+    pub(crate) acts: &'a mut [Bound],
+    pub(crate) out: &'a mut [u8],
+    pub(crate) attempt: Attempt,
+    pub(crate) looks: u32,
+    pub(crate) calls: u32,
+    ghost free: { IsFree site.lanes.now site.set.caller site.pass.now } by { Prim.hlevel free_props },
+    ghost cpu: { site.set.cpu < site.lanes.now.cpus },
+    ghost moment: { 0 < length acts.now → site.set.now < 2 ^ 40 },
+    ghost room: { length site.trace.now + looks + 4 * calls + waiting (view site.pass.now) ≤ 20 },
+    ghost fits: { length out.now ≡ all_wanted (asks_of acts.now) },
+    ghost ready: { all_ready acts.now ≡ true },
+}
