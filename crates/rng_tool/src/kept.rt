@@ -11,8 +11,8 @@ use std::alloc::Global;
 /// The most bytes that are remembered: one more than the 16 MiB of a script, so that one which is too long is told.
 const MOST_KEPT: usize = 16_777_217;
 
-/// A source that remembers the bytes which it gave, while they are no more than a script can have and there is memory for
-/// them. Where they are more it lets go of them all.
+/// A source that remembers the bytes which it gave, while they are no more than a script can have and there is memory
+/// for them. Where they are more it lets go of them all.
 #[derive(Drop)]
 pub(crate) struct KeptSource<S: Source + Drop> {
     source: S,
