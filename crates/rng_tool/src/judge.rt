@@ -15,6 +15,7 @@ use io_edges::{Failed, ReadError, Sink, Source, put_all, read_to_limit};
 use key_names::{FaultKind, ScriptFault};
 use serial_replay::replay::{Replayed, replay};
 use std::alloc::{AllocError, Global};
+use std::simd::prelude::*;
 use transcript_check::check::{Verdict, check};
 use transcript_text::{TextError, Transcript, count_lines, read, write_all};
 
@@ -23,6 +24,9 @@ const MOST_INPUT: usize = 100_663_296;
 
 /// The most lines of a script's transcript: one for each of 65,536 events, and the last one of each of 64 callers.
 const MOST_LINES: u64 = 65_600;
+
+/// Line feeds are counted in so many bytes at a time.
+const PIECE_BYTES: usize = 64;
 
 /// What is asked of a script and a transcript: whether it is lawful, or its answers and data anew.
 #[derive(Clone, Copy, Debug, PartialEq, Eq)]
@@ -109,14 +113,27 @@ fn say_replayed<K: Sink>(alloc: Global, script: &Script, t: &Transcript, sink: &
     }
 }
 
+// How many line feeds a piece of a text has.
+fn line_feeds(piece: &[u8]) -> u64 {
+    if piece.len() == PIECE_BYTES {
+        let found = u8x64::from_slice(piece).simd_eq(u8x64::splat(b'\n'));
+        u64::from(found.to_bitmask().count_ones())
+    } else {
+        piece.iter().filter(|byte| **byte == b'\n').count() as u64
+    }
+}
+
 // Whether the text is that of more lines than a script's transcript can have. It is not read then: its lines would take
 // more memory than those of any lawful one.
 fn has_too_many_lines(alloc: Global, text: &[u8]) -> Result<bool, AllocError>
     requires { length text.now ≤ 2 ^ 31 }
     ensures { IfOk result (λ many. IsTrue many → HasTooManyLines text.now) }
 {
-    let ends = text.iter().filter(|byte| **byte == b'\n').count();
-    if ends as u64 <= MOST_LINES {
+    let mut ends: u64 = 0;
+    for piece in text.chunks(PIECE_BYTES) {
+        ends = ends.saturating_add(line_feeds(piece));
+    }
+    if ends <= MOST_LINES {
         return Ok(false);
     }
     match count_lines(alloc, text)? {

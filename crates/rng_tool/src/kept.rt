@@ -11,13 +11,24 @@ use std::alloc::Global;
 /// The most bytes that are remembered: one more than the 16 MiB of a script, so that one which is too long is told.
 const MOST_KEPT: usize = 16_777_217;
 
-/// A source that remembers the bytes which it gave, while they are no more than a script can have and there is memory for
-/// them.
+/// A source that remembers the bytes which it gave, while they are no more than a script can have and there is memory
+/// for them. Where they are more it lets go of them all.
 #[derive(Drop)]
 pub(crate) struct KeptSource<S: Source + Drop> {
     source: S,
-    given: Vec<u8>,
-    is_whole: bool,
+    given: Option<Vec<u8>>,
+}
+
+// The bytes with more behind them, or nothing where they are too many, or there is no memory for them.
+fn with_more(mut given: Vec<u8>, more: &[u8]) -> Option<Vec<u8>>
+    ensures more { IfSome result (λ all. all.items ≡ given.items ++ more.now) }
+    ensures few { IfSome result (λ all. length all.items ≤ 16777217) }
+{
+    if more.len() > MOST_KEPT || given.len() > MOST_KEPT - more.len() {
+        return None;
+    }
+    given.extend_from_slice(more).ok()?;
+    Some(given)
 }
 
 impl<S: Source + Drop> KeptSource<S> {
@@ -27,8 +38,7 @@ impl<S: Source + Drop> KeptSource<S> {
     {
         KeptSource {
             source,
-            given: Vec::new(alloc),
-            is_whole: true,
+            given: Some(Vec::new(alloc)),
         }
     }
 
@@ -37,10 +47,10 @@ impl<S: Source + Drop> KeptSource<S> {
         ensures none { result ≡ None → given_by self.now ≡ None }
         ensures some { IfSome result (λ bytes. given_by self.now ≡ Some bytes.now) }
     {
-        if self.is_whole {
-            return Some(self.given.as_slice());
+        match &self.given {
+            Some(bytes) => Some(bytes.as_slice()),
+            None => None,
         }
-        None
     }
 }
 
@@ -52,6 +62,8 @@ impl<S: Source + Drop> Source for KeptSource<S> {
     fn take(&mut self, buf: &mut [u8]) -> Result<usize, Failed>
         ensures kept { IfOk result (λ n. IfSome (given_by self.new) (λ all.
             IfSome (given_by self.old) (λ before. all ≡ before ++ take n buf.new))) }
+        ensures few { IfOk result (λ _. IfSome (given_by self.new) (λ all. length all ≤ 16777217)) }
+        ensures gone { given_by self.old ≡ None → given_by self.new ≡ None }
         ensures same { OnErr result (given_by self.new ≡ given_by self.old) }
 
         // What each source promises.
@@ -64,11 +76,9 @@ impl<S: Source + Drop> Source for KeptSource<S> {
         ensures never_falls { S.faults (source_of self.old) ≤ S.faults (source_of self.new) }
     {
         let count = self.source.take(buf)?;
-        let is_kept = self.is_whole
-            && count <= MOST_KEPT
-            && self.given.len() <= MOST_KEPT - count
-            && self.given.extend_from_slice(&buf[..count]).is_ok();
-        self.is_whole = is_kept;
+        if let Some(given) = self.given.take() {
+            self.given = with_more(given, &buf[..count]);
+        }
         Ok(count)
     }
 }

@@ -11,6 +11,9 @@ use vdso_state::state::Passed;
 /// Bytes that are made at a time.
 const PIECE_BYTES: usize = 4096;
 
+/// Bytes that are made at once: two blocks.
+const SHORT_BYTES: usize = 128;
+
 /// The bytes that a read serves, as a recipe: at most 96 that are there, and then a piece of a key's stream, of which
 /// nothing is made before it is asked for.
 #[derive(Drop)]
@@ -171,15 +174,28 @@ fn put_key(key: &[u8; 32], from: u64, len: usize, out: &mut Vec<u8>) -> Result<(
     Ok(())
 }
 
-/// Whether the bytes are those of the key's stream from this position on, a piece at a time.
+/// Whether the bytes are those of the key's stream from this position on. The piece that they are compared with is no
+/// longer than it has to be, since it is cleared for each read.
 fn is_key(key: &[u8; 32], from: u64, bytes: &[u8]) -> bool
     requires { from + length bytes.now < 2 ^ 40 }
     ensures { IsTrue result ↔ (bytes.now ≡ keystream key.now from (length bytes.now)) }
 {
-    let mut piece = [0; PIECE_BYTES];
+    if bytes.len() <= SHORT_BYTES {
+        is_key_by(key, from, bytes, &mut [0; SHORT_BYTES])
+    } else {
+        is_key_by(key, from, bytes, &mut [0; PIECE_BYTES])
+    }
+}
+
+/// The same, as many bytes at a time as the piece has room for.
+fn is_key_by(key: &[u8; 32], from: u64, bytes: &[u8], piece: &mut [u8]) -> bool
+    requires near { from + length bytes.now < 2 ^ 40 }
+    requires room { 0 < length piece.old }
+    ensures { IsTrue result ↔ (bytes.now ≡ keystream key.now from (length bytes.now)) }
+{
     let mut done = 0;
     while done < bytes.len() {
-        let next = PIECE_BYTES.min(bytes.len() - done);
+        let next = piece.len().min(bytes.len() - done);
         let part = &mut piece[..next];
         fill(key, from + done as u64, part);
         if !are_same(part, &bytes[done..done + next]) {
