@@ -82,7 +82,8 @@ none_longer field (w ∷ ws) long short =
 pub no_longer_word : (field : List ℕ) → 8 ≤ length field → None ≡ word_of field
 no_longer_word field long = sym (none_longer field all_words long refl)
 
-pub ruleset no_words = (no_word_of_2, no_word_of_3, no_word_of_4, no_word_of_5, no_word_of_6, no_word_of_7, no_longer_word)
+pub ruleset no_words =
+    (no_word_of_2, no_word_of_3, no_word_of_4, no_word_of_5, no_word_of_6, no_word_of_7, no_longer_word)
 
 -- ---- a line whose first field is a word
 
