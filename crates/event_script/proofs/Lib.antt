@@ -1,4 +1,6 @@
 pub mod Cuts
+pub mod LoneNumbers
+pub mod Spellings
 pub mod Digits
 pub mod Tallies
 pub mod FirstOfLines

@@ -4,3 +4,4 @@ pub mod Tally
 pub mod Drafts
 pub mod ScriptViews
 pub mod LoadScript
+pub mod ByteWords

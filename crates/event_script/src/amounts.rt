@@ -11,12 +11,12 @@ use key_names::{FaultKind, Text};
 use std::alloc::Global;
 
 /// The most bytes of one read.
-const MOST_LEN: u64 = 1_048_576;
+pub(crate) const MOST_LEN: u64 = 1_048_576;
 
-const MOST_FLAGS: u64 = (1 << 32) - 1;
+pub(crate) const MOST_FLAGS: u64 = (1 << 32) - 1;
 
 /// The most bits that a line credits.
-const MOST_BITS: u64 = (1 << 31) - 1;
+pub(crate) const MOST_BITS: u64 = (1 << 31) - 1;
 
 pub(crate) fn text(alloc: Global, field: &[u8]) -> Result<Text, LineError>
     ensures { Gives (λ text. text) result (bytes field.now) }
@@ -31,13 +31,6 @@ pub(crate) fn read_len(field: &[u8]) -> Result<u32, FaultKind>
 {
     let len = number(MOST_LEN, field)?;
     Ok(len as u32)
-}
-
-pub(crate) fn read_flags(field: &[u8]) -> Result<u32, FaultKind>
-    ensures { Tells (λ flags. flags) result (number (2 ^ 32) field.now) }
-{
-    let flags = number(MOST_FLAGS, field)?;
-    Ok(flags as u32)
 }
 
 pub(crate) fn bits(field: &[u8]) -> Result<u32, FaultKind>

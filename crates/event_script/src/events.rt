@@ -1,16 +1,17 @@
 //! The event that a line says.
 
-ghost use Rattle.std.specs.Prelude.{◌<◌, ◌≤◌, ◌^◌, ◌≡◌, MatchResult};
+ghost use Rattle.std.specs.Prelude.{◌<◌, ◌≤◌, ◌^◌, ◌≡◌, MatchResult, false};
+ghost use Rattle.event_script.specs.ByteWords.{has_bytes};
 ghost use Rattle.event_script.specs.Views.{Gives, Tells, fields_of};
 ghost use Rattle.key_names.specs.Texts.ScriptFaults.{binary, bytes, event_of, hardware_words, input_of};
 ghost use Rattle.key_names.specs.Texts.ScriptFaults.{number, number_in, plain, since, unary};
 
 use crate::acts::inside;
-use crate::amounts::{bits, read_flags, read_len, text};
+use crate::amounts::{MOST_BITS, MOST_FLAGS, MOST_LEN, bits, text};
 use crate::error::LineError;
 use crate::fields::{four, none, one, two};
 use crate::hexes::hardware_words;
-use crate::numbers::{number, number_below, number_from};
+use crate::numbers::{number, number_from, one_below, one_number, two_numbers};
 use key_names::{Event, FaultKind, Word};
 use std::alloc::Global;
 
@@ -28,7 +29,7 @@ fn plain(event: Event, rest: Option<&[u8]>) -> Result<Event, FaultKind>
 fn at(rest: Option<&[u8]>) -> Result<Event, FaultKind>
     ensures { Tells (λ event. event) result (unary (number (2 ^ 40)) Event.At (fields_of rest.entry)) }
 {
-    let moment = number(LAST_MOMENT, one(rest)?)?;
+    let moment = one_number(LAST_MOMENT, rest)?;
     Ok(Event::At { moment })
 }
 
@@ -36,7 +37,7 @@ fn on(cpus: u32, rest: Option<&[u8]>) -> Result<Event, FaultKind>
     requires { 0 < cpus }
     ensures { Tells (λ event. event) result (unary (number cpus) Event.On (fields_of rest.entry)) }
 {
-    let cpu = number_below(cpus, one(rest)?)?;
+    let cpu = one_below(cpus, rest)?;
     Ok(Event::On { cpu })
 }
 
@@ -75,17 +76,15 @@ fn add(alloc: Global, rest: Option<&[u8]>) -> Result<Event, LineError>
 fn credit(rest: Option<&[u8]>) -> Result<Event, FaultKind>
     ensures { Tells (λ event. event) result (unary (number (2 ^ 31)) Event.Credit (fields_of rest.entry)) }
 {
-    let bits = bits(one(rest)?)?;
-    Ok(Event::Credit { bits })
+    let bits = one_number(MOST_BITS, rest)?;
+    Ok(Event::Credit { bits: bits as u32 })
 }
 
 fn irq(rest: Option<&[u8]>) -> Result<Event, FaultKind>
     ensures { Tells (λ event. event) result (binary (number (2 ^ 64)) (number (2 ^ 64)) Event.Irq
         (fields_of rest.entry)) }
 {
-    let (first, second) = two(rest)?;
-    let v1 = number(u64::MAX, first)?;
-    let v2 = number(u64::MAX, second)?;
+    let (v1, v2) = two_numbers(u64::MAX, u64::MAX, rest)?;
     Ok(Event::Irq { v1, v2 })
 }
 
@@ -109,43 +108,46 @@ fn read(rest: Option<&[u8]>) -> Result<Event, FaultKind>
     ensures { Tells (λ event. event) result (binary (number 1048577) (number (2 ^ 32)) Event.Read
         (fields_of rest.entry)) }
 {
-    let (first, second) = two(rest)?;
-    let len = read_len(first)?;
-    let flags = read_flags(second)?;
-    Ok(Event::Read { len, flags })
+    let (len, flags) = two_numbers(MOST_LEN, MOST_FLAGS, rest)?;
+    Ok(Event::Read {
+        len: len as u32,
+        flags: flags as u32,
+    })
 }
 
 fn vread(rest: Option<&[u8]>) -> Result<Event, FaultKind>
     ensures { Tells (λ event. event) result (binary (number 1048577) (number (2 ^ 32)) Event.Vread
         (fields_of rest.entry)) }
 {
-    let (first, second) = two(rest)?;
-    let len = read_len(first)?;
-    let flags = read_flags(second)?;
-    Ok(Event::Vread { len, flags })
+    let (len, flags) = two_numbers(MOST_LEN, MOST_FLAGS, rest)?;
+    Ok(Event::Vread {
+        len: len as u32,
+        flags: flags as u32,
+    })
 }
 
 fn kread(rest: Option<&[u8]>) -> Result<Event, FaultKind>
     ensures { Tells (λ event. event) result (unary (number 1048577) Event.Kread (fields_of rest.entry)) }
 {
-    let len = read_len(one(rest)?)?;
-    Ok(Event::Kread { len })
+    let len = one_number(MOST_LEN, rest)?;
+    Ok(Event::Kread { len: len as u32 })
 }
 
 fn dread(rest: Option<&[u8]>) -> Result<Event, FaultKind>
     ensures { Tells (λ event. event) result (binary (number 1048577) (number 2) Event.Dread (fields_of rest.entry)) }
 {
-    let (first, second) = two(rest)?;
-    let len = read_len(first)?;
-    let flag = number_below(2, second)?;
-    Ok(Event::Dread { len, flag })
+    let (len, flag) = two_numbers(MOST_LEN, 1, rest)?;
+    Ok(Event::Dread {
+        len: len as u32,
+        flag: flag as u32,
+    })
 }
 
 fn uread(rest: Option<&[u8]>) -> Result<Event, FaultKind>
     ensures { Tells (λ event. event) result (unary (number 1048577) Event.Uread (fields_of rest.entry)) }
 {
-    let len = read_len(one(rest)?)?;
-    Ok(Event::Uread { len })
+    let len = one_number(MOST_LEN, rest)?;
+    Ok(Event::Uread { len: len as u32 })
 }
 
 fn fork(rest: Option<&[u8]>) -> Result<Event, FaultKind>
@@ -173,7 +175,7 @@ fn prepare(version: u32, cpus: u32, rest: Option<&[u8]>) -> Result<Event, FaultK
         (unary (number cpus) Event.Prepare (fields_of rest.entry))) }
 {
     known_since(2, version)?;
-    let cpu = number_below(cpus, one(rest)?)?;
+    let cpu = one_below(cpus, rest)?;
     Ok(Event::Prepare { cpu })
 }
 
@@ -182,7 +184,7 @@ fn online(version: u32, cpus: u32, rest: Option<&[u8]>) -> Result<Event, FaultKi
     ensures { Tells (λ event. event) result (since 2 version (unary (number cpus) Event.Online (fields_of rest.entry))) }
 {
     known_since(2, version)?;
-    let cpu = number_below(cpus, one(rest)?)?;
+    let cpu = one_below(cpus, rest)?;
     Ok(Event::Online { cpu })
 }
 
@@ -201,8 +203,47 @@ fn state(version: u32, rest: Option<&[u8]>) -> Result<Event, FaultKind>
     ensures { Tells (λ event. event) result (since 3 version (unary (number 16) Event.State (fields_of rest.entry))) }
 {
     known_since(3, version)?;
-    let number = number_below(16, one(rest)?)?;
+    let number = one_below(16, rest)?;
     Ok(Event::State { number })
+}
+
+/// The event of a word, whose fields spell no bytes.
+fn event_without_bytes(
+    version: u32,
+    cpus: u32,
+    word: Word,
+    rest: Option<&[u8]>,
+) -> Result<Event, FaultKind>
+    requires some { 0 < cpus }
+    requires no_bytes { has_bytes word ≡ false }
+    ensures { Tells (λ event. event) result (event_of version cpus word (fields_of rest.entry)) }
+{
+    match word {
+        Word::At => at(rest),
+        Word::On => on(cpus, rest),
+        Word::Credit => credit(rest),
+        Word::Bits => plain(Event::Bits, rest),
+        Word::Irq => irq(rest),
+        Word::Input => input(rest),
+        Word::Read => read(rest),
+        Word::Vread => vread(rest),
+        Word::Kread => kread(rest),
+        Word::Dread => dread(rest),
+        Word::Uread => uread(rest),
+        Word::Int8 => plain(Event::Int8, rest),
+        Word::Int16 => plain(Event::Int16, rest),
+        Word::Int32 => plain(Event::Int32, rest),
+        Word::Int64 => plain(Event::Int64, rest),
+        Word::Reseed => plain(Event::Reseed, rest),
+        Word::Tick => plain(Event::Tick, rest),
+        Word::Drop => plain(Event::Drop, rest),
+        Word::Fork => fork(rest),
+        Word::Inside => inside(rest),
+        Word::Prepare => prepare(version, cpus, rest),
+        Word::Online => online(version, cpus, rest),
+        Word::State => state(version, rest),
+        _ => Err(FaultKind::UnknownWord),
+    }
 }
 
 /// The event of a word and the fields behind it.
@@ -217,34 +258,11 @@ pub(crate) fn event_of(
     ensures { Gives (λ event. event) result (event_of version cpus word (fields_of rest.entry)) }
 {
     match word {
-        Word::At => Ok(at(rest)?),
-        Word::On => Ok(on(cpus, rest)?),
         Word::Hw => hw(alloc, rest),
         Word::Device => device(alloc, rest),
         Word::Write => write(alloc, rest),
         Word::Add => add(alloc, rest),
-        Word::Credit => Ok(credit(rest)?),
-        Word::Bits => Ok(plain(Event::Bits, rest)?),
-        Word::Irq => Ok(irq(rest)?),
-        Word::Input => Ok(input(rest)?),
-        Word::Read => Ok(read(rest)?),
-        Word::Vread => Ok(vread(rest)?),
-        Word::Kread => Ok(kread(rest)?),
-        Word::Dread => Ok(dread(rest)?),
-        Word::Uread => Ok(uread(rest)?),
-        Word::Int8 => Ok(plain(Event::Int8, rest)?),
-        Word::Int16 => Ok(plain(Event::Int16, rest)?),
-        Word::Int32 => Ok(plain(Event::Int32, rest)?),
-        Word::Int64 => Ok(plain(Event::Int64, rest)?),
-        Word::Reseed => Ok(plain(Event::Reseed, rest)?),
-        Word::Tick => Ok(plain(Event::Tick, rest)?),
-        Word::Drop => Ok(plain(Event::Drop, rest)?),
-        Word::Fork => Ok(fork(rest)?),
-        Word::Inside => Ok(inside(rest)?),
-        Word::Prepare => Ok(prepare(version, cpus, rest)?),
-        Word::Online => Ok(online(version, cpus, rest)?),
         Word::Vmfork => vmfork(alloc, version, rest),
-        Word::State => Ok(state(version, rest)?),
-        Word::End => Err(LineError::Kind(FaultKind::UnknownWord)),
+        _ => Ok(event_without_bytes(version, cpus, word, rest)?),
     }
 }

@@ -2,7 +2,8 @@
 //!
 //! `read` reads a whole text, and `read_front` a script that stands in front of something else. Both promise a script
 //! exactly where the text is the one spelling of it, and otherwise the fault that the definition finds first.
-//! [`Script`] also makes the script of a load.
+//! [`Script`] also makes the script of a load. `words` and `numbers` read the words and numbers of transcripts and
+//! command lines too.
 //!
 //! It stands on the grammar and the faults of `key_names` (`specs/Texts`), and on `memchr` and `hex` for line ends and
 //! bytes.
@@ -23,7 +24,7 @@ mod reading;
 pub mod reads;
 pub mod script;
 pub mod script_error;
-mod words;
+pub mod words;
 
 pub use script::{Script, read, read_front};
 pub use script_error::ScriptError;

@@ -1,10 +1,10 @@
 //! What one line says.
 
-ghost use Rattle.std.specs.Prelude.{◌≡◌, ◌<◌, ◌≤◌, IfOk};
+ghost use Rattle.std.specs.Prelude.{◌≡◌, ◌<◌, ◌≤◌, ◌∷◌, IfOk};
 ghost use Rattle.std.specs.List.{list_any};
 ghost use Rattle.event_script.specs.Views.{Gives, fields_of};
 ghost use Rattle.event_script.specs.Says.{said_as};
-ghost use Rattle.key_names.specs.Texts.ScriptFaults.{said, said_by_word, SaidInRange, is_unprintable};
+ghost use Rattle.key_names.specs.Texts.ScriptFaults.{said, said_by, said_by_word, SaidInRange, is_unprintable};
 
 use crate::error::LineError;
 use crate::events::event_of;
@@ -33,7 +33,7 @@ pub(crate) fn has_bad_byte(line: &[u8]) -> bool
     bad
 }
 
-fn said_by(
+fn said_by_word(
     alloc: Global,
     version: u32,
     cpus: u32,
@@ -57,6 +57,28 @@ fn said_by(
     }
 }
 
+fn said_by(
+    alloc: Global,
+    version: u32,
+    cpus: u32,
+    first: &[u8],
+    rest: Option<&[u8]>,
+) -> Result<Said, LineError>
+    requires some { 0 < cpus }
+    requires few { cpus ≤ 256 }
+    ensures value { Gives said_as result (said_by version cpus (first.now ∷ fields_of rest.entry)) }
+    ensures range { IfOk result (λ what. SaidInRange version cpus (said_as what)) }
+{
+    if let Some(word) = word_of(first) {
+        return said_by_word(alloc, version, cpus, word, rest);
+    }
+    if !spells(first, b"caller") {
+        return Err(LineError::Kind(FaultKind::UnknownWord));
+    }
+    let number = number(63, one(rest)?)?;
+    Ok(Said::Caller(number as u32))
+}
+
 /// What a line says, or the first thing that is wrong with its word and its fields.
 pub(crate) fn line_says(
     alloc: Global,
@@ -69,16 +91,8 @@ pub(crate) fn line_says(
     ensures value { Gives said_as result (said version cpus line.now) }
     ensures range { IfOk result (λ what. SaidInRange version cpus (said_as what)) }
 {
-    let (first, rest) = match cut(b' ', line) {
-        Some((first, rest)) => (first, Some(rest)),
-        None => (line, None),
-    };
-    if spells(first, b"caller") {
-        let number = number(63, one(rest)?)?;
-        return Ok(Said::Caller(number as u32));
-    }
-    match word_of(first) {
-        Some(word) => said_by(alloc, version, cpus, word, rest),
-        None => Err(LineError::Kind(FaultKind::UnknownWord)),
+    match cut(b' ', line) {
+        Some((first, rest)) => said_by(alloc, version, cpus, first, Some(rest)),
+        None => said_by(alloc, version, cpus, line, None),
     }
 }

@@ -1,10 +1,12 @@
 //! Fields that are numbers.
 
-ghost use Rattle.std.specs.Prelude.{◌≡◌, ◌+◌, ◌<◌, ◌≤◌, IfOk, IfNone, IfSome, OnSome, length};
+ghost use Rattle.std.specs.Prelude.{◌≡◌, ℕ, ◌+◌, ◌<◌, ◌≤◌, IfOk, IfNone, IfSome, OnSome, length};
 ghost use Rattle.std.specs.Str.Parse.{AllDigits, digits_value};
-ghost use Rattle.event_script.specs.Views.{Tells};
-ghost use Rattle.key_names.specs.Texts.ScriptFaults.{number_below, number, number_in};
+ghost use Rattle.event_script.specs.Views.{Tells, fields_of};
+ghost use Rattle.key_names.specs.declared.events.Event.{Event};
+ghost use Rattle.key_names.specs.Texts.ScriptFaults.{binary, number_below, number, number_in, unary};
 
+use crate::fields::cut;
 use key_names::FaultKind;
 
 /// So many digits are the number of a `u64`, whatever they are.
@@ -80,12 +82,54 @@ pub(crate) fn number_from(least: u64, most: u64, field: &[u8]) -> Result<u64, Fa
     Ok(value)
 }
 
-/// The number that a field spells, below `limit`.
-pub(crate) fn number_below(limit: u32, field: &[u8]) -> Result<u32, FaultKind>
+/// The one number that stands behind a word, at most `most`.
+pub(crate) fn one_number(most: u64, rest: Option<&[u8]>) -> Result<u64, FaultKind>
+    ensures value { (make : ℕ → Event) → Tells make result (unary (number (most + 1)) make (fields_of rest.entry)) }
+    ensures range { IfOk result (λ n. n ≤ most) }
+{
+    let Some(text) = rest else {
+        return Err(FaultKind::UnknownWord);
+    };
+    if let Some(value) = number_up_to(most, text) {
+        return Ok(value);
+    }
+    match cut(b' ', text) {
+        None => Err(FaultKind::BadNumber),
+        Some(_) => Err(FaultKind::UnknownWord),
+    }
+}
+
+/// The one number that stands behind a word, below `limit`.
+pub(crate) fn one_below(limit: u32, rest: Option<&[u8]>) -> Result<u32, FaultKind>
     requires { 0 < limit }
-    ensures value { Tells (λ n. n) result (number limit field.now) }
+    ensures value { (make : ℕ → Event) → Tells make result (unary (number limit) make (fields_of rest.entry)) }
     ensures range { IfOk result (λ n. n < limit) }
 {
-    let value = number(u64::from(limit) - 1, field)?;
+    let value = one_number(u64::from(limit) - 1, rest)?;
     Ok(value as u32)
+}
+
+/// The two numbers that stand behind a word, at most `most` and at most `next`.
+pub(crate) fn two_numbers(
+    most: u64,
+    next: u64,
+    rest: Option<&[u8]>,
+) -> Result<(u64, u64), FaultKind>
+    ensures value { (make : ℕ → ℕ → Event) → Tells (λ both. make both.0 both.1) result
+        (binary (number (most + 1)) (number (next + 1)) make (fields_of rest.entry)) }
+    ensures range { IfOk result (λ both. (both.0 ≤ most) × (both.1 ≤ next)) }
+{
+    let Some(text) = rest else {
+        return Err(FaultKind::UnknownWord);
+    };
+    let Some((first, second)) = cut(b' ', text) else {
+        return Err(FaultKind::UnknownWord);
+    };
+    if let (Some(a), Some(b)) = (number_up_to(most, first), number_up_to(next, second)) {
+        return Ok((a, b));
+    }
+    match cut(b' ', second) {
+        None => Err(FaultKind::BadNumber),
+        Some(_) => Err(FaultKind::UnknownWord),
+    }
 }

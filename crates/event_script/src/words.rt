@@ -1,95 +1,48 @@
 //! The words that begin lines.
 
-ghost use Rattle.std.specs.Prelude.{◌≡◌, find};
-ghost use Rattle.std.specs.Str.{bytes_eq};
+ghost use Rattle.std.specs.Prelude.{◌≡◌, IfSome};
 ghost use Rattle.key_names.specs.Texts.Spelling.{word_text};
 ghost use Rattle.key_names.specs.Texts.ScriptFaults.{word_of};
 
-use crate::fields::spells;
 use key_names::Word;
 
-/// All words, those of reads and writes first.
-const WORDS: [Word; 29] = [
-    Word::Read,
-    Word::Write,
-    Word::Vread,
-    Word::Kread,
-    Word::Dread,
-    Word::Uread,
-    Word::At,
-    Word::On,
-    Word::Hw,
-    Word::Device,
-    Word::Add,
-    Word::Credit,
-    Word::Bits,
-    Word::Irq,
-    Word::Input,
-    Word::Int8,
-    Word::Int16,
-    Word::Int32,
-    Word::Int64,
-    Word::Reseed,
-    Word::Tick,
-    Word::Drop,
-    Word::Fork,
-    Word::Inside,
-    Word::Prepare,
-    Word::Online,
-    Word::Vmfork,
-    Word::State,
-    Word::End,
-];
-
-/// The text of a word.
-fn text_of(word: Word) -> &'static [u8]
-    ensures { result.now ≡ word_text word }
-{
-    match word {
-        Word::At => b"at",
-        Word::On => b"on",
-        Word::Hw => b"hw",
-        Word::Device => b"device",
-        Word::Write => b"write",
-        Word::Add => b"add",
-        Word::Credit => b"credit",
-        Word::Bits => b"bits",
-        Word::Irq => b"irq",
-        Word::Input => b"input",
-        Word::Read => b"read",
-        Word::Vread => b"vread",
-        Word::Kread => b"kread",
-        Word::Dread => b"dread",
-        Word::Uread => b"uread",
-        Word::Int8 => b"int8",
-        Word::Int16 => b"int16",
-        Word::Int32 => b"int32",
-        Word::Int64 => b"int64",
-        Word::Reseed => b"reseed",
-        Word::Tick => b"tick",
-        Word::Drop => b"drop",
-        Word::Fork => b"fork",
-        Word::Inside => b"inside",
-        Word::Prepare => b"prepare",
-        Word::Online => b"online",
-        Word::Vmfork => b"vmfork",
-        Word::State => b"state",
-        Word::End => b"end",
-    }
-}
-
-fn first_that_spells(words: &[Word], field: &[u8]) -> Option<Word>
-    ensures { result ≡ find (λ word. bytes_eq (word_text word) field.now) words.now }
-{
-    words
-        .iter()
-        .copied()
-        .find(|word| spells(text_of(*word), field))
-}
-
 /// The word that a field is.
-pub(crate) fn word_of(field: &[u8]) -> Option<Word>
-    ensures { result ≡ word_of field.now }
+#[tactic(auto, using(crate::proofs::Spellings::no_words))]
+pub fn word_of(field: &[u8]) -> Option<Word>
+    ensures value { result ≡ word_of field.now }
+    ensures spelt { IfSome result (λ word. field.now ≡ word_text word) }
 {
-    first_that_spells(&WORDS, field)
+    let word = match field {
+        b"at" => Word::At,
+        b"on" => Word::On,
+        b"hw" => Word::Hw,
+        b"device" => Word::Device,
+        b"write" => Word::Write,
+        b"add" => Word::Add,
+        b"credit" => Word::Credit,
+        b"bits" => Word::Bits,
+        b"irq" => Word::Irq,
+        b"input" => Word::Input,
+        b"read" => Word::Read,
+        b"vread" => Word::Vread,
+        b"kread" => Word::Kread,
+        b"dread" => Word::Dread,
+        b"uread" => Word::Uread,
+        b"int8" => Word::Int8,
+        b"int16" => Word::Int16,
+        b"int32" => Word::Int32,
+        b"int64" => Word::Int64,
+        b"reseed" => Word::Reseed,
+        b"tick" => Word::Tick,
+        b"drop" => Word::Drop,
+        b"fork" => Word::Fork,
+        b"inside" => Word::Inside,
+        b"prepare" => Word::Prepare,
+        b"online" => Word::Online,
+        b"vmfork" => Word::Vmfork,
+        b"state" => Word::State,
+        b"end" => Word::End,
+        _ => return None,
+    };
+    Some(word)
 }

@@ -1,5 +1,5 @@
 -- What is kept behind the bytes and the steps of some lines leaves these lines, and a line names what was kept for it.
-use Rattle.std.proofs.Common.{◌≡◌, ℕ, zero, suc, ◌+◌, ◌<◌, ◌≤◌, Some, List, [], ◌∷◌, ◌++◌, length, take, drop, set, map, slice_get, get_or, refl, ap, sym, subst, ◌∙◌, All, arith}
+use Rattle.std.proofs.Common.{◌≡◌, ℕ, zero, suc, ◌+◌, ◌<◌, ◌≤◌, List, [], ◌∷◌, ◌++◌, length, take, drop, set, map, get_or, refl, ap, sym, subst, ◌∙◌, All, arith}
 use Rattle.std.specs.List.{AllByRecursion}
 use Rattle.std.proofs.lemmas.List.{length-append, length-drop, take-append-le, drop-append-le, take_all, drop_at, map_push, map-set}
 use Rattle.std.proofs.lemmas.List.Elements.{All-from_recursion}
@@ -8,7 +8,7 @@ use Rattle.key_names.specs.declared.lines.Data.{Data}
 use Rattle.key_names.specs.declared.lines.Data.TheVariants.{None as NoData, Bytes, Count}
 use Rattle.key_names.specs.declared.lines.Line.{Line}
 use Rattle.key_names.specs.declared.names.Step.{Step}
-use Rattle.key_names.specs.SeenLine.{SeenLine, bytes, shown_in, steps_in, seen_line, seen_lines, bytes_or_none}
+use Rattle.key_names.specs.SeenLine.{SeenLine, bytes, shown_in, seen_line, seen_lines, bytes_or_none}
 use Rattle.key_names.specs.Texts.TranscriptGrammar.{LineFits}
 use Rattle.transcript_text.specs.declared.view.LineView.{LineView}
 use Rattle.transcript_text.specs.declared.view.Shown.{Shown}

@@ -1,6 +1,6 @@
 -- No two words are spelt alike, and no word or answer has a space or a line feed in it.
-use Rattle.std.proofs.Common.{◌≡◌, ℕ, ◌<◌, true, List, [], ◌∷◌, get_or, Option, Some, refl, sym, ap, ◌∙◌, arith}
-use Rattle.std.specs.Prelude.{find}
+use Rattle.std.proofs.Common.{◌≡◌, ℕ, true, List, [], ◌∷◌, Option, Some, None, refl, sym, ap, ◌∙◌}
+use Rattle.std.specs.Prelude.{⊤, IfSome, find}
 use Rattle.std.specs.Str.{bytes_eq}
 use Rattle.std.proofs.lemmas.Option.{same_Some}
 use Rattle.key_names.specs.declared.events.Answer.{Answer}
@@ -10,42 +10,7 @@ use Rattle.key_names.specs.declared.events.Word.TheVariants.{At, On, Hw, Device,
 use Rattle.key_names.specs.Texts.Spelling.{word_text}
 use Rattle.key_names.specs.Texts.ScriptFaults.{word_of}
 use Rattle.key_names.specs.Texts.TranscriptGrammar.{answer_text}
-use Rattle.transcript_text.specs.Reading.{lacks}
-
--- what holds of each word in a list of all of them holds of a word
-pub each_word : (P : Word → Type 0) → ((k : ℕ) → k < 29
-    → P (get_or (Read ∷ Vread ∷ Kread ∷ Dread ∷ Uread ∷ Write ∷ Int8 ∷ Int16 ∷ Int32 ∷ Int64 ∷ Irq ∷ At ∷ On ∷ Hw
-    ∷ Device ∷ Add ∷ Credit ∷ Bits ∷ Input ∷ Reseed ∷ Tick ∷ Drop ∷ Fork ∷ Inside ∷ Prepare ∷ Online ∷ Vmfork ∷ State
-    ∷ End ∷ []) k At)) → (word : Word) → P word
-each_word P h Read = h 0 (omega arith)
-each_word P h Vread = h 1 (omega arith)
-each_word P h Kread = h 2 (omega arith)
-each_word P h Dread = h 3 (omega arith)
-each_word P h Uread = h 4 (omega arith)
-each_word P h Write = h 5 (omega arith)
-each_word P h Int8 = h 6 (omega arith)
-each_word P h Int16 = h 7 (omega arith)
-each_word P h Int32 = h 8 (omega arith)
-each_word P h Int64 = h 9 (omega arith)
-each_word P h Irq = h 10 (omega arith)
-each_word P h At = h 11 (omega arith)
-each_word P h On = h 12 (omega arith)
-each_word P h Hw = h 13 (omega arith)
-each_word P h Device = h 14 (omega arith)
-each_word P h Add = h 15 (omega arith)
-each_word P h Credit = h 16 (omega arith)
-each_word P h Bits = h 17 (omega arith)
-each_word P h Input = h 18 (omega arith)
-each_word P h Reseed = h 19 (omega arith)
-each_word P h Tick = h 20 (omega arith)
-each_word P h Drop = h 21 (omega arith)
-each_word P h Fork = h 22 (omega arith)
-each_word P h Inside = h 23 (omega arith)
-each_word P h Prepare = h 24 (omega arith)
-each_word P h Online = h 25 (omega arith)
-each_word P h Vmfork = h 26 (omega arith)
-each_word P h State = h 27 (omega arith)
-each_word P h End = h 28 (omega arith)
+use Rattle.transcript_text.specs.Reading.{Reads, lacks}
 
 word_again : (word : Word) → word_of (word_text word) ≡ Some word
 word_again Read = refl
@@ -77,6 +42,11 @@ word_again Online = refl
 word_again Vmfork = refl
 word_again State = refl
 word_again End = refl
+
+pub reads_word : (text : List ℕ) (found : Option Word) → found ≡ word_of text → IfSome found (λ w. text ≡ word_text w)
+    → Reads word_text (λ w. ⊤) text found
+reads_word text (Some word) is spelt = (tt, spelt)
+reads_word text None is spelt = λ word fits e. let again = word_again word in let read = ap word_of e in cc
 
 pub same_word : (v w : Word) → word_text v ≡ word_text w → v ≡ w
 same_word v w e = same_Some v w (sym (word_again v) ∙ ap word_of e ∙ word_again w)

@@ -1,17 +1,17 @@
--- A number is parsed from its spelling, and its spelling names no other.
-use Rattle.std.proofs.Common.{◌≡◌, ℕ, ◌^◌, ◌<◌, List, Ok, Err, sym, subst}
-use Rattle.std.specs.Prelude.{decimal}
-use Rattle.std.specs.Str.{IsUtf8}
-use Rattle.std.specs.Str.Parse.{ParsesUnsigned}
-use Rattle.std.proofs.lemmas.Fmt.{IsAscii-decimal, parse-decimal}
-use Rattle.std.proofs.lemmas.Str.{IsUtf8-from_ascii}
+-- A number is read from its spelling, and its spelling names no other.
+use Rattle.std.proofs.Common.{◌≡◌, ℕ, ◌^◌, ◌<◌, ◌≤◌, List, Option, Some, None, arith}
+use Rattle.std.specs.Prelude.{IfSome, decimal}
+use Rattle.key_names.specs.Texts.ScriptFaults as scripts
+use Rattle.key_names.proofs.Script.Numbers.{number_again}
 
-pub not_text : (text : List ℕ) (n : ℕ) → (IsUtf8 text → ⊥) → n < 2 ^ 64 → text ≡ decimal n → ⊥
-not_text text n not small e = not (subst IsUtf8 (sym e) (IsUtf8-from_ascii (decimal n) (IsAscii-decimal n small)))
+read_back : (text : List ℕ) (n : ℕ) → n < 2 ^ 64 → text ≡ decimal n → scripts.number_below (2 ^ 64) text ≡ Some n
+read_back text n small e = rw e (number_again (2 ^ 64) n small (omega arith))
 
-pub not_parsed : (text : List ℕ) (n : ℕ) → ParsesUnsigned {E = ℕ} 64 10 text (Err 0) → n < 2 ^ 64 → text ≡ decimal n → ⊥
-not_parsed text n parsed small is = let p = parse-decimal {E = ℕ} 64 n text (Err 0) small small is parsed in cc
-
-pub parsed_is : (text : List ℕ) (m n : ℕ) → ParsesUnsigned {E = ℕ} 64 10 text (Ok m) → n < 2 ^ 64 → text ≡ decimal n
-    → m ≡ n
-parsed_is text m n parsed small is = let p = parse-decimal {E = ℕ} 64 n text (Ok m) small small is parsed in cc
+-- what is read is no number below the limit, and so the text spells none
+pub none_below : (limit : ℕ) (text : List ℕ) (found : Option ℕ) → found ≡ scripts.number_below (2 ^ 64) text
+    → limit ≤ 2 ^ 64 → IfSome found (λ m. limit ≤ m) → (n : ℕ) → n < limit → text ≡ decimal n → ⊥
+none_below limit text None is wide large n below e = let again = read_back text n (omega arith) e in cc
+none_below limit text (Some m) is wide large n below e =
+    let again = read_back text n (omega arith) e in
+    let same : m ≡ n = cc in
+    omega arith

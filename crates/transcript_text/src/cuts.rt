@@ -2,9 +2,8 @@
 ghost use Rattle.std.specs.Prelude.{◌≡◌, ◌<◌, ◌∷◌, ◌++◌, ◌↔◌, true, length, IsTrue, MatchOption, decimal};
 ghost use Rattle.transcript_text.specs.Reading.{lacks, Reads};
 
-use itoa::Buffer;
+use event_script::numbers::number_up_to;
 use memchr::memchr;
-use std::str;
 
 /// Whether a text is this one.
 pub(crate) fn spells(text: &[u8], name: &[u8]) -> bool
@@ -28,16 +27,8 @@ pub(crate) fn cut(byte: u8, text: &[u8]) -> Option<(&[u8], &[u8])>
 pub(crate) fn number_below(limit: u64, text: &[u8]) -> Option<u64>
     ensures { Reads decimal (λ n. n < limit) text.now result }
 {
-    let Ok(plain) = str::from_utf8(text) else {
-        return None;
-    };
-    let Ok(number) = plain.parse::<u64>() else {
-        return None;
-    };
-    let mut digits = Buffer::new();
-    if number < limit && spells(text, digits.format(number).as_bytes()) {
-        Some(number)
-    } else {
-        None
+    match number_up_to(u64::MAX, text) {
+        Some(number) if number < limit => Some(number),
+        _ => None,
     }
 }

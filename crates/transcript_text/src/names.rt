@@ -5,40 +5,9 @@ ghost use Rattle.key_names.specs.Texts.TranscriptGrammar.{answer_text};
 ghost use Rattle.transcript_text.specs.Reading.{Reads};
 
 use crate::cuts::spells;
-use crate::fields::{answer_name, word_name};
+use crate::fields::answer_name;
+use event_script::words;
 use key_names::{Answer, Word};
-
-const WORDS: [Word; 29] = [
-    Word::Read,
-    Word::Vread,
-    Word::Kread,
-    Word::Dread,
-    Word::Uread,
-    Word::Write,
-    Word::Int8,
-    Word::Int16,
-    Word::Int32,
-    Word::Int64,
-    Word::Irq,
-    Word::At,
-    Word::On,
-    Word::Hw,
-    Word::Device,
-    Word::Add,
-    Word::Credit,
-    Word::Bits,
-    Word::Input,
-    Word::Reseed,
-    Word::Tick,
-    Word::Drop,
-    Word::Fork,
-    Word::Inside,
-    Word::Prepare,
-    Word::Online,
-    Word::Vmfork,
-    Word::State,
-    Word::End,
-];
 
 const ANSWERS: [Answer; 8] = [
     Answer::Ok,
@@ -55,12 +24,7 @@ const ANSWERS: [Answer; 8] = [
 pub(crate) fn word_of(text: &[u8]) -> Option<Word>
     ensures { Reads word_text (λ _. ⊤) text.now result }
 {
-    for word in &WORDS {
-        if spells(text, word_name(*word)) {
-            return Some(*word);
-        }
-    }
-    None
+    words::word_of(text)
 }
 
 /// The answer that a text is.

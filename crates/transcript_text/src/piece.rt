@@ -77,6 +77,11 @@ impl Piece {
         ensures text { self.new ≡ self.old ++ decimal number }
         ensures short { length (decimal number) ≤ 20 }
     {
+        // Many numbers of a short line have one digit.
+        if number < 10 {
+            self.push(b'0' + number as u8);
+            return;
+        }
         let mut digits = Buffer::new();
         self.append(digits.format(number).as_bytes());
     }

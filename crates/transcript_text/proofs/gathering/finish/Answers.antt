@@ -1,5 +1,4 @@
-use Rattle.std.proofs.Common.{◌<◌, length, ap, refl, ◌∙◌, arith}
-use Rattle.std.proofs.lemmas.List.{length-map}
+use Rattle.std.proofs.Common.{◌<◌, length, refl, ◌∙◌, arith}
 use Rattle.transcript_text.specs.Grouping.{seen_callers}
 use Rattle.transcript_text.proofs.GroupedLines.{LastHasLines-push, seen_callers-push, finished}
 use Rattle.transcript_text.proofs.gathering.finish.Goals as goal

@@ -1,4 +1,4 @@
-use Rattle.std.proofs.Common.{◌+◌, [], List, get_or, subst, sym, ◌∙◌, arith}
+use Rattle.std.proofs.Common.{◌+◌, [], List, get_or, subst, sym, arith}
 use Rattle.std.specs.Prelude.{codes}
 use Rattle.std.specs.Io.KnownBytes.{Appends}
 use Rattle.key_names.specs.SeenLine.{SeenLine}

@@ -1,4 +1,4 @@
-use Rattle.std.proofs.Common.{◌≡◌, length, ap, rules, subst, arith}
+use Rattle.std.proofs.Common.{length, ap, rules, subst, arith}
 use Rattle.std.proofs.lemmas.List.{length-map}
 use Rattle.key_names.specs.SeenLine.{seen_line}
 use Rattle.key_names.specs.Texts.TranscriptGrammar.{LineFits}
