@@ -4,7 +4,7 @@ use Rattle.std.specs.List.{AllByRecursion}
 use Rattle.std.proofs.lemmas.List.{length-map}
 use Rattle.std.proofs.lemmas.List.Elements.{recursion_from_All, All-map}
 use Rattle.key_names.specs.Texts.TranscriptGrammar.{LineFits, LastHasLines, TranscriptFits}
-use Rattle.transcript_text.specs.declared.gathered.CallerLines.{CallerLines}
+use Rattle.transcript_text.specs.declared.caller_lines.CallerLines.{CallerLines}
 
 pub callers_fit : (callers : List CallerLines) → length callers ≤ 64 → LastHasLines (map (λ c. c.lines) callers)
     → All (λ c. AllByRecursion LineFits c.lines) callers → TranscriptFits (map (λ c. c.lines) callers)

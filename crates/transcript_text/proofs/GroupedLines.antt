@@ -5,7 +5,7 @@ use Rattle.key_names.specs.SeenLine.{SeenLine}
 use Rattle.key_names.specs.Texts.TranscriptGrammar.{all_lines, LastHasLines, TranscriptFits, UnderOwnNumber}
 use Rattle.key_names.proofs.Lists.Each.{each_more}
 use Rattle.transcript_text.specs.Grouping.{OfCaller, Groups, Gives, seen_callers}
-use Rattle.transcript_text.specs.declared.gathered.CallerLines.{CallerLines}
+use Rattle.transcript_text.specs.declared.caller_lines.CallerLines.{CallerLines}
 
 pub UnderOwnNumber-push : (first : ℕ) (done : List (List SeenLine)) (lines : List SeenLine)
     → UnderOwnNumber first done → OfCaller (first + length done) lines

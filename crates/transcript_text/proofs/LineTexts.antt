@@ -14,8 +14,8 @@ use Rattle.key_names.specs.declared.names.Step.{Step}
 use Rattle.key_names.specs.SeenLine.{Shown, no_data, bytes, count, SeenLine}
 use Rattle.key_names.specs.Texts.Spelling.{AllLower, is_lower_digit, word_text, spaced, hex}
 use Rattle.transcript_text.specs.Shows.{seen_shows, IsShort}
-use Rattle.transcript_text.specs.declared.shown.Shows.{Shows}
-use Rattle.transcript_text.specs.declared.shown.Shows.TheVariants.{Bytes, Count}
+use Rattle.transcript_text.specs.declared.data.Shows.{Shows}
+use Rattle.transcript_text.specs.declared.data.Shows.TheVariants.{Bytes, Count}
 use Rattle.transcript_text.proofs.ShownTexts.{shown_text-bytes}
 use Rattle.key_names.specs.Texts.TranscriptGrammar.{answer_text, steps_text, step_text, shown_text, line_text, StepFits, ShownFits, LineFits}
 use Rattle.transcript_text.specs.declared.line.Numbers.{Numbers}

@@ -3,7 +3,7 @@ use Rattle.std.specs.Prelude.{ℕ, ◌≡◌, List, ◌++◌, length, map}
 use Rattle.std.specs.List.{AllByRecursion}
 use Rattle.key_names.specs.SeenLine.{SeenLine}
 use Rattle.key_names.specs.Texts.TranscriptGrammar.{all_lines, TranscriptFits, UnderOwnNumber}
-use Rattle.transcript_text.specs.declared.gathered.CallerLines.{CallerLines}
+use Rattle.transcript_text.specs.declared.caller_lines.CallerLines.{CallerLines}
 
 abbrev pub OfCaller : ℕ → List SeenLine → Type 0
 OfCaller caller lines = AllByRecursion (λ line. line.caller ≡ caller) lines

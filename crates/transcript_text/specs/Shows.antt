@@ -1,8 +1,8 @@
 -- What was read behind the steps of a line.
 use Rattle.std.specs.Prelude.{ℕ, ◌<◌, ◌^◌, List, [], length}
 use Rattle.key_names.specs.SeenLine.{Shown, count, bytes_or_none}
-use Rattle.transcript_text.specs.declared.shown.Shows.{Shows}
-use Rattle.transcript_text.specs.declared.shown.Shows.TheVariants.{Bytes, Count}
+use Rattle.transcript_text.specs.declared.data.Shows.{Shows}
+use Rattle.transcript_text.specs.declared.data.Shows.TheVariants.{Bytes, Count}
 
 abbrev pub seen_shows : Shows → Shown
 seen_shows (Bytes shown) = bytes_or_none shown.items

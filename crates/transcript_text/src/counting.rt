@@ -4,7 +4,7 @@ ghost use Rattle.key_names.specs.SeenLine.{SeenLine};
 ghost use Rattle.key_names.specs.Texts.TranscriptGrammar.{IsTranscriptText};
 ghost use Rattle.transcript_text.specs.ReadTexts.{HasCount, IsLineOf, IsNoLine};
 
-use crate::cuts::{cut, spells};
+use crate::lexing::{cut, spells};
 use crate::line::line_of;
 use crate::reading::MOST_CALLERS;
 use std::alloc::{AllocError, Global};

@@ -4,7 +4,7 @@ ghost use Rattle.key_names.specs.Texts.TranscriptGrammar.{lane_text, step_text, 
 ghost use Rattle.transcript_text.specs.Heads.{head_text};
 
 use crate::fields::{answer_name, word_name};
-use crate::piece::Piece;
+use crate::line_buffer::Piece;
 use crate::view::LineView;
 use key_names::{LaneId, Step};
 

@@ -8,27 +8,27 @@
 //! sinks of `io_edges`. Whether a transcript is lawful is not looked at.
 #![tactic(auto)]
 
+mod caller_lines;
 mod counting;
-mod cuts;
+mod data;
 mod error;
 mod fields;
-mod gathered;
-mod gathering;
+mod grouping;
 mod head;
 pub mod laws;
+mod lexing;
 mod line;
+mod line_buffer;
 mod names;
-mod piece;
 mod reading;
-mod shown;
 mod steps;
 mod transcript;
 mod view;
 mod writing;
 
+pub use caller_lines::CallerLines;
 pub use counting::count_lines;
 pub use error::TextError;
-pub use gathered::CallerLines;
 pub use reading::read;
 pub use transcript::Transcript;
 pub use view::{LineView, Shown};

@@ -7,9 +7,9 @@ ghost use Rattle.transcript_text.specs.Reading.{Reads};
 ghost use Rattle.transcript_text.specs.Shows.{bytes_read};
 ghost use Rattle.transcript_text.specs.Views.{bytes_of, seen};
 
-use crate::cuts::{cut, number_below};
+use crate::data::{Shows, shown_of};
+use crate::lexing::{cut, number_below};
 use crate::names::{answer_of, word_of};
-use crate::shown::{Shows, shown_of};
 use crate::steps::steps_of;
 use crate::view::LineView;
 use key_names::{Answer, Trace, Word};

@@ -4,8 +4,8 @@ ghost use Rattle.key_names.specs.Texts.Spelling.{word_text};
 ghost use Rattle.key_names.specs.Texts.TranscriptGrammar.{answer_text};
 ghost use Rattle.transcript_text.specs.Reading.{Reads};
 
-use crate::cuts::spells;
 use crate::fields::answer_name;
+use crate::lexing::spells;
 use event_script::words;
 use key_names::{Answer, Word};
 

@@ -5,10 +5,10 @@ ghost use Rattle.key_names.specs.Texts.TranscriptGrammar.{IsTranscriptText, IsFi
 ghost use Rattle.transcript_text.specs.Grouping.{seen_callers};
 ghost use Rattle.transcript_text.specs.ReadTexts.{AddsLine, Answers, IsNoLine, IsReadAs};
 
-use crate::cuts::{cut, spells};
+use crate::caller_lines::CallerLines;
 use crate::error::TextError;
-use crate::gathered::CallerLines;
-use crate::gathering::{add_line, finish};
+use crate::grouping::{add_line, finish};
+use crate::lexing::{cut, spells};
 use crate::line::line_of;
 use crate::transcript::Transcript;
 use std::alloc::{AllocError, Global};

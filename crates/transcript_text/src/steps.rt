@@ -4,7 +4,7 @@ ghost use Rattle.std.specs.List.{AllByRecursion};
 ghost use Rattle.key_names.specs.Texts.TranscriptGrammar.{lane_text, mark_text, step_text, steps_text, LaneFits, MarkFits, StepFits};
 ghost use Rattle.transcript_text.specs.Reading.{Reads, StepsFit};
 
-use crate::cuts::{cut, number_below, spells};
+use crate::lexing::{cut, number_below, spells};
 use key_names::trace::MOST_STEPS;
 use key_names::{LaneId, Mark, Step, Trace};
 

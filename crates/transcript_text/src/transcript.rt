@@ -2,7 +2,7 @@
 ghost use Rattle.std.specs.Prelude.{◌≡◌, ◌<◌, ◌≤◌, [], map, length, vec_len, slice_index_or};
 ghost use Rattle.key_names.specs.Texts.TranscriptGrammar.{LastHasLines, TranscriptFits};
 
-use crate::gathered::CallerLines;
+use crate::caller_lines::CallerLines;
 use std::marker::Model;
 
 /// The lines of at most 64 callers, the last of whom has one. Contracts see the list of each caller's lines.

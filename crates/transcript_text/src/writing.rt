@@ -9,9 +9,9 @@ ghost use Rattle.transcript_text.specs.Lines.{text_of};
 ghost use Rattle.transcript_text.specs.Putting.{PutSoFar};
 ghost use Rattle.transcript_text.specs.Views.{seen, seen_shown};
 
-use crate::gathered::CallerLines;
+use crate::caller_lines::CallerLines;
 use crate::head::append_head;
-use crate::piece::Piece;
+use crate::line_buffer::Piece;
 use crate::transcript::Transcript;
 use crate::view::{LineView, Shown};
 use io_edges::{Failed, Sink, put_all};

@@ -4,7 +4,7 @@ use Rattle.std.proofs.lemmas.List.{length-map}
 use Rattle.key_names.specs.Book.{list_at}
 use Rattle.key_names.specs.SeenLine.{SeenLine}
 use Rattle.key_names.specs.Texts.TranscriptGrammar.{LastHasLines}
-use Rattle.transcript_text.specs.declared.gathered.CallerLines.{CallerLines}
+use Rattle.transcript_text.specs.declared.caller_lines.CallerLines.{CallerLines}
 use Rattle.caller_answers.specs.declared.said.Said.{Said}
 use Rattle.serial_replay.specs.Agreement.{Agrees}
 use Rattle.serial_replay.specs.Remade.{said_lists}

@@ -2,7 +2,7 @@ use Rattle.std.proofs.Common.{All, List, subst, ◌∙◌, arith}
 use Rattle.std.specs.List.{AllByRecursion}
 use Rattle.std.proofs.lemmas.List.{take_all}
 use Rattle.key_names.specs.Texts.TranscriptGrammar.{LineFits}
-use Rattle.transcript_text.specs.declared.gathered.CallerLines.{CallerLines}
+use Rattle.transcript_text.specs.declared.caller_lines.CallerLines.{CallerLines}
 use Rattle.transcript_text.proofs.AllCallers.{callers_fit}
 use Rattle.transcript_text.proofs.transcript.Transcript.of.Goals as goal
 

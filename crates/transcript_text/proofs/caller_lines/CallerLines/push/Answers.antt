@@ -1,0 +1,19 @@
+use Rattle.std.proofs.Common.{ap, ◌∙◌}
+use Rattle.transcript_text.specs.Gathered.{Gathered}
+use Rattle.transcript_text.proofs.Keeping.{kept_pushed, seen_pushed}
+use Rattle.transcript_text.proofs.caller_lines.CallerLines.push.Goals as goal
+
+pub invariant_of-self : goal.invariant_of-self
+invariant_of-self c = rw c.push_reserved.ensures.items (kept_pushed c.args.self.now.bytes c.self.inside.bytes.items
+    c.args.self.now.steps c.self.inside.steps.items c.args.line c.keep-kept.result
+    (ap (λ (g : Gathered). g.bytes) c.self.view_is ∙ c.keep-kept.ensures.bytes)
+    (ap (λ (g : Gathered). g.steps) c.self.view_is ∙ c.keep-kept.ensures.steps) c.keep-kept.ensures.line
+    c.self.inside.lines.items c.requires.fits c.self.invariant)
+
+pub returns-clause-lines : goal.returns-clause-lines
+returns-clause-lines c = rw c.push_reserved.ensures.items (seen_pushed c.args.self.now.bytes c.self.inside.bytes.items
+    c.args.self.now.steps c.self.inside.steps.items c.args.line c.keep-kept.result
+    (ap (λ (g : Gathered). g.bytes) c.self.view_is ∙ c.keep-kept.ensures.bytes)
+    (ap (λ (g : Gathered). g.steps) c.self.view_is ∙ c.keep-kept.ensures.steps) c.keep-kept.ensures.line
+    c.self.inside.lines.items c.args.self.now.lines
+    (ap (λ (g : Gathered). g.lines) c.self.view_is ∙ c.keep-kept.ensures.lines))
