@@ -9,9 +9,9 @@ use Rattle.key_names.specs.VreadSteps.{published_by, Shows, PointReached, points
 use Rattle.lane_table.specs.declared.view.View.{View}
 use Rattle.lane_table.specs.Advances.{looked, floor}
 use Rattle.vdso_state.specs.Host.{Does, DoesAll}
-use Rattle.rng_core.specs.declared.lane_host.LaneHost.{LaneHost}
-use Rattle.rng_core.specs.declared.attempt.Attempt.{Attempt}
-use Rattle.rng_core.specs.declared.attempt.Attempt.TheVariants.{Before, First, Later}
+use Rattle.rng_core.specs.declared.vdso.lane_host.LaneHost.{LaneHost}
+use Rattle.rng_core.specs.declared.vdso.attempt.Attempt.{Attempt}
+use Rattle.rng_core.specs.declared.vdso.attempt.Attempt.TheVariants.{Before, First, Later}
 use Rattle.rng_core.specs.declared.setting.Setting.{Setting}
 use Rattle.rng_core.specs.Traces.{TraceRecords}
 use Rattle.rng_core.specs.Makes.{Makes, setting_of}

@@ -25,9 +25,9 @@ use Rattle.lane_table.specs.Calls.{view}
 use Rattle.lane_table.specs.Advances.{step_of, looks_in, floor}
 use Rattle.vdso_state.specs.Host.{DoesAll}
 use Rattle.vdso_state.specs.Call.{Runs, Finish}
-use Rattle.rng_core.specs.declared.acts.Bound.{Bound}
-use Rattle.rng_core.specs.declared.lane_host.LaneHost.{LaneHost}
-use Rattle.rng_core.specs.declared.attempt.Attempt.TheVariants.{Before}
+use Rattle.rng_core.specs.declared.vdso.acts.Bound.{Bound}
+use Rattle.rng_core.specs.declared.vdso.lane_host.LaneHost.{LaneHost}
+use Rattle.rng_core.specs.declared.vdso.attempt.Attempt.TheVariants.{Before}
 use Rattle.rng_core.specs.declared.setting.Setting.{Setting}
 use Rattle.rng_core.specs.Makes.{setting_of, result_answer, given}
 use Rattle.rng_core.specs.VreadMakes.{done_of, Called}

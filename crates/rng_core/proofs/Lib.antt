@@ -1,3 +1,5 @@
+pub mod SampleCalls
+pub mod SiteLemmas
 pub mod ActLines
 pub mod ActRuns
 pub mod Acting

@@ -7,8 +7,8 @@ use Rattle.key_names.specs.VgetrandomState.{VgetrandomState}
 use Rattle.key_names.specs.VreadSteps.{number_of}
 use Rattle.lane_table.specs.WorldRule.{Consistent}
 use Rattle.vdso_state.specs.Host.{Doings, DoesAll, doings}
-use Rattle.rng_core.specs.declared.attempt.Attempt.{Attempt}
-use Rattle.rng_core.specs.declared.attempt.Attempt.TheVariants.{Before, First, Later}
+use Rattle.rng_core.specs.declared.vdso.attempt.Attempt.{Attempt}
+use Rattle.rng_core.specs.declared.vdso.attempt.Attempt.TheVariants.{Before, First, Later}
 use Rattle.rng_core.specs.Traces.{BeginsWithLook}
 use Rattle.rng_core.specs.Hosted.{Stand, Published, Answered}
 use Rattle.rng_core.specs.Acts.{Ask, ActOutcome, ActsAt, wipes_at}

@@ -11,7 +11,7 @@ use Rattle.key_names.specs.Meaning.{LineMeaning, ActMeans}
 use Rattle.key_names.specs.SeenLine.{bytes_or_none}
 use Rattle.key_names.specs.VreadSteps.{number_of, is_wipe}
 use Rattle.lane_table.specs.declared.view.View.{View}
-use Rattle.rng_core.specs.declared.acts.Bound.{Bound}
+use Rattle.rng_core.specs.declared.vdso.acts.Bound.{Bound}
 use Rattle.rng_core.specs.declared.setting.Setting.{Setting}
 use Rattle.rng_core.specs.Makes.{Makes, setting_of, result_answer, given}
 
@@ -65,6 +65,11 @@ is_ready b = nat_le (wants b.act) (2 ^ 20) && (b.done || length b.trace == 0)
 abbrev pub all_ready : List Bound → Bool
 all_ready [] = true
 all_ready (b ∷ bounds) = is_ready b && all_ready bounds
+
+-- acts that can still run, or have run, with a place for the bytes of each
+pub record AreReady (bounds : List Bound) (out : List ℕ) : Type 0 where
+  pub fits : length out ≡ all_wanted (asks_of bounds)
+  pub ready : all_ready bounds ≡ true
 
 -- the line of an act that was done
 abbrev pub done_line : List Deed → Result (Unit {0}) Errno → List ℕ → LineMeaning

@@ -1,5 +1,5 @@
 -- A pass that is split, behind the visit that tells of it.
-use Rattle.std.specs.Prelude.{◌≡◌, ℕ, List, [], ◌∷◌, ◌++◌}
+use Rattle.std.specs.Prelude.{◌≡◌, ℕ, ◌+◌, List, [], ◌∷◌, ◌++◌, length}
 use Rattle.key_names.specs.declared.names.Mark.{Mark}
 use Rattle.key_names.specs.declared.names.Step.{Step}
 use Rattle.key_names.specs.declared.names.Step.TheVariants.{Visit}
@@ -10,9 +10,12 @@ use Rattle.lane_table.specs.declared.lanes.Pass.{Pass}
 use Rattle.lane_table.specs.Steps.{halved}
 use Rattle.lane_table.specs.Steps as steps
 use Rattle.lane_table.specs.Calls.{view}
+use Rattle.lane_table.specs.Hands.{HoldsLanes}
 use Rattle.rng_core.specs.declared.setting.Setting.{Setting}
 use Rattle.rng_core.specs.Traces.{Moment}
 use Rattle.rng_core.specs.Makes.{Makes}
+use Rattle.rng_core.specs.declared.site.Site.{Site}
+use Rattle.rng_core.specs.Sites.{Same, Does, HasInHands, at}
 
 -- from m on the pass did what a fork does, its trace had these steps then, and what it knew was cut in half
 pub record Forked (set : Setting) (m : Moment) (told : List Step) (number : ℕ) (pass child : Pass) : Type 0 where
@@ -22,3 +25,17 @@ pub record Forked (set : Setting) (m : Moment) (told : List Step) (number : ℕ)
   pub visit : told ≡ m.steps ++ Visit mark ∷ []
   pub pass_is : view pass ≡ halved before
   pub child_is : view child ≡ steps.child before
+
+-- the base was told of a child, in one visit
+pub record TellsOf (child : ℕ) (m n : Site) : Type 0 where
+  pub does : Does 1 (BaseOnly (Fork child)) m n
+  pub mark : Mark
+  pub visit : n.trace.now ≡ m.trace.now ++ Visit mark ∷ []
+
+-- a caller was forked: one visit tells of it, and this is its pass
+pub record SplitsOff (number : ℕ) (child : Pass) (m n : Site) : Type 0 where
+  pub same : Same m n
+  pub has : HasInHands [] n
+  pub child_has : HoldsLanes n.lanes.now number [] child
+  pub room : length n.trace.now ≡ length m.trace.now + 1
+  pub forked : Forked m.set (at m) n.trace.now number n.pass.now child

@@ -1,26 +1,71 @@
 -- The host over the lanes: each of its steps is one of the caller itself.
-use Rattle.std.specs.Prelude.{◌≡◌}
+use Rattle.std.specs.Prelude.{◌≡◌, ℕ, ◌<◌, List, [], length}
+use Rattle.std.specs.List.{AllByRecursion}
+use Rattle.key_names.specs.declared.events.Answer.{Answer}
+use Rattle.key_names.specs.SeenLine.{Shown}
+use Rattle.key_names.specs.VgetrandomState.{VgetrandomState}
 use Rattle.vdso_state.specs.Host.{Doings, doings}
-use Rattle.rng_core.specs.declared.lane_host.LaneHost.{LaneHost}
+use Rattle.rng_core.specs.declared.site.Site.{Site}
+use Rattle.rng_core.specs.declared.vdso.acts.Bound.{Bound}
+use Rattle.rng_core.specs.declared.vdso.attempt.Attempt.TheVariants.{Before}
+use Rattle.rng_core.specs.declared.vdso.lane_host.LaneHost.{LaneHost}
+use Rattle.rng_core.specs.Acting.{ActStand, act_stand, ActPublished, ActAnswered, ActPassed, InsideRan}
+use Rattle.rng_core.specs.Acts.{all_wanted, asks_of, outcomes_of}
 use Rattle.rng_core.specs.Hosted.{stand}
-use Rattle.rng_core.specs.Acts.{asks_of, outcomes_of}
-use Rattle.rng_core.specs.Acting.{ActStand, act_stand, ActPublished, ActAnswered, ActPassed}
+use Rattle.rng_core.specs.InsideMakes.{IsFresh, InsideMakes}
+use Rattle.rng_core.specs.Sites.{Same, IsNew, IsOnCpu, IsTimely, HasInHands, at}
+use Rattle.rng_core.specs.VreadMakes.{Called, IsCurrent}
+
+-- acts may be done inside a call at this site, none of which is done yet, with a place for the bytes of each
+pub record CanHost (acts : List Bound) (out : List ℕ) (s : Site) : Type 0 where
+  pub new : IsNew s
+  pub cpu : IsOnCpu s
+  pub moment : 0 < length acts → IsTimely s
+  pub fresh : AllByRecursion IsFresh acts
+  pub fits : length out ≡ all_wanted (asks_of acts)
 
 module _ {R : Type 0} where
+  -- no step was made over it yet
+  pub record IsNewHost (h : LaneHost R) : Type 0 where
+    pub before : h.attempt ≡ Before
+    pub looks : h.looks ≡ 5
+    pub calls : h.calls ≡ 3
+    pub fresh : AllByRecursion IsFresh h.acts.now
+
   -- where the caller stands
   abbrev pub standing : LaneHost R → ActStand
-  standing h = act_stand (stand h.set.now h.pass.now h.trace.now) h.attempt (asks_of h.acts.now)
+  standing h = act_stand (stand h.site.set h.site.pass.now h.site.trace.now) h.attempt (asks_of h.acts.now)
       (outcomes_of h.acts.now h.out.now)
 
   -- it holds the same references, over the same lanes
   pub record SameLoans (h next : LaneHost R) : Type 0 where
-    pub pass : next.pass.ghost_name ≡ h.pass.ghost_name
-    pub trace : next.trace.ghost_name ≡ h.trace.ghost_name
+    pub site : Same h.site next.site
     pub acts : next.acts.ghost_name ≡ h.acts.ghost_name
     pub out : next.out.ghost_name ≡ h.out.ghost_name
-    pub lanes : next.lanes.now ≡ h.lanes.now
 
   abbrev pub hosting : Doings (LaneHost R)
   hosting = doings (λ h g next. ActPublished (standing h) g (standing next) × SameLoans h next)
       (λ h n flags answer next. ActAnswered (standing h) n flags answer (standing next) × SameLoans h next)
       (λ h point wiped next. ActPassed (standing h) point wiped (standing next) × SameLoans h next)
+
+  -- a call for n bytes with acts inside was made on the state s, which left t
+  pub record ReadsInside (n flags : ℕ) (s t : VgetrandomState) (answer : Answer) (shown : Shown) (h next : LaneHost R)
+      : Type 0 where
+    pub loans : SameLoans h next
+    pub has : HasInHands [] next.site
+    pub current : IsCurrent t next.site
+    pub asks : asks_of next.acts.now ≡ asks_of h.acts.now
+    pub did : InsideMakes n flags s t answer shown h.site.set (at h.site) (at next.site) (asks_of h.acts.now)
+        (outcomes_of next.acts.now next.out.now)
+    pub ran : InsideRan n flags s t (standing h)
+        (λ last. act_stand (stand h.site.set next.site.pass.now next.site.trace.now) last (asks_of next.acts.now)
+        (outcomes_of next.acts.now next.out.now))
+
+  -- the same, with acts or without
+  pub record HostCalled (n flags : ℕ) (s t : VgetrandomState) (answer : Answer) (shown : Shown) (h next : LaneHost R)
+      : Type 0 where
+    pub loans : SameLoans h next
+    pub has : HasInHands [] next.site
+    pub current : IsCurrent t next.site
+    pub alone : length h.acts.now ≡ 0 → Called n flags s t answer shown h.site.set (at h.site) (at next.site)
+    pub inside : 0 < length h.acts.now → ReadsInside n flags s t answer shown h next

@@ -11,3 +11,4 @@ pub mod SampleDeeds
 pub mod Traces
 pub mod VreadMakes
 pub mod Waits
+pub mod Sites

@@ -1,5 +1,5 @@
 -- What a read out of a caller's vgetrandom state did.
-use Rattle.std.specs.Prelude.{◌≡◌, ◌⊎◌, ℕ, ◌≤◌, true, false, Result, Ok, Err, List, [], ◌∷◌, ◌++◌}
+use Rattle.std.specs.Prelude.{◌≡◌, ◌⊎◌, ℕ, ◌+◌, ◌≤◌, true, false, Result, Ok, Err, List, [], ◌∷◌, ◌++◌, length}
 use Rattle.key_names.specs.declared.entries.VEntry.{VEntry}
 use Rattle.key_names.specs.declared.errno.Errno.{Errno}
 use Rattle.key_names.specs.declared.events.Answer.{Answer}
@@ -21,6 +21,8 @@ use Rattle.rng_core.specs.declared.setting.Setting.{Setting}
 use Rattle.rng_core.specs.Traces.{Moment}
 use Rattle.rng_core.specs.Traces as told
 use Rattle.rng_core.specs.Makes.{Makes, setting_of}
+use Rattle.rng_core.specs.declared.site.Site.{Site}
+use Rattle.rng_core.specs.Sites.{Same, HasInHands, at, seen_by}
 
 -- what is returned does not tell how a call ended
 abbrev pub done_of : Result VEnd Errno → Result (Unit {0}) Errno
@@ -105,3 +107,25 @@ pub record VreadMakes (n flags : ℕ) (s t : VgetrandomState) (answer : Answer) 
   pub entries : List VEntry
   pub did : Makes (VreadLine (setting_of set) n flags s t answer shown entries) set
       (record { view = looked; steps = l.steps }) m
+
+-- Over a site
+
+-- the state's generation is one that the caller has seen published
+abbrev pub IsCurrent : VgetrandomState → Site → Type 0
+IsCurrent st s = st.generation ≤ published_by (seen_by s)
+
+-- the batch was tried for n bytes on the state s, and left t
+pub record ReadsLocally (result : Local) (n flags : ℕ) (s t : VgetrandomState) (out : List ℕ) (l m : Site)
+    : Type 0 where
+  pub same : Same l m
+  pub has : HasInHands [] m
+  pub current : IsCurrent t m
+  pub room : length m.trace.now ≤ length l.trace.now + 1
+  pub read : LocalRead result n flags s t out l.set (at l) (at m)
+
+-- n bytes were read on the state s, which left t
+pub record ReadsState (n flags : ℕ) (s t : VgetrandomState) (answer : Answer) (shown : Shown) (l m : Site) : Type 0 where
+  pub same : Same l m
+  pub has : HasInHands [] m
+  pub current : IsCurrent t m
+  pub did : VreadMakes n flags s t answer shown l.set (at l) (at m)

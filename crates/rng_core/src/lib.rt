@@ -1,40 +1,37 @@
 //! The calls of the core: reads, samples, reseeds and what else a caller asks of the lanes.
 #![tactic(auto)]
 
-mod acts;
-mod attempt;
 mod batches;
+mod bridge;
+mod callers;
 mod cpu_values;
 mod cpus;
-mod forks;
-mod host_call;
-mod inside;
+mod crng;
 mod integers;
-mod interrupts;
 mod keys;
-mod lane_host;
 mod lane_values;
 mod reads;
 mod reseeds;
 mod running;
-mod samples;
 mod setting;
+mod site;
 mod system_call;
+mod sources;
+mod vdso;
 mod visits;
-mod vreads;
 
-pub use acts::Bound;
-pub use attempt::Attempt;
 pub use cpus::{online, prepare};
-pub use forks::fork;
-pub use inside::vread_inside;
+pub use callers::forks::fork;
 pub use integers::int;
-pub use interrupts::irq;
-pub use lane_host::LaneHost;
 pub use reads::{kernel_read, urandom_file};
 pub use reseeds::{reseed, tick};
 pub use running::{end, stall, unstall};
-pub use samples::{add, bits, device, input, mix, vmfork};
 pub use setting::Setting;
+pub use site::Site;
 pub use system_call::{getrandom, random_file};
-pub use vreads::{vread, vread_local};
+pub use sources::interrupts::irq;
+pub use sources::samples::{add, bits, device, input, mix, vmfork};
+pub use vdso::acts::Bound;
+pub use vdso::attempt::Attempt;
+pub use vdso::lane_host::LaneHost;
+pub use vdso::vreads::{vread, vread_inside, vread_local};

@@ -1,0 +1,67 @@
+-- Calls at a site whose visits are of the pool, and of a CPU's fast pool.
+use Rattle.std.proofs.Common.{◌≡◌, ℕ, ◌+◌, ◌<◌, ◌≤◌, List, [], length, ap, ◌∙◌, arith}
+use Rattle.key_names.specs.declared.entries.PoolEntry.{PoolEntry}
+use Rattle.key_names.specs.declared.entries.PoolEntry.TheVariants.{Bits}
+use Rattle.key_names.specs.declared.entries.CpuEntry.{CpuEntry}
+use Rattle.key_names.specs.declared.events.Event.TheVariants.{Bits as BitsEvent}
+use Rattle.key_names.specs.declared.events.Answer.TheVariants.{Ok as Done}
+use Rattle.key_names.specs.Deeds.{Deed}
+use Rattle.key_names.specs.Forms.{CreditForm, Cross}
+use Rattle.key_names.specs.PoolList.{Crossing, crossing, pool_step}
+use Rattle.key_names.specs.SeenLine.{count}
+use Rattle.lane_table.specs.declared.lanes.Held.{Held}
+use Rattle.lane_table.specs.declared.view.LaneEntry.TheVariants.{Pool, Cpu}
+use Rattle.lane_table.specs.declared.view.Visit.{Visit}
+use Rattle.lane_table.specs.Calls.{view}
+use Rattle.lane_table.specs.VisitsMet.{IsIntOfBatch}
+use Rattle.lane_table.specs.WorldRule.{known_of}
+use Rattle.lane_table.proofs.Lists.VisitLists.{begins_length}
+use Rattle.rng_core.specs.declared.setting.Setting.{Setting}
+use Rattle.rng_core.specs.declared.site.Site.{Site}
+use Rattle.rng_core.specs.Makes.{IsOutcomeOf, setting_of}
+use Rattle.rng_core.specs.Sites.{at, pool_lane, lane_of, own_lane, own_cpu, own_places, IsIdle, IsOnCpu, Entered, Left, DoesIn, Does, Completes}
+use Rattle.rng_core.proofs.Makings.{did_bits, did_credit}
+use Rattle.rng_core.proofs.Sampling.{CpuMet, did_met, visited_below}
+use Rattle.rng_core.proofs.SiteLemmas.{same_then, by_set, does_behind, does_left}
+
+-- the bits that a visit reads
+pub does_bits : (h k : Held) (bits : ℕ) (l m n : Site) → Entered pool_lane h l m → Left pool_lane k (Pool Bits) m n →
+    bits ≡ (lane_of m pool_lane).pool.bits → Completes 1 BitsEvent Done (count bits) l n
+does_bits h k bits l m n a b is = does_behind (λ set visits. IsOutcomeOf (setting_of set) BitsEvent Done (count bits)) 1 l m n
+    a.walked a.trace
+    (does_left 0 k (Pool Bits) m n b (λ x. did_bits m.set (at m) (at n) _ bits _ _ x is))
+
+-- a visit of the pool that credits bits, and what they cross
+pub does_credit : (h k : Held) (e : PoolEntry) (crossed : Crossing) (j l m n : Site) → Entered pool_lane h j l →
+    Left pool_lane k (Pool e) l m →
+    crossed ≡ crossing (lane_of l pool_lane).pool.bits (pool_step (lane_of l pool_lane).pool e).bits →
+    Does 2 (Cross (setting_of m.set) crossed) m n → Does 3 (CreditForm (setting_of j.set) e) j n
+does_credit h k e crossed j l m n a b is d = does_behind (λ set visits. CreditForm (setting_of set) e) 3 j l n
+    a.walked a.trace (record {
+      same = same_then l m n b.same d.same;
+      has = d.has;
+      room = (let r = b.room in let q = d.room in omega arith);
+      did = did_credit l.set (at l) (at m) (at n) k.turn.place _ e _ crossed b.visited is
+          (by_set (λ set visits. Cross (setting_of set) crossed) l m n b.same d.did);
+    })
+
+-- a visit of the CPU that the caller runs on, and the fast pool that it met
+pub does_met : (h : Held) (e : CpuEntry) (m n : Site) → IsIntOfBatch e → Left (own_lane m) h (Cpu e) m n →
+    DoesIn 1 (CpuMet m.set.cpu h.turn.place e (own_cpu m).fast) m n
+does_met h e m n fits b = does_left (own_lane m) h (Cpu e) m n b
+    (λ x. did_met m.set (at m) (at n) m.set.cpu h.turn.place _ e _ fits x)
+
+-- its place is behind those that were known before it was taken
+pub taken_behind : (h : Held) (l m : Site) → IsIdle 4 l → IsOnCpu l → Entered (own_lane m) h l m →
+    own_places l ≤ h.turn.place
+taken_behind h l m idle cpu a =
+    let longer = begins_length _ _ (a.walked.told.went.grows (own_lane l) (let s = idle.has.pass.sized in omega arith)) in
+    let next = a.holds.has.held.0.next
+    ∙ ap (λ (lane : ℕ). length (known_of (view m.pass.now) lane)) a.holds.lane_is
+    ∙ ap (λ (s : Setting). length (known_of (view m.pass.now) (s.cpu + 2))) a.walked.same.set in omega arith
+
+-- and it is known behind the visit
+pub left_below : (h : Held) (e : CpuEntry) (m n : Site) → Left (own_lane m) h (Cpu e) m n → h.turn.place < own_places n
+left_below h e m n b =
+    let low = visited_below m.set (at m) (at n) (own_lane m) h.turn.place _ (Cpu e) _ b.visited in
+    let same = ap (λ (s : Setting). length (known_of (view n.pass.now) (s.cpu + 2))) b.same.set in omega arith

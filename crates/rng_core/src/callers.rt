@@ -1,0 +1,3 @@
+//! Callers that begin.
+
+pub(crate) mod forks;

@@ -1,0 +1,3 @@
+//! The generator of the core (the "crng" of random.c).
+
+pub(crate) mod keys;

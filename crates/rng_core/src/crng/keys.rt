@@ -1,0 +1,82 @@
+//! Keys out of the lane behind one that is held: a root for the base, and a CPU's key.
+ghost use Rattle.std.specs.Prelude.{◌≤◌, ◌<◌, ◌^◌};
+
+use crate::lane_values;
+use crate::site::Site;
+use key_names::{BaseEntry, LaneId, PoolNote};
+use lane_table::Held;
+use std::sync::Wait;
+
+/// A root, and the place of its extraction in the pool's list.
+#[derive(Clone, Copy)]
+pub(crate) struct Root {
+    pub(crate) key: [u8; 32],
+    pub(crate) place: u64,
+}
+
+/// What the base hands over to a CPU, and the place of that in the base's list.
+#[derive(Clone, Copy)]
+pub(crate) struct KeyHandoff {
+    pub(crate) key: [u8; 32],
+    pub(crate) generation: u64,
+    pub(crate) place: u64,
+}
+
+impl Site<'_> {
+    ghost use Rattle.lane_table.specs.Calls.{view};
+    ghost use Rattle.rng_core.specs.Sites.{HasRoom, Holds, Extracted, ExtractedRaising, Refilled, lane_of, base_lane, own_lane};
+
+    /// Extracts a root for the base that is held (`extract_entropy`).
+    pub(crate) fn extract<R: Wait>(&mut self, rt: &R, base: &Held) -> Root
+        requires holds { Holds base_lane base.now self.old }
+        requires room { HasRoom 1 self.old }
+        ensures { Extracted base.now result self.old self.new }
+    {
+        let mut pool = self.take(rt, LaneId::Pool);
+        let key = lane_values::extract(pool.state_mut(), &self.set.hw);
+        let note = PoolNote::Extract {
+            hw: self.set.hw,
+            base_place: base.place(),
+        };
+        let place = pool.place();
+        self.put(pool, note);
+        Root { key, place }
+    }
+
+    /// Extracts a root for the base that is held, and raises the generation to that which a reseed with it makes.
+    pub(crate) fn extract_raising<R: Wait>(&mut self, rt: &R, base: &Held) -> Root
+        requires holds { Holds base_lane base.now self.old }
+        requires room { HasRoom 1 self.old }
+        requires fresh { (view self.old.pass.now).seen ≤ (lane_of self.old base_lane).base.generation }
+        requires low { (lane_of self.old base_lane).base.generation < 2 ^ 62 }
+        ensures { ExtractedRaising base.now result self.old self.new }
+    {
+        let root = self.extract(rt, base);
+        let generation = lane_values::base_generation(base.state()) + 1;
+        self.lanes.raise(self.pass, base, generation);
+        root
+    }
+
+    /// Takes a key from the base for the CPU that is held (`crng_make_state`).
+    pub(crate) fn refill<R: Wait>(&mut self, rt: &R, cpu: &Held) -> KeyHandoff
+        requires holds { Holds (own_lane self.old) cpu.now self.old }
+        requires ready { 1 ≤ (view self.old.pass.now).seen }
+        requires room { HasRoom 1 self.old }
+        ensures { Refilled cpu.now result self.old self.new }
+    {
+        let mut base = self.take(rt, LaneId::Base);
+        let generation = lane_values::base_generation(base.state());
+        let key = lane_values::hand_over(base.state_mut());
+        let entry = BaseEntry::Refill {
+            cpu: self.set.cpu,
+            cpu_place: cpu.place(),
+        };
+        let place = base.place();
+        self.put(base, entry);
+        KeyHandoff {
+            key,
+            generation,
+            place,
+        }
+    }
+}

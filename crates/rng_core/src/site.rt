@@ -1,0 +1,146 @@
+//! Where a caller stands, and its visits at the lanes: at most two are in its hands, the last one taken in front.
+ghost use Rattle.std.specs.Prelude.{◌≡◌, ◌<◌, ◌≤◌, length};
+ghost use Rattle.lane_table.specs.LaneNumbers.{index_of};
+ghost use Rattle.lane_table.specs.Calls.{IsPassOf, IsAway, CanPut, count_of, view};
+
+use crate::setting::Setting;
+use key_names::{BaseEntry, CpuEntry, LaneId, PoolNote, Step, Trace, Who};
+use lane_table::{Entry, Held, Lanes, Pass};
+use std::sync::Wait;
+
+/// Where a call is made: the table, the caller's pass, the steps so far, and what the caller has set.
+#[derive(Drop)]
+pub struct Site<'a> {
+    pub lanes: &'a Lanes,
+    pub pass: &'a mut Pass,
+    pub trace: &'a mut Trace,
+    pub set: Setting,
+}
+
+impl Site<'_> {
+    ghost use Rattle.lane_table.specs.declared.view.LaneEntry.TheVariants.{Pool as OfPool, Base as OfBase, Cpu as OfCpu};
+    ghost use Rattle.key_names.specs.PoolNotes.{entry_of};
+    ghost use Rattle.lane_table.specs.Advances.{maker};
+    ghost use Rattle.rng_core.specs.Sites.{IsIdle, IsOnCpu, HasRoom, Holds, Took, Entered, EnteredCpu, CanLeave, IsMade, Left, Visits, Looked, LookedIdly, GaveBack, pool_lane, base_lane, own_lane, last_stamp};
+
+    // Takes a lane, over those that are held.
+    pub(crate) fn take<R: Wait>(&mut self, rt: &R, lane: LaneId) -> Held
+        requires pass { IsPassOf self.old.lanes.now self.old.pass.now }
+        requires lane { index_of lane < count_of self.old.lanes.now }
+        requires away { IsAway (index_of lane) (view self.old.pass.now) }
+        ensures { Took (index_of lane) result self.old self.new }
+    {
+        match self.lanes.try_take(self.pass, lane) {
+            Ok(held) => held,
+            Err(_) => self.lanes.take(rt, self.pass, lane),
+        }
+    }
+
+    /// Takes a lane with empty hands.
+    pub(crate) fn enter<R: Wait>(&mut self, rt: &R, lane: LaneId) -> Held
+        requires idle { IsIdle 0 self.old }
+        requires lane { index_of lane < count_of self.old.lanes.now }
+        ensures { Entered (index_of lane) result self.old self.new }
+    {
+        self.take(rt, lane)
+    }
+
+    /// Takes the CPU that the caller runs on, and looks at the generation while it is held.
+    pub(crate) fn enter_cpu<R: Wait>(&mut self, rt: &R) -> (Held, u64)
+        requires idle { IsIdle 1 self.old }
+        requires cpu { IsOnCpu self.old }
+        ensures { EnteredCpu result.0 result.1 self.old self.new }
+    {
+        let cpu = self.set.cpu;
+        let held = self.enter(rt, LaneId::Cpu(cpu));
+        let look = self.look_on();
+        (held, look)
+    }
+
+    // One look, whatever is in the hands.
+    fn look_on(&mut self) -> u64
+        requires pass { IsPassOf self.old.lanes.now self.old.pass.now }
+        requires room { HasRoom 1 self.old }
+        ensures { Looked result self.old self.new }
+    {
+        let generation = self.lanes.generation(self.pass);
+        self.trace.push(Step::Look(generation));
+        generation
+    }
+
+    /// One look, with empty hands.
+    pub(crate) fn look(&mut self) -> u64
+        requires { IsIdle 1 self.old }
+        ensures { LookedIdly result self.old self.new }
+    {
+        self.look_on()
+    }
+
+    /// Gives the base back as it was taken.
+    pub(crate) fn give_back(&mut self, base: Held)
+        requires { Holds base_lane base self.old }
+        ensures { GaveBack self.old self.new }
+    {
+        self.lanes.back(self.pass, base);
+    }
+
+    fn maker(&self) -> Who
+        ensures { result ≡ maker self.now.set.caller self.now.set.event (length self.now.trace.now) }
+    {
+        Who {
+            caller: self.set.caller,
+            event: self.set.event,
+            step: self.trace.len(),
+        }
+    }
+
+    // Makes a visit, whatever else is in the hands.
+    pub(crate) fn put<E: Entry>(&mut self, held: Held, entry: E)
+        requires pass { IsPassOf self.old.lanes.now self.old.pass.now }
+        requires own { self.old.pass.now.caller ≡ self.old.set.caller }
+        requires entry { CanPut self.old.lanes.now self.old.pass.now held (E.entry entry) }
+        requires room { HasRoom 1 self.old }
+        requires early { self.old.pass.now.stamp ≤ last_stamp }
+        ensures { Visits held (E.entry entry) self.old self.new }
+    {
+        let who = self.maker();
+        let mark = self.lanes.put(self.pass, held, who, entry);
+        self.trace.push(Step::Visit(mark));
+    }
+
+    /// Makes a visit of the only lane that is held, whose entry names no lane ahead.
+    pub(crate) fn leave<E: Entry>(&mut self, held: Held, entry: E)
+        requires ready { CanLeave held.turn.lane held (E.entry entry) self.old }
+        requires makes { IsMade held.turn.lane held (E.entry entry) self.old }
+        ensures { Left held.turn.lane held (E.entry entry) self.old self.new }
+    {
+        self.put(held, entry);
+    }
+
+    /// Makes a visit of the pool, which alone is held.
+    pub(crate) fn leave_pool(&mut self, pool: Held, note: PoolNote)
+        requires ready { CanLeave pool_lane pool (OfPool (entry_of note)) self.old }
+        requires makes { IsMade pool_lane pool (OfPool (entry_of note)) self.old }
+        ensures { Left pool_lane pool (OfPool (entry_of note.entry)) self.old self.new }
+    {
+        self.leave(pool, note);
+    }
+
+    /// Makes a visit of the base, which alone is held.
+    pub(crate) fn leave_base(&mut self, base: Held, entry: BaseEntry)
+        requires ready { CanLeave base_lane base (OfBase entry) self.old }
+        requires makes { IsMade base_lane base (OfBase entry) self.old }
+        ensures { Left base_lane base (OfBase entry) self.old self.new }
+    {
+        self.leave(base, entry);
+    }
+
+    /// Makes a visit of the CPU that the caller runs on, which alone is held.
+    pub(crate) fn leave_cpu(&mut self, cpu: Held, entry: CpuEntry)
+        requires ready { CanLeave (own_lane self.old) cpu (OfCpu entry) self.old }
+        requires makes { IsMade (own_lane self.old) cpu (OfCpu entry) self.old }
+        ensures { Left (own_lane self.old) cpu (OfCpu entry) self.old self.new }
+    {
+        self.leave(cpu, entry);
+    }
+}

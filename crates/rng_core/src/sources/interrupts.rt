@@ -1,0 +1,56 @@
+//! Interrupts: samples of a CPU's fast pool, and its dumps into the input pool.
+ghost use Rattle.key_names.specs.declared.events.Event.TheVariants.{Irq as IrqEvent};
+ghost use Rattle.key_names.specs.declared.events.Answer.TheVariants.{Ok as Done};
+ghost use Rattle.key_names.specs.SeenLine.{no_data};
+ghost use Rattle.rng_core.specs.Makes.{IsOutcomeOf, setting_of};
+ghost use Rattle.rng_core.specs.SampleDeeds.{DumpStands, Sampled};
+ghost use Rattle.rng_core.specs.Sites.{IsIdle, IsOnCpu, IsTimely, DoesIn, Entered, own_lane, own_places};
+
+use crate::cpu_values;
+use crate::sources::samples::add;
+use crate::site::Site;
+use key_names::{CpuEntry, LaneId};
+use lane_table::Held;
+use std::sync::Wait;
+
+// Takes the CPU that the caller runs on.
+fn enter_own<R: Wait>(rt: &R, site: &mut Site) -> Held
+    requires idle { IsIdle 0 site.old }
+    requires cpu { IsOnCpu site.old }
+    ensures { Entered (own_lane site.new) result site.old site.new }
+{
+    let lane = LaneId::Cpu(site.set.cpu);
+    site.enter(rt, lane)
+}
+
+// A dump that is due: what the fast pool holds goes into the input pool (`mix_interrupt_randomness`).
+fn dump<R: Wait>(rt: &R, site: &mut Site)
+    requires idle { IsIdle 4 site.old }
+    requires cpu { IsOnCpu site.old }
+    requires moment { IsTimely site.old }
+    ensures { DoesIn 4 (DumpStands (setting_of site.old.set) (own_places site.old)) site.old site.new }
+{
+    let mut cpu = enter_own(rt, site);
+    let now = site.set.now;
+    let dump = cpu_values::dump(cpu.state_mut(), now);
+    site.leave_cpu(cpu, CpuEntry::Dump { now });
+    add(rt, site, &dump.bytes, dump.bits);
+}
+
+/// An interrupt (`add_interrupt_randomness`): its sample and, exactly where this makes a dump due, the dump.
+pub fn irq<R: Wait>(rt: &R, site: &mut Site, v1: u64, v2: u64)
+    requires idle { IsIdle 5 site.old }
+    requires cpu { IsOnCpu site.old }
+    requires moment { IsTimely site.old }
+    ensures { DoesIn 5 (Sampled (IsOutcomeOf (setting_of site.old.set) (IrqEvent v1 v2) Done no_data)) site.old
+        site.new }
+{
+    let mut cpu = enter_own(rt, site);
+    let now = site.set.now;
+    let due = cpu_values::sample(cpu.state_mut(), v1, v2, now);
+    site.leave_cpu(cpu, CpuEntry::Irq { v1, v2, now });
+    if !due {
+        return;
+    }
+    dump(rt, site);
+}

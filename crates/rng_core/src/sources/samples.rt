@@ -1,0 +1,87 @@
+//! Samples that are mixed into the pool, and what they are credited.
+ghost use Rattle.std.specs.Prelude.{◌≡◌, ◌+◌, length};
+ghost use Rattle.key_names.specs.declared.events.Event.TheVariants.{Write as WriteEvent, Device as DeviceEvent, Add as AddEvent, Bits as BitsEvent, Input as InputEvent, Vmfork as VmforkEvent};
+ghost use Rattle.key_names.specs.declared.events.Answer.TheVariants.{Ok as Done};
+ghost use Rattle.key_names.specs.SeenLine.{count, no_data};
+ghost use Rattle.rng_core.specs.Sites.{IsIdle, IsTimely, Completes};
+
+use crate::lane_values;
+use crate::bridge::{cross, reseed};
+use crate::site::Site;
+use key_names::{LaneId, PoolNote};
+use std::sync::Wait;
+
+/// Mixes bytes into the pool, and credits nothing for them (a write to /dev/random).
+pub fn mix<R: Wait>(rt: &R, site: &mut Site, text: &[u8])
+    requires idle { IsIdle 1 site.old }
+    ensures { Completes 1 (WriteEvent text.now) Done no_data site.old site.new }
+{
+    let mut pool = site.enter(rt, LaneId::Pool);
+    lane_values::mix(pool.state_mut(), text);
+    site.leave_pool(pool, PoolNote::Mix { text, bits: 0 });
+}
+
+/// Mixes a device's word and bytes into the pool, without credit (`add_device_randomness`).
+pub fn device<R: Wait>(rt: &R, site: &mut Site, word: u64, text: &[u8])
+    requires idle { IsIdle 1 site.old }
+    ensures room { length site.new.trace.now ≡ length site.old.trace.now + 1 }
+    ensures does { Completes 1 (DeviceEvent word text.now) Done no_data site.old site.new }
+{
+    let mut pool = site.enter(rt, LaneId::Pool);
+    lane_values::mix_device(pool.state_mut(), word, text);
+    site.leave_pool(pool, PoolNote::Device { word, text });
+}
+
+/// Mixes bytes into the pool, and credits bits for them (`RNDADDENTROPY`, and with no bytes `RNDADDTOENTCNT`).
+pub fn add<R: Wait>(rt: &R, site: &mut Site, text: &[u8], bits: u32)
+    requires idle { IsIdle 3 site.old }
+    requires moment { IsTimely site.old }
+    ensures { Completes 3 (AddEvent text.now bits) Done no_data site.old site.new }
+{
+    let mut pool = site.enter(rt, LaneId::Pool);
+    let crossing = lane_values::mix_and_credit(pool.state_mut(), text, bits);
+    site.leave_pool(pool, PoolNote::Mix { text, bits });
+    cross(rt, site, crossing);
+}
+
+/// An event of an input device (`add_input_randomness`). A value that is the same as that of the last event changes
+/// nothing; any other is mixed in with the event's number, and credited by the timer while the pool is not full.
+pub fn input<R: Wait>(rt: &R, site: &mut Site, word: u64, kind: u16, code: u16, value: u8)
+    requires idle { IsIdle 3 site.old }
+    requires moment { IsTimely site.old }
+    ensures { Completes 3 (InputEvent word kind code value) Done no_data site.old site.new }
+{
+    let now = site.set.now;
+    let mut pool = site.enter(rt, LaneId::Pool);
+    let crossing = lane_values::mix_input(pool.state_mut(), word, kind, code, value, now);
+    let note = PoolNote::Input {
+        word,
+        kind,
+        code,
+        value,
+        now,
+    };
+    site.leave_pool(pool, note);
+    cross(rt, site, crossing);
+}
+
+/// How many bits the pool was credited (`RNDGETENTCNT`).
+pub fn bits<R: Wait>(rt: &R, site: &mut Site) -> u32
+    requires idle { IsIdle 1 site.old }
+    ensures { Completes 1 BitsEvent Done (count result) site.old site.new }
+{
+    let pool = site.enter(rt, LaneId::Pool);
+    let bits = lane_values::bits(pool.state());
+    site.leave_pool(pool, PoolNote::Bits);
+    bits
+}
+
+/// A virtual machine was forked: its id is mixed in, and the core reseeded (`add_vmfork_randomness`).
+pub fn vmfork<R: Wait>(rt: &R, site: &mut Site, word: u64, text: &[u8])
+    requires idle { IsIdle 4 site.old }
+    requires moment { IsTimely site.old }
+    ensures { Completes 4 (VmforkEvent word text.now) Done no_data site.old site.new }
+{
+    device(rt, site, word, text);
+    let _ = reseed(rt, site);
+}

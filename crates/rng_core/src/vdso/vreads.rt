@@ -1,0 +1,124 @@
+//! Reads out of a caller's vgetrandom state.
+ghost use Rattle.std.specs.Prelude.{◌≡◌, ◌<◌, ◌≤◌, length};
+ghost use Rattle.key_names.specs.SeenLine.{bytes_or_none};
+ghost use Rattle.rng_core.specs.Hosting.{IsNewHost, HostCalled, ReadsInside};
+ghost use Rattle.rng_core.specs.Makes.{result_answer, given};
+ghost use Rattle.rng_core.specs.Sites.{IsIdle, IsNew, IsOnCpu, most_bytes};
+ghost use Rattle.rng_core.specs.VreadMakes.{IsCurrent, ReadsLocally, ReadsState, done_of};
+
+use crate::site::Site;
+use crate::vdso::lane_host::{LaneHost, publish};
+use key_names::flags::are_bad;
+use key_names::{Errno, Step};
+use std::sync::Wait;
+use vdso_state::{Local, VEnd, VState, local, vgetrandom};
+
+/// Copies bytes of the batch over all of `buf` where the state's key is of the published generation and the batch has
+/// as many left. It waits for nobody. A look whose value is not used is no step: the trace then stays as it was.
+///
+/// The state's generation has to be one that the pass has seen published, as it is where only these calls and wipes
+/// changed the state.
+pub fn vread_local(site: &mut Site, st: &mut VState, buf: &mut [u8], flags: u32) -> Local
+    requires idle { IsIdle 1 site.old }
+    requires current { IsCurrent st.old site.old }
+    ensures { ReadsLocally result (length buf.old) flags st.old st.new buf.new site.old site.new }
+{
+    if buf.is_empty() || are_bad(flags) {
+        return Local::NeedsSystem;
+    }
+    let found = site.lanes.generation(site.pass);
+    match local(publish(found), st, buf) {
+        Local::Served => {
+            site.trace.push(Step::Look(found));
+            Local::Served
+        }
+        Local::NeedsSystem => Local::NeedsSystem,
+    }
+}
+
+// The result of a call, whichever way it ended.
+fn done(ended: Result<VEnd, Errno>) -> Result<(), Errno>
+    ensures { result ≡ done_of ended }
+{
+    match ended {
+        Ok(_) => Ok(()),
+        Err(errno) => Err(errno),
+    }
+}
+
+/// A call of vgetrandom on the host.
+pub(crate) fn call_host<R: Wait>(
+    host: &mut LaneHost<'_, R>,
+    st: &mut VState,
+    buf: &mut [u8],
+    flags: u32,
+) -> Result<(), Errno>
+    requires new { IsNewHost host.old }
+    requires current { IsCurrent st.old host.old.site }
+    requires short { length buf.old ≤ most_bytes }
+    ensures { HostCalled (length buf.old) flags st.old st.new (result_answer result) (bytes_or_none (given result buf.new))
+        host.old host.new }
+{
+    let ended = vgetrandom(host, st, buf, flags);
+    done(ended)
+}
+
+/// Random bytes for a user, out of the caller's vgetrandom state where that can serve them and by the system call
+/// otherwise (`vgetrandom`). No act is inside. The state's generation has to be one that the pass has seen published,
+/// and the trace empty.
+///
+/// # Errors
+///
+/// The error of the last system call. The buffer is unspecified then.
+pub fn vread<R: Wait>(
+    rt: &R,
+    site: &mut Site,
+    st: &mut VState,
+    buf: &mut [u8],
+    flags: u32,
+) -> Result<(), Errno>
+    requires new { IsNew site.old }
+    requires cpu { IsOnCpu site.old }
+    requires current { IsCurrent st.old site.old }
+    requires short { length buf.old ≤ most_bytes }
+    ensures { ReadsState (length buf.old) flags st.old st.new (result_answer result) (bytes_or_none (given result buf.new))
+        site.old site.new }
+{
+    match vread_local(site, st, buf, flags) {
+        Local::Served => Ok(()),
+        Local::NeedsSystem => {
+            let inner = Site {
+                lanes: site.lanes,
+                pass: &mut *site.pass,
+                trace: &mut *site.trace,
+                set: site.set,
+            };
+            let mut host = LaneHost::over(rt, inner, &mut [], &mut []);
+            call_host(&mut host, st, buf, flags)
+        }
+    }
+}
+
+/// Random bytes for a user as [`vread`](vread) gives them, with the host's acts inside, at least one, so that no
+/// copy is tried before the call (`vgetrandom`).
+///
+/// The host has to be new, and the state's generation one that its caller has seen published.
+///
+/// # Errors
+///
+/// The error of the last system call. The buffer is unspecified then.
+pub fn vread_inside<R: Wait>(
+    host: &mut LaneHost<'_, R>,
+    st: &mut VState,
+    buf: &mut [u8],
+    flags: u32,
+) -> Result<(), Errno>
+    requires new { IsNewHost host.old }
+    requires some { 0 < length host.old.acts.now }
+    requires current { IsCurrent st.old host.old.site }
+    requires short { length buf.old ≤ most_bytes }
+    ensures { ReadsInside (length buf.old) flags st.old st.new (result_answer result) (bytes_or_none (given result buf.new))
+        host.old host.new }
+{
+    call_host(host, st, buf, flags)
+}
