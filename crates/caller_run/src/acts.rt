@@ -48,7 +48,13 @@ impl Caller {
         ensures { (t : Lanes) → MadeEvent t event.now self.old sheet.old self.new sheet.new }
     {
         let unused = Reply::only(Answer::Unused);
-        self.tell(&mut sheet.log.lines, Word::Inside, unused, &Trace::empty(), &[]);
+        self.tell(
+            &mut sheet.log.lines,
+            Word::Inside,
+            unused,
+            &Trace::empty(),
+            &[],
+        );
         let bound = Bound::of(point_of(point), act, self.set.event);
         sheet.log.acts.push_reserved(bound);
         self.go_on(event);

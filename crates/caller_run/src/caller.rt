@@ -40,13 +40,7 @@ impl Caller {
     }
 
     /// One event, which forks nobody. The sheet gets its line.
-    pub(crate) fn step<R: Wait>(
-        &mut self,
-        rt: &R,
-        lanes: &Lanes,
-        sheet: &mut Sheet,
-        event: &Event,
-    )
+    pub(crate) fn step<R: Wait>(&mut self, rt: &R, lanes: &Lanes, sheet: &mut Sheet, event: &Event)
         requires can { CanAdvance lanes.now self.old sheet.old (event.now ∷ []) }
         requires plain { ForksNobody event.now }
         ensures { MadeEvent lanes.now event.now self.old sheet.old self.new sheet.new }
