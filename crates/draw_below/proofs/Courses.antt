@@ -65,11 +65,13 @@ one_longer : (b : Bool) (p : ℕ) (rest : List ℕ) (n : ℕ) → length rest �
 one_longer true p rest n e = omega arith
 one_longer false p rest n e = omega arith
 
-made_by : (lane n : ℕ) (made_steps : List MadeStep) → length (places_in lane made_steps) ≡ marks_in lane (deal_marks n made_steps)
+made_by : (lane n : ℕ) (made_steps : List MadeStep) →
+    length (places_in lane made_steps) ≡ marks_in lane (deal_marks n made_steps)
 made_by lane n [] = refl
 made_by lane n (looked g ∷ made_steps) = made_by lane (suc n) made_steps
 made_by lane n (visited mark e ∷ made_steps) =
-    one_longer (nat_eq (index_of mark.lane) lane) mark.place (places_in lane made_steps) _ (made_by lane (suc n) made_steps)
+    one_longer (nat_eq (index_of mark.lane) lane) mark.place (places_in lane made_steps) _
+        (made_by lane (suc n) made_steps)
     ∙ sym (sum_by-cons (here_in lane) (record { mark = mark; who = maker 0 0 n }) (deal_marks (suc n) made_steps))
 
 stamps_by : (n : ℕ) (made_steps : List MadeStep) → stamps_in made_steps ≡ stamps_of (deal_marks n made_steps)

@@ -141,8 +141,8 @@ start = first_view (plan_of 3 0)
 module _ (turn : Turn) (point : Point) (n : ℕ) (p q w x : View) (left : Stage) (out : List ℕ) (t : VgetrandomState)
     (parent child : List ℕ) (new : p ≡ start)
     (sampled : (own : List Step)
-    × DidAll (IsOutcomeOf (setting_of (first_setting 0)) (Add (range_with_len 0 32) 256) Done no_data) (first_setting 0) p own
-    q)
+    × DidAll (IsOutcomeOf (setting_of (first_setting 0)) (Add (range_with_len 0 32) 256) Done no_data) (first_setting 0)
+    p own q)
     (reached : ReachedStop (first_setting 0) n 0 wiped_state turn point left out t q w)
     (over : ForkedOver (first_setting 0) n 0 left out t parent child w x) where
   abbrev mid : View
@@ -360,8 +360,8 @@ module _ (set : Setting) (n m k f g : ℕ) (s : VgetrandomState) (plain : set �
   pub plain_sample : (p q : View) → ((own : List Step)
       × DidAll (IsOutcomeOf (setting_of set) (Add (range_with_len 0 32) 256) Done no_data) set p own q) →
       (own : List Step)
-      × DidAll (IsOutcomeOf (setting_of (first_setting 0)) (Add (range_with_len 0 32) 256) Done no_data) (first_setting 0) p own
-      q
+      × DidAll (IsOutcomeOf (setting_of (first_setting 0)) (Add (range_with_len 0 32) 256) Done no_data)
+      (first_setting 0) p own q
   plain_sample p q d = subst (λ (z : Setting). (own : List Step)
       × DidAll (IsOutcomeOf (setting_of z) (Add (range_with_len 0 32) 256) Done no_data) z p own q) plain d
 

@@ -73,7 +73,8 @@ pub record Course (v w : View) (marks : List MarkBy) : Type 0 where
 abbrev deal_marks : ℕ → ℕ → List MadeStep → List MarkBy
 deal_marks event n made_steps = marks_from 0 event n (map step_of made_steps)
 
-places_by : (lane event n : ℕ) (made_steps : List MadeStep) → places_in lane made_steps ≡ places (lane_of lane (deal_marks event n made_steps))
+places_by : (lane event n : ℕ) (made_steps : List MadeStep) →
+    places_in lane made_steps ≡ places (lane_of lane (deal_marks event n made_steps))
 places_by lane event n [] = refl
 places_by lane event n (looked g ∷ made_steps) = places_by lane event (suc n) made_steps
 places_by lane event n (visited mark e ∷ made_steps) =
@@ -89,10 +90,12 @@ length_places : (ms : List Mark) → length (places ms) ≡ length ms
 length_places [] = refl
 length_places (m ∷ ms) = ap suc (length_places ms)
 
-stamps_by : (event n : ℕ) (made_steps : List MadeStep) → stamps_in made_steps ≡ stamps_of (deal_marks event n made_steps)
+stamps_by : (event n : ℕ) (made_steps : List MadeStep) →
+    stamps_in made_steps ≡ stamps_of (deal_marks event n made_steps)
 stamps_by event n [] = refl
 stamps_by event n (looked g ∷ made_steps) = stamps_by event (suc n) made_steps
-stamps_by event n (visited mark e ∷ made_steps) = ap (λ (l : List ℕ). mark.stamp ∷ l) (stamps_by event (suc n) made_steps)
+stamps_by event n (visited mark e ∷ made_steps) =
+    ap (λ (l : List ℕ). mark.stamp ∷ l) (stamps_by event (suc n) made_steps)
 
 known_by : (w : View) (event n : ℕ) (made_steps : List MadeStep) → AllStand w 0 event n made_steps →
     AllByRecursion (IsKnown w) (deal_marks event n made_steps)
@@ -102,14 +105,16 @@ known_by w event n (visited mark e ∷ made_steps) stand = ((e, stand.0), known_
 
 -- one call
 course_of : (event : ℕ) (v w : View) (steps : List Step) (made_steps : List MadeStep) →
-    told.TraceRecords (in_event first_setting event) (moment v []) (moment w steps) made_steps → Course v w (marks_from 0 event 0 steps)
+    told.TraceRecords (in_event first_setting event) (moment v []) (moment w steps) made_steps →
+    Course v w (marks_from 0 event 0 steps)
 course_of event v w steps made_steps is =
     let go : Course v w (deal_marks event 0 made_steps) = record {
       same = is.went.same;
       grows = is.went.grows;
       made = λ lane low. is.went.made lane low
           ∙ ap (λ (k : ℕ). (at lane v).made + k)
-          (ap length (places_by lane event 0 made_steps) ∙ length_places (lane_of lane (deal_marks event 0 made_steps)));
+          (ap length (places_by lane event 0 made_steps)
+              ∙ length_places (lane_of lane (deal_marks event 0 made_steps)));
       placed = λ lane low. is.went.places lane low
           ∙ ap (λ (l : List ℕ). (at lane v).places ++ l) (places_by lane event 0 made_steps);
       climbs = subst (λ (l : List ℕ). Climbs v.stamp l w.stamp) (stamps_by event 0 made_steps) is.went.climbs;

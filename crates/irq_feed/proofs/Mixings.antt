@@ -112,7 +112,8 @@ direct_room feeds number index cap cap' xs ys before low small room same =
 
 -- ---- places
 
-places_same : (lane : ℕ) (made_steps : List MadeStep) → places_in lane made_steps ≡ places_of lane (map step_of made_steps)
+places_same : (lane : ℕ) (made_steps : List MadeStep) →
+    places_in lane made_steps ≡ places_of lane (map step_of made_steps)
 places_same lane [] = refl
 places_same lane (did_look g ∷ made_steps) = places_same lane made_steps
 places_same lane (visited mark e ∷ made_steps) =

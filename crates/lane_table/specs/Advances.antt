@@ -80,7 +80,8 @@ abbrev pub Sees : View → ℕ → List MadeStep → ℕ → Type 0
 Sees w low [] high = low ≤ high
 Sees w low (looked g ∷ made_steps) high = (low ≤ g) × Sees w g made_steps high
 Sees w low (visited mark e ∷ made_steps) high = (mid : ℕ) × (low ≤ mid)
-    × (generation_of (replay (take (suc mark.place) (known_of w (index_of mark.lane)))) ≤ mid) × Sees w mid made_steps high
+    × (generation_of (replay (take (suc mark.place) (known_of w (index_of mark.lane)))) ≤ mid)
+        × Sees w mid made_steps high
 
 -- the core is ready exactly where it was reseeded
 abbrev pub Agrees : BaseValue → Type 0
@@ -92,7 +93,8 @@ pub record Advances (caller event n : ℕ) (v w : View) (made_steps : List MadeS
   pub grows : Grows v w
   pub looks : w.looks ≡ v.looks ++ looks_in made_steps
   pub places : (lane : ℕ) → lane < length v.lanes → (at lane w).places ≡ (at lane v).places ++ places_in lane made_steps
-  pub made : (lane : ℕ) → lane < length v.lanes → (at lane w).made ≡ (at lane v).made + length (places_in lane made_steps)
+  pub made : (lane : ℕ) → lane < length v.lanes →
+      (at lane w).made ≡ (at lane v).made + length (places_in lane made_steps)
   pub heard : (lane : ℕ) → lane < length v.lanes → (at lane w).heard ≡ (at lane v).heard
   pub stamps : w.stamps ≡ v.stamps ++ stamps_in made_steps
   pub climbs : Climbs v.stamp (stamps_in made_steps) w.stamp

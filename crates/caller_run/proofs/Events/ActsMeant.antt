@@ -96,7 +96,8 @@ module _ (set : Setting) (w : View) where
     none_stand : (steps : List Step) → steps ≡ [] → Stand steps
     none_stand steps none = subst Stand (sym none) (inl tt)
 
-    act_samples : (told : CallSetting) (act : InsideAct) (m : LineMeaning) → ActMeans told act m → SamplesStand fast m.deeds
+    act_samples : (told : CallSetting) (act : InsideAct) (m : LineMeaning) → ActMeans told act m →
+        SamplesStand fast m.deeds
     act_samples told Wipe m k = subst (λ (l : LineMeaning). SamplesStand fast l.deeds) (sym k) (inl tt)
     act_samples told (Vread n) m k = inl (sys fast told n 0 m.deeds k.0)
     act_samples told Reseed m k = form_samples fast told ReseedEvent m.deeds tt k.0

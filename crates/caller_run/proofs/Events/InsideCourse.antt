@@ -188,7 +188,8 @@ module _ (set : Setting) (asks : List Ask) where
             serve = d.serve;
             end = d.end;
             goes_on = d.own;
-            cut = inl (key_cut set.event (length written.moment.steps) (map step_of did.made_steps) d.items keys d.unmarked);
+            cut = inl (key_cut set.event (length written.moment.steps) (map step_of did.made_steps) d.items keys
+                d.unmarked);
           }
 
       -- where there was none to be had

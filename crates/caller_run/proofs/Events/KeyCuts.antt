@@ -135,8 +135,8 @@ module _ (lists : Lists) where
       (cc e, all_marks steps (subst (AllByRecursion (λ b. b ≡ true)) (sym rest) all))
 
   -- a read from a CPU behind a look
-  read_steps : (set : CallSetting) (steps : List Step) (g : ℕ) (rest : List Deed) → deeds_of lists steps ≡ look_deed g ∷ rest →
-      CpuReadForm set (User 32) rest → IsKeySteps steps
+  read_steps : (set : CallSetting) (steps : List Step) (g : ℕ) (rest : List Deed) →
+      deeds_of lists steps ≡ look_deed g ∷ rest → CpuReadForm set (User 32) rest → IsKeySteps steps
   read_steps set steps g rest e (inl f) =
       key_marks steps [] (marks_are steps ∙ ap (map is_visit) e
       ∙ ap (λ (l : List Deed). false ∷ map is_visit l) f.deeds_are) tt

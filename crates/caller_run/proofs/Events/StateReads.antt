@@ -101,8 +101,8 @@ module _ {t : Lanes} {c d : Caller} {said : Reply} {served : List ℕ} {before :
 
     -- with no act inside
     pub read_alone : (acts : List Bound) (out : List ℕ) → acts ≡ [] →
-        VreadMakes n flags st left (result_answer ended) (bytes_or_none (given ended served)) c.set (moment c.pass before)
-        (moment d.pass steps) →
+        VreadMakes n flags st left (result_answer ended) (bytes_or_none (given ended served)) c.set
+        (moment c.pass before) (moment d.pass steps) →
         StateRead t n flags c d said served steps (asks_of acts) (outcomes_of acts out)
     read_alone acts out none did =
         subst (λ (bs : List Bound). StateRead t n flags c d said served steps (asks_of bs) (outcomes_of bs out))

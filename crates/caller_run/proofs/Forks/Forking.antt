@@ -268,7 +268,8 @@ module _ {begun : Start} {events rest : List Event} {child : ℕ} {c e : Caller}
     splits = length kids + 0;
     middle = u;
     numbered_steps = g.done.numbered_steps ++ t.first.numbered_steps;
-    ran = ran_then begun.caller (length kids) 0 begun.view (view c.pass) u g.done.numbered_steps t.first.numbered_steps g.done.ran first;
+    ran = ran_then begun.caller (length kids) 0 begun.view (view c.pass) u g.done.numbered_steps t.first.numbered_steps
+        g.done.ran first;
     order = ap steps_of (map-append item_of g.done.numbered_steps t.first.numbered_steps
         ∙ (λ i. g.done.order i ++ t.first.order i))
         ∙ map-append (λ (item : Item). item.step) (calls_items g.calls) (items_from c.set.event 0 (Marked t.mark ∷ []))

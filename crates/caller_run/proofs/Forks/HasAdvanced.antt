@@ -148,7 +148,8 @@ pub gone_all : {begun : Start} {events : List Event} {c : Caller} {lines : List 
     {kids : List Start}
     (d : Caller) (served : List ℕ) (said : Reply) (steps : List Step) → d.set ≡ c.set → said.answer ≡ Done →
     (line_of d.set EndWord served said steps).shown ≡ no_data →
-    Makes (BaseOnly End) c.set (moment c.pass []) (moment d.pass steps) → HasAdvanced begun events [] c lines asks kids →
+    Makes (BaseOnly End) c.set (moment c.pass []) (moment d.pass steps) →
+    HasAdvanced begun events [] c lines asks kids →
     RunEnded begun events (view d.pass) (lines ++ line_of d.set EndWord served said steps ∷ []) kids
 gone_all {begun = begun} {events = events} {c = c} {lines = lines} {kids = kids} d served said steps set answer shown
     did g =

@@ -200,7 +200,8 @@ module _ (set : Setting) (m n : Moment) (here : RanHere set m n) where
       subst (AllByRecursion StepFits) (sym here.unstall.told.trace)
       (each_append StepFits here.middle.steps (map step_of here.unstall.made_steps)
       (subst (AllByRecursion StepFits) (sym here.stall.told.trace)
-      (each_append StepFits m.steps (map step_of here.stall.made_steps) fits here.stall.told.fits)) here.unstall.told.fits)
+      (each_append StepFits m.steps (map step_of here.stall.made_steps) fits here.stall.told.fits))
+      here.unstall.told.fits)
 
 -- the line of a fork
 module _ (before after : Gathered) (line : SeenLine) (lines : after.lines ≡ before.lines ++ line ∷ [])
@@ -434,7 +435,8 @@ module _ (t : Lanes) (script : Script) (set : Setting) (p : Pass) (a : Plot) (sh
       subst (λ (c : Caller). HasAdvanced begun events events c [] [] []) (sym begins)
       (gone_nothing begun events (newly p set) refl can.none_yet refl refl) in
       let gone : GoneIn begun events events x.caller x [] =
-      subst (λ (l : List SeenLine). HasAdvanced begun events events x.caller l (waiting_in x.sheet.log) []) (sym new.lines)
+      subst (λ (l : List SeenLine). HasAdvanced begun events events x.caller l (waiting_in x.sheet.log) [])
+      (sym new.lines)
       (subst (λ (l : List Bound). HasAdvanced begun events events x.caller [] (asks_of l) []) (sym new.acts) none) in
       let high : AreAbove set.caller events =
       subst (λ (n : ℕ). AreAbove n events) (let q : set.caller + 0 ≡ set.caller = omega arith in q)

@@ -72,7 +72,8 @@ none_beyond lanes visits lane (by ∷ marks) beyond all =
     go false is here rest = rest
 
 -- a caller that did this, and knows all lists in the end
-module _ (caller : ℕ) (w : View) (numbered_steps : List NumberedStep) (stood : AllByRecursion (Stood w caller) numbered_steps) where
+module _ (caller : ℕ) (w : View) (numbered_steps : List NumberedStep)
+    (stood : AllByRecursion (Stood w caller) numbered_steps) where
   -- each of its marks is that of a visit
   abbrev Visits : Item → Type 0
   Visits item = AllByRecursion (MarksVisit (length w.lanes) (known_of w)) (mark_of caller item)
@@ -80,7 +81,8 @@ module _ (caller : ℕ) (w : View) (numbered_steps : List NumberedStep) (stood :
   pub items_visit : AllByRecursion Visits (items_of numbered_steps)
   items_visit = all numbered_steps stood
     where
-      one : (d : NumberedStep) (made_step : MadeStep) → Stood w caller (record { event = d.event; number = d.number; made_step = made_step }) →
+      one : (d : NumberedStep) (made_step : MadeStep) →
+          Stood w caller (record { event = d.event; number = d.number; made_step = made_step }) →
           Visits (item_of (record { event = d.event; number = d.number; made_step = made_step }))
       one d (looked g) here = tt
       one d (visited mark e) here = (
@@ -93,7 +95,8 @@ module _ (caller : ℕ) (w : View) (numbered_steps : List NumberedStep) (stood :
         tt,
       )
 
-      all : (numbered_steps : List NumberedStep) → AllByRecursion (Stood w caller) numbered_steps → AllByRecursion Visits (items_of numbered_steps)
+      all : (numbered_steps : List NumberedStep) → AllByRecursion (Stood w caller) numbered_steps →
+          AllByRecursion Visits (items_of numbered_steps)
       all [] stood = tt
       all (d ∷ numbered_steps) stood = (one d d.made_step stood.0, all numbered_steps stood.1)
 

@@ -99,6 +99,7 @@ read_kept {t = t} {c = c} {d = d} {said = said} k = record {
   states = λ s. subst (Seen (floor (view d.pass))) (sym k.stands)
       (seen_with (floor (view d.pass)) (stand c) k.left k.published
       (seen_up (floor (view c.pass)) (floor (view d.pass)) (stand c)
-      (sees_up (view d.pass) (floor (view c.pass)) (floor (view d.pass)) (made_steps_of k.done.numbered_steps) k.done.ran.sees) s));
+      (sees_up (view d.pass) (floor (view c.pass)) (floor (view d.pass)) (made_steps_of k.done.numbered_steps)
+          k.done.ran.sees) s));
   shows = no_count _ said.shows (λ same. cc) k.shows;
 }

@@ -234,8 +234,8 @@ module _ (script : Script) (runs : List Run) (w : View) (ok : WellFormed script)
       let done = has.ended.done in
       subst (λ (l : List Step). Course w r.end (before ++ l)) (ap steps_of done.order ∙ same_steps (calls_of events
       r.lines))
-      (course_more w r.begun.view r.end r.begun.caller _ done.numbered_steps before done.ran (as_long r here) (grown r here)
-      course)
+      (course_more w r.begun.view r.end r.begun.caller _ done.numbered_steps before done.ran (as_long r here)
+      (grown r here) course)
 
   module _ (P : List Step → Type 0)
       (holds : (r : Run) → IsOneOf r runs → floor r.end ≤ reseeds → (steps : List Step) → Course w r.end steps →

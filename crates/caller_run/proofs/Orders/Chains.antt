@@ -19,9 +19,11 @@ use Rattle.caller_run.specs.Ran.{Stood, SplitView, RanBy, Ran}
 
 -- what was done in one event
 
-pub deals_from : (event n : ℕ) (made_steps : List MadeStep) → made_steps_of (numbered_steps_from event n made_steps) ≡ made_steps
+pub deals_from : (event n : ℕ) (made_steps : List MadeStep) →
+    made_steps_of (numbered_steps_from event n made_steps) ≡ made_steps
 deals_from event n [] = refl
-deals_from event n (made_step ∷ made_steps) = ap (λ (l : List MadeStep). made_step ∷ l) (deals_from event (suc n) made_steps)
+deals_from event n (made_step ∷ made_steps) =
+    ap (λ (l : List MadeStep). made_step ∷ l) (deals_from event (suc n) made_steps)
 
 pub items_from_doings : (event n : ℕ) (made_steps : List MadeStep) →
     items_of (numbered_steps_from event n made_steps) ≡ items_from event n (map step_of made_steps)
@@ -71,28 +73,31 @@ ran_nothing caller v = record {
 
 -- and one part after another
 
-pub stood_grown : (v w : View) (caller : ℕ) (numbered_steps : List NumberedStep) → length w.lanes ≡ length v.lanes → Grows v w →
-    AllByRecursion (Stood v caller) numbered_steps → AllByRecursion (Stood w caller) numbered_steps
+pub stood_grown : (v w : View) (caller : ℕ) (numbered_steps : List NumberedStep) → length w.lanes ≡ length v.lanes →
+    Grows v w → AllByRecursion (Stood v caller) numbered_steps → AllByRecursion (Stood w caller) numbered_steps
 stood_grown v w caller numbered_steps sized grows stood =
     each_weaker (Stood v caller) (Stood w caller) numbered_steps (λ d here. go d d.made_step here) stood
   where
-    go : (d : NumberedStep) (made_step : MadeStep) → Stood v caller (record { event = d.event; number = d.number; made_step = made_step }) →
+    go : (d : NumberedStep) (made_step : MadeStep) →
+        Stood v caller (record { event = d.event; number = d.number; made_step = made_step }) →
         Stood w caller (record { event = d.event; number = d.number; made_step = made_step })
     go d (looked g) here = tt
     go d (visited mark e) here = mark_grown v w mark (maker caller d.event d.number) e sized grows here
 
-pub stood_known : (v : View) (caller : ℕ) (numbered_steps : List NumberedStep) → AllByRecursion (Stood v caller) numbered_steps →
-    AllKnown v (made_steps_of numbered_steps)
+pub stood_known : (v : View) (caller : ℕ) (numbered_steps : List NumberedStep) →
+    AllByRecursion (Stood v caller) numbered_steps → AllKnown v (made_steps_of numbered_steps)
 stood_known v caller [] stood = tt
 stood_known v caller (d ∷ numbered_steps) stood = go d.made_step stood.0 (stood_known v caller numbered_steps stood.1)
   where
-    go : (made_step : MadeStep) → Stood v caller (record { event = d.event; number = d.number; made_step = made_step }) →
+    go : (made_step : MadeStep) →
+        Stood v caller (record { event = d.event; number = d.number; made_step = made_step }) →
         AllKnown v (made_steps_of numbered_steps) → AllKnown v (made_step ∷ made_steps_of numbered_steps)
     go (looked g) here rest = rest
     go (visited mark e) here rest =
         (here.near, at_below (known_of v (index_of mark.lane)) mark.place here.visit here.there, rest)
 
-module _ (caller m n : ℕ) (u v w : View) (xs ys : List NumberedStep) (a : RanBy caller m u v xs) (b : RanBy caller n v w ys)
+module _ (caller m n : ℕ) (u v w : View) (xs ys : List NumberedStep) (a : RanBy caller m u v xs)
+    (b : RanBy caller n v w ys)
   where
     both : made_steps_of (xs ++ ys) ≡ made_steps_of xs ++ made_steps_of ys
     both = map-append made_step_of xs ys
@@ -108,7 +113,8 @@ module _ (caller m n : ℕ) (u v w : View) (xs ys : List NumberedStep) (a : RanB
         (f.0 ++ g.0, g.1 ∙ ap (λ (l : List Visit). l ++ g.0) f.1 ∙ append_assoc (known_of u lane) f.0 g.0)
 
     places_both : (lane : ℕ) →
-        places_in lane (made_steps_of (xs ++ ys)) ≡ places_in lane (made_steps_of xs) ++ places_in lane (made_steps_of ys)
+        places_in lane (made_steps_of (xs ++ ys)) ≡ places_in lane (made_steps_of xs)
+            ++ places_in lane (made_steps_of ys)
     places_both lane = ap (places_in lane) both ∙ places_append lane (made_steps_of xs) (made_steps_of ys)
 
     placed : (lane : ℕ) → lane < length u.lanes →
@@ -131,7 +137,8 @@ module _ (caller m n : ℕ) (u v w : View) (xs ys : List NumberedStep) (a : RanB
     climbed =
         subst (λ (l : List ℕ). Climbs u.stamp l w.stamp)
         (sym (ap stamps_in both ∙ stamps_append (made_steps_of xs) (made_steps_of ys)))
-        (climbs_append u.stamp v.stamp w.stamp (stamps_in (made_steps_of xs)) (stamps_in (made_steps_of ys)) a.climbs b.climbs)
+        (climbs_append u.stamp v.stamp w.stamp (stamps_in (made_steps_of xs)) (stamps_in (made_steps_of ys)) a.climbs
+            b.climbs)
 
     seen : Sees w (floor u) (made_steps_of (xs ++ ys)) (floor w)
     seen =

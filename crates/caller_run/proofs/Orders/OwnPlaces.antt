@@ -46,17 +46,19 @@ module _ (caller : ℕ) (events : List Event) (r : Run) (has : HasRun caller eve
     near : (lane : ℕ) → lane < length r.end.lanes → lane < length r.begun.view.lanes
     near lane low = let s = has.ended.done.ran.same.sized in omega arith
 
-    in_marks : (f : ℕ → ℕ) (lane : LaneId) → marked_by f lane r ≡ sum_by f (places_in (index_of lane) (made_steps_of numbered_steps))
+    in_marks : (f : ℕ → ℕ) (lane : LaneId) →
+        marked_by f lane r ≡ sum_by f (places_in (index_of lane) (made_steps_of numbered_steps))
     in_marks f lane =
         sym (sum_by-map f (λ (mark : Mark). mark.place) (lane_marks lane (all_marks (r.lines ∷ []))))
-        ∙ lane_weight f lane r.begun.caller r.lines numbered_steps (fit_own r.begun.caller 0 events r.lines has.ended.fit) same
+        ∙ lane_weight f lane r.begun.caller r.lines numbered_steps
+            (fit_own r.begun.caller 0 events r.lines has.ended.fit) same
 
     pub own_places : OwnPlaces r
     own_places = record {
       placed = λ f lane low.
           ap (sum_by f) (has.ended.done.ran.places (index_of lane) (near (index_of lane) low)
-          ∙ ap (λ (l : List ℕ). l ++ places_in (index_of lane) (made_steps_of numbered_steps)) (new.places (index_of lane)))
-          ∙ sym (in_marks f lane);
+          ∙ ap (λ (l : List ℕ). l ++ places_in (index_of lane) (made_steps_of numbered_steps))
+          (new.places (index_of lane))) ∙ sym (in_marks f lane);
       made = λ lane low.
           (let a = has.ended.done.ran.made (index_of lane) (near (index_of lane) low) in
           let b = new.made (index_of lane) in let c = in_marks (λ p. 1) lane in

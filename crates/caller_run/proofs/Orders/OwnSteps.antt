@@ -134,8 +134,8 @@ module _ (set : Setting) (asks : List Ask) where
   abbrev pub next_items : Spot → List Step → List Item
   next_items s steps = items_from set.event (length s.moment.steps) steps
 
-  pub own_told : (s t : Spot) (made_steps : List MadeStep) → TraceRecords set s.moment t.moment made_steps → t.outcomes ≡ s.outcomes →
-      OwnSteps s t (next_items s (map step_of made_steps))
+  pub own_told : (s t : Spot) (made_steps : List MadeStep) → TraceRecords set s.moment t.moment made_steps →
+      t.outcomes ≡ s.outcomes → OwnSteps s t (next_items s (map step_of made_steps))
   own_told s t made_steps told same =
       let e : length s.moment.steps + 0 ≡ length s.moment.steps = omega arith in record {
         line = ap (items_from set.event 0) told.trace ∙ items_append set.event 0 s.moment.steps (map step_of made_steps)

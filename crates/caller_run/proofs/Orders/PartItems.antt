@@ -28,8 +28,8 @@ part_then caller u v w xs ys a b = record {
   order = map-append item_of a.numbered_steps b.numbered_steps ∙ (λ i. a.order i ++ b.order i);
 }
 
-pub part_went : (caller event n : ℕ) (v w : View) (made_steps : List MadeStep) → Advances caller event n v w made_steps →
-    Part caller v w (items_from event n (map step_of made_steps))
+pub part_went : (caller event n : ℕ) (v w : View) (made_steps : List MadeStep) →
+    Advances caller event n v w made_steps → Part caller v w (items_from event n (map step_of made_steps))
 part_went caller event n v w made_steps went = record {
   numbered_steps = numbered_steps_from event n made_steps;
   ran = ran_went caller event n v w made_steps went;

@@ -72,8 +72,8 @@ module _ {event : Event} {c e : Caller} {before after : Gathered} {acts left : L
   abbrev x : Ask
   x = ask_of (new_bound k.point k.act c.set.event)
 
-  pub can_keep : {t : Lanes} {m inside : ℕ} {rest : List Event} → CanAdvanceWith t c before acts m inside (event ∷ rest) →
-      CanAdvanceWith t e after left m inside rest
+  pub can_keep : {t : Lanes} {m inside : ℕ} {rest : List Event} →
+      CanAdvanceWith t c before acts m inside (event ∷ rest) → CanAdvanceWith t e after left m inside rest
   can_keep {t = t} g =
       let range = subst (InRange g.range.0 t.cpus) k.event_is g.range.1.0 in
       can_next c refl g.ready.has g.states k.on
@@ -101,14 +101,16 @@ module _ {event : Event} {c e : Caller} {before after : Gathered} {acts left : L
     fit = fit_more begun.caller c.set.event events (Inside (number_of k.point) k.act) rest before.lines line line_is g.fit
 
     -- no vread follows, so the act is a call of its own
-    gone_idle : has_vread rest ≡ false → HasAdvanced begun events rest e (before.lines ++ line ∷ []) (asks ++ x ∷ []) kids
+    gone_idle : has_vread rest ≡ false →
+        HasAdvanced begun events rest e (before.lines ++ line ∷ []) (asks ++ x ∷ []) kids
     gone_idle none =
         gone_by c g refl on (unbound (bound_by x line)) (before.lines ++ line ∷ []) (asks ++ x ∷ []) g.waiting
         (unbound_done c.set.caller (view c.pass) (stand c) (bound_by x line) refl refl refl) refl
         (λ has. let b : false ≡ true = sym none ∙ has in absurd (cc b))
         (so_far_idle events rest before.lines g.waiting g.calls x line none g.so_far) fit idle
 
-    gone_waits : has_vread rest ≡ true → HasAdvanced begun events rest e (before.lines ++ line ∷ []) (asks ++ x ∷ []) kids
+    gone_waits : has_vread rest ≡ true →
+        HasAdvanced begun events rest e (before.lines ++ line ∷ []) (asks ++ x ∷ []) kids
     gone_waits has =
         gone_on c g refl on g.calls (before.lines ++ line ∷ []) (asks ++ x ∷ []) (g.waiting ++ x ∷ []) kids g.done
         g.settings g.forked

@@ -71,8 +71,8 @@ known_append w [] ys a b = b
 known_append w (looked g ∷ xs) ys a b = known_append w xs ys a b
 known_append w (visited mark e ∷ xs) ys a b = (a.0, a.1, known_append w xs ys a.2 b)
 
-known_grown : (v w : View) (made_steps : List MadeStep) → length w.lanes ≡ length v.lanes → Grows v w → AllKnown v made_steps →
-    AllKnown w made_steps
+known_grown : (v w : View) (made_steps : List MadeStep) → length w.lanes ≡ length v.lanes → Grows v w →
+    AllKnown v made_steps → AllKnown w made_steps
 known_grown v w [] sized grows a = tt
 known_grown v w (looked g ∷ made_steps) sized grows a = known_grown v w made_steps sized grows a
 known_grown v w (visited mark e ∷ made_steps) sized grows a =
@@ -82,7 +82,8 @@ known_grown v w (visited mark e ∷ made_steps) sized grows a =
       known_grown v w made_steps sized grows a.2,
     )
 
-pub steps_of_doings : (numbered_steps : List NumberedStep) → map step_of (made_steps_of numbered_steps) ≡ steps_of (items_of numbered_steps)
+pub steps_of_doings : (numbered_steps : List NumberedStep) →
+    map step_of (made_steps_of numbered_steps) ≡ steps_of (items_of numbered_steps)
 steps_of_doings [] = refl
 steps_of_doings (d ∷ numbered_steps) = ap (λ (l : List Step). step_of d.made_step ∷ l) (steps_of_doings numbered_steps)
 
@@ -93,13 +94,16 @@ course_more w u v caller n numbered_steps steps ran sized grows c =
     let here = stood_known v caller numbered_steps ran.stood in record {
       made_steps = c.made_steps ++ made_steps_of numbered_steps;
       first = c.first;
-      steps_are = map-append step_of c.made_steps (made_steps_of numbered_steps) ∙ (λ i. c.steps_are i ++ steps_of_doings numbered_steps i);
-      climbs = subst (λ (l : List ℕ). Climbs c.first l v.stamp) (sym (stamps_append c.made_steps (made_steps_of numbered_steps)))
-          (climbs_append c.first u.stamp v.stamp (stamps_in c.made_steps) (stamps_in (made_steps_of numbered_steps)) c.climbs
-          ran.climbs);
+      steps_are = map-append step_of c.made_steps (made_steps_of numbered_steps)
+          ∙ (λ i. c.steps_are i ++ steps_of_doings numbered_steps i);
+      climbs = subst (λ (l : List ℕ). Climbs c.first l v.stamp)
+          (sym (stamps_append c.made_steps (made_steps_of numbered_steps)))
+          (climbs_append c.first u.stamp v.stamp (stamps_in c.made_steps) (stamps_in (made_steps_of numbered_steps))
+          c.climbs ran.climbs);
       sees = sees_append w 0 (floor u) (floor v) c.made_steps (made_steps_of numbered_steps) c.sees
           (sees_grown v w (floor u) (floor v) (made_steps_of numbered_steps) grows here ran.sees);
-      known = known_append w c.made_steps (made_steps_of numbered_steps) c.known (known_grown v w (made_steps_of numbered_steps) sized grows here);
+      known = known_append w c.made_steps (made_steps_of numbered_steps) c.known
+          (known_grown v w (made_steps_of numbered_steps) sized grows here);
     }
 
 -- a pass that was split off has seen as much
@@ -207,8 +211,8 @@ module _ (script : Script) (runs : List Run) (w : View) (ok : WellFormed script)
           let long = each_of (λ r. length w.lanes ≡ length r.end.lanes) q runs sized child.1 in
           let more = each_of (λ r. Grows r.end w) q runs grows child.1 in
           let all : Course w f.middle (list_at earlier q.begun.caller ++ steps_of (items_of f.numbered_steps)) =
-          course_more w q.begun.view f.middle q.begun.caller f.splits f.numbered_steps (list_at earlier q.begun.caller) f.ran
-          (long ∙ f.sized)
+          course_more w q.begun.view f.middle q.begun.caller f.splits f.numbered_steps (list_at earlier q.begun.caller)
+          f.ran (long ∙ f.sized)
           (λ lane near. begins_trans (known_of f.middle lane) (known_of q.end lane) (known_of w lane)
           (f.grows lane near) (more lane (let e = f.sized in omega arith)))
           (before q child.1 low) in

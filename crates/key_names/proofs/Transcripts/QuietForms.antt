@@ -115,7 +115,8 @@ module _ (fast : ℕ → ℕ → FastPool) where
   counted set taken n deeds f =
       choice (n == 0) _ _ deeds (λ e. empty deeds e) (λ h. behind_look (ReadForm set taken) (read set taken) deeds h) f
 
-  pub quiet : (set : Setting) (event : Event) (deeds : List Deed) → IsNoInterrupt event → Form set event deeds → Quiet deeds
+  pub quiet : (set : Setting) (event : Event) (deeds : List Deed) → IsNoInterrupt event → Form set event deeds →
+      Quiet deeds
   quiet set (At moment) deeds other f = empty deeds f
   quiet set (On c) deeds other f = empty deeds f
   quiet set (Hw bytes) deeds other f = empty deeds f

@@ -45,7 +45,8 @@ still_same j v w e = record {
   heard = ap (λ (a : LaneView). a.heard) e;
 }
 
-still_but : (lane : ℕ) (v w : View) → SameHistory lane v w → ((j : ℕ) → j < length v.lanes → j ≢ lane → SameHistory j v w) →
+still_but : (lane : ℕ) (v w : View) → SameHistory lane v w →
+    ((j : ℕ) → j < length v.lanes → j ≢ lane → SameHistory j v w) →
     (j : ℕ) → j < length v.lanes → SameHistory j v w
 still_but lane v w here others j low = dite (ℕ_discrete j lane) (λ e. subst (λ (z : ℕ). SameHistory z v w) (sym e) here)
     (λ ne. others j low ne)
@@ -177,8 +178,8 @@ mark_grown v w mark who e sized grows k = let more = grows (index_of mark.lane) 
   is = k.is;
 }
 
-stand_grown : (v w : View) (caller event n : ℕ) (made_steps : List MadeStep) → length w.lanes ≡ length v.lanes → Grows v w →
-    AllStand v caller event n made_steps → AllStand w caller event n made_steps
+stand_grown : (v w : View) (caller event n : ℕ) (made_steps : List MadeStep) → length w.lanes ≡ length v.lanes →
+    Grows v w → AllStand v caller event n made_steps → AllStand w caller event n made_steps
 stand_grown v w caller event n [] sized grows k = tt
 stand_grown v w caller event n (looked g ∷ made_steps) sized grows k =
     stand_grown v w caller event (suc n) made_steps sized grows k
@@ -216,7 +217,8 @@ front_put : (b : Bool) (x : ℕ) (whole xs ys : List ℕ) → whole ≡ xs ++ ys
 front_put true x whole xs ys e = ap (λ (l : List ℕ). x ∷ l) e
 front_put false x whole xs ys e = e
 
-pub places_append : (lane : ℕ) (xs ys : List MadeStep) → places_in lane (xs ++ ys) ≡ places_in lane xs ++ places_in lane ys
+pub places_append : (lane : ℕ) (xs ys : List MadeStep) →
+    places_in lane (xs ++ ys) ≡ places_in lane xs ++ places_in lane ys
 places_append lane [] ys = refl
 places_append lane (looked g ∷ xs) ys = places_append lane xs ys
 places_append lane (visited mark e ∷ xs) ys = front_put (eqb (index_of mark.lane) lane) mark.place

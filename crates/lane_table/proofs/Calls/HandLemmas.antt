@@ -62,7 +62,8 @@ pub names_one : (e : Option (ℕ × ℕ)) (l b l' b' : ℕ) → e ≡ Some (l, b
 names_one e l b l' b' first second = let f : ◌≡◌ {A = Option (ℕ × ℕ)} (Some (l', b')) (Some (l, b)) =
     sym second ∙ first in let g : (l', b') ≡ (l, b) = cc f in ap (λ (z : ℕ × ℕ). z.0) g
 
-pub has_taken : (t : Lanes) (caller : ℕ) (hands : List HeldLane) (lane : ℕ) (h : Held) (p p' : Pass) → lane < count_of t →
+pub has_taken : (t : Lanes) (caller : ℕ) (hands : List HeldLane) (lane : ℕ) (h : Held) (p p' : Pass) →
+    lane < count_of t →
     NotIn lane hands → HoldsLanes t caller hands p → IsSamePass t p p' → Taken lane h p.seat.me p'.seat.me
     → HoldsLanes t caller (hand h.turn None 0 ∷ hands) p'
 has_taken t caller hands lane h p p' near not k is taken =
@@ -124,8 +125,8 @@ has_looked t caller hands g p p' k is looked = let same : (j : ℕ) → at j (vi
 
 -- the lane that was taken last was visited, and its entry names none ahead
 pub has_put : (t : Lanes) (caller : ℕ) (h : HeldLane) (hands : List HeldLane) (x : Visit) (p p' : Pass) →
-    ahead_of x.entry ≡ None → HoldsLanes t caller (h ∷ hands) p → IsSamePass t p p' → Added h.lane x p.seat.me p'.seat.me →
-    HoldsLanes t caller hands p'
+    ahead_of x.entry ≡ None → HoldsLanes t caller (h ∷ hands) p → IsSamePass t p p' →
+    Added h.lane x p.seat.me p'.seat.me → HoldsLanes t caller hands p'
 has_put t caller h hands x p p' none k is added = let others : (j : ℕ) → j ≢ h.lane → at j (view p') ≡ at j (view p) =
     λ j ne. added.others j ne (λ l b e. absurd (names_none (ahead_of x.entry) l b none e)) in record {
       pass = is.pass;
@@ -138,8 +139,8 @@ has_put t caller h hands x p p' none k is added = let others : (j : ℕ) → j �
     }
 
 -- its entry names the place of the lane that was taken before it
-pub has_put_naming : (t : Lanes) (caller : ℕ) (h o : HeldLane) (hands : List HeldLane) (x : Visit) (b : ℕ) (p p' : Pass) →
-    ahead_of x.entry ≡ Some (o.lane, b) → HoldsLanes t caller (h ∷ o ∷ hands) p → IsSamePass t p p' →
+pub has_put_naming : (t : Lanes) (caller : ℕ) (h o : HeldLane) (hands : List HeldLane) (x : Visit) (b : ℕ)
+    (p p' : Pass) → ahead_of x.entry ≡ Some (o.lane, b) → HoldsLanes t caller (h ∷ o ∷ hands) p → IsSamePass t p p' →
     Added h.lane x p.seat.me p'.seat.me
     → HoldsLanes t caller (record o { owes = Some h.place } ∷ hands) p'
 has_put_naming t caller h o hands x b p p' names k is added =
@@ -169,7 +170,8 @@ has_put_naming t caller h o hands x b p p' names k is added =
     }
 
 -- the generation was raised while the base alone is held
-pub has_raised : (t : Lanes) (caller : ℕ) (h : HeldLane) (g : ℕ) (p p' : Pass) → h.lane ≡ 1 → HoldsLanes t caller (h ∷ []) p →
+pub has_raised : (t : Lanes) (caller : ℕ) (h : HeldLane) (g : ℕ) (p p' : Pass) → h.lane ≡ 1 →
+    HoldsLanes t caller (h ∷ []) p →
     IsSamePass t p p' → Raised g p.seat.me p'.seat.me → HoldsLanes t caller (record h { raised = 1 } ∷ []) p'
 has_raised t caller h g p p' base k is raised =
     let here : at h.lane (view p') ≡ record (at h.lane (view p)) { raised = 1 } =
@@ -193,7 +195,8 @@ has_raised t caller h g p p' base k is raised =
       away = λ j low no. ap (λ (a : LaneView). a.stage) (raised.others j (λ e. no.0 (e ∙ sym base))) ∙ k.away j low no;
     }
 
-pub has_left : (t : Lanes) (caller : ℕ) (h : HeldLane) (hands : List HeldLane) (p p' : Pass) → HoldsLanes t caller (h ∷ hands) p →
+pub has_left : (t : Lanes) (caller : ℕ) (h : HeldLane) (hands : List HeldLane) (p p' : Pass) →
+    HoldsLanes t caller (h ∷ hands) p →
     IsSamePass t p p' → Left h.lane p.seat.me p'.seat.me → HoldsLanes t caller hands p'
 has_left t caller h hands p p' k is left = record {
   pass = is.pass;
@@ -245,7 +248,8 @@ has_child t caller v p is own e = record {
 
 -- a pass with empty hands that took in another one
 pub has_joined : (t : Lanes) (caller : ℕ) (w : View) (p p' : Pass) → length (view p).lanes ≡ length w.lanes →
-    HoldsLanes t caller [] p → IsSamePass t p p' → p'.seat.me ≡ (both_of (view p) w, slots p) → HoldsLanes t caller [] p'
+    HoldsLanes t caller [] p → IsSamePass t p p' → p'.seat.me ≡ (both_of (view p) w, slots p) →
+    HoldsLanes t caller [] p'
 has_joined t caller w p p' long k is e = record {
   pass = is.pass;
   own = is.caller ∙ k.own;

@@ -108,7 +108,8 @@ module _ (m m' : Seated) (two : 1 < length m.0.lanes) where
 pub sees_up : (w : View) (low high : ℕ) (made_steps : List MadeStep) → Sees w low made_steps high → low ≤ high
 sees_up w low high [] s = s
 sees_up w low high (looked g ∷ made_steps) s = let a = s.0 in let b = sees_up w g high made_steps s.1 in omega arith
-sees_up w low high (visited mark e ∷ made_steps) s = let a = s.1 in let b = sees_up w s.0 high made_steps s.3 in omega arith
+sees_up w low high (visited mark e ∷ made_steps) s = let a = s.1 in let b = sees_up w s.0 high made_steps s.3 in
+    omega arith
 
 pub sees_append : (w : View) (low mid high : ℕ) (xs ys : List MadeStep) → Sees w low xs mid → Sees w mid ys high →
     Sees w low (xs ++ ys) high

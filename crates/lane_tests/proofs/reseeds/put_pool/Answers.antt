@@ -47,7 +47,8 @@ put-requires-clause-entry c = let has = c.requires.has in let mine = has.held.0 
 
 pub returns-clause-has : goal.returns-clause-has
 returns-clause-has c = let outer = c.args.base.now.turn in
-    subst (λ (p : ℕ). HoldsLanes c.args.lanes.now 0 (hand outer (Some p) 0 ∷ []) c.put.new.pass) (sym c.put.ensures.place)
+    subst (λ (p : ℕ). HoldsLanes c.args.lanes.now 0 (hand outer (Some p) 0 ∷ []) c.put.new.pass)
+    (sym c.put.ensures.place)
     (has_put_naming c.args.lanes.now 0 (hand c.args.pool.turn None 0) (hand outer None 0) [] _ outer.place
     c.args.pass.now c.put.new.pass (λ k. Some (sym c.requires.at.1 k, c.place.ensures k)) c.requires.has
     c.put.ensures.pass c.put.ensures.added)

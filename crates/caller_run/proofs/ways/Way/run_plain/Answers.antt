@@ -29,8 +29,8 @@ loop-event-preserved g c =
       can = as_slices (λ n m. CanAdvance c.args.lanes.now c.step.new.self c.step.new.log n m rest) _ _ served inside
           (sym first) (sym second)
           (c.step.ensures.can rest
-          (as_slices (λ n m. CanAdvance c.args.lanes.now way.caller way.sheet.log n m (c.in-Some.event.now ∷ rest)) served
-          inside _ _ first second (subst (CanAdvanceIn c.args.lanes.now way) is k.can)));
+          (as_slices (λ n m. CanAdvance c.args.lanes.now way.caller way.sheet.log n m (c.in-Some.event.now ∷ rest))
+          served inside _ _ first second (subst (CanAdvanceIn c.args.lanes.now way) is k.can)));
       gone = λ begun all kids gone. c.step.ensures.gone begun all rest kids
           (subst (λ (l : List Event). GoneIn begun all l way.caller way kids) is (k.gone begun all kids gone));
       forks' = search rules;
