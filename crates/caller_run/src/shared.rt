@@ -6,6 +6,7 @@ use lane_table::Lanes;
 
 /// What all callers of a run share: the handles, the table, the script, the gate that is called before each event, and
 /// where children run.
+#[derive(Drop)]
 pub struct Shared<'a, R, G> {
     pub rt: &'a R,
     pub lanes: &'a Lanes,

@@ -19,6 +19,7 @@ use rng_core::{Bound, LaneHost, Site, vread, vread_inside};
 use std::sync::Wait;
 
 /// Where a read out of a state puts its bytes, the acts inside it, and where those that read put theirs.
+#[derive(Drop)]
 pub(crate) struct Target<'a> {
     pub(crate) served: &'a mut [u8],
     pub(crate) acts: &'a mut [Bound],
@@ -27,10 +28,10 @@ pub(crate) struct Target<'a> {
 
 impl Caller {
     // A read out of the current state, of as many bytes as the target has, with its acts inside.
-    fn vread<R: Wait>(
+    fn vread<'x, R: Wait>(
         &mut self,
-        rt: &R,
-        lanes: &Lanes,
+        rt: &'x R,
+        lanes: &'x Lanes,
         trace: &mut Trace,
         to: &mut Target,
         flags: u32,
@@ -49,13 +50,13 @@ impl Caller {
         let mut site = Site {
             lanes,
             pass: &mut self.pass,
-            trace,
+            trace: &mut *trace,
             set: self.set,
         };
         if to.acts.is_empty() {
             return Reply::read(vread(rt, &mut site, st, to.served, flags));
         }
-        let mut host = LaneHost::over(rt, site, to.acts, to.inside);
+        let mut host = LaneHost::over(rt, site, &mut *to.acts, &mut *to.inside);
         Reply::read(vread_inside(&mut host, st, to.served, flags))
     }
 
@@ -73,15 +74,16 @@ impl Caller {
         ensures { MadeEvent lanes.now event.now self.old sheet.old self.new sheet.new }
     {
         let mut trace = Trace::empty();
-        let inside = all_wanted(&sheet.log.acts);
+        let served = &mut sheet.served[..most_shown(event) as usize];
+        let inside = &mut sheet.inside[..all_wanted(&sheet.log.acts)];
         let mut to = Target {
-            served: &mut sheet.served[..most_shown(event) as usize],
+            served: &mut *served,
             acts: &mut sheet.log.acts,
-            inside: &mut sheet.inside[..inside],
+            inside: &mut *inside,
         };
         let said = self.vread(rt, lanes, &mut trace, &mut to, flags);
-        self.tell_acts(&mut sheet.log.lines, to.acts, to.inside);
-        self.tell(&mut sheet.log.lines, Word::Vread, said, &trace, to.served);
+        self.tell_acts(&mut sheet.log.lines, &sheet.log.acts, inside);
+        self.tell(&mut sheet.log.lines, Word::Vread, said, &trace, served);
         sheet.log.acts.clear();
         self.go_on(event);
     }
