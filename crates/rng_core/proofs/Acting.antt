@@ -23,6 +23,7 @@ use Rattle.rng_core.proofs.ActRuns.{Onward, onward_same, onward_is, onward_then,
 use Rattle.rng_core.proofs.CallEnds.{PublishesUpTo}
 use Rattle.rng_core.proofs.Makings.{did_look, did_nothing}
 use Rattle.rng_core.proofs.Hosting.{published_more}
+use Rattle.rng_core.proofs.SiteLemmas.{same_then}
 
 step_set : (s t : ActStand) (step : HostStep) → Does acting s step t → t.core.set ≡ s.core.set
 step_set s t (publishes g) k = k.core.same
@@ -288,11 +289,9 @@ acted_meant (at_point point wiped ∷ steps) set asks s t is_set is_asks does al
 module _ {R : Type 0} where
   loans_then : (h i j : LaneHost R) → SameLoans h i → SameLoans i j → SameLoans h j
   loans_then h i j a b = record {
-    pass = b.pass ∙ a.pass;
-    trace = b.trace ∙ a.trace;
+    site = same_then h.site i.site j.site a.site b.site;
     acts = b.acts ∙ a.acts;
     out = b.out ∙ a.out;
-    lanes = b.lanes ∙ a.lanes;
   }
 
   host_step : (h next : LaneHost R) (step : HostStep) → Does hosting h step next →
@@ -306,8 +305,11 @@ module _ {R : Type 0} where
       DoesAll acting (standing h) steps (standing last) × SameLoans h last
   host_acts [] h last does = (
     ap standing does,
-    subst (SameLoans h) does
-        (record { pass = refl; trace = refl; acts = refl; out = refl; lanes = refl }),
+    subst (SameLoans h) does (record {
+      site = record { lanes = refl; set = refl; pass = refl; trace = refl };
+      acts = refl;
+      out = refl;
+    }),
   )
   host_acts (step ∷ steps) h last does =
       let first = host_step h does.0 step does.1 in

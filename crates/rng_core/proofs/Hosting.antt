@@ -51,7 +51,7 @@ away_of Away h = refl
 away_of (Queued ticket) h = absurd (cc h)
 away_of (Holding ticket) h = absurd (cc h)
 
-free_has : (t : Lanes) (caller : ℕ) (p : Pass) → IsFree t caller p → HoldsLanes t caller [] p
+pub free_has : (t : Lanes) (caller : ℕ) (p : Pass) → IsFree t caller p → HoldsLanes t caller [] p
 free_has t caller p k = record {
   pass = k.pass;
   own = k.own;
@@ -186,8 +186,8 @@ system_called set n flags result bytes l m k = record {
   };
 }
 
-pub has_again : (t t' : Lanes) (set set' : Setting) (p : Pass) → t' ≡ t → set' ≡ set → IsFree t' set'.caller p →
+pub has_by : (t t' : Lanes) (set set' : Setting) (p : Pass) → t' ≡ t → set' ≡ set → HoldsLanes t' set'.caller [] p →
     HoldsLanes t set.caller [] p
-has_again t t' set set' p same_table same_set k =
-    free_has t set.caller p (subst (λ (z : Lanes). IsFree z set.caller p) same_table
-    (subst (λ (z : Setting). IsFree t' z.caller p) same_set k))
+has_by t t' set set' p same_table same_set k =
+    subst (λ (z : Lanes). HoldsLanes z set.caller [] p) same_table
+    (subst (λ (z : Setting). HoldsLanes t' z.caller [] p) same_set k)

@@ -34,12 +34,12 @@ use Rattle.rng_core.specs.VreadMakes.{done_of, Called}
 use Rattle.rng_core.specs.Hosted.{stand}
 use Rattle.rng_core.specs.Acts.{Ask, ActOutcome, wants, ask_of, asks_of, outcomes_of, is_ready, all_ready, wipes_at, done_line}
 use Rattle.rng_core.specs.Acting.{ActStand, act_stand, acting, InsideRan}
-use Rattle.rng_core.specs.Hosting.{standing, SameLoans, hosting}
+use Rattle.rng_core.specs.Hosting.{standing, SameLoans, hosting, IsNewHost, ReadsInside, HostCalled}
 use Rattle.rng_core.specs.InsideMakes.{IsFresh, bound_acts, outcome_line, inside_meaning, InsideMakes}
 use Rattle.rng_core.proofs.ActRuns.{AllDone, AllMeant, came, Own}
-use Rattle.rng_core.proofs.Acting.{acted_set, acted_asks, acted_onward, acted_up_to, acted_own, acted_wipes, acted_done, acted_meant, host_acts}
+use Rattle.rng_core.proofs.Acting.{acted_asks, acted_onward, acted_up_to, acted_own, acted_wipes, acted_done, acted_meant, host_acts}
 use Rattle.rng_core.proofs.CallEnds.{EndsWell, call_ends}
-use Rattle.rng_core.proofs.Hosting.{none_left, published_more}
+use Rattle.rng_core.proofs.Hosting.{none_left, free_has, published_more}
 use Rattle.rng_core.proofs.Readings.{ending_is, same_looks, never_fall}
 
 -- Acts as they are handed over
@@ -156,18 +156,15 @@ module _ {R : Type 0} {h last : LaneHost R} {finish : Finish} (n flags : ℕ) (s
   does : DoesAll acting from runs.steps to
   does = (host_acts runs.steps h last runs.does).0
 
-  pub same_loans : SameLoans h last
+  same_loans : SameLoans h last
   same_loans = (host_acts runs.steps h last runs.does).1
 
-  pub same_set : last.set.now ≡ h.set.now
-  same_set = acted_set runs.steps from to does
-
-  pub same_asks : asks_of last.acts.now ≡ asks_of h.acts.now
+  same_asks : asks_of last.acts.now ≡ asks_of h.acts.now
   same_asks = acted_asks runs.steps from to does
 
   -- each step is one of the caller itself
-  pub inside_ran : InsideRan n flags s finish.state from
-      (λ attempt. act_stand (stand h.set.now last.pass.now last.trace.now) attempt
+  inside_ran : InsideRan n flags s finish.state from
+      (λ attempt. act_stand (stand h.site.set last.site.pass.now last.site.trace.now) attempt
       (asks_of last.acts.now) (outcomes_of last.acts.now last.out.now))
   inside_ran = record {
     steps = runs.steps;
@@ -176,26 +173,27 @@ module _ {R : Type 0} {h last : LaneHost R} {finish : Finish} (n flags : ℕ) (s
     state = runs.state;
     last = last.attempt;
     does = subst (λ (z : Setting). DoesAll acting from runs.steps
-        (act_stand (stand z last.pass.now last.trace.now) last.attempt (asks_of last.acts.now)
-        (outcomes_of last.acts.now last.out.now))) same_set does;
+        (act_stand (stand z last.site.pass.now last.site.trace.now) last.attempt (asks_of last.acts.now)
+        (outcomes_of last.acts.now last.out.now))) same_loans.site.set does;
   }
 
-  module _ (low : s.generation ≤ published_by (floor (view h.pass.now))) where
-    ended : EndsWell (published_by (floor (view last.pass.now))) n runs.outcome
+  module _ (low : s.generation ≤ published_by (floor (view h.site.pass.now))) where
+    ended : EndsWell (published_by (floor (view last.site.pass.now))) n runs.outcome
     ended =
-        let more = published_more (floor (view h.pass.now)) (floor (view last.pass.now))
+        let more = published_more (floor (view h.site.pass.now)) (floor (view last.site.pass.now))
         (acted_onward runs.steps from to does).floors in
-        call_ends (published_by (floor (view last.pass.now))) n flags s runs.steps runs.outcome (omega arith)
+        call_ends (published_by (floor (view last.site.pass.now))) n flags s runs.steps runs.outcome (omega arith)
         (acted_up_to runs.steps from to does) runs.relates
 
-    pub still_current : finish.state.generation ≤ published_by (floor (view last.pass.now))
+    still_current : finish.state.generation ≤ published_by (floor (view last.site.pass.now))
     still_current = let a = ended.low in let e = ap (λ (z : VgetrandomState). z.generation) runs.state in omega arith
 
-    module _ (two : 1 < length (view h.pass.now).lanes) (fresh : AllByRecursion IsFresh h.acts.now)
-        (before_all : h.attempt ≡ Before)
-        (long : length finish.buf ≡ n) where
+    module _ (new : IsNewHost h) (long : length finish.buf ≡ n) where
+      two : 1 < length (view h.site.pass.now).lanes
+      two = let a = h.free.pass.sized in let b = h.site.lanes.now.few in omega arith
+
       abbrev set : Setting
-      set = h.set.now
+      set = h.site.set
 
       abbrev asks : List Ask
       asks = asks_of h.acts.now
@@ -203,24 +201,24 @@ module _ {R : Type 0} {h last : LaneHost R} {finish : Finish} (n flags : ℕ) (s
       abbrev zs : List ActOutcome
       zs = outcomes_of last.acts.now last.out.now
 
-      meant : AllMeant set (view last.pass.now) asks zs
+      meant : AllMeant set (view last.site.pass.now) asks zs
       meant = acted_meant runs.steps set asks from to refl refl does
-          (undone_meant set (view h.pass.now) asks (outcomes_of h.acts.now h.out.now)
-          (fresh_undone h.acts.now h.out.now fresh)
+          (undone_meant set (view h.site.pass.now) asks (outcomes_of h.acts.now h.out.now)
+          (fresh_undone h.acts.now h.out.now new.fresh)
           (outcomes_long h.acts.now h.out.now))
 
       done : AllDone (first_points (points_of runs.steps)) asks (outcomes_of h.acts.now h.out.now) zs
-      done = acted_done runs.steps asks Before from to refl before_all (outcomes_long h.acts.now h.out.now) does
+      done = acted_done runs.steps asks Before from to refl new.before (outcomes_long h.acts.now h.out.now) does
 
       own : Own set (asks ≡ []) (Shows (setting_of set) runs.steps) from.core.moment to.core.moment
       own = acted_own runs.steps set asks from to refl refl two does
 
       wipes : WipesStand (bound_acts set asks zs) (points_of runs.steps)
-      wipes = let k = acted_wipes runs.steps asks Before from to refl before_all does in record {
+      wipes = let k = acted_wipes runs.steps asks Before from to refl new.before does in record {
         first = each_weaker (λ (reached : PointReached). reached.wiped ≡ wipes_at asks reached.point)
             (λ (reached : PointReached). reached.wiped ≡ is_wiped (bound_acts set asks zs) reached.point)
             (first_points (points_of runs.steps))
-            (λ reached e. e ∙ sym (wiped_is set (view last.pass.now) reached.point asks zs meant)) k.0;
+            (λ reached e. e ∙ sym (wiped_is set (view last.site.pass.now) reached.point asks zs meant)) k.0;
         second = k.1;
       }
 
@@ -233,7 +231,7 @@ module _ {R : Type 0} {h last : LaneHost R} {finish : Finish} (n flags : ℕ) (s
       ends : (answer ≡ ending_answer runs.outcome.ending) × (shown ≡ ending_shown runs.outcome.ending)
       ends = ending_is n runs.outcome.ending finish.result finish.buf long ended.none runs.ends
 
-      pub called : length h.acts.now ≡ 0 → Called n flags s finish.state answer shown set from.core.moment
+      called : length h.acts.now ≡ 0 → Called n flags s finish.state answer shown set from.core.moment
           to.core.moment
       called idle = let none = ap asks_of (none_left h.acts.now idle) in record {
         steps = runs.steps;
@@ -247,7 +245,7 @@ module _ {R : Type 0} {h last : LaneHost R} {finish : Finish} (n flags : ℕ) (s
       }
 
       module _ (lanes : ℕ) (visits : ℕ → List Visit) (callers : StateLists)
-          (c : Continues lanes (view last.pass.now) visits)
+          (c : Continues lanes (view last.site.pass.now) visits)
           (before : CallerState) (set_is : before.setting ≡ setting_of set) (state_is : current_state before ≡ s) where
         abbrev book : Lists
         book = book_lists lanes visits callers
@@ -269,8 +267,8 @@ module _ {R : Type 0} {h last : LaneHost R} {finish : Finish} (n flags : ℕ) (s
           inside = subst (λ z. ActsMean z (is_reached (points_of runs.steps)) (bound_acts set asks zs)
               (map (outcome_line book) zs))
               (sym set_is)
-              (acts_mean set (view last.pass.now) lanes visits callers c (points_of runs.steps) asks
-              (outcomes_of h.acts.now h.out.now) zs (fresh_undone h.acts.now h.out.now fresh) done meant);
+              (acts_mean set (view last.site.pass.now) lanes visits callers c (points_of runs.steps) asks
+              (outcomes_of h.acts.now h.out.now) zs (fresh_undone h.acts.now h.out.now new.fresh) done meant);
           answer = ends.0;
           shown = ends.1;
           entries = refl;
@@ -280,20 +278,36 @@ module _ {R : Type 0} {h last : LaneHost R} {finish : Finish} (n flags : ℕ) (s
         line : 0 < length h.acts.now → VreadMeans n flags (bound_acts set asks zs) meaning
         line some = record {
           looks = subst NeverFall (sym (same_looks book own.made_steps))
-              (never_fall (floor (view h.pass.now)) (looks_in own.made_steps) (floor (view last.pass.now)) own.rises);
+              (never_fall (floor (view h.site.pass.now)) (looks_in own.made_steps) (floor (view last.site.pass.now)) own.rises);
           ways = match_false _ _ (tries_local n flags (bound_acts set asks zs))
-              (no_local n flags set (view last.pass.now) asks zs (let e = length-map h.acts.now ask_of in omega arith)
+              (no_local n flags set (view last.site.pass.now) asks zs (let e = length-map h.acts.now ask_of in omega arith)
               meant) by_call;
         }
 
-      pub inside_did : 0 < length h.acts.now → InsideMakes n flags s finish.state answer shown set from.core.moment
+      inside_did : 0 < length h.acts.now → InsideMakes n flags s finish.state answer shown set from.core.moment
           to.core.moment asks zs
       inside_did some = record {
         entries = runs.outcome.entries;
         made_steps = own.made_steps;
         trace = own.trace;
         fits = own.fits;
-        acts_fit = all_fit set (view last.pass.now) asks zs meant;
+        acts_fit = all_fit set (view last.site.pass.now) asks zs meant;
         stands = λ lanes visits callers c before set_is state_is. line lanes visits callers c before set_is state_is
             some;
+      }
+
+      pub host_called : HostCalled n flags s finish.state answer shown h last
+      host_called = record {
+        loans = same_loans;
+        has = free_has last.site.lanes.now last.site.set.caller last.site.pass.now last.free;
+        current = still_current;
+        alone = called;
+        inside = λ some. record {
+          loans = same_loans;
+          has = free_has last.site.lanes.now last.site.set.caller last.site.pass.now last.free;
+          current = still_current;
+          asks = same_asks;
+          did = inside_did some;
+          ran = inside_ran;
+        };
       }

@@ -1,3 +1,4 @@
+pub mod ActCalls
 pub mod SampleCalls
 pub mod SiteLemmas
 pub mod ActLines
@@ -14,5 +15,6 @@ pub mod IntFulfilling
 pub mod Parents
 pub mod Readings
 pub mod Sampling
+pub mod SiteLemmas
 pub mod SysFulfilling
 pub mod TellLemmas

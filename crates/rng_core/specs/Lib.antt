@@ -12,3 +12,5 @@ pub mod Traces
 pub mod VreadMakes
 pub mod Waits
 pub mod Sites
+pub mod Rests
+pub mod SiteWaits

@@ -108,6 +108,11 @@ pub record HoldsWith (owes : Option ℕ) (raised lane : ℕ) (h : Held) (s : Sit
 abbrev pub Holds : ℕ → Held → Site → Type 0
 Holds lane h s = HoldsWith None 0 lane h s
 
+-- the generation may be raised to the next one of the base
+pub record IsLow (s : Site) : Type 0 where
+  pub seen : (view s.pass.now).seen ≤ (lane_of s base_lane).base.generation
+  pub low : (lane_of s base_lane).base.generation < 2 ^ 62
+
 -- the CPU's key is of the generation that a look found
 pub record IsFresh (look : ℕ) (s : Site) : Type 0 where
   pub known : 1 ≤ look
@@ -166,8 +171,7 @@ pub record Took (lane : ℕ) (h : Held) (m n : Site) : Type 0 where
   pub early : n.pass.now.stamp < last_stamp
   pub seen : (view n.pass.now).seen ≡ (view m.pass.now).seen
   pub kept : (j ticket : ℕ) → j < length (view m.pass.now).lanes → j ≢ lane → (standing j (view m.pass.now)).stage ≡ Holding ticket → lane_of n j ≡ lane_of m j
-  pub fresh : lane ≡ base_lane → (view n.pass.now).seen ≤ (lane_of n base_lane).base.generation
-  pub low : lane ≡ base_lane → (lane_of n base_lane).base.generation < 2 ^ 62
+  pub low : lane ≡ base_lane → IsLow n
   pub agrees : lane ≡ base_lane → Agrees (lane_of n base_lane).base
 
 -- a lane was taken with empty hands
@@ -175,8 +179,7 @@ pub record Entered (lane : ℕ) (h : Held) (m n : Site) : Type 0 where
   pub walked : Walked [] m n
   pub trace : n.trace.now ≡ m.trace.now
   pub holds : Holds lane h n
-  pub fresh : lane ≡ base_lane → (view n.pass.now).seen ≤ (lane_of n base_lane).base.generation
-  pub low : lane ≡ base_lane → (lane_of n base_lane).base.generation < 2 ^ 62
+  pub low : lane ≡ base_lane → IsLow n
   pub agrees : lane ≡ base_lane → Agrees (lane_of n base_lane).base
 
 -- only the pass moved, and the hands are empty
@@ -278,6 +281,10 @@ pub record Refilled (cpu : Held) (base : KeyHandoff) (m n : Site) : Type 0 where
   pub room : length n.trace.now ≡ length m.trace.now + 1
   pub visited : (s : Model) × Visited m.set (at m) (at n) base_lane base.place s
       (Base (Refill m.set.cpu cpu.turn.place)) nothing
+
+-- exactly one step was made
+abbrev pub IsOneStep : Site → Site → Type 0
+IsOneStep m n = length n.trace.now ≡ length m.trace.now + 1
 
 -- a call was made in at most so many steps, of which, with the lists, P holds, and the hands are empty
 pub record DoesIn (steps : ℕ) (P : (ℕ → List Visit) → List Deed → Type 0) (m n : Site) : Type 0 where

@@ -2,12 +2,12 @@
 #![tactic(auto)]
 
 mod batches;
-mod bridge;
 mod callers;
 mod cpu_values;
 mod cpus;
 mod crng;
 mod integers;
+mod interface;
 mod keys;
 mod lane_values;
 mod reads;

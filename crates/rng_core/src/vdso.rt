@@ -6,5 +6,6 @@
 
 pub(crate) mod acts;
 pub(crate) mod attempt;
+pub(crate) mod hosting;
 pub(crate) mod lane_host;
 pub(crate) mod vreads;

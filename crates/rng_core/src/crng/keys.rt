@@ -1,5 +1,5 @@
 //! Keys out of the lane behind one that is held: a root for the base, and a CPU's key.
-ghost use Rattle.std.specs.Prelude.{◌≤◌, ◌<◌, ◌^◌};
+ghost use Rattle.std.specs.Prelude.{◌≤◌};
 
 use crate::lane_values;
 use crate::site::Site;
@@ -24,7 +24,7 @@ pub(crate) struct KeyHandoff {
 
 impl Site<'_> {
     ghost use Rattle.lane_table.specs.Calls.{view};
-    ghost use Rattle.rng_core.specs.Sites.{HasRoom, Holds, Extracted, ExtractedRaising, Refilled, lane_of, base_lane, own_lane};
+    ghost use Rattle.rng_core.specs.Sites.{HasRoom, Holds, IsLow, Extracted, ExtractedRaising, Refilled, base_lane, own_lane};
 
     /// Extracts a root for the base that is held (`extract_entropy`).
     pub(crate) fn extract<R: Wait>(&mut self, rt: &R, base: &Held) -> Root
@@ -47,8 +47,7 @@ impl Site<'_> {
     pub(crate) fn extract_raising<R: Wait>(&mut self, rt: &R, base: &Held) -> Root
         requires holds { Holds base_lane base.now self.old }
         requires room { HasRoom 1 self.old }
-        requires fresh { (view self.old.pass.now).seen ≤ (lane_of self.old base_lane).base.generation }
-        requires low { (lane_of self.old base_lane).base.generation < 2 ^ 62 }
+        requires low { IsLow self.old }
         ensures { ExtractedRaising base.now result self.old self.new }
     {
         let root = self.extract(rt, base);

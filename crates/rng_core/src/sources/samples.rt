@@ -6,7 +6,7 @@ ghost use Rattle.key_names.specs.SeenLine.{count, no_data};
 ghost use Rattle.rng_core.specs.Sites.{IsIdle, IsTimely, Completes};
 
 use crate::lane_values;
-use crate::bridge::{cross, reseed};
+use crate::crng::reseeds::{cross, reseed};
 use crate::site::Site;
 use key_names::{LaneId, PoolNote};
 use std::sync::Wait;

@@ -8,7 +8,8 @@ ghost use Rattle.rng_core.specs.Acts.{AreReady, done_line, ActRan, ActAt, ActsAt
 ghost use Rattle.rng_core.specs.Makes.{setting_of};
 ghost use Rattle.rng_core.specs.Sites.{IsIdle, IsNew, IsOnCpu, IsTimely, Does, KeepsTrace, most_bytes, most_steps};
 
-use crate::bridge::{getrandom, reseed};
+use crate::crng::reseeds::reseed;
+use crate::interface::system_call::getrandom;
 use crate::setting::Setting;
 use crate::site::Site;
 use key_names::{Errno, InsideAct, Point, Trace};

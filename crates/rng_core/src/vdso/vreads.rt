@@ -7,7 +7,8 @@ ghost use Rattle.rng_core.specs.Sites.{IsIdle, IsNew, IsOnCpu, most_bytes};
 ghost use Rattle.rng_core.specs.VreadMakes.{IsCurrent, ReadsLocally, ReadsState, done_of};
 
 use crate::site::Site;
-use crate::vdso::lane_host::{LaneHost, publish};
+use crate::vdso::hosting::publish;
+use crate::vdso::lane_host::LaneHost;
 use key_names::flags::are_bad;
 use key_names::{Errno, Step};
 use std::sync::Wait;

@@ -1,25 +1,25 @@
 use Rattle.std.proofs.Common.{length, refl}
 use Rattle.rng_core.proofs.Makings.{did_floor}
 use Rattle.rng_core.proofs.Hosting.{published_more, answer_by, is_answer, visit_of, system_called}
-use Rattle.rng_core.proofs.host_call.LaneHostVHost.getrandom.Goals as goal
+use Rattle.rng_core.proofs.vdso.hosting.LaneHostVHost.getrandom.Goals as goal
 
 pub returns-clause-answers : goal.returns-clause-answers
-returns-clause-answers g c = let k = c.getrandom.ensures.did in (
+returns-clause-answers g c = let k = c.getrandom.ensures.does.did in (
   answer_by c.getrandom.result c.getrandom.new.buf (visit_of k.made_steps),
   is_answer c.getrandom.result c.getrandom.new.buf (visit_of k.made_steps),
   (
     record {
       core = record {
-        same = refl;
+        same = c.getrandom.ensures.does.same.set;
         did = system_called _ (length c.args.buf.now) c.args.flags c.getrandom.result
             c.getrandom.new.buf _ _ k;
       };
-      begins = c.getrandom.ensures.begins;
+      begins = c.getrandom.ensures.begins.begins;
       acts = record { attempt = refl; asks = refl; outcomes = refl };
     },
-    record { pass = refl; trace = refl; acts = refl; out = refl; lanes = refl },
+    record { site = c.getrandom.ensures.does.same; acts = refl; out = refl },
   ),
 )
 
 pub returns-clause-floor : goal.returns-clause-floor
-returns-clause-floor g c = published_more _ _ (did_floor _ _ _ c.getrandom.ensures.did)
+returns-clause-floor g c = published_more _ _ (did_floor _ _ _ c.getrandom.ensures.does.did)

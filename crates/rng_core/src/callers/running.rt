@@ -1,0 +1,43 @@
+//! How many callers run: entries of the base that raise and lower the count.
+ghost use Rattle.std.specs.Prelude.{◌≤◌, ◌≡◌, ◌+◌, length};
+ghost use Rattle.key_names.specs.declared.entries.BaseEntry.TheVariants.{Stall, Unstall, End};
+ghost use Rattle.key_names.specs.Forms.{BaseOnly};
+ghost use Rattle.rng_core.specs.Sites.{IsIdle, Does, IsOneStep, lane_of, base_lane, seen_by};
+
+use crate::lane_values;
+use crate::site::Site;
+use key_names::{BaseEntry, LaneId};
+use std::sync::Wait;
+
+/// The caller waits for a thread.
+pub fn stall<R: Wait>(rt: &R, site: &mut Site)
+    requires idle { IsIdle 1 site.old }
+    ensures does { Does 1 (BaseOnly Stall) site.old site.new }
+    ensures step { IsOneStep site.old site.new }
+{
+    let mut base = site.enter(rt, LaneId::Base);
+    lane_values::down(base.state_mut());
+    site.leave_base(base, BaseEntry::Stall);
+}
+
+/// The caller goes on.
+pub fn unstall<R: Wait>(rt: &R, site: &mut Site)
+    requires idle { IsIdle 1 site.old }
+    ensures does { Does 1 (BaseOnly Unstall) site.old site.new }
+    ensures step { IsOneStep site.old site.new }
+{
+    let mut base = site.enter(rt, LaneId::Base);
+    lane_values::up(base.state_mut());
+    site.leave_base(base, BaseEntry::Unstall);
+}
+
+/// The caller ends. All that its pass has seen of the generation is then in the base's list.
+pub fn end<R: Wait>(rt: &R, site: &mut Site)
+    requires idle { IsIdle 1 site.old }
+    ensures does { Does 1 (BaseOnly End) site.old site.new }
+    ensures reached { seen_by site.new ≤ (lane_of site.new base_lane).base.generation }
+{
+    let mut base = site.enter(rt, LaneId::Base);
+    lane_values::down(base.state_mut());
+    site.leave_base(base, BaseEntry::End);
+}

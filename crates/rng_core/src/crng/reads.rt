@@ -1,0 +1,211 @@
+//! Reads of random bytes, from the base while the core is not ready and from a CPU afterwards. No lane is held while the
+//! bytes behind the first 32 are made.
+ghost use Rattle.std.specs.Prelude.{◌≡◌, ◌≢◌, ◌≤◌, None, Some, length};
+ghost use Rattle.key_names.specs.declared.entries.CpuEntry.TheVariants.{Read};
+ghost use Rattle.key_names.specs.BaseList.{empty, early, ready};
+ghost use Rattle.key_names.specs.declared.events.Event.TheVariants.{Kread, Uread};
+ghost use Rattle.key_names.specs.declared.events.Answer.TheVariants.{Ok as Done};
+ghost use Rattle.key_names.specs.SeenLine.{bytes_or_none};
+ghost use Rattle.key_names.specs.Forms.{DrawForm, CpuReadForm, ReadForm};
+ghost use Rattle.lane_table.specs.declared.view.LaneEntry.TheVariants.{Cpu as OfCpu};
+ghost use Rattle.rng_core.specs.Makes.{Serving, setting_of};
+ghost use Rattle.rng_core.specs.Rests.{Asks, finished, IsBegun};
+ghost use Rattle.rng_core.specs.Sites.{IsIdle, IsOnCpu, HasRoom, Holds, HoldsWith, IsFresh, IsRefill, LeftServing, Does, Completes, lane_of, base_lane, own_lane, seen_by, most_bytes};
+
+use crate::crng::keys::KeyHandoff;
+use crate::crng::rest::{self, Rest};
+use crate::site::Site;
+use crate::{cpu_values, lane_values};
+use base_gen::Phase;
+use key_names::{BaseEntry, CpuEntry, LaneId, Taken};
+use lane_table::Held;
+use std::sync::Wait;
+
+// A read from a base that was never seeded: it gets a root for this read alone.
+fn draw_rooted<R: Wait>(rt: &R, site: &mut Site, mut base: Held, buf: &mut [u8], taken: Taken) -> Rest
+    requires holds { Holds base_lane base site.old }
+    requires unseeded { (lane_of site.old base_lane).base.phase ≡ empty }
+    requires asks { Asks taken buf.old }
+    requires room { HasRoom 2 site.old }
+    ensures begun { IsBegun result buf.new }
+    ensures does { Does 2 (Serving (DrawForm (setting_of site.old.set) taken) (finished result buf.new)) site.old site.new }
+{
+    let root = site.extract(rt, &base);
+    let rest = rest::draw_rooted(base.state_mut(), root.key, buf, taken);
+    let entry = BaseEntry::Draw {
+        root: Some(root.place),
+        taken,
+    };
+    site.leave_base(base, entry);
+    rest
+}
+
+// A read from a base that was seeded early.
+fn draw_early(site: &mut Site, mut base: Held, buf: &mut [u8], taken: Taken) -> Rest
+    requires holds { Holds base_lane base site.old }
+    requires seeded { (lane_of site.old base_lane).base.phase ≡ early }
+    requires asks { Asks taken buf.old }
+    requires room { HasRoom 1 site.old }
+    ensures begun { IsBegun result buf.new }
+    ensures does { Does 1 (Serving (DrawForm (setting_of site.old.set) taken) (finished result buf.new)) site.old site.new }
+{
+    let rest = rest::draw(base.state_mut(), buf, taken);
+    site.leave_base(base, BaseEntry::Draw { root: None, taken });
+    rest
+}
+
+// A read from the base, which is held and not ready.
+fn draw<R: Wait>(rt: &R, site: &mut Site, base: Held, buf: &mut [u8], taken: Taken) -> Rest
+    requires holds { Holds base_lane base site.old }
+    requires unready { (lane_of site.old base_lane).base.phase ≢ ready }
+    requires asks { Asks taken buf.old }
+    requires room { HasRoom 2 site.old }
+    ensures begun { IsBegun result buf.new }
+    ensures does { Does 2 (Serving (DrawForm (setting_of site.old.set) taken) (finished result buf.new)) site.old site.new }
+{
+    match lane_values::phase(base.state()) {
+        Phase::Empty => draw_rooted(rt, site, base, buf, taken),
+        Phase::Early => draw_early(site, base, buf, taken),
+        Phase::Ready => unreachable!(),
+    }
+}
+
+// A read from a CPU whose key is of the generation that was found.
+fn read_fresh(site: &mut Site, mut cpu: Held, look: u64, buf: &mut [u8], taken: Taken) -> Rest
+    requires holds { Holds (own_lane site.old) cpu site.old }
+    requires fresh { IsFresh look site.old }
+    requires asks { Asks taken buf.old }
+    requires room { HasRoom 1 site.old }
+    ensures begun { IsBegun result buf.new }
+    ensures left { LeftServing (own_lane site.old) cpu (OfCpu (Read look None taken)) (finished result buf.new)
+        site.old site.new }
+{
+    let rest = rest::read(cpu.state_mut(), buf, taken);
+    let entry = CpuEntry::Read {
+        look,
+        refill: None,
+        taken,
+    };
+    site.leave_cpu(cpu, entry);
+    rest
+}
+
+// A read from a CPU that was refilled from the base.
+fn read_refilled(
+    site: &mut Site,
+    mut cpu: Held,
+    look: u64,
+    base: &KeyHandoff,
+    buf: &mut [u8],
+    taken: Taken,
+) -> Rest
+    requires holds { HoldsWith (Some base.now.place) 0 (own_lane site.old) cpu site.old }
+    requires refill { IsRefill look base.now site.old }
+    requires asks { Asks taken buf.old }
+    requires room { HasRoom 1 site.old }
+    ensures begun { IsBegun result buf.new }
+    ensures left { LeftServing (own_lane site.old) cpu (OfCpu (Read look (Some base.now.place) taken))
+        (finished result buf.new) site.old site.new }
+{
+    let rest = rest::read_refilled(cpu.state_mut(), base.key, base.generation, buf, taken);
+    let entry = CpuEntry::Read {
+        look,
+        refill: Some(base.place),
+        taken,
+    };
+    site.leave_cpu(cpu, entry);
+    rest
+}
+
+// A read from a CPU (`crng_make_state` once the core is ready), of which at most 32 bytes are made.
+fn begin_cpu<R: Wait>(rt: &R, site: &mut Site, buf: &mut [u8], taken: Taken) -> Rest
+    requires idle { IsIdle 3 site.old }
+    requires cpu { IsOnCpu site.old }
+    requires ready { 1 ≤ seen_by site.old }
+    requires asks { Asks taken buf.old }
+    ensures begun { IsBegun result buf.new }
+    ensures does { Does 3 (Serving (CpuReadForm (setting_of site.old.set) taken) (finished result buf.new)) site.old
+        site.new }
+{
+    let (cpu, look) = site.enter_cpu(rt);
+    if look == cpu_values::cpu_generation(cpu.state()) {
+        return read_fresh(site, cpu, look, buf, taken);
+    }
+    let base = site.refill(rt, &cpu);
+    read_refilled(site, cpu, look, &base, buf, taken)
+}
+
+// What follows the first look of a read, which found `look`, until at most 32 bytes are made.
+fn begin_behind<R: Wait>(rt: &R, site: &mut Site, look: u64, buf: &mut [u8], taken: Taken) -> Rest
+    requires idle { IsIdle 3 site.old }
+    requires cpu { IsOnCpu site.old }
+    requires looked { look ≤ seen_by site.old }
+    requires asks { Asks taken buf.old }
+    ensures begun { IsBegun result buf.new }
+    ensures does { Does 3 (Serving (ReadForm (setting_of site.old.set) taken look) (finished result buf.new)) site.old
+        site.new }
+{
+    if look != 0 {
+        return begin_cpu(rt, site, buf, taken);
+    }
+    let base = site.enter(rt, LaneId::Base);
+    if lane_values::phase(base.state()) != Phase::Ready {
+        return draw(rt, site, base, buf, taken);
+    }
+    site.give_back(base);
+    begin_cpu(rt, site, buf, taken)
+}
+
+/// A read from a CPU. The bytes behind the first 32 are made with empty hands.
+pub(crate) fn read_cpu<R: Wait>(rt: &R, site: &mut Site, buf: &mut [u8], taken: Taken)
+    requires idle { IsIdle 3 site.old }
+    requires cpu { IsOnCpu site.old }
+    requires ready { 1 ≤ seen_by site.old }
+    requires asks { Asks taken buf.old }
+    ensures { Does 3 (Serving (CpuReadForm (setting_of site.old.set) taken) buf.new) site.old site.new }
+{
+    let rest = begin_cpu(rt, site, buf, taken);
+    rest.fill(buf);
+}
+
+/// What follows the first look of a read, which found `look`. The bytes behind the first 32 are made with empty hands.
+pub(crate) fn read_behind<R: Wait>(rt: &R, site: &mut Site, look: u64, buf: &mut [u8], taken: Taken)
+    requires idle { IsIdle 3 site.old }
+    requires cpu { IsOnCpu site.old }
+    requires looked { look ≤ seen_by site.old }
+    requires asks { Asks taken buf.old }
+    ensures { Does 3 (Serving (ReadForm (setting_of site.old.set) taken look) buf.new) site.old site.new }
+{
+    let rest = begin_behind(rt, site, look, buf, taken);
+    rest.fill(buf);
+}
+
+/// Random bytes for the kernel (`get_random_bytes`). Where no byte is wanted nothing is done.
+pub fn kernel_read<R: Wait>(rt: &R, site: &mut Site, buf: &mut [u8])
+    requires idle { IsIdle 4 site.old }
+    requires cpu { IsOnCpu site.old }
+    requires short { length buf.old ≤ most_bytes }
+    ensures { Completes 4 (Kread (length buf.old)) Done (bytes_or_none buf.new) site.old site.new }
+{
+    if buf.is_empty() {
+        return;
+    }
+    let taken = Taken::Kernel(buf.len() as u32);
+    let found = site.look();
+    read_behind(rt, site, found, buf, taken);
+}
+
+/// A read of /dev/urandom, which never waits. Where no byte is wanted nothing is done.
+pub fn urandom_file<R: Wait>(rt: &R, site: &mut Site, buf: &mut [u8])
+    requires idle { IsIdle 4 site.old }
+    requires cpu { IsOnCpu site.old }
+    requires short { length buf.old ≤ most_bytes }
+    ensures { Completes 4 (Uread (length buf.old)) Done (bytes_or_none buf.new) site.old site.new }
+{
+    if buf.is_empty() {
+        return;
+    }
+    let taken = Taken::User(buf.len() as u32);
+    let found = site.look();
+    read_behind(rt, site, found, buf, taken);
+}

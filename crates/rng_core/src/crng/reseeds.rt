@@ -1,0 +1,130 @@
+//! Reseeds of the base from the pool.
+ghost use Rattle.std.specs.Prelude.{◌≡◌, ◌<◌, ◌≤◌, ℕ, Some};
+ghost use Rattle.key_names.specs.declared.entries.BaseEntry.TheVariants.{Reseed, Early as EarlyEntry, Tick as TickEntry};
+ghost use Rattle.key_names.specs.declared.events.Event.TheVariants.{Reseed as ReseedEvent, Tick as TickEvent};
+ghost use Rattle.key_names.specs.Forms.{Rooted, Cross};
+ghost use Rattle.key_names.specs.SeenLine.{no_data};
+ghost use Rattle.key_names.specs.BaseList.{IsDue, empty};
+ghost use Rattle.key_names.specs.PoolList.{early};
+ghost use Rattle.lane_table.specs.Calls.{view};
+ghost use Rattle.input_pool.specs.PoolStands.{crossing_of};
+ghost use Rattle.rng_core.specs.Makes.{setting_of, result_answer, tick_result};
+ghost use Rattle.rng_core.specs.Sites.{IsIdle, IsTimely, HasRoom, Holds, IsLow, Does, Completes, lane_of, base_lane};
+
+use crate::lane_values;
+use crate::site::Site;
+use base_gen::Phase;
+use input_pool::Crossing;
+use key_names::{BaseEntry, Errno, LaneId};
+use lane_table::Held;
+use std::sync::Wait;
+
+/// A root of the pool becomes the base's key, and the generation rises (`crng_reseed`).
+pub(crate) fn reseed_base<R: Wait>(rt: &R, site: &mut Site)
+    requires idle { IsIdle 2 site.old }
+    requires moment { IsTimely site.old }
+    ensures { Does 2 (Rooted (setting_of site.old.set) (λ r. Reseed r site.old.set.now)) site.old site.new }
+{
+    let mut base = site.enter(rt, LaneId::Base);
+    let root = site.extract_raising(rt, &base);
+    let now = site.set.now;
+    lane_values::install(base.state_mut(), root.key, now);
+    let entry = BaseEntry::Reseed {
+        root: root.place,
+        now,
+    };
+    site.leave_base(base, entry);
+}
+
+/// Reseeds the core by hand (`RNDRESEEDCRNG`).
+///
+/// # Errors
+///
+/// `NoData` where the look found that the core was not ready.
+pub fn reseed<R: Wait>(rt: &R, site: &mut Site) -> Result<(), Errno>
+    requires idle { IsIdle 3 site.old }
+    requires moment { IsTimely site.old }
+    ensures { Completes 3 ReseedEvent (result_answer result) no_data site.old site.new }
+{
+    if site.look() == 0 {
+        return Err(Errno::NoData);
+    }
+    reseed_base(rt, site);
+    Ok(())
+}
+
+// The timer is due: a root is installed, and the timer set anew.
+fn fire<R: Wait>(rt: &R, site: &mut Site, mut base: Held)
+    requires holds { Holds base_lane base site.old }
+    requires due { IsDue (lane_of site.old base_lane).base.timer site.old.set.now }
+    requires low { IsLow site.old }
+    requires moment { IsTimely site.old }
+    requires room { HasRoom 2 site.old }
+    ensures { Does 2 (Rooted (setting_of site.old.set) (λ r. TickEntry site.old.set.now (Some r))) site.old site.new }
+{
+    let root = site.extract_raising(rt, &base);
+    let now = site.set.now;
+    lane_values::fire(base.state_mut(), root.key, now);
+    let entry = BaseEntry::Tick {
+        now,
+        root: Some(root.place),
+    };
+    site.leave_base(base, entry);
+}
+
+/// The reseed timer's moment passes. The answer is whether it was due, so that the base was reseeded.
+pub fn tick<R: Wait>(rt: &R, site: &mut Site) -> bool
+    requires idle { IsIdle 2 site.old }
+    requires moment { IsTimely site.old }
+    ensures { Completes 2 TickEvent (tick_result result) no_data site.old site.new }
+{
+    let base = site.enter(rt, LaneId::Base);
+    let now = site.set.now;
+    if lane_values::is_due(base.state(), now) {
+        fire(rt, site, base);
+        return true;
+    }
+    site.leave_base(base, BaseEntry::Tick { now, root: None });
+    false
+}
+
+// A base that was never seeded gets a root (`crng_init` rises to `CRNG_EARLY`).
+fn seed_early<R: Wait>(rt: &R, site: &mut Site, mut base: Held)
+    requires holds { Holds base_lane base site.old }
+    requires unseeded { (lane_of site.old base_lane).base.phase ≡ empty }
+    requires room { HasRoom 2 site.old }
+    ensures { Does 2 (Rooted (setting_of site.old.set) (λ r. EarlyEntry (Some r))) site.old site.new }
+{
+    let root = site.extract(rt, &base);
+    lane_values::install_early(base.state_mut(), root.key);
+    let entry = BaseEntry::Early {
+        root: Some(root.place),
+    };
+    site.leave_base(base, entry);
+}
+
+// Half of what readiness asks was gathered.
+fn cross_early<R: Wait>(rt: &R, site: &mut Site)
+    requires idle { IsIdle 2 site.old }
+    ensures { Does 2 (Cross (setting_of site.old.set) early) site.old site.new }
+{
+    let base = site.enter(rt, LaneId::Base);
+    if lane_values::phase(base.state()) == Phase::Empty {
+        seed_early(rt, site, base);
+        return;
+    }
+    site.leave_base(base, BaseEntry::Early { root: None });
+}
+
+/// What follows a credit (`_credit_init_bits`).
+pub(crate) fn cross<R: Wait>(rt: &R, site: &mut Site, crossing: Crossing)
+    requires idle { IsIdle 2 site.old }
+    requires moment { IsTimely site.old }
+    ensures { Does 2 (Cross (setting_of site.old.set) (crossing_of crossing)) site.old site.new }
+{
+    match crossing {
+        Crossing::None => {}
+        Crossing::Early => cross_early(rt, site),
+        Crossing::Ready => reseed_base(rt, site),
+    }
+}

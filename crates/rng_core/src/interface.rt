@@ -1,0 +1,3 @@
+//! The interfaces of programs.
+
+pub(crate) mod system_call;
