@@ -35,8 +35,8 @@ same_then l m n a b = record {
 }
 
 -- what was made by the setting of a site, by that of an equal one
-pub by_set : (P : Setting → (ℕ → List Visit) → List Deed → Type 0) (l m n : Site) → Same l m → MakesIn (P m.set) m.set (at m) (at n) →
-    MakesIn (P l.set) l.set (at m) (at n)
+pub by_set : (P : Setting → (ℕ → List Visit) → List Deed → Type 0) (l m n : Site) → Same l m →
+    MakesIn (P m.set) m.set (at m) (at n) → MakesIn (P l.set) l.set (at m) (at n)
 by_set P l m n same k = subst (λ (s : Setting). MakesIn (P s) s (at m) (at n)) same.set k
 
 pub walked_then : (l m n : Site) (xs ys : List MadeStep) → Walked xs l m → Walked ys m n → Walked (xs ++ ys) l n
