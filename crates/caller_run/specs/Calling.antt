@@ -20,7 +20,7 @@ use Rattle.rng_core.specs.declared.setting.Setting.{Setting}
 use Rattle.rng_core.specs.Traces.{Moment, moment}
 use Rattle.rng_core.specs.Makes.{MakesIn, IsOutcomeOf, setting_of}
 use Rattle.rng_core.specs.SampleDeeds.{Sampled}
-use Rattle.rng_core.specs.Acts.{Ask, ActOutcome, asks_of}
+use Rattle.rng_core.specs.Acts.{Ask, ActOutcome}
 use Rattle.rng_core.specs.Sites.{IsIdle, IsOnCpu, IsTimely, HasInHands, Same, at}
 use Rattle.rng_core.specs.declared.site.Site.{Site}
 use Rattle.rng_core.specs.InsideMakes.{bound_acts}
@@ -29,7 +29,6 @@ use Rattle.caller_run.specs.Says.{shown_by, line_of, ShowsFit, IsNoCount}
 use Rattle.caller_run.specs.declared.caller.Caller.{Caller}
 use Rattle.caller_run.specs.declared.reply.Reply.{Reply}
 use Rattle.caller_run.specs.declared.states.States.{States}
-use Rattle.caller_run.specs.declared.vreads.Target.{Target}
 
 -- a caller with this setting and these states, as the meaning of its calls has it
 abbrev pub caller_at : CallSetting → States → CallerState
@@ -65,13 +64,6 @@ pub record Asked (event : Event) (said : Reply) (served : List ℕ) (m n : Site)
   pub has : HasInHands [] n
   pub does : Does m.set event said.answer (shown_by served said.shows) (at m) (at n)
   pub shows : ShowsFit (event_word event) said.shows
-
--- the same references are lent
-pub record SameTarget (m n : Target) : Type 0 where
-  pub served : n.served.ghost_name ≡ m.served.ghost_name
-  pub inside : n.inside.ghost_name ≡ m.inside.ghost_name
-  pub acts : n.acts.ghost_name ≡ m.acts.ghost_name
-  pub asks : asks_of n.acts.now ≡ asks_of m.acts.now
 
 -- the caller has no lane in its hands, and its setting is one of the table's
 pub record IsReady (t : Lanes) (c : Caller) : Type 0 where

@@ -1,11 +1,8 @@
 //! Reads out of a caller's vgetrandom states.
-ghost use Rattle.std.specs.Prelude.{◌≡◌, ◌≤◌, ◌^◌, ◌∷◌, ℕ, List, [], length};
-ghost use Rattle.std.specs.List.{AllByRecursion};
-ghost use Rattle.key_names.specs.declared.events.Event.{Event};
+ghost use Rattle.std.specs.Prelude.{◌≡◌, ◌<◌, ◌≤◌, ◌^◌, ◌∷◌, ℕ, [], length};
 ghost use Rattle.key_names.specs.declared.events.Event.TheVariants.{Vread};
-ghost use Rattle.rng_core.specs.Acts.{all_wanted, asks_of, outcomes_of};
-ghost use Rattle.rng_core.specs.InsideMakes.{IsFresh};
-ghost use Rattle.caller_run.specs.Calling.{IsReady, SameTarget, StatesStand, StateRead};
+ghost use Rattle.caller_run.specs.Calling.{IsReady, StatesStand, StateRead};
+ghost use Rattle.caller_run.specs.Targets.{CanReadTo, ReadTo};
 ghost use Rattle.caller_run.specs.Standing.{CanAdvance, MadeEvent};
 
 use crate::acts::all_wanted;
@@ -27,8 +24,33 @@ pub(crate) struct Target<'a> {
 }
 
 impl Caller {
-    // A read out of the current state, of as many bytes as the target has, with its acts inside.
-    fn vread<'x, R: Wait>(
+    // A read out of the current state, of as many bytes as `served` has.
+    fn vread_alone<R: Wait>(
+        &mut self,
+        rt: &R,
+        lanes: &Lanes,
+        trace: &mut Trace,
+        served: &mut [u8],
+        flags: u32,
+    ) -> Reply
+        requires ready { IsReady lanes.now self.old }
+        requires states { StatesStand self.old }
+        requires short { length served.old ≤ 2 ^ 20 }
+        requires new { trace.old ≡ [] }
+        ensures { StateRead lanes.now (length served.old) flags self.old self.new result served.new trace.new [] [] }
+    {
+        let st = &mut self.states.all[self.states.current as usize];
+        let mut site = Site {
+            lanes,
+            pass: &mut self.pass,
+            trace,
+            set: self.set,
+        };
+        Reply::read(vread(rt, &mut site, st, served, flags))
+    }
+
+    // The same into the target, with its acts inside, at least one.
+    fn vread_around<'x, R: Wait>(
         &mut self,
         rt: &'x R,
         lanes: &'x Lanes,
@@ -36,28 +58,40 @@ impl Caller {
         to: &mut Target,
         flags: u32,
     ) -> Reply
-        requires ready { IsReady lanes.now self.old }
-        requires states { StatesStand self.old }
-        requires short { length to.old.served.now ≤ 2 ^ 20 }
+        requires can { CanReadTo lanes.now self.old to.old }
         requires new { trace.old ≡ [] }
-        requires fresh { AllByRecursion IsFresh to.old.acts.now }
-        requires fits { length to.old.inside.now ≡ all_wanted (asks_of to.old.acts.now) }
-        ensures same { SameTarget to.old to.new }
-        ensures read { StateRead lanes.now (length to.old.served.now) flags self.old self.new result to.new.served.now
-            trace.new (asks_of to.old.acts.now) (outcomes_of to.new.acts.now to.new.inside.now) }
+        requires some { 0 < length to.old.acts.now }
+        ensures { ReadTo lanes.now flags self.old self.new result trace.new to.old to.new }
     {
         let st = &mut self.states.all[self.states.current as usize];
-        let mut site = Site {
+        let site = Site {
             lanes,
             pass: &mut self.pass,
             trace: &mut *trace,
             set: self.set,
         };
-        if to.acts.is_empty() {
-            return Reply::read(vread(rt, &mut site, st, to.served, flags));
-        }
         let mut host = LaneHost::over(rt, site, &mut *to.acts, &mut *to.inside);
         Reply::read(vread_inside(&mut host, st, to.served, flags))
+    }
+
+    // A read out of the current state into the target, with its acts inside, if any.
+    fn vread<R: Wait>(
+        &mut self,
+        rt: &R,
+        lanes: &Lanes,
+        trace: &mut Trace,
+        to: &mut Target,
+        flags: u32,
+    ) -> Reply
+        requires can { CanReadTo lanes.now self.old to.old }
+        requires new { trace.old ≡ [] }
+        ensures { ReadTo lanes.now flags self.old self.new result trace.new to.old to.new }
+    {
+        if to.acts.is_empty() {
+            self.vread_alone(rt, lanes, trace, to.served, flags)
+        } else {
+            self.vread_around(rt, lanes, trace, to, flags)
+        }
     }
 
     /// A read out of the current state, with the acts inside that waited for it. Their lines are told anew.
