@@ -185,9 +185,3 @@ system_called set n flags result bytes l m k = record {
         (sym (last_found lanes m.view visits callers c set.caller set.event (length l.steps) k.made_steps k.told.went.stand));
   };
 }
-
-pub has_by : (t t' : Lanes) (set set' : Setting) (p : Pass) → t' ≡ t → set' ≡ set → HoldsLanes t' set'.caller [] p →
-    HoldsLanes t set.caller [] p
-has_by t t' set set' p same_table same_set k =
-    subst (λ (z : Lanes). HoldsLanes z set.caller [] p) same_table
-    (subst (λ (z : Setting). HoldsLanes t' z.caller [] p) same_set k)

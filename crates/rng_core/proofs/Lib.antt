@@ -1,6 +1,8 @@
 pub mod ActCalls
 pub mod SampleCalls
 pub mod SiteLemmas
+pub mod SiteReads
+pub mod SiteVisits
 pub mod ActLines
 pub mod ActRuns
 pub mod Acting
@@ -16,5 +18,7 @@ pub mod Parents
 pub mod Readings
 pub mod Sampling
 pub mod SiteLemmas
+pub mod SiteReads
+pub mod SiteVisits
 pub mod SysFulfilling
 pub mod TellLemmas

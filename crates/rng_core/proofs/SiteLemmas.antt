@@ -156,6 +156,9 @@ does_left lane h e m n k f = record {
   did = f k.visited;
 }
 
+pub left_at : (a b : ℕ) (h : Held) (e : LaneEntry) (m n : Site) → a ≡ b → Left a h e m n → Left b h e m n
+left_at a b h e m n same k = subst (λ (l : ℕ). Left l h e m n) same k
+
 -- a visit of the pool, the base or a CPU alone
 pub does_pool : (h k : Held) (e : PoolEntry) (l m n : Site) → Entered 0 h l m → Left 0 k (Pool e) m n →
     Does 1 (PoolOnly e) l n

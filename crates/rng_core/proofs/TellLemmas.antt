@@ -15,6 +15,7 @@ use Rattle.key_names.specs.Texts.TranscriptGrammar.{StepFits, LaneFits, MarkFits
 use Rattle.key_names.proofs.Lists.Each.{each_append}
 use Rattle.lane_table.specs.declared.view.LaneEntry.{LaneEntry}
 use Rattle.lane_table.specs.declared.view.LaneView.{LaneView}
+use Rattle.lane_table.specs.declared.view.Visit.{Visit}
 use Rattle.lane_table.specs.LaneNumbers.{index_of}
 use Rattle.lane_table.specs.Meaning.{Model, replay}
 use Rattle.lane_table.specs.declared.view.Handed.{Handed}
@@ -140,3 +141,24 @@ visited_at set m m' told told' mark who e held lane same on there near two by tr
 pub visited_place : (set : Setting) (m n : Moment) (lane p q : ℕ) (s : Model) (e : LaneEntry) (got : Handed) → p ≡ q →
     Visited set m n lane p s e got → Visited set m n lane q s e got
 visited_place set m n lane p q s e got is k = subst (λ (z : ℕ). Visited set m n lane z s e got) is k
+
+-- it stands where no more is known of the lane
+pub visited_stays : (set : Setting) (l m n : Moment) (lane place : ℕ) (s : Model) (e : LaneEntry) (got : Handed) →
+    Visited set l m lane place s e got → TraceRecords set m n [] → known_of n.view lane ≡ known_of m.view lane →
+    Visited set l n lane place s e got
+visited_stays set l m n lane place s e got v idle same =
+    let here : known_of n.view (index_of v.mark.lane) ≡ known_of m.view (index_of v.mark.lane) =
+    subst (λ (j : ℕ). known_of n.view j ≡ known_of m.view j) (sym v.lane_is) same in record {
+      mark = v.mark;
+      lane_is = v.lane_is;
+      place_is = v.place_is;
+      told = told_then set l m n (visited v.mark e ∷ []) [] v.told idle;
+      met = record {
+        near = (let a = idle.went.same.sized in let b = v.met.near in omega arith);
+        visit = v.met.visit;
+        there = ap (λ (xs : List Visit). get_elem? xs v.mark.place) here ∙ v.met.there;
+        is = v.met.is;
+        was_handed = v.met.was_handed;
+        before = ap (λ (xs : List Visit). replay (take v.mark.place xs)) here ∙ v.met.before;
+      };
+    }

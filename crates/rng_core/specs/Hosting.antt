@@ -14,7 +14,7 @@ use Rattle.rng_core.specs.Acts.{all_wanted, asks_of, outcomes_of}
 use Rattle.rng_core.specs.Hosted.{stand}
 use Rattle.rng_core.specs.InsideMakes.{IsFresh, InsideMakes}
 use Rattle.rng_core.specs.Sites.{Same, IsNew, IsOnCpu, IsTimely, HasInHands, at}
-use Rattle.rng_core.specs.VreadMakes.{Called, IsCurrent}
+use Rattle.rng_core.specs.VreadMakes.{Called, IsCurrent, VreadMakes}
 
 -- acts may be done inside a call at this site, none of which is done yet, with a place for the bytes of each
 pub record CanHost (acts : List Bound) (out : List ℕ) (s : Site) : Type 0 where
@@ -27,6 +27,7 @@ pub record CanHost (acts : List Bound) (out : List ℕ) (s : Site) : Type 0 wher
 module _ {R : Type 0} where
   -- no step was made over it yet
   pub record IsNewHost (h : LaneHost R) : Type 0 where
+    pub empty : length h.site.trace.now ≡ 0
     pub before : h.attempt ≡ Before
     pub looks : h.looks ≡ 5
     pub calls : h.calls ≡ 3
@@ -47,6 +48,14 @@ module _ {R : Type 0} where
   hosting = doings (λ h g next. ActPublished (standing h) g (standing next) × SameLoans h next)
       (λ h n flags answer next. ActAnswered (standing h) n flags answer (standing next) × SameLoans h next)
       (λ h point wiped next. ActPassed (standing h) point wiped (standing next) × SameLoans h next)
+
+  -- n bytes were read on the state s, which left t, without acts inside
+  pub record ReadsState (n flags : ℕ) (s t : VgetrandomState) (answer : Answer) (shown : Shown) (h next : LaneHost R)
+      : Type 0 where
+    pub loans : SameLoans h next
+    pub has : HasInHands [] next.site
+    pub current : IsCurrent t next.site
+    pub did : VreadMakes n flags s t answer shown h.site.set (at h.site) (at next.site)
 
   -- a call for n bytes with acts inside was made on the state s, which left t
   pub record ReadsInside (n flags : ℕ) (s t : VgetrandomState) (answer : Answer) (shown : Shown) (h next : LaneHost R)

@@ -205,7 +205,7 @@ pub record Looked (found : ℕ) (m n : Site) : Type 0 where
   pub consistent : Consistent (view n.pass.now)
   pub stamp : n.pass.now.stamp ≡ m.pass.now.stamp
   pub lanes : (lane : ℕ) → lane_of n lane ≡ lane_of m lane
-  pub cpus : (c : ℕ) → (lane_of m (cpu_lane c)).cpu.cpu.generation ≤ found
+  pub cpus : (c : ℕ) → c < m.lanes.now.cpus → (lane_of m (cpu_lane c)).cpu.cpu.generation ≤ found
   pub hands : (hands : List HeldLane) → HasInHands hands m → HasInHands hands n
 
 -- with empty hands
@@ -229,7 +229,7 @@ pub record Visits (h : Held) (e : LaneEntry) (m n : Site) : Type 0 where
   pub room : length n.trace.now ≡ length m.trace.now + 1
   pub pass : IsSamePass m.lanes.now m.pass.now n.pass.now
   pub stamp : ℕ
-  pub low : stamp ≤ last_stamp
+  pub low : m.pass.now.stamp < last_stamp → stamp ≤ last_stamp
   pub added : Added h.turn.lane (filled h.turn.lane (visit_by (maker m.set.caller m.set.event (length m.trace.now)) stamp e)
       (view m.pass.now)) m.pass.now.seat.me n.pass.now.seat.me
   pub visited : (lane : ℕ) → h.turn.lane ≡ lane → Visited m.set (at m) (at n) lane h.turn.place (lane_of m lane) e

@@ -122,10 +122,3 @@ pub record ReadsLocally (result : Local) (n flags : ℕ) (s t : VgetrandomState)
   pub current : IsCurrent t m
   pub room : length m.trace.now ≤ length l.trace.now + 1
   pub read : LocalRead result n flags s t out l.set (at l) (at m)
-
--- n bytes were read on the state s, which left t
-pub record ReadsState (n flags : ℕ) (s t : VgetrandomState) (answer : Answer) (shown : Shown) (l m : Site) : Type 0 where
-  pub same : Same l m
-  pub has : HasInHands [] m
-  pub current : IsCurrent t m
-  pub did : VreadMakes n flags s t answer shown l.set (at l) (at m)

@@ -25,9 +25,9 @@ pub(crate) fn reseed_base<R: Wait>(rt: &R, site: &mut Site)
     requires moment { IsTimely site.old }
     ensures { Does 2 (Rooted (setting_of site.old.set) (λ r. Reseed r site.old.set.now)) site.old site.new }
 {
+    let now = site.set.now;
     let mut base = site.enter(rt, LaneId::Base);
     let root = site.extract_raising(rt, &base);
-    let now = site.set.now;
     lane_values::install(base.state_mut(), root.key, now);
     let entry = BaseEntry::Reseed {
         root: root.place,
@@ -62,8 +62,8 @@ fn fire<R: Wait>(rt: &R, site: &mut Site, mut base: Held)
     requires room { HasRoom 2 site.old }
     ensures { Does 2 (Rooted (setting_of site.old.set) (λ r. TickEntry site.old.set.now (Some r))) site.old site.new }
 {
-    let root = site.extract_raising(rt, &base);
     let now = site.set.now;
+    let root = site.extract_raising(rt, &base);
     lane_values::fire(base.state_mut(), root.key, now);
     let entry = BaseEntry::Tick {
         now,
@@ -78,8 +78,8 @@ pub fn tick<R: Wait>(rt: &R, site: &mut Site) -> bool
     requires moment { IsTimely site.old }
     ensures { Completes 2 TickEvent (tick_result result) no_data site.old site.new }
 {
-    let base = site.enter(rt, LaneId::Base);
     let now = site.set.now;
+    let base = site.enter(rt, LaneId::Base);
     if lane_values::is_due(base.state(), now) {
         fire(rt, site, base);
         return true;

@@ -1,10 +1,10 @@
 //! Reads out of a caller's vgetrandom state.
 ghost use Rattle.std.specs.Prelude.{◌≡◌, ◌<◌, ◌≤◌, length};
 ghost use Rattle.key_names.specs.SeenLine.{bytes_or_none};
-ghost use Rattle.rng_core.specs.Hosting.{IsNewHost, HostCalled, ReadsInside};
+ghost use Rattle.rng_core.specs.Hosting.{IsNewHost, HostCalled, ReadsState, ReadsInside};
 ghost use Rattle.rng_core.specs.Makes.{result_answer, given};
-ghost use Rattle.rng_core.specs.Sites.{IsIdle, IsNew, IsOnCpu, most_bytes};
-ghost use Rattle.rng_core.specs.VreadMakes.{IsCurrent, ReadsLocally, ReadsState, done_of};
+ghost use Rattle.rng_core.specs.Sites.{IsIdle, most_bytes};
+ghost use Rattle.rng_core.specs.VreadMakes.{IsCurrent, ReadsLocally, done_of};
 
 use crate::site::Site;
 use crate::vdso::hosting::publish;
@@ -65,38 +65,28 @@ pub(crate) fn call_host<R: Wait>(
 }
 
 /// Random bytes for a user, out of the caller's vgetrandom state where that can serve them and by the system call
-/// otherwise (`vgetrandom`). No act is inside. The state's generation has to be one that the pass has seen published,
-/// and the trace empty.
+/// otherwise (`vgetrandom`). The host has to be new and without acts, and the state's generation one that its caller has
+/// seen published.
 ///
 /// # Errors
 ///
 /// The error of the last system call. The buffer is unspecified then.
 pub fn vread<R: Wait>(
-    rt: &R,
-    site: &mut Site,
+    host: &mut LaneHost<'_, R>,
     st: &mut VState,
     buf: &mut [u8],
     flags: u32,
 ) -> Result<(), Errno>
-    requires new { IsNew site.old }
-    requires cpu { IsOnCpu site.old }
-    requires current { IsCurrent st.old site.old }
+    requires new { IsNewHost host.old }
+    requires alone { length host.old.acts.now ≡ 0 }
+    requires current { IsCurrent st.old host.old.site }
     requires short { length buf.old ≤ most_bytes }
     ensures { ReadsState (length buf.old) flags st.old st.new (result_answer result) (bytes_or_none (given result buf.new))
-        site.old site.new }
+        host.old host.new }
 {
-    match vread_local(site, st, buf, flags) {
+    match vread_local(&mut host.site, st, buf, flags) {
         Local::Served => Ok(()),
-        Local::NeedsSystem => {
-            let inner = Site {
-                lanes: site.lanes,
-                pass: &mut *site.pass,
-                trace: &mut *site.trace,
-                set: site.set,
-            };
-            let mut host = LaneHost::over(rt, inner, &mut [], &mut []);
-            call_host(&mut host, st, buf, flags)
-        }
+        Local::NeedsSystem => call_host(host, st, buf, flags),
     }
 }
 

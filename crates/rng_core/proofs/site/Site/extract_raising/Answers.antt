@@ -1,0 +1,22 @@
+use Rattle.std.proofs.Common.{◌≡◌, ◌≢◌, ℕ, ◌≤◌, ap, refl, rules, arith}
+use Rattle.lane_table.specs.declared.view.LaneView.{LaneView}
+use Rattle.lane_table.proofs.Calls.AdvanceLemmas.{went_raised}
+use Rattle.rng_core.proofs.TellLemmas.{told_idly, visited_stays}
+use Rattle.rng_core.proofs.site.Site.extract_raising.Goals as goal
+
+pub returns : goal.returns
+returns g c = let b = c.extract-root.ensures in let r = c.raise.ensures.raised in record {
+  same = record { lanes = b.same.lanes; set = b.same.set; pass = b.same.pass; trace = b.same.trace };
+  holds = search rules;
+  kept = search rules;
+  key = search rules;
+  room = b.room;
+  visited = (
+    b.visited.0,
+    visited_stays _ _ _ _ _ _ _ _ _ b.visited.1
+        (told_idly _ _ _ refl (went_raised _ _ _ _ _ (let a = b.holds.has.pass.sized in omega arith) _
+        (let a = b.seen in let low = c.requires.low.seen in
+        let d = c.base_generation-generation.ensures _ c.requires.holds.value in let same = b.kept in omega arith) r))
+        (ap (λ (a : LaneView). a.known) (r.others 0 (λ e. absurd (omega arith)))),
+  );
+}
