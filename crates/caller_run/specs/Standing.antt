@@ -16,7 +16,7 @@ use Rattle.lane_table.specs.Calls.{view}
 use Rattle.lane_table.specs.Steps.{Grows, child as split_off}
 use Rattle.rng_core.specs.Acts.{Ask, wants, all_wanted, asks_of}
 use Rattle.rng_core.specs.InsideMakes.{IsFresh}
-use Rattle.rng_core.specs.declared.acts.Bound.{Bound}
+use Rattle.rng_core.specs.declared.vdso.acts.Bound.{Bound}
 use Rattle.transcript_text.specs.Gathered.{Gathered}
 use Rattle.caller_run.specs.Calling.{IsReady, StatesStand, stand}
 use Rattle.caller_run.specs.Done.{CallsDone}

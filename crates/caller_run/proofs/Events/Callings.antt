@@ -23,6 +23,7 @@ use Rattle.rng_core.specs.Sites.{Completes, DoesIn, at}
 use Rattle.rng_core.specs.declared.site.Site.{Site}
 use Rattle.rng_core.proofs.Makings.{did_nothing}
 use Rattle.caller_run.specs.Calling.{Does, CanAsk, Asked, Called}
+use Rattle.caller_run.proofs.Events.OwnSites.{own_hands}
 use Rattle.caller_run.specs.Kinds.{IsSetting}
 use Rattle.caller_run.specs.Says.{shown_by, ShowsFit, IsNoCount}
 use Rattle.caller_run.specs.declared.states.States.{States}
@@ -121,8 +122,7 @@ pub called : {event : Event} {m n : Site} {said : Reply} {served : List ℕ} {st
     Called m.lanes.now event (record { pass = m.pass.now; set = m.set; states = states })
     (record { pass = n.pass.now; set = m.set; states = states }) said served n.trace.now
 called {m = m} {n = n} new asked = record {
-  has = subst (λ (s : Setting). HoldsLanes m.lanes.now s.caller [] n.pass.now) asked.same.set
-      (subst (λ (t : Lanes). HoldsLanes t n.set.caller [] n.pass.now) asked.same.lanes asked.has);
+  has = own_hands asked.same asked.has;
   set = refl;
   states = refl;
   does = subst (λ (l : List Step). Does m.set _ _ _ (moment m.pass.now l) (at n)) new asked.does;

@@ -22,8 +22,8 @@ use Rattle.rng_core.specs.Acts.{ActOutcome}
 use Rattle.rng_core.proofs.InsideCalls.{fresh_undone, outcomes_long}
 use Rattle.caller_run.specs.Calling.{StateRead}
 use Rattle.caller_run.specs.Says.{IsNoCount}
-use Rattle.rng_core.specs.declared.acts.Bound.{Bound}
-use Rattle.rng_core.specs.declared.attempt.Attempt.TheVariants.{Before}
+use Rattle.rng_core.specs.declared.vdso.acts.Bound.{Bound}
+use Rattle.rng_core.specs.declared.vdso.attempt.Attempt.TheVariants.{Before}
 use Rattle.rng_core.specs.Acting.{act_stand, InsideRan}
 use Rattle.rng_core.specs.Acts.{Ask, asks_of, outcomes_of}
 use Rattle.rng_core.specs.Makes.{result_answer, given}

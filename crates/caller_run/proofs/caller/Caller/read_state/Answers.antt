@@ -1,7 +1,7 @@
 use Rattle.std.proofs.Common.{◌≤◌, ◌≡◌, ◌∷◌, ◌++◌, [], List, length, ℕ, take, drop, sym, subst, ap, ◌∙◌, arith, rules}
 use Rattle.std.proofs.lemmas.List.{length-map, length-take, length-take-le}
 use Rattle.std.proofs.Math.Seq.{take-append_seam}
-use Rattle.rng_core.specs.declared.acts.Bound.{Bound}
+use Rattle.rng_core.specs.declared.vdso.acts.Bound.{Bound}
 use Rattle.rng_core.specs.Acts.{all_wanted, ask_of, asks_of, outcomes_of}
 use Rattle.caller_run.specs.Calling.{StateRead}
 use Rattle.key_names.specs.declared.events.Word.TheVariants.{Vread as VreadWord}

@@ -1,19 +1,19 @@
 use Rattle.std.proofs.Common.{ℕ, ◌∷◌, ◌++◌, [], length, sym, ap, ◌∙◌, arith}
 use Rattle.key_names.specs.declared.events.Event.TheVariants.{Inside}
 use Rattle.key_names.specs.declared.events.Word.TheVariants.{Inside as InsideWord}
-use Rattle.rng_core.specs.declared.acts.Bound.{Bound}
+use Rattle.rng_core.specs.declared.vdso.acts.Bound.{Bound}
 use Rattle.caller_run.specs.Says.{line_of}
 use Rattle.caller_run.proofs.Planning.ActWaits.{Keeps, can_keep, gone_keep}
 use Rattle.caller_run.proofs.caller.Caller.wait.Goals as goal
 use Rattle.caller_run.proofs.caller.Caller.wait.Goals.{After-go_on}
 
 -- what the caller did for its event
-kept : (c : After-go_on) → Keeps c.args.event.now c.args.self.now c.go_on.new.self c.args.log.now.lines
+kept : (c : After-go_on) → Keeps c.args.event.now c.args.self.now c.go_on.new.self c.args.sheet.now.log.lines
     c.tell.new.lines
-    c.args.log.now.acts.items c.push_reserved.new.self.items
+    c.args.sheet.now.log.acts.items c.push_reserved.new.self.items
 kept c =
     let set = c.args.self.now.set in
-    let lines = c.args.log.now.lines.lines in
+    let lines = c.args.sheet.now.log.lines.lines in
     record {
       point = c.point_of.result;
       act = c.args.act;
@@ -24,15 +24,15 @@ kept c =
       line_room = c.tell.ensures.line_room;
       step_room = (let b = c.tell.ensures.step_room in let e = ap length c.empty.ensures in omega arith);
       byte_room = (let b = c.tell.ensures.byte_room in omega arith);
-      kept = c.push_reserved.ensures.items ∙ ap (λ (b : Bound). c.args.log.now.acts.items ++ b ∷ [])
+      kept = c.push_reserved.ensures.items ∙ ap (λ (b : Bound). c.args.sheet.now.log.acts.items ++ b ∷ [])
           c.of-bound.ensures;
     }
 
-pub returns-clause-can : goal.returns-clause-can
-returns-clause-can c t served inside rest can = record {
-  goes = can_keep (kept c) can.goes;
-  act_room = (let a = c.push_reserved.ensures.capacity in let b = can.act_room in omega arith);
+pub returns : goal.returns
+returns c t = record {
+  can = λ rest can. record {
+    goes = can_keep (kept c) can.goes;
+    act_room = (let a = c.push_reserved.ensures.capacity in let b = can.act_room in omega arith);
+  };
+  gone = gone_keep (kept c) c.requires.can.1.goes.at;
 }
-
-pub returns-clause-gone : goal.returns-clause-gone
-returns-clause-gone c = gone_keep (kept c) c.requires.can.3.goes.at
