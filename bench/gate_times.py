@@ -1,20 +1,28 @@
 #!/usr/bin/env python3
 """Runs the gate, or another command, and tells where its processor time went, crate by crate.
 
-    bench/gate_times.py [COMMAND..]        `rt ci` where no command is given
+    bench/gate_times.py [--anew] [--page FILE] [COMMAND..]        `rt ci` where no command is given
 
 Every half second it reads from /proc what each process below the command has used so far, and asks its command line
 which crate it works for and whether that is a proof, a test's proof, or a wrong edit. What a process uses in its last
-half second is lost. Behind the command it prints a table in processor minutes, the dearest crate first, and ends with
-the command's status. What `rt ci` kept of earlier runs is not made anew: for a whole table the machine has to be new.
+half second is lost; the system's own sum stands behind the table. The table has processor minutes, the dearest crate
+first. The command's status is the answer.
+
+`--anew` has `rt ci` prove and try all, whatever it kept of earlier runs on this machine; without it a whole table needs
+a new machine. `--page` puts the table into a page, as of CONTRIBUTING.md, between its two lines `gate times`. A crate's
+budget there is kept; a crate that has none gets what it took and a fifth more. What is over its budget is told.
 """
 import os
+import re
+import resource
 import subprocess
 import sys
 import time
 
 TICKS = os.sysconf('SC_CLK_TCK')
 KINDS = ('proof', 'tests', 'edits', 'rest')
+OTHER = ('(other)', 'rest')
+MARKS = '<!-- gate times -->\n', '<!-- gate times end -->\n'
 
 
 def read(path):
@@ -65,38 +73,96 @@ class Sums:
             if chain[-1] != self.root:
                 continue
             key = pid, found[pid][1]
-            if key not in self.work:
+            # One that was just forked has its parent's command line still, so it is asked again.
+            if self.work.get(key, OTHER) == OTHER:
                 works = (work_of(it) for it in chain[:-1])
-                self.work[key] = next((it for it in works if it), ('(other)', 'rest'))
+                self.work[key] = next((it for it in works if it), OTHER)
             self.used[key] = found[pid][2]
 
     def table(self):
+        """Of each crate its processor minutes by kind."""
         rows = {}
         for key, ticks in self.used.items():
             name, kind = self.work[key]
-            rows.setdefault(name, dict.fromkeys(KINDS, 0))[kind] += ticks
+            rows.setdefault(name, dict.fromkeys(KINDS, 0.0))[kind] += ticks / TICKS / 60
         return rows
 
 
-def tell(rows, elapsed):
+def whole(row):
+    return sum(row.values())
+
+
+def dearest(rows):
+    return sorted(rows.items(), key=lambda it: -whole(it[1]))
+
+
+def total_of(rows):
+    return {kind: sum(row[kind] for row in rows.values()) for kind in KINDS}
+
+
+def tell(rows, ending):
     print('\n%-18s %8s %8s %8s %8s %8s' % ('processor minutes', 'whole', *KINDS))
-    total = dict.fromkeys(KINDS, 0)
-    for name, row in sorted(rows.items(), key=lambda it: -sum(it[1].values())):
-        print('%-18s' % name, *('%8.1f' % (ticks / TICKS / 60) for ticks in (sum(row.values()), *row.values())))
-        for kind in KINDS:
-            total[kind] += row[kind]
-    print('%-18s' % 'all', *('%8.1f' % (ticks / TICKS / 60) for ticks in (sum(total.values()), *total.values())))
-    print('%.1f minutes by the clock, on %d processors' % (elapsed / 60, len(os.sched_getaffinity(0))))
+    for name, row in [*dearest(rows), ('all', total_of(rows))]:
+        print('%-18s' % name, *('%8.1f' % minutes for minutes in (whole(row), *row.values())))
+    print(ending)
 
 
-def main(command):
+def budgets_of(text):
+    """What the rows of a page's table grant each crate, in minutes."""
+    return {row[1]: int(row[2]) for row in re.finditer(r'^\| `(\w+)` \|.*\| (\d+) \|$', text, flags=re.M)}
+
+
+def page_table(rows, budgets, ending):
+    lines = ['| Crate | Proof | Its tests | Edits | Whole | Budget |', '|---|---|---|---|---|---|']
+    crates = {name: row for name, row in rows.items() if name != OTHER[0]}
+    for name, row in dearest(crates):
+        minutes = ['%.1f' % it if it >= 0.05 else '' for it in (row['proof'], row['tests'], row['edits'], whole(row))]
+        lines.append('| `%s` | %s | %d |' % (name, ' | '.join(minutes), budgets[name]))
+    sums = total_of(rows)
+    minutes = ' | '.join('%.0f' % it for it in (sums['proof'], sums['tests'], sums['edits'], whole(sums)))
+    lines.append('| all, and what is no crate\'s | %s | %d |' % (minutes, sum(budgets[name] for name in crates)))
+    return '\n'.join(lines) + '\n\n' + ending[0].upper() + ending[1:] + '.\n'
+
+
+def into_page(path, rows, ending):
+    """Puts the table into the page, and tells which crates are over the budgets that stood there."""
+    text = read(path)
+    front, first, rest = text.partition(MARKS[0])
+    old, last, back = rest.partition(MARKS[1])
+    if not last:
+        sys.exit('%s has no lines %s and %s' % (path, *map(str.strip, MARKS)))
+    granted = budgets_of(old)
+    budgets = {name: granted.get(name, int(whole(row) * 1.2) + 1) for name, row in rows.items()}
+    with open(path, 'w', encoding='utf-8') as file:
+        file.write(front + first + page_table(rows, budgets, ending) + last + back)
+    for name, row in dearest(rows):
+        if name in granted and whole(row) > granted[name]:
+            print('over its budget: %s, %.1f of %d minutes' % (name, whole(row), granted[name]))
+
+
+def main(words):
+    page, flags = None, []
+    while words and words[0].startswith('--'):
+        word, *words = words
+        if word == '--page' and words:
+            page, *words = words
+        elif word == '--anew':
+            flags = [word]
+        else:
+            sys.exit(__doc__)
     began = time.monotonic()
-    gate = subprocess.Popen(command or ['rt', 'ci'])
+    gate = subprocess.Popen(words or ['rt', 'ci', *flags])
     sums = Sums(gate.pid)
     while gate.poll() is None:
         sums.look()
         time.sleep(0.5)
-    tell(sums.table(), time.monotonic() - began)
+    used = resource.getrusage(resource.RUSAGE_CHILDREN)
+    ending = '%.1f minutes by the clock on %d processors, and %.1f processor minutes by the system\'s own sum' % (
+        (time.monotonic() - began) / 60, len(os.sched_getaffinity(0)), (used.ru_utime + used.ru_stime) / 60)
+    rows = sums.table()
+    tell(rows, ending)
+    if page and gate.returncode == 0:
+        into_page(page, rows, ending)
     return gate.returncode
 
 

@@ -1,7 +1,8 @@
 # Which sources the built program stands for. Read by ./rng and .ci/run, which set top, the repository's folder.
 #
 # The stamp has three parts. `sum` is what it means: the hash of each source's bytes, and that of the program which was
-# proved and built from them. `sources` names the folders that they are in, those of the crates that the program stands on.
+# proved and built from them. `folders` sets `sources`, the folders that they are in, those of the crates that the program
+# stands on: a line of shell, since `read` would take a list byte by byte, which costs most of a millisecond.
 # `seen` is a short cut, a file that is as old as the last look which found the sum right: while no source, no folder of
 # sources and no program was changed since, nothing is read. Every edit, checkout or copy sets the time of a file's last
 # change to the clock, whatever time the file itself is given. Once something is newer the sum decides, so a file that was
@@ -47,9 +48,11 @@ sum_of_sources() (
 
 # The program stands for the sources, by a look at no more than the times of the files' last changes.
 seems_current() {
-    [ -x "$program" ] && [ -f "$stamp.seen" ] && read -r folders 2>/dev/null <"$stamp.sources" || return 1
+    [ -x "$program" ] && [ -f "$stamp.seen" ] && [ -r "$stamp.folders" ] || return 1
+    # shellcheck source=/dev/null
+    . "$stamp.folders"
     # shellcheck disable=SC2086
-    [ -z "$(cd "$top" && find "$own" crates.txt $folders -newercm "$own.stands_for.seen" -print -quit 2>&1)" ]
+    [ -z "$(cd "$top" && LC_ALL=C find "$own" crates.txt ${sources:?} -newercm "$own.stands_for.seen" -print -quit 2>&1)" ]
 }
 
 # The program stands for the sources, by all their bytes. What changes after the look began is newer than `seen`.
@@ -57,7 +60,7 @@ is_current() {
     [ -x "$program" ] && [ -f "$stamp" ] || return 1
     { : >"$stamp.$$" && { sleep 0.02 || sleep 1; }; } 2>/dev/null || :
     if [ "$(sum_of_sources) $(sha256sum <"$program")" = "$(cat "$stamp")" ]; then
-        { folders_of_sources >"$stamp.sources" && mv "$stamp.$$" "$stamp.seen"; } 2>/dev/null || :
+        { echo "sources='$(folders_of_sources)'" >"$stamp.folders" && mv "$stamp.$$" "$stamp.seen"; } 2>/dev/null || :
     else
         rm -f "$stamp.$$"
         return 1

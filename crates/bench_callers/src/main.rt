@@ -3,6 +3,8 @@
 //! `runs NUMBER` reads the script on standard input once and runs it so many times, without the text of a transcript.
 //! `threads NUMBER` starts a thread and joins it so many times. Without words each goes over a little. A line says what
 //! came out last.
+//!
+//! Nothing is promised of them but that they do not abort.
 #![tactic(auto)]
 
 mod loops;

@@ -2,6 +2,8 @@
 //!
 //! `feeds NUMBER` hands in so many samples of each feeder through the queue, each feeder in a thread; `irqs NUMBER` makes
 //! the same interrupts by one caller, without a queue. Without words each goes over a few. A line says what came out.
+//!
+//! Nothing is promised of them but that they do not abort.
 #![tactic(auto)]
 
 mod loops;

@@ -8,6 +8,8 @@
 //! hexadecimal. `bare-LEN`, `fill-LEN`, `kernel-LEN` and `user-LEN` make so many reads of LEN bytes. `script` and
 //! `transcript` read the text on standard input so many times, and `script_lines` and `transcript_lines` go over the same
 //! text with a plain loop. A line says what came out last.
+//!
+//! Nothing is promised of them but that they do not abort.
 #![tactic(auto)]
 
 mod lanes;

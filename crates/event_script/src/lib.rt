@@ -1,6 +1,11 @@
 //! Scripts: what callers are to do, as a text. A text is read exactly by the grammar, or its first fault is told.
 //!
-//! `read` reads a whole text, and `read_front` a script that stands in front of something else.
+//! `read` reads a whole text, and `read_front` a script that stands in front of something else. Both promise a script
+//! exactly where the text is the one spelling of it, and otherwise the fault that the definition finds first.
+//! [`Script`] also makes the script of a load.
+//!
+//! It stands on the grammar and the faults of `key_names` (`specs/Texts`), and on `memchr` and `hex` for line ends and
+//! bytes.
 #![tactic(auto)]
 
 mod acts;

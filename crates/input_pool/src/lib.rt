@@ -3,6 +3,9 @@
 //! Samples are mixed in by hashing them one after another. A credit is the kernel's guess of how many bits a sample
 //! brought; at 128 bits a base key may be made early, and at 256 the core becomes ready. An extraction makes two keys
 //! from all that was mixed: the root that goes out, and the key that the pool goes on with.
+//!
+//! Each call is promised to leave the pool that the list of its entries makes. It stands on `blake2s_core` for the
+//! hash.
 #![tactic(auto)]
 
 mod pool;

@@ -3,6 +3,10 @@
 //! The layers above take a `Source` and a `Sink` as type parameters, so that one contract speaks of standard
 //! input and output, of buffers in memory, and of a test's script of failures. A `Gate` stands before each event of a
 //! caller, where a test can hold it.
+//!
+//! It promises that what was read is what the source had, that a sink holds just what was put, and that a fault is told
+//! only where the source or the sink counted one. It stands on std alone. That the standard streams are real files is not
+//! said.
 #![tactic(auto)]
 
 mod edges;

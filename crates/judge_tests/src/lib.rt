@@ -1,6 +1,7 @@
 //! Tests of the crates that judge transcripts.
 //!
-//! They stand apart because a crate with tests is proved twice.
+//! They stand apart because a crate with tests is proved twice. They promise nothing. They stand on contracts, as any
+//! caller does.
 #![tactic(auto)]
 
 #[cfg(test)]

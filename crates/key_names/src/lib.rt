@@ -1,5 +1,12 @@
-//! Names of keys, the entries of the lanes, events, words and answers, and the definitions that every contract
-//! of the other crates cites.
+//! Names of keys, the entries of the lanes, events, words and answers, and the definitions that every contract of the
+//! other crates cites.
+//!
+//! Its functions read and write these types, each by its definition. [`laws`] has what is promised of every lawful book
+//! and transcript: no byte of a key is put to use twice, what is still held was neither used nor replaced, and a
+//! transcript's steps make one book alone.
+//!
+//! It stands on no other crate of the repository. A keystream is, by definition, what `rand_chacha` states of its
+//! words; BLAKE2s is defined here.
 #![tactic(auto)]
 
 pub mod entries;

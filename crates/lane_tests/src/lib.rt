@@ -1,6 +1,7 @@
 //! Tests of the lanes, the core's calls, draws, runs and feeders, over their crates' public calls.
 //!
-//! They stand apart because a crate with tests is proved twice, and these are the longest to prove.
+//! They stand apart because a crate with tests is proved twice, and these are the longest to prove. They promise
+//! nothing. They stand on contracts, as any caller does.
 #![tactic(auto)]
 
 #[cfg(test)]

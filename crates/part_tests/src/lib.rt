@@ -2,6 +2,8 @@
 //!
 //! They stand apart because a crate with tests is proved twice. Expected values come from outside: standards, other
 //! implementations, and in [`kernel_tables`] a C program that holds the kernel's rules.
+//!
+//! They promise nothing. They stand on contracts, as any caller does.
 #![tactic(auto)]
 
 #[cfg(test)]

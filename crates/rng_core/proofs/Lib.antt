@@ -17,8 +17,5 @@ pub mod IntFulfilling
 pub mod Parents
 pub mod Readings
 pub mod Sampling
-pub mod SiteLemmas
-pub mod SiteReads
-pub mod SiteVisits
 pub mod SysFulfilling
 pub mod TellLemmas

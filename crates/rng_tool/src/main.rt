@@ -1,4 +1,11 @@
 //! `rng`: the Linux random number core, replayed from a script of recorded events.
+//!
+//! [`run`] carries the main theorem: for every input, and every interleaving of callers, it says command by command
+//! what status and output mean. `main` adds the standard streams, the line on standard error and the exit code, which
+//! are tested.
+//!
+//! It stands on the contracts of the crates below it. Its own work is to parse words, to end each command, and to write
+//! the short lines of all that is not a transcript.
 #![tactic(auto)]
 
 mod answers;

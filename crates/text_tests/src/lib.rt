@@ -1,6 +1,7 @@
 //! Tests of what stands between the texts and the program: sources and sinks, scripts, transcripts.
 //!
-//! They stand apart because a crate with tests is proved twice.
+//! They stand apart because a crate with tests is proved twice. They promise nothing. They stand on contracts, as any
+//! caller does.
 #![tactic(auto)]
 
 #[cfg(test)]

@@ -1,4 +1,11 @@
 //! The text of a transcript, written and read.
+//!
+//! What is read is a transcript exactly where the text is one, and otherwise the first faulty line is told. What is
+//! written is that text, or a prefix of it where the sink counted a fault; read again it is the same. [`CallerLines`]
+//! keeps what a caller tells, line by line, in memory that was taken before.
+//!
+//! It stands on the grammar of `key_names` (`specs/Texts`) and on the sinks of `io_edges`. Whether a transcript is
+//! lawful is not looked at.
 #![tactic(auto)]
 
 mod counting;
