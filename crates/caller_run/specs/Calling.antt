@@ -2,10 +2,12 @@
 use Rattle.std.specs.Prelude.{◌≡◌, ℕ, ◌<◌, ◌≤◌, ◌^◌, List, [], length}
 use Rattle.std.specs.List.{AllByRecursion}
 use Rattle.key_names.specs.declared.events.Event.{Event}
+use Rattle.key_names.specs.declared.entries.BaseEntry.TheVariants.{End}
 use Rattle.key_names.specs.declared.events.Answer.{Answer}
 use Rattle.key_names.specs.declared.events.Word.TheVariants.{Vread as VreadWord}
 use Rattle.key_names.specs.declared.names.Step.{Step}
 use Rattle.key_names.specs.Calls.{Setting as CallSetting, vread_call}
+use Rattle.key_names.specs.Forms.{BaseOnly}
 use Rattle.key_names.specs.Meaning.{CallerState, with_state}
 use Rattle.key_names.specs.Texts.ScriptGrammar.{event_word}
 use Rattle.key_names.specs.SeenLine.{Shown}
@@ -14,11 +16,11 @@ use Rattle.key_names.specs.VgetrandomState.{VgetrandomState}
 use Rattle.key_names.specs.VreadSteps.{published_by}
 use Rattle.lane_table.specs.declared.lanes.Lanes.{Lanes}
 use Rattle.lane_table.specs.Calls.{view}
-use Rattle.lane_table.specs.Hands.{HoldsLanes}
+use Rattle.lane_table.specs.Hands.{HoldsLanes, model}
 use Rattle.lane_table.specs.Advances.{floor}
 use Rattle.rng_core.specs.declared.setting.Setting.{Setting}
 use Rattle.rng_core.specs.Traces.{Moment, moment}
-use Rattle.rng_core.specs.Makes.{MakesIn, IsOutcomeOf, setting_of}
+use Rattle.rng_core.specs.Makes.{Makes, MakesIn, IsOutcomeOf, setting_of}
 use Rattle.rng_core.specs.SampleDeeds.{Sampled}
 use Rattle.rng_core.specs.Acts.{Ask, ActOutcome}
 use Rattle.rng_core.specs.Sites.{IsIdle, IsOnCpu, IsTimely, HasInHands, Same, at}
@@ -79,6 +81,13 @@ pub record Called (t : Lanes) (event : Event) (c d : Caller) (said : Reply) (ser
   pub states : d.states ≡ c.states
   pub does : Does c.set event said.answer (shown_by served said.shows) (moment c.pass []) (moment d.pass steps)
   pub shows : ShowsFit (event_word event) said.shows
+
+-- the caller, then c and now d, made its last visit
+pub record HasLeft (t : Lanes) (c d : Caller) (steps : List Step) : Type 0 where
+  pub has : HoldsLanes t d.set.caller [] d.pass
+  pub set : d.set ≡ c.set
+  pub reached : floor (view d.pass) ≤ (model d.pass 1).base.generation
+  pub did : Makes (BaseOnly End) c.set (moment c.pass []) (moment d.pass steps)
 
 -- the caller, then c and now d, read n bytes out of its current state with these flags and these acts inside, of which
 -- this came

@@ -1,11 +1,13 @@
 //! A caller on its way through its events.
-ghost use Rattle.std.specs.Prelude.{◌≡◌, ◌≤◌, [], ◌∷◌, List};
+ghost use Rattle.std.specs.Prelude.{◌≡◌, ◌≤◌, [], ◌∷◌, List, length};
 ghost use Rattle.key_names.specs.declared.events.Event.{Event};
 ghost use Rattle.lane_table.specs.Calls.{view};
 ghost use Rattle.lane_table.specs.Hands.{HoldsLanes, model};
 ghost use Rattle.lane_table.specs.Advances.{floor};
+ghost use Rattle.caller_run.specs.Calling.{HasLeft};
 ghost use Rattle.caller_run.specs.Kinds.{ForksNobody, IsCall};
 ghost use Rattle.caller_run.specs.Standing.{Start, CanAdvance, HasAdvancedOn, MadeEvent, RunEnded};
+ghost use Rattle.caller_run.specs.Ways.{AtFork};
 
 use crate::lines::word_of;
 use crate::logs::most_shown;
@@ -14,7 +16,7 @@ use crate::rooms::Sheet;
 use crate::states::States;
 use key_names::{Answer, Event, Trace, Word};
 use lane_table::{Lanes, Pass};
-use rng_core::{Setting, Site, end};
+use rng_core::{Setting, Site, end, fork};
 use std::sync::Wait;
 
 /// A caller between two events: its pass through the lanes, what it has set, and its vgetrandom states.
@@ -52,6 +54,45 @@ impl Caller {
         }
     }
 
+    /// The visit that tells of a child, and the child's pass.
+    pub(crate) fn fork<R: Wait>(
+        &mut self,
+        rt: &R,
+        lanes: &Lanes,
+        trace: &mut Trace,
+        child: u32,
+    ) -> Pass
+        requires has { HoldsLanes lanes.now self.old.set.caller [] self.old.pass }
+        requires new { trace.old ≡ [] }
+        ensures has { HoldsLanes lanes.now self.new.set.caller [] self.new.pass }
+        ensures child { HoldsLanes lanes.now child [] result }
+        ensures room { length trace.new ≡ 1 }
+        ensures at { AtFork self.old self.new trace.new child result }
+    {
+        let mut site = Site {
+            lanes,
+            pass: &mut self.pass,
+            trace,
+            set: self.set,
+        };
+        fork(rt, &mut site, child)
+    }
+
+    // The caller's last visit.
+    fn leave<R: Wait>(&mut self, rt: &R, lanes: &Lanes, trace: &mut Trace)
+        requires has { HoldsLanes lanes.now self.old.set.caller [] self.old.pass }
+        requires new { trace.old ≡ [] }
+        ensures { HasLeft lanes.now self.old self.new trace.new }
+    {
+        let mut site = Site {
+            lanes,
+            pass: &mut self.pass,
+            trace,
+            set: self.set,
+        };
+        end(rt, &mut site);
+    }
+
     /// The caller's last visit, and its line.
     pub(crate) fn finish<R: Wait>(&mut self, rt: &R, lanes: &Lanes, sheet: &mut Sheet)
         requires can { CanAdvance lanes.now self.old sheet.old [] }
@@ -63,13 +104,7 @@ impl Caller {
             → RunEnded begun events (view self.new.pass) sheet.new.log.lines.lines kids }
     {
         let mut trace = Trace::empty();
-        let mut site = Site {
-            lanes,
-            pass: &mut self.pass,
-            trace: &mut trace,
-            set: self.set,
-        };
-        end(rt, &mut site);
+        self.leave(rt, lanes, &mut trace);
         let done = Reply::only(Answer::Ok);
         self.tell(&mut sheet.log.lines, Word::End, done, &trace, &[]);
     }

@@ -1,29 +1,40 @@
 //! A child that gets no thread.
-ghost use Rattle.rng_core.specs.Sites.{HasInHands, IsIdle, Same, at};
-ghost use Rattle.std.specs.Prelude.{[]};
+ghost use Rattle.std.specs.Prelude.{◌≤◌, [], length};
+ghost use Rattle.lane_table.specs.Hands.{HoldsLanes};
+ghost use Rattle.rng_core.specs.Traces.{moment};
 ghost use Rattle.caller_run.specs.Ways.{RanHere};
 
 use crate::rooms::Room;
-use lane_table::Pass;
-use rng_core::{Site, stall, unstall};
+use key_names::Trace;
+use lane_table::{Lanes, Pass};
+use rng_core::{Setting, Site, stall, unstall};
 use std::sync::Wait;
 
 /// Runs a child whose closure was handed back, as its parent, which waits meanwhile: two visits of the base tell so, one
 /// before the child and one behind it. The answer is the child's.
 pub fn run_here<R: Wait, F: FnOnce() -> (Pass, Room)>(
     rt: &R,
-    site: &mut Site,
+    lanes: &Lanes,
+    pass: &mut Pass,
+    set: &Setting,
+    trace: &mut Trace,
     child: F,
 ) -> (Pass, Room)
-    requires idle { IsIdle 2 site.old }
+    requires has { HoldsLanes lanes.now set.now.caller [] pass.old }
+    requires room { length trace.old ≤ 18 }
     requires child { F.IsAlwaysCallable child }
-    ensures same { Same site.old site.new }
-    ensures has { HasInHands [] site.new }
-    ensures here { RanHere site.old.set (at site.old) (at site.new) }
+    ensures has { HoldsLanes lanes.now set.entry.now.caller [] pass.new }
+    ensures here { RanHere set.entry.now (moment pass.old trace.old) (moment pass.new trace.new) }
     ensures child { F.post child result }
 {
-    stall(rt, site);
+    let mut site = Site {
+        lanes,
+        pass,
+        trace,
+        set: *set,
+    };
+    stall(rt, &mut site);
     let done = child();
-    unstall(rt, site);
+    unstall(rt, &mut site);
     done
 }

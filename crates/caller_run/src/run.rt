@@ -19,7 +19,7 @@ use event_script::Script;
 use io_edges::Gate;
 use key_names::{Event, Trace};
 use lane_table::{Lanes, Pass};
-use rng_core::{Setting, Site};
+use rng_core::Setting;
 use std::snapshot::Snapshot;
 use std::sync::Wait;
 use std::thread;
@@ -128,13 +128,15 @@ fn run_from<R: Threads + Wait + Sync, G: Gate>(
                     (way, theirs, kid)
                 }
                 Err(refused) => {
-                    let mut site = Site {
-                        lanes: shared.lanes,
-                        pass: &mut way.caller.pass,
-                        trace: &mut trace,
-                        set: way.caller.set,
-                    };
-                    let (theirs, kid) = run_here(shared.rt, &mut site, refused.value);
+                    let at = &mut way.caller;
+                    let (theirs, kid) = run_here(
+                        shared.rt,
+                        shared.lanes,
+                        &mut at.pass,
+                        &at.set,
+                        &mut trace,
+                        refused.value,
+                    );
                     way.tell_fork(&trace, child);
                     let way = run_from(shared, rest, way);
                     (way, theirs, kid)

@@ -25,7 +25,7 @@ use crate::states::States;
 use io_edges::Gate;
 use key_names::{Answer, Event, Trace, Word};
 use lane_table::{Lanes, Pass};
-use rng_core::{Setting, Site, fork};
+use rng_core::Setting;
 use std::sync::Wait;
 
 /// A caller on its way, with what it fills.
@@ -103,13 +103,7 @@ impl Way {
         let Some(kid) = self.kids.pop() else {
             unreachable!()
         };
-        let mut site = Site {
-            lanes,
-            pass: &mut self.caller.pass,
-            trace,
-            set: self.caller.set,
-        };
-        let theirs = fork(rt, &mut site, child);
+        let theirs = self.caller.fork(rt, lanes, trace, child);
         (theirs, kid)
     }
 

@@ -11,9 +11,8 @@ use Rattle.key_names.specs.Calls as calls
 use Rattle.key_names.specs.Deeds.{deeds_of}
 use Rattle.key_names.specs.Texts.ScriptGrammar.{event_word}
 use Rattle.key_names.specs.SeenLine.{Shown, no_data}
-use Rattle.lane_table.specs.declared.lanes.Lanes.{Lanes}
+use Rattle.lane_table.specs.declared.lanes.Pass.{Pass}
 use Rattle.lane_table.specs.BookLists.{book_lists}
-use Rattle.lane_table.specs.Hands.{HoldsLanes}
 use Rattle.lane_table.specs.Advances.{step_of}
 use Rattle.rng_core.specs.declared.setting.Setting.{Setting}
 use Rattle.rng_core.specs.Traces.{Moment, moment}
@@ -50,12 +49,12 @@ module _ {event e : Event} {m n : Site} {said : Reply} {served : List ℕ} {step
   pub by_does : {answer : Answer} (shown : Shown) → said.answer ≡ answer → shown_by served said.shows ≡ shown →
       ShowsFit (event_word e) said.shows →
       DoesIn steps (Sampled (IsOutcomeOf (setting_of m.set) e answer shown)) m n → Asked event said served m n
-  by_does shown answers shows fit done =
+  by_does {answer = answer} shown answers shows fit done =
       subst (λ (x : Event). Asked x said served m n) (sym is) (record {
         same = done.same;
         has = done.has;
         does = subst (λ (a : Answer). Does m.set e a (shown_by served said.shows) (at m) (at n)) (sym answers)
-            (subst (λ (x : Shown). Does m.set e _ x (at m) (at n)) (sym shows) done.did);
+            (subst (λ (x : Shown). Does m.set e answer x (at m) (at n)) (sym shows) done.did);
         shows = fit;
       })
 
@@ -108,7 +107,7 @@ no_interrupt event is = tt
 
 pub asks_nothing : {event : Event} {m : Site} {said : Reply} {served : List ℕ} → CanAsk m → IsSetting event →
     said ≡ record { answer = Done; shows = Nothing } → Asked event said served m m
-asks_nothing {event = event} {m = m} can is says = by_answer refl says (no_interrupt event is) (record {
+asks_nothing {event = event} {m = m} can is says = by_answer {steps = 0} refl says (no_interrupt event is) (record {
   same = record { lanes = refl; set = refl; pass = refl; trace = refl };
   has = can.idle.has;
   room = omega arith;
@@ -117,17 +116,18 @@ asks_nothing {event = event} {m = m} can is says = by_answer refl says (no_inter
 })
 
 -- at a site that a caller made, what was asked there is its own call
-pub called : {event : Event} {m n : Site} {said : Reply} {served : List ℕ} {states : States} → m.trace.now ≡ [] →
-    Asked event said served m n →
+pub called : {event : Event} {m n : Site} {said : Reply} {served : List ℕ} {states : States} {p : Pass}
+    {steps : List Step} → p ≡ n.pass.now → steps ≡ n.trace.now → m.trace.now ≡ [] → Asked event said served m n →
     Called m.lanes.now event (record { pass = m.pass.now; set = m.set; states = states })
-    (record { pass = n.pass.now; set = m.set; states = states }) said served n.trace.now
-called {m = m} {n = n} new asked = record {
+    (record { pass = p; set = m.set; states = states }) said served steps
+called {event = event} {m = m} {n = n} {said = said} {served = served} pass trace new asked = rw pass (rw trace (record {
   has = own_hands asked.same asked.has;
   set = refl;
   states = refl;
-  does = subst (λ (l : List Step). Does m.set _ _ _ (moment m.pass.now l) (at n)) new asked.does;
+  does = subst (λ (l : List Step). Does m.set event said.answer (shown_by served said.shows) (moment m.pass.now l) (at n))
+      new asked.does;
   shows = asked.shows;
-}
+}))
 
 -- bytes stand on the line of a word that is not bits
 pub no_count : (word : Word) (shows : Shows) → (word ≡ Bits → ⊥) → IsNoCount shows → ShowsFit word shows

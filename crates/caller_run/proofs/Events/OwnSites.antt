@@ -1,18 +1,61 @@
--- The hands of a caller whose calls are made at a site.
-use Rattle.std.proofs.Common.{ℕ, [], subst}
+-- A caller whose calls are made at a site over its own pass: what was lent to the site is what came back.
+use Rattle.std.proofs.Common.{◌≡◌, ◌≤◌, ℕ, List, [], refl, sym, subst}
+use Rattle.key_names.specs.declared.entries.BaseEntry.TheVariants.{End}
+use Rattle.key_names.specs.declared.names.Step.{Step}
+use Rattle.key_names.specs.Deeds.{Deed}
+use Rattle.key_names.specs.Forms.{BaseOnly}
 use Rattle.lane_table.specs.declared.lanes.Lanes.{Lanes}
 use Rattle.lane_table.specs.declared.lanes.Pass.{Pass}
 use Rattle.lane_table.specs.Hands.{HoldsLanes}
 use Rattle.rng_core.specs.declared.setting.Setting.{Setting}
 use Rattle.rng_core.specs.declared.site.Site.{Site}
-use Rattle.rng_core.specs.Sites.{HasInHands, Same}
+use Rattle.rng_core.specs.Forks.{Forked}
+use Rattle.rng_core.specs.Makes.{Makes}
+use Rattle.rng_core.specs.Sites.{Does, HasInHands, Same, at, base_lane, lane_of, seen_by}
+use Rattle.rng_core.specs.Traces.{Moment, moment}
+use Rattle.caller_run.specs.declared.states.States.{States}
+use Rattle.caller_run.specs.Calling.{HasLeft}
+use Rattle.caller_run.specs.Ways.{AtFork}
 
-module _ {m n : Site} (same : Same m n) where
-  -- they are those of its pass
-  pub own_hands : HasInHands [] n → HoldsLanes m.lanes.now m.set.caller [] n.pass.now
-  own_hands has = subst (λ (set : Setting). HoldsLanes m.lanes.now set.caller [] n.pass.now) same.set
-      (subst (λ (t : Lanes). HoldsLanes t n.set.caller [] n.pass.now) same.lanes has)
+-- the hands at a site are those of its pass
+pub own_hands : {m n : Site} → Same m n → HasInHands [] n → HoldsLanes m.lanes.now m.set.caller [] n.pass.now
+own_hands {m = m} {n = n} same has =
+    subst (λ (set : Setting). HoldsLanes m.lanes.now set.caller [] n.pass.now) same.set
+    (subst (λ (t : Lanes). HoldsLanes t n.set.caller [] n.pass.now) same.lanes has)
 
-  -- and another pass of the table stays one
-  pub given_hands : {caller : ℕ} {p : Pass} → HoldsLanes n.lanes.now caller [] p → HoldsLanes m.lanes.now caller [] p
-  given_hands {caller = caller} {p = p} has = subst (λ (t : Lanes). HoldsLanes t caller [] p) same.lanes has
+pub lent_hands : {t : Lanes} {caller : ℕ} {p q : Pass} → p ≡ q → HoldsLanes t caller [] q → HoldsLanes t caller [] p
+lent_hands {t = t} {caller = caller} is has = subst (λ (p : Pass). HoldsLanes t caller [] p) (sym is) has
+
+pub lent_makes : {P : List Deed → Type 0} {set : Setting} {m : Moment} {p q : Pass} {steps told : List Step} → p ≡ q →
+    steps ≡ told → Makes P set m (moment q told) → Makes P set m (moment p steps)
+lent_makes {P} {set = set} {m = m} {told = told} {p = p} pass trace did =
+    subst (λ (l : List Step). Makes P set m (moment p l)) (sym trace)
+    (subst (λ (q : Pass). Makes P set m (moment q told)) (sym pass) did)
+
+pub given_hands : {m n : Site} {caller : ℕ} {p : Pass} → Same m n → HoldsLanes n.lanes.now caller [] p →
+    HoldsLanes m.lanes.now caller [] p
+given_hands {caller = caller} {p = p} same has = subst (λ (t : Lanes). HoldsLanes t caller [] p) same.lanes has
+
+-- the last visit of the caller that made the site
+pub has_left : {m n : Site} {states : States} {p : Pass} {steps : List Step} → p ≡ n.pass.now → steps ≡ n.trace.now →
+    m.trace.now ≡ [] → Does 1 (BaseOnly End) m n → seen_by n ≤ (lane_of n base_lane).base.generation →
+    HasLeft m.lanes.now (record { pass = m.pass.now; set = m.set; states = states })
+    (record { pass = p; set = m.set; states = states }) steps
+has_left {m = m} {n = n} pass trace new done reached = rw pass (rw trace (record {
+  has = own_hands done.same done.has;
+  set = refl;
+  reached = reached;
+  did = subst (λ (l : List Step). Makes (BaseOnly End) m.set (moment m.pass.now l) (moment n.pass.now n.trace.now)) new
+      done.did;
+}))
+
+-- and its fork
+pub at_fork : {m n : Site} {states : States} {p theirs : Pass} {steps : List Step} {child : ℕ} → p ≡ n.pass.now →
+    steps ≡ n.trace.now → m.trace.now ≡ [] → Forked m.set (at m) n.trace.now child n.pass.now theirs →
+    AtFork (record { pass = m.pass.now; set = m.set; states = states })
+    (record { pass = p; set = m.set; states = states }) steps child theirs
+at_fork {m = m} {n = n} {theirs = theirs} {child = child} pass trace new forked = rw pass (rw trace (record {
+  set = refl;
+  states = refl;
+  forked = subst (λ (l : List Step). Forked m.set (moment m.pass.now l) n.trace.now child n.pass.now theirs) new forked;
+}))

@@ -1,4 +1,4 @@
-use Rattle.std.proofs.Common.{◌≡◌, ℕ, refl, sym, ap, subst}
+use Rattle.std.proofs.Common.{◌≡◌, ℕ, rules, sym, ap, subst}
 use Rattle.key_names.specs.declared.events.Event.{Event}
 use Rattle.key_names.specs.declared.events.Event.TheVariants.{Int8, Int16, Int32, Int64}
 use Rattle.key_names.specs.declared.events.Word.TheVariants.{Bits}
@@ -11,9 +11,6 @@ use Rattle.caller_run.specs.Says.{shown_by, most_shown}
 use Rattle.caller_run.specs.declared.reply.Reply.{Reply}
 use Rattle.caller_run.proofs.Events.Callings.{asks_nothing, by_shown}
 use Rattle.caller_run.proofs.calls.ask.Goals as goal
-
-pub returns-in-Read : goal.returns-in-Read
-returns-in-Read g c = ?read
 
 pub returns-in-Prepare : goal.returns-in-Prepare
 returns-in-Prepare g c = c.come_online.ensures c.args.served.now

@@ -26,7 +26,7 @@ pub returns-in-Read : goal.returns-in-Read
 returns-in-Read g c =
     by_shown (c.in-Read.is ∙ ap (λ n. Read n c.in-Read.flags) (sym (c.requires.len ∙ ap most_shown c.in-Read.is))) _
     c.read.ensures.answer (c.read.ensures.shows c.getrandom.new.buf) (no_count _ _ (λ same. cc) c.read.ensures.bytes) tt
-    c.getrandom.ensures.completes
+    c.getrandom.ensures.does
 
 flag_of : (flag : ℕ) → flag < 2 → (if flag == 1 then 1 else 0) ≡ flag
 flag_of zero low = refl

@@ -13,10 +13,7 @@ use Rattle.caller_run.proofs.caller.Caller.finish.Goals as goal
 
 pub returns-clause-ended : goal.returns-clause-ended
 returns-clause-ended g c begun events kids gone =
-    let self = c.args.self.now in let end = c.end.new.site in
-    subst (λ l. RunEnded begun events (view end.pass.now) l kids) (sym c.tell.ensures.lines)
-    (gone_all (record self { pass = end.pass.now }) [] c.only-done.result end.trace.now refl
-    (ap (λ (s : Reply). s.answer) c.only-done.ensures) (ap (λ (s : Reply). shown_by [] s.shows) c.only-done.ensures)
-    (subst (λ (l : List Step). Makes (BaseOnly End) self.set (moment self.pass l) (moment end.pass.now end.trace.now))
-    c.empty-trace.ensures c.end.ensures.does.did)
-    gone)
+    let left = c.leave.ensures in let self = c.leave.new.self in
+    subst (λ l. RunEnded begun events (view self.pass) l kids) (sym c.tell.ensures.lines)
+    (gone_all self [] c.only-done.result c.leave.new.trace left.set (ap (λ (s : Reply). s.answer) c.only-done.ensures)
+    (ap (λ (s : Reply). shown_by [] s.shows) c.only-done.ensures) left.did gone)

@@ -1,0 +1,14 @@
+use Rattle.std.proofs.Common.{rules, sym, subst}
+use Rattle.rng_core.specs.Sites.{at}
+use Rattle.caller_run.proofs.Events.OwnSites.{own_hands, lent_hands, lent_makes}
+use Rattle.caller_run.proofs.here.run_here.Goals as goal
+
+pub returns-clause-has : goal.returns-clause-has
+returns-clause-has g c = ?has
+
+pub returns-clause-here : goal.returns-clause-here
+returns-clause-here g c = record {
+  middle = at c.stall.new.site;
+  stall = c.stall.ensures.does.did;
+  unstall = lent_makes (search rules) (search rules) (rw c.stall.ensures.does.same.set at c.unstall.ensures.does.did);
+}
