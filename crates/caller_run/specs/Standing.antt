@@ -1,5 +1,5 @@
 -- Where a caller stands between two of its events, and what it needs for the next.
-use Rattle.std.specs.Prelude.{◌≡◌, ℕ, ◌+◌, ◌*◌, ◌<◌, ◌≤◌, true, Some, List, ◌∷◌, ◌++◌, length, slice_get, sum_by, vec_capacity, vec_len}
+use Rattle.std.specs.Prelude.{◌≡◌, ℕ, ◌+◌, ◌*◌, ◌<◌, ◌≤◌, true, Some, List, ◌∷◌, ◌++◌, length, slice_get, sum_by, vec_capacity}
 use Rattle.std.specs.List.{AllByRecursion, fold}
 use Rattle.key_names.specs.declared.events.Event.{Event}
 use Rattle.key_names.specs.declared.events.Event.TheVariants.{Inside, Fork}
@@ -27,7 +27,6 @@ use Rattle.caller_run.specs.Says.{most_shown}
 use Rattle.caller_run.specs.Waiting.{CallsSoFar}
 use Rattle.caller_run.specs.declared.caller.Caller.{Caller}
 use Rattle.caller_run.specs.declared.logs.Log.{Log}
-use Rattle.caller_run.specs.declared.rooms.Sheet.{Sheet}
 
 -- how many bytes an event reads inside a vread
 abbrev pub read_inside : Event → ℕ
@@ -56,10 +55,10 @@ pub record CanAdvanceWith (t : Lanes) (c : Caller) (lines : Gathered) (acts : Li
   pub fresh : AllByRecursion IsFresh acts
   pub told : AllByRecursion (λ a. a.event < length lines.lines) (asks_of acts)
 
--- a caller that can make these events, with this sheet to fill
-pub record CanAdvance (t : Lanes) (c : Caller) (sheet : Sheet) (rest : List Event) : Type 0 where
-  pub goes : CanAdvanceWith t c sheet.log.lines sheet.log.acts.items (vec_len sheet.served) (vec_len sheet.inside) rest
-  pub act_room : 8 ≤ vec_capacity sheet.log.acts
+-- a caller that can make these events
+pub record CanAdvance (t : Lanes) (c : Caller) (log : Log) (served inside : ℕ) (rest : List Event) : Type 0 where
+  pub goes : CanAdvanceWith t c log.lines log.acts.items served inside rest
+  pub act_room : 8 ≤ vec_capacity log.acts
 
 -- the line of an act that waits
 pub record HasLine (caller : ℕ) (lines : List SeenLine) (a : Ask) : Type 0 where
@@ -107,16 +106,16 @@ pub record HasAdvanced (begun : Start) (events rest : List Event) (c : Caller) (
       → LinesFit begun.caller 0 events (lines ++ more)
   pub idle : AllByRecursion (HasLine begun.caller lines) asks
 
--- the same, the lines and the acts that wait being those of its sheet
-abbrev pub HasAdvancedOn : Start → List Event → List Event → Caller → Sheet → List Start → Type 0
-HasAdvancedOn begun events rest c sheet kids =
-    HasAdvanced begun events rest c sheet.log.lines.lines (waiting_in sheet.log) kids
+-- the same, with the lines and the acts of a log
+abbrev pub HasLogged : Start → List Event → List Event → Caller → Log → List Start → Type 0
+HasLogged begun events rest c log kids = HasAdvanced begun events rest c log.lines.lines (waiting_in log) kids
 
--- c made this event and is d now, with what it added to its sheet, which was s and is u
-pub record MadeEvent (t : Lanes) (event : Event) (c : Caller) (s : Sheet) (d : Caller) (u : Sheet) : Type 0 where
-  pub can : (rest : List Event) → CanAdvance t c s (event ∷ rest) → CanAdvance t d u rest
+-- c made this event and is d now, and its log went on: so many bytes can be served at once, and read inside a vread
+pub record MadeEvent (t : Lanes) (served inside : ℕ) (event : Event) (c : Caller) (log : Log) (d : Caller) (after : Log)
+    : Type 0 where
+  pub can : (rest : List Event) → CanAdvance t c log served inside (event ∷ rest) → CanAdvance t d after served inside rest
   pub gone : (begun : Start) (events rest : List Event) (kids : List Start) →
-      HasAdvancedOn begun events (event ∷ rest) c s kids → HasAdvancedOn begun events rest d u kids
+      HasLogged begun events (event ∷ rest) c log kids → HasLogged begun events rest d after kids
 
 -- the caller has made all of its events, and ended; its pass then knew w
 pub record RunEnded (begun : Start) (events : List Event) (w : View) (lines : List SeenLine) (kids : List Start)

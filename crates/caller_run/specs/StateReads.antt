@@ -24,6 +24,8 @@ pub record CurrentRead (t : Lanes) (c d : Caller) (said : Reply) (steps : List S
     (into done : ReadInto) : Type 0 where
   pub served : done.served.ghost_name ≡ into.served.ghost_name
   pub inside : done.inside.ghost_name ≡ into.inside.ghost_name
+  pub long : length done.served.now ≡ length into.served.now
+  pub fits : length done.inside.now ≡ all_wanted (asks_of acts)
   pub asks : asks_of after ≡ asks_of acts
   pub read : StateRead t (length into.served.now) into.flags c d said done.served.now steps (asks_of acts)
       (outcomes_of after done.inside.now)

@@ -35,7 +35,7 @@ use Rattle.caller_run.specs.Grove.{Grove, cleared, planted, Plot, grove_of, tree
 use Rattle.caller_run.specs.Laws.{Run, RanAll, LawfulRuns, lines_of_all}
 use Rattle.caller_run.specs.Plots.{plot}
 use Rattle.caller_run.specs.Says.{most_shown}
-use Rattle.caller_run.specs.Standing.{Start, CanAdvance, HasAdvancedOn, RunEnded, read_inside}
+use Rattle.caller_run.specs.Standing.{Start, CanAdvance, HasLogged, RunEnded, read_inside}
 use Rattle.caller_run.specs.Took.{Took}
 
 -- room for these events, with nothing in it
@@ -82,11 +82,11 @@ start_of set p = record { caller = set.caller; set = setting_of set; view = view
 
 -- a caller on its way can make these events
 abbrev pub CanAdvanceIn : Lanes → Way → List Event → Type 0
-CanAdvanceIn t w events = CanAdvance t w.caller w.sheet events
+CanAdvanceIn t w events = CanAdvance t w.caller w.sheet.log (vec_len w.sheet.served) (vec_len w.sheet.inside) events
 
 -- a caller on its way has made the events before these
 abbrev pub GoneIn : Start → List Event → List Event → Caller → Way → List Start → Type 0
-GoneIn begun events rest c w kids = HasAdvancedOn begun events rest c w.sheet kids
+GoneIn begun events rest c w kids = HasLogged begun events rest c w.sheet.log kids
 
 -- each event that forks names a caller of a higher number
 abbrev pub AreAbove : ℕ → List Event → Type 0

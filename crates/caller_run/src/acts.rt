@@ -1,5 +1,5 @@
 //! Acts that wait for a caller's next `vread`.
-ghost use Rattle.std.specs.Prelude.{◌≡◌, ◌+◌, ◌*◌, ◌<◌, ◌≤◌, ◌^◌, ◌∷◌, [], length, slice_set};
+ghost use Rattle.std.specs.Prelude.{◌≡◌, ◌+◌, ◌*◌, ◌<◌, ◌≤◌, ◌^◌, ◌∷◌, ℕ, [], length, slice_set};
 ghost use Rattle.std.specs.List.{AllByRecursion};
 ghost use Rattle.key_names.specs.Texts.TranscriptGrammar.{StepFits};
 ghost use Rattle.key_names.specs.VreadSteps.{number_of};
@@ -11,8 +11,8 @@ ghost use Rattle.caller_run.specs.Standing.{CanAdvance, MadeEvent};
 ghost use Rattle.caller_run.specs.Waiting.{act_lines, told_anew};
 
 use crate::caller::Caller;
+use crate::logs::Log;
 use crate::reply::Reply;
-use crate::rooms::Sheet;
 use key_names::{Answer, Event, InsideAct, Point, Trace, Word};
 use rng_core::Bound;
 use transcript_text::{CallerLines, LineView, Shown};
@@ -42,21 +42,17 @@ pub(crate) fn all_wanted(acts: &[Bound]) -> usize
 
 impl Caller {
     /// An act waits for the caller's next `vread`. Its line says that it was not done, until that `vread` tells it anew.
-    pub(crate) fn wait(&mut self, sheet: &mut Sheet, event: &Event, point: u8, act: InsideAct)
-        requires can { (t : Lanes) × CanAdvance t self.old sheet.old (event.now ∷ []) }
+    pub(crate) fn wait(&mut self, log: &mut Log, event: &Event, point: u8, act: InsideAct)
+        requires can { (t : Lanes) × (served : ℕ) × (inside : ℕ)
+            × CanAdvance t self.old log.old served inside (event.now ∷ []) }
         requires is { event.now ≡ Inside point act }
-        ensures { (t : Lanes) → MadeEvent t event.now self.old sheet.old self.new sheet.new }
+        ensures { (t : Lanes) (served inside : ℕ)
+            → MadeEvent t served inside event.now self.old log.old self.new log.new }
     {
         let unused = Reply::only(Answer::Unused);
-        self.tell(
-            &mut sheet.log.lines,
-            Word::Inside,
-            unused,
-            &Trace::empty(),
-            &[],
-        );
+        self.tell(&mut log.lines, Word::Inside, unused, &Trace::empty(), &[]);
         let bound = Bound::of(point_of(point), act, self.set.event);
-        sheet.log.acts.push_reserved(bound);
+        log.acts.push_reserved(bound);
         self.go_on(event);
     }
 

@@ -1,18 +1,18 @@
 //! A caller on its way through its events.
-ghost use Rattle.std.specs.Prelude.{◌≡◌, ◌≤◌, [], ◌∷◌, List, length};
+ghost use Rattle.std.specs.Prelude.{◌≡◌, ◌≤◌, ℕ, [], ◌∷◌, List, length};
 ghost use Rattle.key_names.specs.declared.events.Event.{Event};
 ghost use Rattle.lane_table.specs.Calls.{view};
 ghost use Rattle.lane_table.specs.Hands.{HoldsLanes, model};
 ghost use Rattle.lane_table.specs.Advances.{floor};
 ghost use Rattle.caller_run.specs.Calling.{HasLeft};
 ghost use Rattle.caller_run.specs.Kinds.{ForksNobody, IsCall};
-ghost use Rattle.caller_run.specs.Standing.{Start, CanAdvance, HasAdvancedOn, MadeEvent, RunEnded};
+ghost use Rattle.caller_run.specs.Standing.{Start, CanAdvance, HasLogged, MadeEvent, RunEnded};
 ghost use Rattle.caller_run.specs.Ways.{AtFork};
 
 use crate::lines::word_of;
-use crate::logs::most_shown;
+use crate::logs::{Log, most_shown};
 use crate::reply::Reply;
-use crate::rooms::Sheet;
+use crate::shared::Shared;
 use crate::states::States;
 use key_names::{Answer, Event, Trace, Word};
 use lane_table::{Lanes, Pass};
@@ -29,28 +29,46 @@ pub(crate) struct Caller {
 
 impl Caller {
     // An event that is a call of the core by itself.
-    fn make<R: Wait>(&mut self, rt: &R, lanes: &Lanes, sheet: &mut Sheet, event: &Event)
-        requires can { CanAdvance lanes.now self.old sheet.old (event.now ∷ []) }
+    fn make<R: Wait>(
+        &mut self,
+        rt: &R,
+        lanes: &Lanes,
+        log: &mut Log,
+        served: &mut [u8],
+        event: &Event,
+    )
+        requires can { (inside : ℕ) × CanAdvance lanes.now self.old log.old (length served.old) inside (event.now ∷ []) }
         requires kind { IsCall event.now }
-        ensures { MadeEvent lanes.now event.now self.old sheet.old self.new sheet.new }
+        ensures { (inside : ℕ)
+            → MadeEvent lanes.now (length served.old) inside event.now self.old log.old self.new log.new }
     {
         let mut trace = Trace::empty();
-        let served = &mut sheet.served[..most_shown(event) as usize];
+        let served = &mut served[..most_shown(event) as usize];
         let said = self.call(rt, lanes, &mut trace, served, event);
-        self.tell(&mut sheet.log.lines, word_of(event), said, &trace, served);
+        self.tell(&mut log.lines, word_of(event), said, &trace, served);
         self.go_on(event);
     }
 
-    /// One event, which forks nobody. The sheet gets its line.
-    pub(crate) fn step<R: Wait>(&mut self, rt: &R, lanes: &Lanes, sheet: &mut Sheet, event: &Event)
-        requires can { CanAdvance lanes.now self.old sheet.old (event.now ∷ []) }
+    /// One event, which forks nobody. Its call serves at the front of `served`, and what acts inside a `vread` read goes
+    /// to the front of `inside`.
+    pub(crate) fn step<R: Wait, G>(
+        &mut self,
+        shared: &Shared<'_, R, G>,
+        log: &mut Log,
+        served: &mut [u8],
+        inside: &mut [u8],
+        event: &Event,
+    )
+        requires can { CanAdvance shared.now.lanes.now self.old log.old (length served.old) (length inside.old)
+            (event.now ∷ []) }
         requires plain { ForksNobody event.now }
-        ensures { MadeEvent lanes.now event.now self.old sheet.old self.new sheet.new }
+        ensures { MadeEvent shared.now.lanes.now (length served.old) (length inside.old) event.now self.old log.old
+            self.new log.new }
     {
         match event {
-            Event::Inside { point, act } => self.wait(sheet, event, *point, *act),
-            Event::Vread { flags, .. } => self.read_state(rt, lanes, sheet, event, *flags),
-            _ => self.make(rt, lanes, sheet, event),
+            Event::Inside { point, act } => self.wait(log, event, *point, *act),
+            Event::Vread { .. } => self.read_state(shared, log, served, inside, event),
+            _ => self.make(shared.rt, shared.lanes, log, served, event),
         }
     }
 
@@ -94,18 +112,18 @@ impl Caller {
     }
 
     /// The caller's last visit, and its line.
-    pub(crate) fn finish<R: Wait>(&mut self, rt: &R, lanes: &Lanes, sheet: &mut Sheet)
-        requires can { CanAdvance lanes.now self.old sheet.old [] }
+    pub(crate) fn finish<R: Wait>(&mut self, rt: &R, lanes: &Lanes, log: &mut Log)
+        requires can { (served : ℕ) × (inside : ℕ) × CanAdvance lanes.now self.old log.old served inside [] }
         ensures has { HoldsLanes lanes.now self.new.set.caller [] self.new.pass }
         ensures set { self.new.set ≡ self.old.set }
         ensures reached { floor (view self.new.pass) ≤ (model self.new.pass 1).base.generation }
         ensures ended { (begun : Start) (events : List Event) (kids : List Start)
-            → HasAdvancedOn begun events [] self.old sheet.old kids
-            → RunEnded begun events (view self.new.pass) sheet.new.log.lines.lines kids }
+            → HasLogged begun events [] self.old log.old kids
+            → RunEnded begun events (view self.new.pass) log.new.lines.lines kids }
     {
         let mut trace = Trace::empty();
         self.leave(rt, lanes, &mut trace);
         let done = Reply::only(Answer::Ok);
-        self.tell(&mut sheet.log.lines, Word::End, done, &trace, &[]);
+        self.tell(&mut log.lines, Word::End, done, &trace, &[]);
     }
 }

@@ -86,7 +86,7 @@ fn run_from<R: Threads + Wait + Sync, G: Gate>(
     let rt = shared.rt;
     let lanes = shared.lanes;
     let Some((child, rest)) = way.run_plain(shared, events) else {
-        way.caller.finish(rt, lanes, &mut way.sheet);
+        way.caller.finish(rt, lanes, &mut way.sheet.log);
         return way;
     };
     let mut trace = Trace::empty();

@@ -1,14 +1,14 @@
 //! Reads out of a caller's vgetrandom states.
-ghost use Rattle.std.specs.Prelude.{◌≡◌, ◌∷◌, ℕ, []};
+ghost use Rattle.std.specs.Prelude.{◌≡◌, ◌∷◌, ℕ, [], length};
 ghost use Rattle.key_names.specs.declared.events.Event.TheVariants.{Vread};
 ghost use Rattle.caller_run.specs.StateReads.{CanRead, CurrentRead};
 ghost use Rattle.caller_run.specs.Standing.{CanAdvance, MadeEvent};
 
 use crate::acts::all_wanted;
 use crate::caller::Caller;
-use crate::logs::most_shown;
+use crate::logs::{Log, most_shown};
 use crate::reply::Reply;
-use crate::rooms::Sheet;
+use crate::shared::Shared;
 use key_names::{Event, Trace, Word};
 use lane_table::Lanes;
 use rng_core::{Bound, LaneHost, Site, vread, vread_inside};
@@ -20,6 +20,16 @@ pub(crate) struct ReadInto<'a> {
     pub(crate) flags: u32,
     pub(crate) served: &'a mut [u8],
     pub(crate) inside: &'a mut [u8],
+}
+
+fn flags_of(event: &Event) -> u32
+    requires { (len : ℕ) × (flags : ℕ) × (event.now ≡ Vread len flags) }
+    ensures { (len flags : ℕ) → event.now ≡ Vread len flags → result ≡ flags }
+{
+    match event {
+        Event::Vread { flags, .. } => *flags,
+        _ => unreachable!(),
+    }
 }
 
 impl Caller {
@@ -52,30 +62,36 @@ impl Caller {
     }
 
     /// A read out of the current state, with the acts inside that waited for it. Their lines are told anew.
-    pub(crate) fn read_state<R: Wait>(
+    pub(crate) fn read_state<R: Wait, G>(
         &mut self,
-        rt: &R,
-        lanes: &Lanes,
-        sheet: &mut Sheet,
+        shared: &Shared<'_, R, G>,
+        log: &mut Log,
+        served: &mut [u8],
+        inside: &mut [u8],
         event: &Event,
-        flags: u32,
     )
-        requires can { CanAdvance lanes.now self.old sheet.old (event.now ∷ []) }
-        requires is { (len : ℕ) × (event.now ≡ Vread len flags) }
-        ensures { MadeEvent lanes.now event.now self.old sheet.old self.new sheet.new }
+        requires can { CanAdvance shared.now.lanes.now self.old log.old (length served.old) (length inside.old)
+            (event.now ∷ []) }
+        requires is { (len : ℕ) × (flags : ℕ) × (event.now ≡ Vread len flags) }
+        ensures { MadeEvent shared.now.lanes.now (length served.old) (length inside.old) event.now self.old log.old
+            self.new log.new }
     {
         let mut trace = Trace::empty();
-        let served = &mut sheet.served[..most_shown(event) as usize];
-        let inside = &mut sheet.inside[..all_wanted(&sheet.log.acts)];
         let mut into = ReadInto {
-            flags,
-            served: &mut *served,
-            inside: &mut *inside,
+            flags: flags_of(event),
+            served: &mut served[..most_shown(event) as usize],
+            inside: &mut inside[..all_wanted(&log.acts)],
         };
-        let said = self.vread(rt, lanes, &mut trace, &mut sheet.log.acts, &mut into);
-        self.tell_acts(&mut sheet.log.lines, &sheet.log.acts, inside);
-        self.tell(&mut sheet.log.lines, Word::Vread, said, &trace, served);
-        sheet.log.acts.clear();
+        let said = self.vread(
+            shared.rt,
+            shared.lanes,
+            &mut trace,
+            &mut log.acts,
+            &mut into,
+        );
+        self.tell_acts(&mut log.lines, &log.acts, into.inside);
+        self.tell(&mut log.lines, Word::Vread, said, &trace, into.served);
+        log.acts.clear();
         self.go_on(event);
     }
 }

@@ -74,8 +74,13 @@ impl Way {
             if let Event::Fork { child } = event {
                 return Some((*child, tail));
             }
-            self.caller
-                .step(shared.rt, shared.lanes, &mut self.sheet, event);
+            self.caller.step(
+                shared,
+                &mut self.sheet.log,
+                &mut self.sheet.served,
+                &mut self.sheet.inside,
+                event,
+            );
             rest = tail;
         }
         None

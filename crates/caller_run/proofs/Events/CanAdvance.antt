@@ -18,7 +18,7 @@ use Rattle.transcript_text.specs.Gathered.{Gathered}
 use Rattle.rng_core.specs.Traces.{moment}
 use Rattle.rng_core.specs.Makes.{setting_of}
 use Rattle.caller_run.specs.declared.caller.Caller.{Caller}
-use Rattle.caller_run.specs.declared.rooms.Sheet.{Sheet}
+use Rattle.caller_run.specs.declared.logs.Log.{Log}
 use Rattle.caller_run.specs.Calling.{stand, Seen, StatesStand}
 use Rattle.caller_run.specs.Says.{most_shown}
 use Rattle.caller_run.specs.Standing.{read_inside, CanAdvanceWith, CanAdvance}
@@ -53,8 +53,8 @@ GoesOn event d e = record {
   pass : e.pass ≡ d.pass;
 }
 
-pub first_can : {t : Lanes} {c : Caller} {sheet : Sheet} {event : Event} {rest : List Event} →
-    CanAdvance t c sheet (event ∷ rest) → CanAdvance t c sheet (event ∷ [])
+pub first_can : {t : Lanes} {c : Caller} {log : Log} {served inside : ℕ} {event : Event} {rest : List Event} →
+    CanAdvance t c log served inside (event ∷ rest) → CanAdvance t c log served inside (event ∷ [])
 first_can {event = event} {rest = rest} can = let g = can.goes in record {
   goes = record {
     ready = g.ready;

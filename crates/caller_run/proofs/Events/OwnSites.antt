@@ -28,7 +28,7 @@ lent_hands {t = t} {caller = caller} is has = subst (λ (p : Pass). HoldsLanes t
 
 pub lent_makes : {P : List Deed → Type 0} {set : Setting} {m : Moment} {p q : Pass} {steps told : List Step} → p ≡ q →
     steps ≡ told → Makes P set m (moment q told) → Makes P set m (moment p steps)
-lent_makes {P} {set = set} {m = m} {told = told} {p = p} pass trace did =
+lent_makes {P} {set = set} {m = m} {p = p} {told = told} pass trace did =
     subst (λ (l : List Step). Makes P set m (moment p l)) (sym trace)
     (subst (λ (q : Pass). Makes P set m (moment q told)) (sym pass) did)
 
@@ -50,11 +50,11 @@ has_left {m = m} {n = n} pass trace new done reached = rw pass (rw trace (record
 }))
 
 -- and its fork
-pub at_fork : {m n : Site} {states : States} {p theirs : Pass} {steps : List Step} {child : ℕ} → p ≡ n.pass.now →
+pub at_fork : (m n : Site) {states : States} {p theirs : Pass} {steps : List Step} {child : ℕ} → p ≡ n.pass.now →
     steps ≡ n.trace.now → m.trace.now ≡ [] → Forked m.set (at m) n.trace.now child n.pass.now theirs →
     AtFork (record { pass = m.pass.now; set = m.set; states = states })
     (record { pass = p; set = m.set; states = states }) steps child theirs
-at_fork {m = m} {n = n} {theirs = theirs} {child = child} pass trace new forked = rw pass (rw trace (record {
+at_fork m n {theirs = theirs} {child = child} pass trace new forked = rw pass (rw trace (record {
   set = refl;
   states = refl;
   forked = subst (λ (l : List Step). Forked m.set (moment m.pass.now l) n.trace.now child n.pass.now theirs) new forked;

@@ -64,6 +64,10 @@ pub plain_event : (e : Event) → ((x : ℕ) → e ≡ Fork x → ⊥) → Forks
 plain_event (Fork child) other = other child refl
 plain_event e other = tt
 
+-- the same buffers, as slices
+pub as_slices : (P : ℕ → ℕ → Type 0) (a b c d : ℕ) → c ≡ a → d ≡ b → P a b → P c d
+as_slices P a b c d first second here = subst (λ (n : ℕ). P n d) (sym first) (subst (P a) (sym second) here)
+
 -- nobody was forked between two moments
 gone_halves : {begun : Start} {events es rest : List Event} {c d : Caller} {ls ls' : List SeenLine} {xs ys : List Ask}
     {kids : List Start} → HasAdvanced begun events es c ls xs kids → HasAdvanced begun events rest d ls' ys kids →
@@ -147,11 +151,11 @@ module _ (m w : Caller) (steps : List Step) (child : ℕ) (theirs : Pass) (at : 
 -- ---- what a caller may do next
 
 -- a pass that saw more
-pub can_still : (t : Lanes) (c d : Caller) (sheet : Sheet) {rest : List Event} → d.set ≡ c.set →
+pub can_still : (t : Lanes) (c d : Caller) (log : Log) {served inside : ℕ} {rest : List Event} → d.set ≡ c.set →
     d.states ≡ c.states → HoldsLanes t d.set.caller [] d.pass → floor (view c.pass) ≤ floor (view d.pass) →
-    CanAdvance t c sheet rest → CanAdvance t d sheet rest
-can_still t c d sheet {rest = rest} set states has up can =
-    subst (λ (e : Caller). CanAdvance t e sheet rest)
+    CanAdvance t c log served inside rest → CanAdvance t d log served inside rest
+can_still t c d log {served = served} {inside = inside} {rest = rest} set states has up can =
+    subst (λ (e : Caller). CanAdvance t e log served inside rest)
     (λ i. record { pass = d.pass; set = sym set i; states = sym states i }) (record {
       goes = record {
         ready = record {
@@ -217,15 +221,12 @@ module _ (before after : Gathered) (line : SeenLine) (lines : after.lines ≡ be
         (told_more before.lines line (asks_of acts) told);
   }
 
-  pub can_past : (t : Lanes) (child : ℕ) (c e : Caller) (sheet : Sheet) {rest : List Event} →
-      sheet.log.lines ≡ before → GoesOn (Fork child) c e → CanAdvance t c sheet (Fork child ∷ rest) →
-      CanAdvance t e (record sheet { log = record sheet.log { lines = after } }) rest
-  can_past t child c e sheet {rest = rest} is on can =
-      let log : Log = sheet.log in
-      let goes : CanAdvanceWith t c before log.acts.items (vec_len sheet.served) (vec_len sheet.inside)
-      (Fork child ∷ rest) =
-      subst (λ (l : Gathered). CanAdvanceWith t c l log.acts.items (vec_len sheet.served) (vec_len sheet.inside)
-      (Fork child ∷ rest)) is can.goes in
+  pub can_past : (t : Lanes) (child : ℕ) (c e : Caller) (log : Log) {served inside : ℕ} {rest : List Event} →
+      log.lines ≡ before → GoesOn (Fork child) c e → CanAdvance t c log served inside (Fork child ∷ rest) →
+      CanAdvance t e (record log { lines = after }) served inside rest
+  can_past t child c e log {served = served} {inside = inside} {rest = rest} is on can =
+      let goes : CanAdvanceWith t c before log.acts.items served inside (Fork child ∷ rest) =
+      subst (λ (l : Gathered). CanAdvanceWith t c l log.acts.items served inside (Fork child ∷ rest)) is can.goes in
       record {
         goes = can_next c refl goes.ready.has goes.states on (fills_fork child log.acts.items goes.fresh goes.told) goes;
         act_room = can.act_room;

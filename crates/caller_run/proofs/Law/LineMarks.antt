@@ -123,7 +123,7 @@ module _ (w : ℕ → ℕ) where
       go (looked g) same = same ∙ omega arith
       go (visited mark e) same =
           here (index_of mark.lane == index_of lane) mark.place
-              (places_in (index_of lane) (made_steps_of numbered_steps))
+          (places_in (index_of lane) (made_steps_of numbered_steps))
           ∙ (λ i. sym (sum_one (in_lane lane) (record { mark = mark; who = maker caller d.event d.number })) i + same i)
 
   -- the places of a lane weigh the same in the marks and in what was done

@@ -100,6 +100,6 @@ read_kept {t = t} {c = c} {d = d} {said = said} k = record {
       (seen_with (floor (view d.pass)) (stand c) k.left k.published
       (seen_up (floor (view c.pass)) (floor (view d.pass)) (stand c)
       (sees_up (view d.pass) (floor (view c.pass)) (floor (view d.pass)) (made_steps_of k.done.numbered_steps)
-          k.done.ran.sees) s));
+      k.done.ran.sees) s));
   shows = no_count _ said.shows (λ same. cc) k.shows;
 }

@@ -114,7 +114,7 @@ module _ (caller m n : ℕ) (u v w : View) (xs ys : List NumberedStep) (a : RanB
 
     places_both : (lane : ℕ) →
         places_in lane (made_steps_of (xs ++ ys)) ≡ places_in lane (made_steps_of xs)
-            ++ places_in lane (made_steps_of ys)
+        ++ places_in lane (made_steps_of ys)
     places_both lane = ap (places_in lane) both ∙ places_append lane (made_steps_of xs) (made_steps_of ys)
 
     placed : (lane : ℕ) → lane < length u.lanes →
@@ -138,7 +138,7 @@ module _ (caller m n : ℕ) (u v w : View) (xs ys : List NumberedStep) (a : RanB
         subst (λ (l : List ℕ). Climbs u.stamp l w.stamp)
         (sym (ap stamps_in both ∙ stamps_append (made_steps_of xs) (made_steps_of ys)))
         (climbs_append u.stamp v.stamp w.stamp (stamps_in (made_steps_of xs)) (stamps_in (made_steps_of ys)) a.climbs
-            b.climbs)
+        b.climbs)
 
     seen : Sees w (floor u) (made_steps_of (xs ++ ys)) (floor w)
     seen =

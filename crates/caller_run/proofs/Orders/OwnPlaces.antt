@@ -51,7 +51,7 @@ module _ (caller : ℕ) (events : List Event) (r : Run) (has : HasRun caller eve
     in_marks f lane =
         sym (sum_by-map f (λ (mark : Mark). mark.place) (lane_marks lane (all_marks (r.lines ∷ []))))
         ∙ lane_weight f lane r.begun.caller r.lines numbered_steps
-            (fit_own r.begun.caller 0 events r.lines has.ended.fit) same
+        (fit_own r.begun.caller 0 events r.lines has.ended.fit) same
 
     pub own_places : OwnPlaces r
     own_places = record {

@@ -9,4 +9,9 @@ pub returns-clause-child : goal.returns-clause-child
 returns-clause-child g c = given_hands c.fork.ensures.same c.fork.ensures.child_has
 
 pub returns-clause-at : goal.returns-clause-at
-returns-clause-at g c = at_fork (search rules) (search rules) c.requires.new c.fork.ensures.forked
+returns-clause-at g c = at_fork (record {
+  lanes = c.args.lanes;
+  pass = record c.fork.new.site.pass { now = c.args.self.now.pass };
+  trace = c.args.trace;
+  set = c.args.self.now.set;
+}) c.fork.new.site (search rules) (search rules) c.requires.new c.fork.ensures.forked

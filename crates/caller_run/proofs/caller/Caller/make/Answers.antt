@@ -8,8 +8,8 @@ use Rattle.caller_run.proofs.Law.Seeing.{called_kept}
 use Rattle.caller_run.proofs.caller.Caller.make.Goals as goal
 
 pub returns : goal.returns
-returns g c =
-    let log = c.args.sheet.now.log in let call = c.call-said.new in
+returns g c inside =
+    let log = c.args.log.now in let call = c.call-said.new in
     let k = called_kept c.call-said.ensures in
     let long : length call.served ≡ most_shown c.args.event.now = search rules in
     record {

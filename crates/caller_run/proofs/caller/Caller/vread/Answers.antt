@@ -1,7 +1,8 @@
-use Rattle.std.proofs.Common.{◌≡◌, [], rules, refl, length, ◌<◌, ◌∙◌, sym, ap, arith}
+use Rattle.std.proofs.Common.{◌≡◌, List, [], rules, refl, length, ◌<◌, ◌∙◌, sym, ap, arith}
 use Rattle.std.proofs.lemmas.Bool.{eqb-true}
 use Rattle.lane_table.specs.Calls.{view}
-use Rattle.rng_core.specs.Acts.{asks_of}
+use Rattle.rng_core.specs.Acts.{all_wanted, asks_of}
+use Rattle.rng_core.specs.declared.vdso.acts.Bound.{Bound}
 use Rattle.rng_core.proofs.Hosting.{none_left}
 use Rattle.caller_run.proofs.Events.OwnSites.{own_hands}
 use Rattle.caller_run.proofs.Events.StateReads.{lent_read, no_outcomes, read_alone, read_inside, current_is}
@@ -15,6 +16,9 @@ returns-then-alone g c =
     record {
       served = refl;
       inside = refl;
+      long = search rules;
+      fits = ap length (search rules) ∙ c.vread.new.host.fits
+          ∙ ap (λ (bs : List Bound). all_wanted (asks_of bs)) (none_left _ (search rules) ∙ sym none);
       asks = ap asks_of (none_left _ (search rules) ∙ sym none);
       read = lent_read (search rules) (search rules) (no_outcomes _ _ (search rules))
           (read_alone (record {
@@ -41,6 +45,8 @@ returns g c =
     record {
       served = refl;
       inside = refl;
+      long = search rules;
+      fits = ap length (search rules) ∙ next.fits ∙ ap all_wanted asks;
       asks = ap asks_of (search rules) ∙ asks;
       read = lent_read (search rules) (search rules) (search rules)
           (read_inside (record {

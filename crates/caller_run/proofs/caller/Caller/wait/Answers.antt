@@ -8,12 +8,12 @@ use Rattle.caller_run.proofs.caller.Caller.wait.Goals as goal
 use Rattle.caller_run.proofs.caller.Caller.wait.Goals.{After-go_on}
 
 -- what the caller did for its event
-kept : (c : After-go_on) → Keeps c.args.event.now c.args.self.now c.go_on.new.self c.args.sheet.now.log.lines
+kept : (c : After-go_on) → Keeps c.args.event.now c.args.self.now c.go_on.new.self c.args.log.now.lines
     c.tell.new.lines
-    c.args.sheet.now.log.acts.items c.push_reserved.new.self.items
+    c.args.log.now.acts.items c.push_reserved.new.self.items
 kept c =
     let set = c.args.self.now.set in
-    let lines = c.args.sheet.now.log.lines.lines in
+    let lines = c.args.log.now.lines.lines in
     record {
       point = c.point_of.result;
       act = c.args.act;
@@ -24,15 +24,15 @@ kept c =
       line_room = c.tell.ensures.line_room;
       step_room = (let b = c.tell.ensures.step_room in let e = ap length c.empty.ensures in omega arith);
       byte_room = (let b = c.tell.ensures.byte_room in omega arith);
-      kept = c.push_reserved.ensures.items ∙ ap (λ (b : Bound). c.args.sheet.now.log.acts.items ++ b ∷ [])
+      kept = c.push_reserved.ensures.items ∙ ap (λ (b : Bound). c.args.log.now.acts.items ++ b ∷ [])
           c.of-bound.ensures;
     }
 
 pub returns : goal.returns
-returns c t = record {
+returns c t served inside = record {
   can = λ rest can. record {
     goes = can_keep (kept c) can.goes;
     act_room = (let a = c.push_reserved.ensures.capacity in let b = can.act_room in omega arith);
   };
-  gone = gone_keep (kept c) c.requires.can.1.goes.at;
+  gone = gone_keep (kept c) c.requires.can.3.goes.at;
 }

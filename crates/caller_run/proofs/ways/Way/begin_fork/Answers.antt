@@ -30,7 +30,7 @@ returns-clause-can g c script rest can =
         ready = r.ready;
       };
       parent_can = record {
-        can = can_still c.args.lanes.now m w c.args.self.now.sheet at.set at.states f.ensures.has
+        can = can_still c.args.lanes.now m w c.args.self.now.sheet.log at.set at.states f.ensures.has
             (at_floor m w f.new.trace c.args.child f.result at) can.can;
         well = can.well;
         cpus = can.cpus;

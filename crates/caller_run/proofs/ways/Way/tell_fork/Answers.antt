@@ -12,7 +12,7 @@ returns-clause-can c t rest can =
     let w = c.args.self.now in
     can_past w.sheet.log.lines c.tell.new.lines _ c.tell.ensures.lines c.tell.ensures.line_room
     (let a = c.tell.ensures.step_room in let few = c.tell.ensures.few_steps in omega arith)
-    (let a = c.tell.ensures.byte_room in omega arith) t c.args.child w.caller c.go_on.new.self w.sheet refl
+    (let a = c.tell.ensures.byte_room in omega arith) t c.args.child w.caller c.go_on.new.self w.sheet.log refl
     c.go_on.ensures can
 
 pub returns-clause-gone : goal.returns-clause-gone
