@@ -83,8 +83,8 @@ fn run_from<R: Threads + Wait + Sync, G: Gate>(
     requires { CanAdvanceOn shared.now.lanes.now shared.now.script.now events.now way }
     ensures { WentOn shared.now.lanes.now shared.now.script.now events.now way result }
 {
-    let rt = shared.rt;
-    let lanes = shared.lanes;
+    let (rt, lanes, script) = (shared.rt, shared.lanes, shared.script);
+    let (gate, children) = (shared.gate, shared.children);
     let Some((child, rest)) = way.run_plain(shared, events) else {
         way.caller.finish(rt, lanes, &mut way.sheet.log);
         return way;
@@ -95,50 +95,65 @@ fn run_from<R: Threads + Wait + Sync, G: Gate>(
         thread::scope_env(),
         rt,
         move |scope| -> (Way, Pass, Room)
-            requires { IsSync R.row × CanPart shared.now.lanes.now shared.now.script.now child rest.now way trace theirs
-                (plot kid) }
-            ensures { WentBeside shared.entry.now.lanes.now shared.entry.now.script.now child rest.entry.now way trace
-                theirs (plot kid) result.0 result.1 (plot result.2) }
+            requires { IsSync R.row × CanPart lanes.now script.now child rest.now way trace theirs (plot kid) }
+            ensures { WentBeside lanes.entry.now script.entry.now child rest.entry.now way trace theirs (plot kid) result.0
+                result.1 (plot result.2) }
         {
+            let shared = Shared {
+                rt,
+                lanes,
+                script,
+                gate,
+                children,
+            };
             let set = Setting {
                 caller: child,
                 event: 0,
                 ..way.caller.set
             };
             let promise = Child {
-                lanes: shared.lanes,
-                script: shared.script,
+                lanes,
+                script,
                 set,
                 pass: Snapshot::of(&theirs),
                 room: Snapshot::of(&kid),
             };
-            match shared.children.start(
+            match children.start(
                 scope,
                 promise,
                 move || -> (Pass, Room)
-                    requires { IsSync R.row × CanRun shared.now.lanes.now shared.now.script.now set theirs (plot kid) }
-                    ensures { Returned shared.entry.now.lanes.now shared.entry.now.script.now (start_of set theirs)
-                        (plot kid) result.0 (plot result.1) }
-                { run_family(shared, theirs, set, kid) },
+                    requires { IsSync R.row × CanRun lanes.now script.now set theirs (plot kid) }
+                    ensures { Returned lanes.entry.now script.entry.now (start_of set theirs) (plot kid) result.0
+                        (plot result.1) }
+                {
+                    let shared = Shared {
+                        rt,
+                        lanes,
+                        script,
+                        gate,
+                        children,
+                    };
+                    run_family(&shared, theirs, set, kid)
+                },
             ) {
                 Ok(handle) => {
                     way.tell_fork(&trace, child);
-                    let way = run_from(shared, rest, way);
-                    let (theirs, kid) = handle.join(shared.rt);
+                    let way = run_from(&shared, rest, way);
+                    let (theirs, kid) = handle.join(rt);
                     (way, theirs, kid)
                 }
                 Err(refused) => {
                     let at = &mut way.caller;
                     let (theirs, kid) = run_here(
-                        shared.rt,
-                        shared.lanes,
+                        rt,
+                        lanes,
                         &mut at.pass,
                         &at.set,
                         &mut trace,
                         refused.value,
                     );
                     way.tell_fork(&trace, child);
-                    let way = run_from(shared, rest, way);
+                    let way = run_from(&shared, rest, way);
                     (way, theirs, kid)
                 }
             }

@@ -1,7 +1,6 @@
 use Rattle.std.proofs.Common.{rules}
-use Rattle.rng_core.specs.Sites.{at}
 use Rattle.rng_core.proofs.SiteLemmas.{same_then}
-use Rattle.caller_run.proofs.Events.OwnSites.{own_hands, lent_hands, lent_makes}
+use Rattle.caller_run.proofs.Events.OwnSites.{own_hands, lent_hands, ran_here}
 use Rattle.caller_run.proofs.here.run_here.Goals as goal
 
 pub returns-clause-has : goal.returns-clause-has
@@ -9,8 +8,5 @@ returns-clause-has g c = lent_hands (search rules) (own_hands (same_then _ _ _ c
     c.unstall.ensures.does.has)
 
 pub returns-clause-here : goal.returns-clause-here
-returns-clause-here g c = record {
-  middle = at c.stall.new.site;
-  stall = c.stall.ensures.does.did;
-  unstall = lent_makes (search rules) (search rules) (rw c.stall.ensures.does.same.set at c.unstall.ensures.does.did);
-}
+returns-clause-here g c =
+    ran_here (search rules) (search rules) c.stall.ensures.does c.unstall.ensures.does

@@ -14,17 +14,17 @@ use Rattle.caller_run.proofs.run.+callers.Goals as goal
 pub run_from-scope-run_from-way-requires-after_bounds : goal.run_from-scope-run_from-way-requires-after_bounds
 run_from-scope-run_from-way-requires-after_bounds g t c κs within =
     let k = c.captures in
-    can_on k.shared.now.lanes.now k.shared.now.script.now k.child k.rest.now k.way c.tell_fork.new.self k.trace c.requires.1.parent_can
-    c.tell_fork.ensures.kids (c.tell_fork.ensures.can k.shared.now.lanes.now k.rest.now c.requires.1.parent_can.can)
+    can_on k.lanes.now k.script.now k.child k.rest.now k.way c.tell_fork.new.self k.trace c.requires.1.parent_can
+    c.tell_fork.ensures.kids (c.tell_fork.ensures.can k.lanes.now k.rest.now c.requires.1.parent_can.can)
 
 pub run_from-scope-tell_fork-requires-in-Err : goal.run_from-scope-tell_fork-requires-in-Err
 run_from-scope-tell_fork-requires-in-Err g t c =
     let k = c.captures in let w = k.way.caller in let here = c.run_here-theirs in
     record {
       can = (
-        k.shared.now.lanes.now,
+        k.lanes.now,
         k.rest.now,
-        can_still k.shared.now.lanes.now w (record w { pass = here.new.pass }) k.way.sheet.log refl refl here.ensures.has
+        can_still k.lanes.now w (record w { pass = here.new.pass }) k.way.sheet.log refl refl here.ensures.has
             (here_floor w.set (moment w.pass k.trace) (moment here.new.pass here.new.trace) here.ensures.here)
             c.requires.1.parent_can.can,
       );
@@ -35,10 +35,10 @@ run_from-scope-tell_fork-requires-in-Err g t c =
 pub run_from-scope-run_from-way-requires-in-Err-after_bounds : goal.run_from-scope-run_from-way-requires-in-Err-after_bounds
 run_from-scope-run_from-way-requires-in-Err-after_bounds g t c κs within =
     let k = c.captures in let w = k.way.caller in let here = c.run_here-theirs in
-    can_on k.shared.now.lanes.now k.shared.now.script.now k.child k.rest.now k.way c.tell_fork-in-Err.new.self k.trace c.requires.1.parent_can
+    can_on k.lanes.now k.script.now k.child k.rest.now k.way c.tell_fork-in-Err.new.self k.trace c.requires.1.parent_can
     c.tell_fork-in-Err.ensures.kids
-    (c.tell_fork-in-Err.ensures.can k.shared.now.lanes.now k.rest.now
-    (can_still k.shared.now.lanes.now w (record w { pass = here.new.pass }) k.way.sheet.log refl refl here.ensures.has
+    (c.tell_fork-in-Err.ensures.can k.lanes.now k.rest.now
+    (can_still k.lanes.now w (record w { pass = here.new.pass }) k.way.sheet.log refl refl here.ensures.has
     (here_floor w.set (moment w.pass k.trace) (moment here.new.pass here.new.trace) here.ensures.here)
     c.requires.1.parent_can.can))
 
@@ -50,7 +50,7 @@ run_from-scope-returns-in-Ok g t c =
       same = subst (λ ks. SameKids ks c.run_from-way.result.kids) c.tell_fork.ensures.kids on.same;
       of_child = search rules;
       goes = λ begun events kids m at low above gone.
-          past k.shared.now.lanes.now k.shared.now.script.now k.child k.way k.way.caller k.trace
+          past k.lanes.now k.script.now k.child k.way k.way.caller k.trace
           (λ begun events kids m u from low gone.
           c.tell_fork.ensures.gone begun events k.rest.now kids m u from low gone)
           c.tell_fork.ensures.pass on begun events kids m at.forked.before
@@ -66,7 +66,7 @@ run_from-scope-returns-in-Err g t c =
       same = subst (λ ks. SameKids ks c.run_from-way-in-Err.result.kids) c.tell_fork-in-Err.ensures.kids on.same;
       of_child = search rules;
       goes = λ begun events kids m at low above gone.
-          past k.shared.now.lanes.now k.shared.now.script.now k.child k.way (record k.way.caller { pass = q }) after
+          past k.lanes.now k.script.now k.child k.way (record k.way.caller { pass = q }) after
           (λ begun events kids m u from low gone.
           c.tell_fork-in-Err.ensures.gone begun events k.rest.now kids m u from low gone)
           c.tell_fork-in-Err.ensures.pass on begun events kids m at.forked.before
