@@ -1,5 +1,5 @@
 -- What an act does at a site: a read, a reseed, or nothing to the core.
-use Rattle.std.proofs.Common.{◌≡◌, ℕ, ◌+◌, ◌≤◌, Ok, List, [], length, refl, arith}
+use Rattle.std.proofs.Common.{◌≡◌, ℕ, ◌+◌, Ok, List, length, refl, arith}
 use Rattle.std.specs.Prelude.{Result}
 use Rattle.key_names.specs.declared.errno.Errno.{Errno}
 use Rattle.key_names.specs.declared.events.Event.TheVariants.{Read, Reseed as ReseedEvent}

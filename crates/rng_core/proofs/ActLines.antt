@@ -25,7 +25,8 @@ wipe_done set m out two none = did_nothing set m two
     (λ i. record { deeds = []; answer = result_answer {T = Unit {0}} (Ok tt); shown = no_bytes (Ok tt) out none i })
 
 pub read_done : (set : Setting) (n len : ℕ) (result : Result (Unit {0}) Errno) (out : List ℕ) (l m : Moment) → len ≡ n →
-    Makes (IsOutcomeOf (setting_of set) (Read len 0) (result_answer result) (bytes_or_none (given result out))) set l m →
+    Makes (IsOutcomeOf (setting_of set) (Read len 0) (result_answer result) (bytes_or_none (given result out))) set l
+    m →
     Makes (λ deeds. ActMeans (setting_of set) (Vread n) (done_line deeds result out)) set l m
 read_done set n len result out l m same k = did_map set l m (λ deeds h. (h.form, h.answers, h.shows))
     (subst (λ (z : ℕ). Makes (IsOutcomeOf (setting_of set) (Read z 0) (result_answer result)

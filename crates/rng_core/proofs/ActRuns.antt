@@ -91,7 +91,8 @@ risen_then : (low mid high : ℕ) (xs ys : List ℕ) → Risen low xs mid → Ri
 risen_then low mid high [] ys a b = risen_lower low mid high ys a b
 risen_then low mid high (g ∷ xs) ys a b = (a.0, risen_then g mid high xs ys a.1 b)
 
-pub sees_risen : (w : View) (low high : ℕ) (made_steps : List MadeStep) → Sees w low made_steps high → Risen low (looks_in made_steps) high
+pub sees_risen : (w : View) (low high : ℕ) (made_steps : List MadeStep) → Sees w low made_steps high →
+    Risen low (looks_in made_steps) high
 sees_risen w low high [] h = h
 sees_risen w low high (looked g ∷ made_steps) h = (h.0, sees_risen w g high made_steps h.1)
 sees_risen w low high (visited mark e ∷ made_steps) h =
@@ -104,7 +105,8 @@ looks_append (visited mark e ∷ xs) ys = looks_append xs ys
 
 -- The caller's own steps, with those of acts between them
 
--- from l to m these are the caller's own steps, and of the deeds behind them this holds; alone they are all that was done
+-- from l to m these are the caller's own steps, and of the deeds behind them this holds; alone they are all that was
+-- done
 pub record Own (set : Setting) (Alone : Type 0) (P : List Deed → Type 0) (l m : Moment) : Type 0 where
   pub made_steps : List MadeStep
   pub trace : m.steps ≡ l.steps ++ map step_of made_steps
@@ -145,8 +147,10 @@ own_then {set} l m n a b = record {
   made_steps = a.made_steps ++ b.made_steps;
   trace = trace_then l m n a.made_steps b.made_steps a.trace b.trace;
   fits = fits_then a.made_steps b.made_steps a.fits b.fits;
-  rises = subst (λ (looks : List ℕ). Risen (floor l.view) looks (floor n.view)) (sym (looks_append a.made_steps b.made_steps))
-      (risen_then (floor l.view) (floor m.view) (floor n.view) (looks_in a.made_steps) (looks_in b.made_steps) a.rises b.rises);
+  rises = subst (λ (looks : List ℕ). Risen (floor l.view) looks (floor n.view))
+      (sym (looks_append a.made_steps b.made_steps))
+      (risen_then (floor l.view) (floor m.view) (floor n.view) (looks_in a.made_steps) (looks_in b.made_steps) a.rises
+      b.rises);
   onward = onward_then l.view m.view n.view a.onward b.onward;
   alone = λ e. told_then set l m n a.made_steps b.made_steps (a.alone e) (b.alone e);
   stands = λ lanes visits callers c. let book = book_lists lanes visits callers in record {
@@ -168,7 +172,8 @@ own_behind {set} l m n same onward idle k = record {
   fits = k.fits;
   rises = risen_lower (floor l.view) (floor m.view) (floor n.view) (looks_in k.made_steps) onward.floors k.rises;
   onward = onward_then l.view m.view n.view onward k.onward;
-  alone = λ e. subst (λ (z : Moment). TraceRecords set z n k.made_steps) (λ i. record { view = idle e i; steps = same i })
+  alone = λ e. subst (λ (z : Moment). TraceRecords set z n k.made_steps)
+      (λ i. record { view = idle e i; steps = same i })
       (k.alone e);
   stands = k.stands;
 }

@@ -63,7 +63,8 @@ in_list lanes v visits mark lane s e got on m k = subst (λ (l : ℕ). InList (v
     at_below (known_of v l) mark.place m.visit m.there in record {
       visit = m.visit;
       there = ap (λ (xs : List Visit). slice_get xs mark.place) b.1
-          ∙ stands_at (known_of v l ++ b.0) mark.place m.visit (at_longer (known_of v l) b.0 mark.place m.visit m.there);
+          ∙ stands_at (known_of v l ++ b.0) mark.place m.visit
+          (at_longer (known_of v l) b.0 mark.place m.visit m.there);
       is = m.is;
       was_handed = m.was_handed;
       before = ap (λ (xs : List Visit). replay (take mark.place xs)) b.1

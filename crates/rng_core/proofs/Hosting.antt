@@ -1,5 +1,5 @@
 -- What a caller does as the host of its own vgetrandom calls.
-use Rattle.std.proofs.Common.{◌≡◌, ℕ, zero, suc, ◌+◌, ◌<◌, ◌≤◌, true, Option, Some, None, Ok, Err, List, [], ◌∷◌, ◌++◌, length, map, refl, sym, ap, ◌∙◌, subst, arith}
+use Rattle.std.proofs.Common.{◌≡◌, ℕ, zero, suc, ◌+◌, ◌<◌, ◌≤◌, true, Option, Some, None, Ok, Err, List, [], ◌∷◌, ◌++◌, length, map, refl, sym, ap, ◌∙◌, arith}
 use Rattle.std.specs.Prelude.{Result, slice_get}
 use mathlib.Core.Option.{some}
 use lib.ListN.{get_elem?}
@@ -132,7 +132,8 @@ module _ (lanes : ℕ) (v : View) (visits : ℕ → List Visit) (callers : List 
       last_place (deeds_of book (map step_of made_steps)) ≡ visit_of made_steps
   last_found caller event n [] stand = refl
   last_found caller event n (made_step ∷ []) stand = deal_place caller event n made_step stand
-  last_found caller event n (looked g ∷ next ∷ made_steps) stand = last_found caller event (suc n) (next ∷ made_steps) stand
+  last_found caller event n (looked g ∷ next ∷ made_steps) stand = last_found caller event (suc n) (next ∷ made_steps)
+      stand
   last_found caller event n (visited mark e ∷ next ∷ made_steps) stand =
       last_found caller event (suc n) (next ∷ made_steps) stand.1
 
@@ -172,7 +173,8 @@ answered_behind flags (Err errno) bytes visit deeds a s v =
 
 -- a read that was made is a system call with its answer
 pub system_called : (set : Setting) (n flags : ℕ) (result : Result (Unit {0}) Errno) (bytes : List ℕ) (l m : Moment)
-    (k : Makes (IsOutcomeOf (setting_of set) (Read n flags) (result_answer result) (bytes_or_none (given result bytes))) set
+    (k : Makes (IsOutcomeOf (setting_of set) (Read n flags) (result_answer result) (bytes_or_none (given result bytes)))
+    set
     l m)
     → Makes (SystemCall (setting_of set) n flags (answer_by result bytes (visit_of k.made_steps))) set l m
 system_called set n flags result bytes l m k = record {
@@ -182,6 +184,7 @@ system_called set n flags result bytes l m k = record {
     form = h.form;
     answers = answered_behind flags result bytes (visit_of k.made_steps)
         (deeds_of (book_lists lanes visits callers) (map step_of k.made_steps)) h.answers h.shows
-        (sym (last_found lanes m.view visits callers c set.caller set.event (length l.steps) k.made_steps k.told.went.stand));
+        (sym (last_found lanes m.view visits callers c set.caller set.event (length l.steps) k.made_steps
+        k.told.went.stand));
   };
 }

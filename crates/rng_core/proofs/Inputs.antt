@@ -66,4 +66,5 @@ module _ (s : PoolState) (word kind code value now : ℕ) (before between : Pool
     pub crosses : crossing between.bits after.bits ≡ crossing s.bits (pool_step s (Input word kind code value now)).bits
     crosses = crossing-mix before between after s text bits m.stood.pool m.mixes credits
         ∙ ap (λ (b : ℕ). crossing s.bits (credit s.bits b)) worth'
-        ∙ ap (λ (z : PoolState). crossing s.bits z.bits) (sym (pool_step-timed s word kind code value now differs room'))
+        ∙ ap (λ (z : PoolState). crossing s.bits z.bits)
+        (sym (pool_step-timed s word kind code value now differs room'))

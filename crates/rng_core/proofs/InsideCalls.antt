@@ -34,7 +34,7 @@ use Rattle.rng_core.specs.VreadMakes.{done_of, Called}
 use Rattle.rng_core.specs.Hosted.{stand}
 use Rattle.rng_core.specs.Acts.{Ask, ActOutcome, wants, ask_of, asks_of, outcomes_of, is_ready, all_ready, wipes_at, done_line}
 use Rattle.rng_core.specs.Acting.{ActStand, act_stand, acting, InsideRan}
-use Rattle.rng_core.specs.Hosting.{standing, SameLoans, hosting, IsNewHost, ReadsInside, HostCalled}
+use Rattle.rng_core.specs.Hosting.{standing, SameLoans, hosting, IsNewHost, HostCalled}
 use Rattle.rng_core.specs.InsideMakes.{IsFresh, bound_acts, outcome_line, inside_meaning, InsideMakes}
 use Rattle.rng_core.proofs.ActRuns.{AllDone, AllMeant, came, Own}
 use Rattle.rng_core.proofs.Acting.{acted_asks, acted_onward, acted_up_to, acted_own, acted_wipes, acted_done, acted_meant, host_acts}
@@ -278,9 +278,11 @@ module _ {R : Type 0} {h last : LaneHost R} {finish : Finish} (n flags : ℕ) (s
         line : 0 < length h.acts.now → VreadMeans n flags (bound_acts set asks zs) meaning
         line some = record {
           looks = subst NeverFall (sym (same_looks book own.made_steps))
-              (never_fall (floor (view h.site.pass.now)) (looks_in own.made_steps) (floor (view last.site.pass.now)) own.rises);
+              (never_fall (floor (view h.site.pass.now)) (looks_in own.made_steps) (floor (view last.site.pass.now))
+              own.rises);
           ways = match_false _ _ (tries_local n flags (bound_acts set asks zs))
-              (no_local n flags set (view last.site.pass.now) asks zs (let e = length-map h.acts.now ask_of in omega arith)
+              (no_local n flags set (view last.site.pass.now) asks zs
+              (let e = length-map h.acts.now ask_of in omega arith)
               meant) by_call;
         }
 

@@ -155,12 +155,14 @@ int_unready set width g rest zero h = ⊎_elim (λ (d : (g ≡ 0) × DrawForm se
 
 at_width : (set : FormSetting) (bytes : List ℕ) (deeds : List Deed) (width v : ℕ) → width ≡ v →
     (Serving (Looked (IntForm set v)) bytes deeds → IsOutcomeOf set (int_event v) Done (bytes_or_none bytes) deeds)
-    → Serving (Looked (IntForm set width)) bytes deeds → IsOutcomeOf set (int_event width) Done (bytes_or_none bytes) deeds
+    → Serving (Looked (IntForm set width)) bytes deeds → IsOutcomeOf set (int_event width) Done (bytes_or_none bytes)
+    deeds
 at_width set bytes deeds width v e k = subst (λ (w : ℕ). Serving (Looked (IntForm set w)) bytes deeds →
     IsOutcomeOf set (int_event w) Done (bytes_or_none bytes) deeds) (sym e) k
 
 pub int_fulfils : (set : FormSetting) (width : ℕ) (bytes : List ℕ) (deeds : List Deed) → IsWidth width →
-    Serving (Looked (IntForm set width)) bytes deeds → IsOutcomeOf set (int_event width) Done (bytes_or_none bytes) deeds
+    Serving (Looked (IntForm set width)) bytes deeds → IsOutcomeOf set (int_event width) Done (bytes_or_none bytes)
+    deeds
 int_fulfils set width bytes deeds (inl e) h = at_width set bytes deeds width 1 e
     (λ k. record { form = k.form; answers = refl; shows = ap bytes_or_none k.bytes_are }) h
 int_fulfils set width bytes deeds (inr (inl e)) h =

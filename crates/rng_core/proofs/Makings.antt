@@ -55,7 +55,8 @@ pub did_map : {P Q : List Deed → Type 0} (set : Setting) (m n : Moment) → ((
 did_map set m n f k = did_in_map set m n (λ visits. f) k
 
 -- the form alone
-pub formed : {F : List Deed → Type 0} {bytes : List ℕ} (set : Setting) (m n : Moment) → Makes (Serving F bytes) set m n →
+pub formed : {F : List Deed → Type 0} {bytes : List ℕ} (set : Setting) (m n : Moment) →
+    Makes (Serving F bytes) set m n →
     Makes F set m n
 formed set m n k = did_map set m n (λ deeds h. h.form) k
 
@@ -66,7 +67,11 @@ served_of set m n lane place s e got x = record { model = s; got = got; visited 
 -- behind what no step tells
 pub did_after : {P : (ℕ → List Visit) → List Deed → Type 0} (set : Setting) (l m n : Moment) → TraceRecords set l m [] →
     MakesIn P set m n → MakesIn P set l n
-did_after set l m n a k = record { made_steps = k.made_steps; told = told_then set l m n [] k.made_steps a k.told; stands = k.stands }
+did_after set l m n a k = record {
+  made_steps = k.made_steps;
+  told = told_then set l m n [] k.made_steps a k.told;
+  stands = k.stands;
+}
 
 -- behind a look
 pub did_looked : {P : ℕ → List Deed → Type 0} (set : Setting) (l m n : Moment) (g : ℕ) →
@@ -82,7 +87,8 @@ served_behind_look g [] = refl
 served_behind_look g (d ∷ deeds) = refl
 
 pub serving_looked : {P : ℕ → List Deed → Type 0} {bytes : List ℕ} (set : Setting) (l m n : Moment) (g : ℕ) →
-    TraceRecords set l m (went.looked g ∷ []) → Makes (Serving (P g) bytes) set m n → Makes (Serving (forms.Looked P) bytes) set l n
+    TraceRecords set l m (went.looked g ∷ []) → Makes (Serving (P g) bytes) set m n →
+    Makes (Serving (forms.Looked P) bytes) set l n
 serving_looked set l m n g a k = record {
   made_steps = went.looked g ∷ k.made_steps;
   told = told_then set l m n (went.looked g ∷ []) k.made_steps a k.told;
@@ -163,7 +169,13 @@ did_plain_read set l m n g place taken bytes a x = record {
       x.visited.told;
   stands = λ lanes visits callers c. let f = found_cpu lanes visits callers set m n place x.model x.got c set.cpu
       (Read g None taken) x.visited tt in record {
-        form = record { look = g; cpu = f.visit; deeds_are = (λ i. looked g ∷ f.deed_is i ∷ []); on = f.on; reads = f.is };
+        form = record {
+          look = g;
+          cpu = f.visit;
+          deeds_are = (λ i. looked g ∷ f.deed_is i ∷ []);
+          on = f.on;
+          reads = f.is;
+        };
         bytes_are = x.serves ∙ sym f.serves ∙ ap deed_bytes (sym f.deed_is);
       };
 }
@@ -200,7 +212,8 @@ did_refilled_read set k l m n g base place s got taken bytes a x y = record {
 }
 
 -- nothing at all
-pub did_nothing : {P : List Deed → Type 0} (set : Setting) (m : Moment) → 1 < length m.view.lanes → P [] → Makes P set m m
+pub did_nothing : {P : List Deed → Type 0} (set : Setting) (m : Moment) → 1 < length m.view.lanes → P [] →
+    Makes P set m m
 did_nothing set m two p = record {
   made_steps = [];
   told = told_idly set m m refl (went_idly set.caller set.event (length m.steps) m.view m.view

@@ -49,10 +49,12 @@ visit_looks lists PoolLane place deeds = looks_below deeds (λ e. at_pool (pool_
 visit_looks lists BaseLane place deeds = looks_below deeds (λ e. at_base (base_visit lists place e)) (λ e. refl) _
 visit_looks lists (CpuLane c) place deeds = looks_below deeds (λ e. at_cpu (cpu_visit lists c place e)) (λ e. refl) _
 
-pub same_looks : (lists : Lists) (made_steps : List MadeStep) → looks_of (deeds_of lists (map step_of made_steps)) ≡ looks_in made_steps
+pub same_looks : (lists : Lists) (made_steps : List MadeStep) → looks_of (deeds_of lists (map step_of made_steps)) ≡
+    looks_in made_steps
 same_looks lists [] = refl
 same_looks lists (looked g ∷ made_steps) = ap (λ (l : List ℕ). g ∷ l) (same_looks lists made_steps)
-same_looks lists (visited mark e ∷ made_steps) = visit_looks lists mark.lane mark.place (deeds_of lists (map step_of made_steps))
+same_looks lists (visited mark e ∷ made_steps) = visit_looks lists mark.lane mark.place
+    (deeds_of lists (map step_of made_steps))
     ∙ same_looks lists made_steps
 
 pub never_fall : (low : ℕ) (looks : List ℕ) (high : ℕ) → Risen low looks high → NeverFall looks
@@ -60,7 +62,8 @@ never_fall low [] high h = tt
 never_fall low (a ∷ []) high h = tt
 never_fall low (a ∷ b ∷ rest) high h = (h.1.0, never_fall a (b ∷ rest) high h.1)
 
-told_rise : (lists : Lists) (set : Setting) (l m : Moment) (made_steps : List MadeStep) → TraceRecords set l m made_steps →
+told_rise : (lists : Lists) (set : Setting) (l m : Moment) (made_steps : List MadeStep) →
+    TraceRecords set l m made_steps →
     Risen (floor l.view) (looks_of (deeds_of lists (map step_of made_steps))) (floor m.view)
 told_rise lists set l m made_steps told =
     subst (λ (looks : List ℕ). Risen (floor l.view) looks (floor m.view)) (sym (same_looks lists made_steps))
@@ -132,7 +135,12 @@ stayed_by : (n flags : ℕ) (s : VgetrandomState) (v w : View) → Unserved n fl
     tries_local n flags [] ≡ b → Stayed v w
 stayed_by n flags s v w k false e = stayed_at v w (k.untried e)
 stayed_by n flags s v w k true e = let g = (k.tried e).glanced in
-    record { same = g.same; lanes = g.lanes; stamp = g.stamp; floors = let a = g.above in let b = g.known in omega arith }
+    record {
+      same = g.same;
+      lanes = g.lanes;
+      stamp = g.stamp;
+      floors = let a = g.above in let b = g.known in omega arith;
+    }
 
 pub stayed : (n flags : ℕ) (s t : VgetrandomState) (answer : Answer) (shown : Shown) (set : Setting) (l m : Moment)
     (k : VreadMakes n flags s t answer shown set l m) → Stayed l.view k.looked
@@ -218,7 +226,8 @@ module _ (n flags : ℕ) (s t : VgetrandomState) (answer : Answer) (shown : Show
           let shown = subst (λ (z : List HostStep). Shows (setting_of set) z deeds) from.steps_are shows in
           let rises = subst (λ (z : List Deed). Risen (floor m.view) (looks_of z) (floor o.view)) shown.2 rise in
           let a = published_more (floor l.view) refused.found refused.glanced.above in
-          let b = published_more refused.found shown.0 (let x = refused.glanced.known in let y = rises.0 in omega arith) in (
+          let b = published_more refused.found shown.0 (let x = refused.glanced.known in let y = rises.0 in omega arith)
+          in (
             shown.0,
             shown.1,
             shown.2,
@@ -245,7 +254,8 @@ module _ (n flags : ℕ) (s t : VgetrandomState) (answer : Answer) (shown : Show
       made_steps = k.did.made_steps;
       told = k.did.told;
       stands = λ lanes visits callers c. λ before set_is state_is. line
-          (deeds_of (book_lists lanes visits callers) (map step_of k.did.made_steps)) (k.did.stands lanes visits callers c)
+          (deeds_of (book_lists lanes visits callers) (map step_of k.did.made_steps))
+          (k.did.stands lanes visits callers c)
           (told_rise (book_lists lanes visits callers) set m o k.did.made_steps k.did.told) before set_is state_is;
     }
 

@@ -1,17 +1,15 @@
 -- Calls at a site whose visits are of the pool, and of a CPU's fast pool.
-use Rattle.std.proofs.Common.{◌≡◌, ℕ, ◌+◌, ◌<◌, ◌≤◌, List, [], length, ap, ◌∙◌, arith}
+use Rattle.std.proofs.Common.{◌≡◌, ℕ, ◌+◌, ◌<◌, ◌≤◌, length, ap, ◌∙◌, arith}
 use Rattle.key_names.specs.declared.entries.PoolEntry.{PoolEntry}
 use Rattle.key_names.specs.declared.entries.PoolEntry.TheVariants.{Bits}
 use Rattle.key_names.specs.declared.entries.CpuEntry.{CpuEntry}
 use Rattle.key_names.specs.declared.events.Event.TheVariants.{Bits as BitsEvent}
 use Rattle.key_names.specs.declared.events.Answer.TheVariants.{Ok as Done}
-use Rattle.key_names.specs.Deeds.{Deed}
 use Rattle.key_names.specs.Forms.{CreditForm, Cross}
 use Rattle.key_names.specs.PoolList.{Crossing, crossing, pool_step}
 use Rattle.key_names.specs.SeenLine.{count}
 use Rattle.lane_table.specs.declared.lanes.Held.{Held}
 use Rattle.lane_table.specs.declared.view.LaneEntry.TheVariants.{Pool, Cpu}
-use Rattle.lane_table.specs.declared.view.Visit.{Visit}
 use Rattle.lane_table.specs.Calls.{view}
 use Rattle.lane_table.specs.VisitsMet.{IsIntOfBatch}
 use Rattle.lane_table.specs.WorldRule.{known_of}
@@ -27,7 +25,8 @@ use Rattle.rng_core.proofs.SiteLemmas.{same_then, by_set, does_behind, does_left
 -- the bits that a visit reads
 pub does_bits : (h k : Held) (bits : ℕ) (l m n : Site) → Entered pool_lane h l m → Left pool_lane k (Pool Bits) m n →
     bits ≡ (lane_of m pool_lane).pool.bits → Completes 1 BitsEvent Done (count bits) l n
-does_bits h k bits l m n a b is = does_behind (λ set visits. IsOutcomeOf (setting_of set) BitsEvent Done (count bits)) 1 l m n
+does_bits h k bits l m n a b is = does_behind (λ set visits. IsOutcomeOf (setting_of set) BitsEvent Done (count bits)) 1
+    l m n
     a.walked a.trace
     (does_left 0 k (Pool Bits) m n b (λ x. did_bits m.set (at m) (at n) _ bits _ _ x is))
 
@@ -55,7 +54,8 @@ does_met h e m n fits b = does_left (own_lane m) h (Cpu e) m n b
 pub taken_behind : (h : Held) (l m : Site) → IsIdle 4 l → IsOnCpu l → Entered (own_lane m) h l m →
     own_places l ≤ h.turn.place
 taken_behind h l m idle cpu a =
-    let longer = begins_length _ _ (a.walked.told.went.grows (own_lane l) (let s = idle.has.pass.sized in omega arith)) in
+    let longer = begins_length _ _ (a.walked.told.went.grows (own_lane l) (let s = idle.has.pass.sized in omega arith))
+    in
     let next = a.holds.has.held.0.next
     ∙ ap (λ (lane : ℕ). length (known_of (view m.pass.now) lane)) a.holds.lane_is
     ∙ ap (λ (s : Setting). length (known_of (view m.pass.now) (s.cpu + 2))) a.walked.same.set in omega arith

@@ -74,7 +74,8 @@ visited_below set m n lane place s e got x =
     let on = ap (λ (l : ℕ). length (known_of n.view l)) x.lane_is in let at = x.place_is in omega arith
 
 -- a dump, and what it mixes
-pub dump_stands : (set : CallSetting) (place from : ℕ) (fast : FastPool) (text : List ℕ) (bits : ℕ) (visits : ℕ → List Visit)
+pub dump_stands : (set : CallSetting) (place from : ℕ) (fast : FastPool) (text : List ℕ) (bits : ℕ)
+    (visits : ℕ → List Visit)
     (deeds : List Deed) → from ≤ place → text ≡ dump_bytes fast → bits ≡ dump_bits fast →
     After (CpuMet set.cpu place (Dump set.now) fast visits) (CreditForm set (Mix text bits)) deeds →
     DumpStands set from visits deeds
@@ -93,7 +94,8 @@ dump_stands set place from fast text bits visits deeds late bytes_are bits_are h
     }
 
 -- an interrupt that made no dump due
-pub sample_quiet : (set : CallSetting) (v1 v2 place : ℕ) (fast : FastPool) (visits : ℕ → List Visit) (deeds : List Deed) →
+pub sample_quiet : (set : CallSetting) (v1 v2 place : ℕ) (fast : FastPool) (visits : ℕ → List Visit)
+    (deeds : List Deed) →
     makes_due fast set.now ≡ false → CpuMet set.cpu place (Irq v1 v2 set.now) fast visits deeds →
     Sampled (IsOutcomeOf set (IrqEvent v1 v2) Done no_data) visits deeds
 sample_quiet set v1 v2 place fast visits deeds quiet h = let only = h.only in record {

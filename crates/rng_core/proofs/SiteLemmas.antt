@@ -1,5 +1,5 @@
 -- Calls at a site, out of its visits.
-use Rattle.std.proofs.Common.{◌≡◌, ℕ, ◌+◌, List, [], ◌∷◌, ◌++◌, subst, refl, ◌∙◌, length, length-append, ap, ◌<◌, ◌≤◌, arith}
+use Rattle.std.proofs.Common.{◌≡◌, ℕ, ◌+◌, List, [], ◌∷◌, ◌++◌, subst, refl, ◌∙◌, length, length-append, ap, ◌≤◌, arith}
 use Rattle.key_names.specs.declared.entries.PoolEntry.{PoolEntry}
 use Rattle.key_names.specs.declared.entries.BaseEntry.{BaseEntry}
 use Rattle.key_names.specs.declared.entries.CpuEntry.{CpuEntry}
@@ -18,10 +18,10 @@ use Rattle.lane_table.specs.Advances.{MadeStep}
 use Rattle.rng_core.specs.declared.setting.Setting.{Setting}
 use Rattle.rng_core.specs.declared.site.Site.{Site}
 use Rattle.rng_core.specs.Traces.{TraceRecords, Visited}
-use Rattle.rng_core.specs.Makes.{Makes, MakesIn, Serving}
+use Rattle.rng_core.specs.Makes.{MakesIn, Serving}
 use Rattle.rng_core.specs.Sites.{at, Same, Walked, IsIdle, Does, DoesIn, Entered, Left, Looked, LookedIdly, lane_of}
 use Rattle.rng_core.proofs.TellLemmas.{told_then}
-use Rattle.rng_core.proofs.Makings.{After, Behind, did_map, did_in_map, did_after, did_in_then, did_behind, did_look, did_nothing, did_pool, did_base, did_cpu, serving_looked, formed, served_of}
+use Rattle.rng_core.proofs.Makings.{After, Behind, did_in_map, did_after, did_in_then, did_behind, did_look, did_nothing, did_pool, did_base, did_cpu, serving_looked, formed, served_of}
 
 pub one_more : (xs ys : List Step) (s : Step) → ys ≡ xs ++ s ∷ [] → length ys ≡ length xs + 1
 one_more xs ys s e = ap length e ∙ (omega (arith, length-append xs (s ∷ [])))
@@ -62,7 +62,8 @@ pub does_map : {P Q : List Deed → Type 0} (steps : ℕ) (m n : Site) → ((dee
 does_map steps m n f k = does_in_map steps m n (λ visits. f) k
 
 -- in more steps than were needed
-pub does_within : {P : (ℕ → List Visit) → List Deed → Type 0} (few many : ℕ) (m n : Site) → few ≤ many → DoesIn few P m n →
+pub does_within : {P : (ℕ → List Visit) → List Deed → Type 0} (few many : ℕ) (m n : Site) → few ≤ many →
+    DoesIn few P m n →
     DoesIn many P m n
 does_within few many m n less k = record {
   same = k.same;
@@ -72,7 +73,8 @@ does_within few many m n less k = record {
 }
 
 -- the form alone
-pub does_formed : {F : List Deed → Type 0} {bytes : List ℕ} (steps : ℕ) (m n : Site) → Does steps (Serving F bytes) m n →
+pub does_formed : {F : List Deed → Type 0} {bytes : List ℕ} (steps : ℕ) (m n : Site) →
+    Does steps (Serving F bytes) m n →
     Does steps F m n
 does_formed steps m n k = does_map steps m n (λ deeds h. h.form) k
 
@@ -118,7 +120,8 @@ does_looked P bytes steps g l m n a k = record {
 }
 
 -- the same, with what the look found
-pub does_found : (P : Setting → List Deed → Type 0) (steps g : ℕ) (l m n : Site) → Looked g l m → Does steps (P m.set) m n →
+pub does_found : (P : Setting → List Deed → Type 0) (steps g : ℕ) (l m n : Site) → Looked g l m →
+    Does steps (P m.set) m n →
     Does (steps + 1) (Behind g (P l.set)) l n
 does_found P steps g l m n a k = record {
   same = same_then l m n a.walked.same k.same;
@@ -147,7 +150,8 @@ does_nothing steps m idle p = record {
 
 -- one visit
 pub does_left : {P : (ℕ → List Visit) → List Deed → Type 0} (lane : ℕ) (h : Held) (e : LaneEntry) (m n : Site) →
-    Left lane h e m n → (Visited m.set (at m) (at n) lane h.turn.place (lane_of m lane) e (handed lane e (view m.pass.now)) →
+    Left lane h e m n → (Visited m.set (at m) (at n) lane h.turn.place (lane_of m lane) e
+    (handed lane e (view m.pass.now)) →
     MakesIn P m.set (at m) (at n)) → DoesIn 1 P m n
 does_left lane h e m n k f = record {
   same = k.same;

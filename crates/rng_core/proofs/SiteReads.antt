@@ -1,5 +1,5 @@
 -- Reads and integers at a site, out of their visits.
-use Rattle.std.proofs.Common.{◌≡◌, ℕ, ◌+◌, ◌≤◌, Bool, true, List, [], ◌∷◌, length, Some, None, sym, subst, refl, ◌∙◌, arith}
+use Rattle.std.proofs.Common.{◌≡◌, ℕ, ◌+◌, ◌≤◌, Bool, true, List, length, Some, None, subst, arith}
 use Rattle.key_names.specs.declared.entries.PoolEntry.TheVariants.{Extract}
 use Rattle.key_names.specs.declared.entries.BaseEntry.{BaseEntry}
 use Rattle.key_names.specs.declared.entries.BaseEntry.TheVariants.{Refill}
@@ -32,9 +32,11 @@ serves_base h e bytes m n k is = does_left 1 h (Base e) m n k (λ x. did_base m.
     (record { model = _; got = _; visited = x; serves = is }))
 
 -- a root, and a visit of the base that names it
-pub serves_rooted : (h : Held) (place : ℕ) (s : Model) (entry : ℕ → BaseEntry) (bytes : List ℕ) (l m n : Site) → Same l m →
+pub serves_rooted : (h : Held) (place : ℕ) (s : Model) (entry : ℕ → BaseEntry) (bytes : List ℕ) (l m n : Site) →
+    Same l m →
     length m.trace.now ≡ length l.trace.now + 1 →
-    Visited l.set (at l) (at m) 0 place s (Pool (Extract l.set.hw h.turn.place)) nothing → Left 1 h (Base (entry place)) m n →
+    Visited l.set (at l) (at m) 0 place s (Pool (Extract l.set.hw h.turn.place)) nothing →
+    Left 1 h (Base (entry place)) m n →
     bytes ≡ serving (Base (entry place)) (lane_of m 1) (handed 1 (Base (entry place)) (view m.pass.now)) →
     Does 2 (Serving (Rooted (setting_of l.set) entry) bytes) l n
 serves_rooted h place s entry bytes l m n same one v b is = record {
@@ -47,7 +49,8 @@ serves_rooted h place s entry bytes l m n same one v b is = record {
 }
 
 -- what a CPU serves that was entered
-cpu_serves : {Q : List Deed → Type 0} (h : Held) (e : LaneEntry) (bytes : List ℕ) (steps : ℕ) (l m n : Site) → Same l m →
+cpu_serves : {Q : List Deed → Type 0} (h : Held) (e : LaneEntry) (bytes : List ℕ) (steps : ℕ) (l m n : Site) →
+    Same l m →
     length m.trace.now + 1 ≤ length l.trace.now + steps → LeftServing (own_lane m) h e bytes m n →
     (Served l.set (at m) (at n) (own_lane l) h.turn.place e bytes → Makes Q l.set (at l) (at n)) → Does steps Q l n
 cpu_serves h e bytes steps l m n same few b f = record {
@@ -61,12 +64,14 @@ cpu_serves h e bytes steps l m n same few b f = record {
 pub serves_plain_read : (h : Held) (g : ℕ) (taken : Taken) (bytes : List ℕ) (l m n : Site) → EnteredCpu h g l m →
     LeftServing (own_lane m) h (Cpu (Read g None taken)) bytes m n →
     Does 3 (Serving (PlainRead (setting_of l.set) taken) bytes) l n
-serves_plain_read h g taken bytes l m n a b = cpu_serves h _ bytes 3 l m n a.walked.same (let q = a.room in omega arith) b
+serves_plain_read h g taken bytes l m n a b = cpu_serves h _ bytes 3 l m n a.walked.same (let q = a.room in omega arith)
+    b
     (λ x. did_plain_read l.set (at l) (at m) (at n) g h.turn.place taken bytes a.walked.told x)
 
 -- one that was looked at and refilled
 pub serves_refilled_read : (h : Held) (base : KeyHandoff) (g : ℕ) (taken : Taken) (bytes : List ℕ) (j l m n : Site) →
-    EnteredCpu h g j l → Refilled h base l m → LeftServing (own_lane m) h (Cpu (Read g (Some base.place) taken)) bytes m n →
+    EnteredCpu h g j l → Refilled h base l m → LeftServing (own_lane m) h (Cpu (Read g (Some base.place) taken)) bytes m
+    n →
     Does 3 (Serving (RefilledRead (setting_of j.set) taken) bytes) j n
 serves_refilled_read h base g taken bytes j l m n a b d = cpu_serves h _ bytes 3 j m n
     (same_then j l m a.walked.same b.same) (let q = a.room in let r = b.room in omega arith) d

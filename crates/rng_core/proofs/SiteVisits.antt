@@ -1,8 +1,7 @@
 -- What a visit of a lane is at a site.
-use Rattle.std.proofs.Common.{◌≡◌, ◌≢◌, ℕ, ◌+◌, ◌<◌, ◌≤◌, ◌++◌, List, [], ◌∷◌, length, Option, Some, None, sym, ap, subst, inr, refl, ◌∙◌, arith}
+use Rattle.std.proofs.Common.{◌≡◌, ◌≢◌, ℕ, ◌<◌, ◌≤◌, ◌++◌, List, [], ◌∷◌, length, Option, Some, None, sym, ap, subst, inr, ◌∙◌, arith}
 use Rattle.std.proofs.Math.Seq.{get_or-append_seam}
 use Rattle.atomic_table.specs.Table.{rest}
-use Rattle.key_names.specs.declared.names.Step.{Step}
 use Rattle.lane_table.specs.declared.lanes.Held.{Held}
 use Rattle.lane_table.specs.declared.lanes.Lanes.{Lanes}
 use Rattle.lane_table.specs.declared.lanes.Turn.{Turn}
@@ -11,11 +10,11 @@ use Rattle.lane_table.specs.declared.view.LaneView.{LaneView}
 use Rattle.lane_table.specs.declared.view.LaneEntry.{LaneEntry}
 use Rattle.lane_table.specs.declared.view.Visit.{Visit}
 use Rattle.lane_table.specs.declared.view.Handed.{Handed}
-use Rattle.lane_table.specs.Calls.{CanPut, IsPassOf, IsSamePass, Taken, Tried, count_of, view, visit_by}
+use Rattle.lane_table.specs.Calls.{CanPut, IsPassOf, IsSamePass, Taken, Tried, view, visit_by}
 use Rattle.lane_table.specs.Hands.{HeldLane, HoldsLanes, NotIn, hand}
 use Rattle.lane_table.specs.Meaning.{Model, Fits, IsOf, ahead_of, behind_of, gave_of, got_of, no_visit, parent, raise_of, replay}
 use Rattle.lane_table.specs.Steps.{filled, handed}
-use Rattle.lane_table.specs.WorldRule.{at as standing, known_of}
+use Rattle.lane_table.specs.WorldRule.{known_of}
 use Rattle.lane_table.specs.Advances.{maker}
 use Rattle.lane_table.proofs.Calls.AdvanceLemmas.{went_tried, went_taken}
 use Rattle.lane_table.proofs.Calls.HandLemmas.{has_put_naming}
@@ -58,7 +57,8 @@ took lane h m n same trace is has taken early hands = record {
 -- it was not got at first
 pub took_later : (lane : ℕ) (h : Held) (l m n : Site) → Same l m → m.trace.now ≡ l.trace.now →
     IsPassOf l.lanes.now l.pass.now → Tried lane l.pass.now.seat.me m.pass.now.seat.me →
-    ((hands : List HeldLane) → NotIn lane hands → HasInHands hands l → HasInHands hands m) → Took lane h m n → Took lane h l n
+    ((hands : List HeldLane) → NotIn lane hands → HasInHands hands l → HasInHands hands m) → Took lane h m n →
+    Took lane h l n
 took_later lane h l m n same trace is tried hands k = record {
   walked = walked_then l m n [] [] (record {
     same = same;
@@ -94,14 +94,19 @@ can_put_naming lane h outer e s has on kind names above parent_is owes makes fit
   makes = subst (λ (l : ℕ). IsMade l h e s) (sym on) makes;
   fits = subst (λ (l : ℕ). Fits (lane_of s l) (handed l e (view s.pass.now)) e) (sym on) fits;
   names = record {
-    ahead = inr (outer.lane, outer.place, names, record {
-      above = above;
-      near = has.held.2.0.near;
-      parent = parent_is ∙ sym on;
-      next = has.held.2.0.next;
-      holding = (outer.ticket, has.held.2.0.stage);
-      free = has.held.2.0.owed ∙ owes;
-    });
+    ahead = inr (
+      outer.lane,
+      outer.place,
+      names,
+      record {
+        above = above;
+        near = has.held.2.0.near;
+        parent = parent_is ∙ sym on;
+        next = has.held.2.0.next;
+        holding = (outer.ticket, has.held.2.0.stage);
+        free = has.held.2.0.owed ∙ owes;
+      },
+    );
     behind = sym has.held.0.owed;
     raise = has.held.0.raise;
   };
@@ -123,7 +128,8 @@ last_is xs x p e = ap (λ (q : ℕ). got_of (Some q) (xs ++ x ∷ [])) e
 
 pub named : (lane : ℕ) (h : Held) (outer : Turn) (e : LaneEntry) (m n : Site) →
     HasInHands (hand h.turn (behind_of e) (raise_of e) ∷ hand outer None 0 ∷ []) m → h.turn.lane ≡ lane →
-    ahead_of e ≡ Some (outer.lane, outer.place) → m.pass.now.stamp < last_stamp → Visits h e m n → Named lane h outer e m n
+    ahead_of e ≡ Some (outer.lane, outer.place) → m.pass.now.stamp < last_stamp → Visits h e m n →
+    Named lane h outer e m n
 named lane h outer e m n has on names early v =
     let x : Visit = filled h.turn.lane (visit_by (maker m.set.caller m.set.event (length m.trace.now)) v.stamp e)
     (view m.pass.now) in record {
@@ -141,7 +147,8 @@ named lane h outer e m n has on names early v =
     }
 
 -- a visit behind what no step tells, of an entry that is said by the setting
-pub visited_behind : (F : Setting → LaneEntry) (lane place : ℕ) (s : Model) (got : Handed) (l m n : Site) → Walked [] l m →
+pub visited_behind : (F : Setting → LaneEntry) (lane place : ℕ) (s : Model) (got : Handed) (l m n : Site) →
+    Walked [] l m →
     Visited m.set (at m) (at n) lane place s (F m.set) got → Visited l.set (at l) (at n) lane place s (F l.set) got
 visited_behind F lane place s got l m n a v = visited_after _ _ _ _ _ _ _ _ _ a.told
     (subst (λ (x : Setting). Visited x (at m) (at n) lane place s (F x) got) a.same.set v)

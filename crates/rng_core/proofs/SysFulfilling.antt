@@ -97,7 +97,13 @@ module _ (set : Setting) (n flags g : ℕ) (good : is_bad flags ≡ false) where
           (is ∙ ap (λ (l : List Deed). looked g ∷ (first ++ l)) (sym (append-nil second))) in let rest : List Deed =
           at_base w.base ∷ at_base x.form.base ∷ [] in record {
             form = form_of rest deeds e (waited_form rest (inl
-                record { wait = w.base; interrupt = x.form.base; deeds_are = refl; waits = w.is; interrupts = x.form.is }));
+                record {
+                  wait = w.base;
+                  interrupt = x.form.base;
+                  deeds_are = refl;
+                  waits = w.is;
+                  interrupts = x.form.is;
+                }));
             answers = answer_is rest deeds false true e not_again (ap is_interrupt x.form.is);
             shows = shows_none first second deeds Interrupt w x e;
           }
@@ -148,7 +154,8 @@ module _ (set : Setting) (n flags g : ℕ) (good : is_bad flags ≡ false) where
 
       pub sys_waited : 0 < n → (first second reads deeds : List Deed) (bytes : List ℕ) → BaseOnly Wait first →
           BaseOnly Resume second → Serving (CpuReadForm set (User n)) bytes reads →
-          deeds ≡ looked g ∷ (first ++ (second ++ reads)) → IsOutcomeOf set (Read n flags) Done (bytes_or_none bytes) deeds
+          deeds ≡ looked g ∷ (first ++ (second ++ reads)) → IsOutcomeOf set (Read n flags) Done (bytes_or_none bytes)
+          deeds
       sys_waited some first second reads deeds bytes w x r is = let e =
           ended_is first second deeds reads Resume w x is in let rest : List Deed =
           at_base w.base ∷ at_base x.base ∷ reads in

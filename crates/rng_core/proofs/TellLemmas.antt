@@ -43,7 +43,8 @@ pub fits_then : (xs ys : List MadeStep) → AllByRecursion StepFits (map step_of
 fits_then xs ys a b = subst (AllByRecursion StepFits) (sym (map-append step_of xs ys))
     (each_append StepFits (map step_of xs) (map step_of ys) a b)
 
-pub told_then : (set : Setting) (l m n : Moment) (xs ys : List MadeStep) → TraceRecords set l m xs → TraceRecords set m n ys →
+pub told_then : (set : Setting) (l m n : Moment) (xs ys : List MadeStep) → TraceRecords set l m xs →
+    TraceRecords set m n ys →
     TraceRecords set l n (xs ++ ys)
 told_then set l m n xs ys a b = record {
   trace = trace_then l m n xs ys a.trace b.trace;

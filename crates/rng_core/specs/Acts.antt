@@ -82,7 +82,8 @@ at_event event set = record set { event = event }
 -- from v to w the act was done, with this outcome
 pub record ActRan (set : Setting) (ask : Ask) (v w : View) (y : ActOutcome) : Type 0 where
   pub done : y.done ≡ true
-  pub did : Makes (λ deeds. ActMeans (setting_of set) ask.act (done_line deeds y.answer y.bytes)) (at_event ask.event set)
+  pub did : Makes (λ deeds. ActMeans (setting_of set) ask.act (done_line deeds y.answer y.bytes))
+      (at_event ask.event set)
       (record { view = v; steps = [] }) (record { view = w; steps = y.steps })
 
 -- at a point an act is done that is bound to it and was not done yet

@@ -76,5 +76,6 @@ pub record InsideMakes (n flags : ℕ) (s t : VgetrandomState) (answer : Answer)
   pub stands : (lanes : ℕ) (visits : ℕ → List Visit) (callers : StateLists) → Continues lanes m.view visits →
       (before : CallerState) → before.setting ≡ setting_of set → current_state before ≡ s →
       VreadMeans n flags (bound_acts set asks outcomes)
-      (inside_meaning (book_lists lanes visits callers) (deeds_of (book_lists lanes visits callers) (map step_of made_steps))
+      (inside_meaning (book_lists lanes visits callers)
+      (deeds_of (book_lists lanes visits callers) (map step_of made_steps))
       answer shown entries outcomes before t)

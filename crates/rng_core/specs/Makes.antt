@@ -58,7 +58,8 @@ pub record Served (set : Setting) (m n : Moment) (lane place : ℕ) (e : LaneEnt
   pub serves : bytes ≡ serving e model got
 
 -- deeds that are those of an event, with the answer and the data of its line
-pub record IsOutcomeOf (set : CallSetting) (event : Event) (answer : Answer) (shown : Shown) (deeds : List Deed) : Type 0 where
+pub record IsOutcomeOf (set : CallSetting) (event : Event) (answer : Answer) (shown : Shown) (deeds : List Deed) : Type
+    0 where
   pub form : Form set event deeds
   pub answers : answer ≡ answer_of event deeds
   pub shows : shown ≡ shown_of event deeds

@@ -1,5 +1,5 @@
 -- How long a call may wait at a site, and how a wait ends.
-use Rattle.std.specs.Prelude.{◌≡◌, ℕ, ◌+◌, ◌≤◌, [], length, Bool, false, Result, Ok, Err}
+use Rattle.std.specs.Prelude.{◌≡◌, ℕ, ◌+◌, ◌≤◌, [], length, false, Result, Ok, Err}
 use Rattle.key_names.specs.declared.errno.Errno.{Errno}
 use Rattle.key_names.specs.declared.errno.Errno.TheVariants.{Interrupted}
 use Rattle.key_names.specs.declared.entries.BaseEntry.TheVariants.{Resume, Interrupt}

@@ -165,12 +165,14 @@ pub record Walked (made_steps : List MadeStep) (m n : Site) : Type 0 where
 pub record Took (lane : ℕ) (h : Held) (m n : Site) : Type 0 where
   pub walked : Walked [] m n
   pub trace : n.trace.now ≡ m.trace.now
-  pub hands : (hands : List HeldLane) → NotIn lane hands → HasInHands hands m → HasInHands (hand h.turn None 0 ∷ hands) n
+  pub hands : (hands : List HeldLane) → NotIn lane hands → HasInHands hands m →
+      HasInHands (hand h.turn None 0 ∷ hands) n
   pub lane_is : h.turn.lane ≡ lane
   pub value : ValueRepresents lane h.state (lane_of n lane)
   pub early : n.pass.now.stamp < last_stamp
   pub seen : (view n.pass.now).seen ≡ (view m.pass.now).seen
-  pub kept : (j ticket : ℕ) → j < length (view m.pass.now).lanes → j ≢ lane → (standing j (view m.pass.now)).stage ≡ Holding ticket → lane_of n j ≡ lane_of m j
+  pub kept : (j ticket : ℕ) → j < length (view m.pass.now).lanes → j ≢ lane →
+      (standing j (view m.pass.now)).stage ≡ Holding ticket → lane_of n j ≡ lane_of m j
   pub low : lane ≡ base_lane → IsLow n
   pub agrees : lane ≡ base_lane → Agrees (lane_of n base_lane).base
 
@@ -230,7 +232,8 @@ pub record Visits (h : Held) (e : LaneEntry) (m n : Site) : Type 0 where
   pub pass : IsSamePass m.lanes.now m.pass.now n.pass.now
   pub stamp : ℕ
   pub low : m.pass.now.stamp < last_stamp → stamp ≤ last_stamp
-  pub added : Added h.turn.lane (filled h.turn.lane (visit_by (maker m.set.caller m.set.event (length m.trace.now)) stamp e)
+  pub added : Added h.turn.lane (filled h.turn.lane
+      (visit_by (maker m.set.caller m.set.event (length m.trace.now)) stamp e)
       (view m.pass.now)) m.pass.now.seat.me n.pass.now.seat.me
   pub visited : (lane : ℕ) → h.turn.lane ≡ lane → Visited m.set (at m) (at n) lane h.turn.place (lane_of m lane) e
       (handed lane e (view m.pass.now))

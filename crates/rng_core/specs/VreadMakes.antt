@@ -93,7 +93,8 @@ vread_meaning deeds answer shown entries before t = record {
 }
 
 -- these deeds are those of a read on the state s that left the state t, wherever its caller stood
-abbrev pub VreadLine : CallSetting → ℕ → ℕ → VgetrandomState → VgetrandomState → Answer → Shown → List VEntry → List Deed →
+abbrev pub VreadLine : CallSetting → ℕ → ℕ → VgetrandomState → VgetrandomState → Answer → Shown → List VEntry →
+    List Deed →
     Type 0
 VreadLine set n flags s t answer shown entries deeds = (before : CallerState) → before.setting ≡ set →
     current_state before ≡ s → VreadMeans n flags [] (vread_meaning deeds answer shown entries before t)

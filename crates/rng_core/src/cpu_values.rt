@@ -2,17 +2,16 @@
 ghost use Rattle.std.specs.Prelude.{◌≡◌, ◌≢◌, ℕ, ◌<◌, ◌≤◌, ◌+◌, ◌^◌, Bool, true, None, Some, length};
 ghost use Rattle.key_names.specs.declared.entries.CpuEntry.TheVariants.{Read, Int, Irq, Dump as DumpEntry, Prepare, Online};
 ghost use Rattle.key_names.specs.Batches.{must_fill};
-ghost use Rattle.key_names.specs.KeyInUse.{taken_bytes};
 ghost use Rattle.key_names.specs.FastPool.{makes_due, dump_bits, dump_bytes};
 ghost use Rattle.lane_table.specs.declared.view.LaneEntry.TheVariants.{Cpu as OfCpu};
 ghost use Rattle.lane_table.specs.declared.view.Handed.{Handed};
 ghost use Rattle.lane_table.specs.Meaning.{Model, ValueRepresents, made_of};
 ghost use Rattle.lane_table.specs.VisitsMet.{cpu_serving};
-ghost use Rattle.rng_core.specs.Reading.{taken_count, IsCpuValue};
+ghost use Rattle.rng_core.specs.Reading.{IsCpuValue};
 ghost use Rattle.rng_core.specs.Integers.{IsWidth};
 
 use crate::batches;
-use key_names::Taken;
+use crate::projections::with_cpu;
 use lane_table::LaneState;
 use sample_credit::Dump;
 
@@ -21,57 +20,7 @@ pub(crate) fn cpu_generation(state: &LaneState) -> u64
     requires { IsCpuValue state.now }
     ensures { (lane : ℕ) (s : Model) → 2 ≤ lane → ValueRepresents lane state.now s → result ≡ s.cpu.cpu.generation }
 {
-    match state {
-        LaneState::Cpu(lane) => lane.cpu.generation(),
-        _ => unreachable!(),
-    }
-}
-
-/// A read of the CPU's key.
-pub(crate) fn read(state: &mut LaneState, buf: &mut [u8], taken: Taken)
-    requires stands { IsCpuValue state.old }
-    requires count { taken_count taken ≡ length buf.old }
-    requires some { 0 < length buf.old }
-    ensures made { (lane : ℕ) (s : Model) (got : Handed) (look : ℕ) → 2 ≤ lane → ValueRepresents lane state.old s
-        → ValueRepresents lane state.new (made_of s (OfCpu (Read look None taken)) got) }
-    ensures bytes { (lane : ℕ) (s : Model) → 2 ≤ lane → ValueRepresents lane state.old s
-        → buf.new ≡ taken_bytes s.cpu.cpu.key taken }
-{
-    match state {
-        LaneState::Cpu(lane) => match taken {
-            Taken::User(_) => lane.cpu.user_read(buf),
-            Taken::Kernel(_) => lane.cpu.kernel_read(buf),
-        },
-        _ => unreachable!(),
-    }
-}
-
-/// A read of the key that the base hands over.
-pub(crate) fn read_refilled(
-    state: &mut LaneState,
-    key: [u8; 32],
-    generation: u64,
-    buf: &mut [u8],
-    taken: Taken,
-)
-    requires stands { IsCpuValue state.old }
-    requires count { taken_count taken ≡ length buf.old }
-    requires some { 0 < length buf.old }
-    ensures made { (lane : ℕ) (s : Model) (got : Handed) (look place : ℕ) → 2 ≤ lane → got.key ≡ key
-        → got.generation ≡ generation → ValueRepresents lane state.old s
-        → ValueRepresents lane state.new (made_of s (OfCpu (Read look (Some place) taken)) got) }
-    ensures bytes { buf.new ≡ taken_bytes key taken }
-{
-    match state {
-        LaneState::Cpu(lane) => {
-            lane.cpu.refill(key, generation);
-            match taken {
-                Taken::User(_) => lane.cpu.user_read(buf),
-                Taken::Kernel(_) => lane.cpu.kernel_read(buf),
-            }
-        }
-        _ => unreachable!(),
-    }
+    with_cpu!(state, lane => lane.cpu.generation())
 }
 
 /// Whether the batch of this width has to be filled before it serves an integer at generation `look`.
@@ -81,10 +30,7 @@ pub(crate) fn wants(state: &LaneState, width: usize, look: u64) -> bool
     ensures { (lane : ℕ) (s : Model) → 2 ≤ lane → ValueRepresents lane state.now s
         → result ≡ must_fill look width (s.cpu.fills width) }
 {
-    match state {
-        LaneState::Cpu(lane) => batches::wants(lane, width, look),
-        _ => unreachable!(),
-    }
+    with_cpu!(state, lane => batches::wants(lane, width, look))
 }
 
 /// An integer out of the batch of its width, which the CPU's key fills first where that has to be.
@@ -98,10 +44,7 @@ pub(crate) fn serve(state: &mut LaneState, look: u64, out: &mut [u8])
         → filled ≡ must_fill look (length out.old) (s.cpu.fills (length out.old)) → ValueRepresents lane state.old s
         → out.new ≡ cpu_serving s.cpu got (Int look None (length out.old) filled) }
 {
-    match state {
-        LaneState::Cpu(lane) => batches::serve(lane, look, out),
-        _ => unreachable!(),
-    }
+    with_cpu!(state, lane => batches::serve(lane, look, out))
 }
 
 /// An integer out of the batch of its width, which the key that the base hands over fills first.
@@ -120,15 +63,13 @@ pub(crate) fn serve_refilled(
         (made_of s (OfCpu (Int look (Some place) (length out.old) true)) got) }
     ensures bytes { (lane : ℕ) (s : Model) (got : Handed) (place : ℕ) → 2 ≤ lane → got.key ≡ key
         → got.generation ≡ generation → must_fill look (length out.old) (s.cpu.fills (length out.old)) ≡ true
-        → ValueRepresents lane state.old s → out.new ≡ cpu_serving s.cpu got (Int look (Some place) (length out.old) true) }
+        → ValueRepresents lane state.old s → out.new ≡ cpu_serving s.cpu got
+        (Int look (Some place) (length out.old) true) }
 {
-    match state {
-        LaneState::Cpu(lane) => {
-            lane.cpu.refill(key, generation);
-            batches::serve(lane, look, out);
-        }
-        _ => unreachable!(),
-    }
+    with_cpu!(state, lane => {
+        lane.cpu.refill(key, generation);
+        batches::serve(lane, look, out);
+    })
 }
 
 /// An interrupt's sample. The answer is whether a dump is due.
@@ -136,12 +77,10 @@ pub(crate) fn sample(state: &mut LaneState, v1: u64, v2: u64, now: u64) -> bool
     requires { IsCpuValue state.old }
     ensures made { (lane : ℕ) (s : Model) (got : Handed) → 2 ≤ lane → ValueRepresents lane state.old s
         → ValueRepresents lane state.new (made_of s (OfCpu (Irq v1 v2 now)) got) }
-    ensures due { (lane : ℕ) (s : Model) → 2 ≤ lane → ValueRepresents lane state.old s → result ≡ makes_due s.cpu.fast now }
+    ensures due { (lane : ℕ) (s : Model) → 2 ≤ lane → ValueRepresents lane state.old s →
+        result ≡ makes_due s.cpu.fast now }
 {
-    match state {
-        LaneState::Cpu(lane) => lane.fast.mix(v1, v2, now),
-        _ => unreachable!(),
-    }
+    with_cpu!(state, lane => lane.fast.mix(v1, v2, now))
 }
 
 /// What the fast pool holds for the input pool.
@@ -154,10 +93,7 @@ pub(crate) fn dump(state: &mut LaneState, now: u64) -> Dump
     ensures bits { (lane : ℕ) (s : Model) → 2 ≤ lane → ValueRepresents lane state.old s
         → result.bits ≡ dump_bits s.cpu.fast }
 {
-    match state {
-        LaneState::Cpu(lane) => lane.fast.dump(now),
-        _ => unreachable!(),
-    }
+    with_cpu!(state, lane => lane.fast.dump(now))
 }
 
 /// The CPU comes online.
@@ -166,10 +102,7 @@ pub(crate) fn online(state: &mut LaneState)
     ensures { (lane : ℕ) (s : Model) (got : Handed) → 2 ≤ lane → ValueRepresents lane state.old s
         → ValueRepresents lane state.new (made_of s (OfCpu Online) got) }
 {
-    match state {
-        LaneState::Cpu(lane) => lane.fast.online(),
-        _ => unreachable!(),
-    }
+    with_cpu!(state, lane => lane.fast.online())
 }
 
 /// The CPU is about to come online: its key counts as old, and its batches as used up.
@@ -178,14 +111,11 @@ pub(crate) fn prepare(state: &mut LaneState)
     ensures { (lane : ℕ) (s : Model) (got : Handed) → 2 ≤ lane → ValueRepresents lane state.old s
         → ValueRepresents lane state.new (made_of s (OfCpu Prepare) got) }
 {
-    match state {
-        LaneState::Cpu(lane) => {
-            lane.cpu.prepare();
-            lane.b8.drop_rest();
-            lane.b16.drop_rest();
-            lane.b32.drop_rest();
-            lane.b64.drop_rest();
-        }
-        _ => unreachable!(),
-    }
+    with_cpu!(state, lane => {
+        lane.cpu.prepare();
+        lane.b8.drop_rest();
+        lane.b16.drop_rest();
+        lane.b32.drop_rest();
+        lane.b64.drop_rest();
+    })
 }

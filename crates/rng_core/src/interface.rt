@@ -1,3 +1,3 @@
-//! The interfaces of programs.
+//! The interfaces of programs (the "userspace reader/writer interfaces" of random.c), with the waiting for readiness.
 
 pub(crate) mod system_call;

@@ -1,4 +1,15 @@
 //! The calls of the core: reads, samples, reseeds and what else a caller asks of the lanes.
+//!
+//! A call is made at a [`Site`]: the table of lanes, the caller's pass, the trace of its steps, and what the caller has
+//! set. The folders follow the sections of random.c.
+//!
+//! For every interleaving of the callers it is promised that a call's trace tells exactly the looks and visits that it
+//! made, that these are a form of its event, that its answer and its bytes are those of the form, and that its hands
+//! are empty again. No lane is held while the bytes of a read behind the first 32 are made. A call may wait: for a
+//! lane, and a blocking read for readiness; that a wait ends is not promised.
+//!
+//! It stands on `lane_table` for what a pass may know of the lanes, on the parts for what an entry makes of a value,
+//! and on `vdso_state` for a read out of a caller's own state.
 #![tactic(auto)]
 
 mod batches;
@@ -7,6 +18,7 @@ mod cpu_values;
 mod crng;
 mod interface;
 mod lane_values;
+mod projections;
 mod setting;
 mod site;
 mod sources;

@@ -18,8 +18,8 @@ fn tell<R: Wait>(rt: &R, site: &mut Site, child: u32)
     site.leave_base(base, BaseEntry::Fork { child });
 }
 
-/// The caller forks the caller `child`, which runs from now on. The answer is the child's pass, which knows what this one
-/// knows and has half of its share.
+/// The caller forks the caller `child`, which runs from now on. The answer is the child's pass, which knows what this
+/// one knows and has half of its share.
 pub fn fork<R: Wait>(rt: &R, site: &mut Site, child: u32) -> Pass
     requires idle { IsIdle 1 site.old }
     ensures { SplitsOff child result site.old site.new }

@@ -56,7 +56,8 @@ impl Site<'_> {
         root
     }
 
-    /// Takes a key from the base for the CPU that is held (`crng_make_state`).
+    /// Takes a key from the base for the CPU that is held (`crng_make_state` where the CPU's generation is not the
+    /// base's).
     pub(crate) fn refill<R: Wait>(&mut self, rt: &R, cpu: &Held) -> KeyHandoff
         requires holds { Holds (own_lane self.old) cpu.now self.old }
         requires ready { 1 ≤ (view self.old.pass.now).seen }

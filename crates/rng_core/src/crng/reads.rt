@@ -1,5 +1,5 @@
-//! Reads of random bytes, from the base while the core is not ready and from a CPU afterwards. No lane is held while the
-//! bytes behind the first 32 are made.
+//! Reads of random bytes, from the base while the core is not ready and from a CPU afterwards. No lane is held while
+//! the bytes behind the first 32 are made.
 ghost use Rattle.std.specs.Prelude.{◌≡◌, ◌≢◌, ◌≤◌, None, Some, length};
 ghost use Rattle.key_names.specs.declared.entries.CpuEntry.TheVariants.{Read};
 ghost use Rattle.key_names.specs.BaseList.{empty, early, ready};
@@ -21,14 +21,22 @@ use key_names::{BaseEntry, CpuEntry, LaneId, Taken};
 use lane_table::Held;
 use std::sync::Wait;
 
-// A read from a base that was never seeded: it gets a root for this read alone.
-fn draw_rooted<R: Wait>(rt: &R, site: &mut Site, mut base: Held, buf: &mut [u8], taken: Taken) -> Rest
+// A read from a base that was never seeded: it gets a root for this read alone (`crng_make_state` while `crng_init` is
+// `CRNG_EMPTY`).
+fn draw_rooted<R: Wait>(
+    rt: &R,
+    site: &mut Site,
+    mut base: Held,
+    buf: &mut [u8],
+    taken: Taken,
+) -> Rest
     requires holds { Holds base_lane base site.old }
     requires unseeded { (lane_of site.old base_lane).base.phase ≡ empty }
     requires asks { Asks taken buf.old }
     requires room { HasRoom 2 site.old }
     ensures begun { IsBegun result buf.new }
-    ensures does { Does 2 (Serving (DrawForm (setting_of site.old.set) taken) (finished result buf.new)) site.old site.new }
+    ensures does { Does 2 (Serving (DrawForm (setting_of site.old.set) taken) (finished result buf.new)) site.old
+        site.new }
 {
     let root = site.extract(rt, &base);
     let rest = rest::draw_rooted(base.state_mut(), root.key, buf, taken);
@@ -40,14 +48,15 @@ fn draw_rooted<R: Wait>(rt: &R, site: &mut Site, mut base: Held, buf: &mut [u8],
     rest
 }
 
-// A read from a base that was seeded early.
+// A read from a base that was seeded early (`crng_make_state` while `crng_init` is `CRNG_EARLY`).
 fn draw_early(site: &mut Site, mut base: Held, buf: &mut [u8], taken: Taken) -> Rest
     requires holds { Holds base_lane base site.old }
     requires seeded { (lane_of site.old base_lane).base.phase ≡ early }
     requires asks { Asks taken buf.old }
     requires room { HasRoom 1 site.old }
     ensures begun { IsBegun result buf.new }
-    ensures does { Does 1 (Serving (DrawForm (setting_of site.old.set) taken) (finished result buf.new)) site.old site.new }
+    ensures does { Does 1 (Serving (DrawForm (setting_of site.old.set) taken) (finished result buf.new)) site.old
+        site.new }
 {
     let rest = rest::draw(base.state_mut(), buf, taken);
     site.leave_base(base, BaseEntry::Draw { root: None, taken });
@@ -61,7 +70,8 @@ fn draw<R: Wait>(rt: &R, site: &mut Site, base: Held, buf: &mut [u8], taken: Tak
     requires asks { Asks taken buf.old }
     requires room { HasRoom 2 site.old }
     ensures begun { IsBegun result buf.new }
-    ensures does { Does 2 (Serving (DrawForm (setting_of site.old.set) taken) (finished result buf.new)) site.old site.new }
+    ensures does { Does 2 (Serving (DrawForm (setting_of site.old.set) taken) (finished result buf.new)) site.old
+        site.new }
 {
     match lane_values::phase(base.state()) {
         Phase::Empty => draw_rooted(rt, site, base, buf, taken),
@@ -156,7 +166,8 @@ fn begin_behind<R: Wait>(rt: &R, site: &mut Site, look: u64, buf: &mut [u8], tak
     begin_cpu(rt, site, buf, taken)
 }
 
-/// A read from a CPU. The bytes behind the first 32 are made with empty hands.
+/// A read from a CPU (`_get_random_bytes`, `get_random_bytes_user`). The bytes behind the first 32 are made with empty
+/// hands.
 pub(crate) fn read_cpu<R: Wait>(rt: &R, site: &mut Site, buf: &mut [u8], taken: Taken)
     requires idle { IsIdle 3 site.old }
     requires cpu { IsOnCpu site.old }
@@ -195,7 +206,7 @@ pub fn kernel_read<R: Wait>(rt: &R, site: &mut Site, buf: &mut [u8])
     read_behind(rt, site, found, buf, taken);
 }
 
-/// A read of /dev/urandom, which never waits. Where no byte is wanted nothing is done.
+/// A read of /dev/urandom (`urandom_read_iter`), which never waits. Where no byte is wanted nothing is done.
 pub fn urandom_file<R: Wait>(rt: &R, site: &mut Site, buf: &mut [u8])
     requires idle { IsIdle 4 site.old }
     requires cpu { IsOnCpu site.old }

@@ -36,7 +36,7 @@ pub(crate) fn reseed_base<R: Wait>(rt: &R, site: &mut Site)
     site.leave_base(base, entry);
 }
 
-/// Reseeds the core by hand (`RNDRESEEDCRNG`).
+/// Reseeds the core by hand (`random_ioctl` of `RNDRESEEDCRNG`).
 ///
 /// # Errors
 ///
@@ -72,7 +72,8 @@ fn fire<R: Wait>(rt: &R, site: &mut Site, mut base: Held)
     site.leave_base(base, entry);
 }
 
-/// The reseed timer's moment passes. The answer is whether it was due, so that the base was reseeded.
+/// The reseed timer's moment passes (the delayed work of `crng_reseed`). The answer is whether it was due, so that the
+/// base was reseeded.
 pub fn tick<R: Wait>(rt: &R, site: &mut Site) -> bool
     requires idle { IsIdle 2 site.old }
     requires moment { IsTimely site.old }

@@ -12,6 +12,7 @@ ghost use Rattle.lane_table.specs.Meaning.{Model, ValueRepresents, made_of};
 ghost use Rattle.rng_core.specs.Reading.{IsCpuValue};
 ghost use Rattle.rng_core.specs.Rests.{Asks, finished, IsBegun};
 
+use crate::projections::{with_base, with_cpu};
 use base_gen::Base;
 use chacha_blocks::Detached;
 use cpu_gen::Cpu;
@@ -29,7 +30,7 @@ pub(crate) struct Rest {
 }
 
 impl Rest {
-    /// Makes the bytes that are not made yet.
+    /// Makes the bytes that are not made yet (what `_get_random_bytes` does behind `crng_make_state`).
     pub(crate) fn fill(self, buf: &mut [u8])
         requires { IsBegun self buf.old }
         ensures { buf.new ≡ finished self buf.old }
@@ -41,7 +42,7 @@ impl Rest {
     }
 }
 
-// Erases the CPU's key, and makes up to 32 bytes.
+// Erases the CPU's key, and makes up to 32 bytes (`crng_fast_key_erasure`).
 fn front_of_cpu(cpu: &mut Cpu, buf: &mut [u8], taken: Taken) -> Rest
     requires { Asks taken buf.old }
     ensures state { cpu.new ≡ erased cpu.old }
@@ -59,7 +60,7 @@ fn front_of_cpu(cpu: &mut Cpu, buf: &mut [u8], taken: Taken) -> Rest
     Rest { made, key }
 }
 
-// Erases the base's key, and makes up to 32 bytes.
+// Erases the base's key, and makes up to 32 bytes (`crng_fast_key_erasure`).
 fn front_of_base(base: &mut Base, buf: &mut [u8], taken: Taken) -> Rest
     requires { Asks taken buf.old }
     ensures state { base.new ≡ base_erased base.old }
@@ -87,10 +88,7 @@ pub(crate) fn read(state: &mut LaneState, buf: &mut [u8], taken: Taken) -> Rest
     ensures rest { (lane : ℕ) (s : Model) → 2 ≤ lane → ValueRepresents lane state.old s
         → finished result buf.new ≡ taken_bytes s.cpu.cpu.key taken }
 {
-    match state {
-        LaneState::Cpu(lane) => front_of_cpu(&mut lane.cpu, buf, taken),
-        _ => unreachable!(),
-    }
+    with_cpu!(state, lane => front_of_cpu(&mut lane.cpu, buf, taken))
 }
 
 /// A read of the key that the base hands over.
@@ -109,13 +107,10 @@ pub(crate) fn read_refilled(
     ensures begun { IsBegun result buf.new }
     ensures rest { finished result buf.new ≡ taken_bytes key taken }
 {
-    match state {
-        LaneState::Cpu(lane) => {
-            lane.cpu.refill(key, generation);
-            front_of_cpu(&mut lane.cpu, buf, taken)
-        }
-        _ => unreachable!(),
-    }
+    with_cpu!(state, lane => {
+        lane.cpu.refill(key, generation);
+        front_of_cpu(&mut lane.cpu, buf, taken)
+    })
 }
 
 /// A read that draws from the base's key.
@@ -125,16 +120,19 @@ pub(crate) fn draw(state: &mut LaneState, buf: &mut [u8], taken: Taken) -> Rest
     ensures made { (s : Model) (got : Handed) → ValueRepresents 1 state.old s
         → ValueRepresents 1 state.new (made_of s (OfBase (Draw None taken)) got) }
     ensures begun { IsBegun result buf.new }
-    ensures rest { (s : Model) → ValueRepresents 1 state.old s → finished result buf.new ≡ taken_bytes s.base.key taken }
+    ensures rest { (s : Model) → ValueRepresents 1 state.old s
+        → finished result buf.new ≡ taken_bytes s.base.key taken }
 {
-    match state {
-        LaneState::Base(lane) => front_of_base(&mut lane.base, buf, taken),
-        _ => unreachable!(),
-    }
+    with_base!(state, lane => front_of_base(&mut lane.base, buf, taken))
 }
 
 /// A read that draws from a root.
-pub(crate) fn draw_rooted(state: &mut LaneState, root: [u8; 32], buf: &mut [u8], taken: Taken) -> Rest
+pub(crate) fn draw_rooted(
+    state: &mut LaneState,
+    root: [u8; 32],
+    buf: &mut [u8],
+    taken: Taken,
+) -> Rest
     requires stands { (s : Model) × ValueRepresents 1 state.old s × (s.base.phase ≡ empty) }
     requires asks { Asks taken buf.old }
     ensures made { (s : Model) (got : Handed) (place : ℕ) → got.key ≡ root → ValueRepresents 1 state.old s
@@ -142,11 +140,8 @@ pub(crate) fn draw_rooted(state: &mut LaneState, root: [u8; 32], buf: &mut [u8],
     ensures begun { IsBegun result buf.new }
     ensures rest { finished result buf.new ≡ taken_bytes root taken }
 {
-    match state {
-        LaneState::Base(lane) => {
-            lane.base.fill_empty(root);
-            front_of_base(&mut lane.base, buf, taken)
-        }
-        _ => unreachable!(),
-    }
+    with_base!(state, lane => {
+        lane.base.fill_empty(root);
+        front_of_base(&mut lane.base, buf, taken)
+    })
 }

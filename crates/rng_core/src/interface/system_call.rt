@@ -87,7 +87,7 @@ fn is_nonblock(flags: u32) -> bool
     flags % 2 == GRND_NONBLOCK
 }
 
-/// Random bytes for a user (`getrandom`).
+/// Random bytes for a user (`getrandom(2)`, `SYSCALL_DEFINE3(getrandom)`).
 ///
 /// # Errors
 ///
@@ -140,9 +140,14 @@ fn file_flags(nonblock: bool) -> u32
 ///
 /// # Errors
 ///
-/// Where the core is not ready: `Again` with `nonblock`, and `Interrupted` where nobody runs who could make it ready. The
-/// buffer is unspecified then.
-pub fn random_file<R: Wait>(rt: &R, site: &mut Site, buf: &mut [u8], nonblock: bool) -> Result<(), Errno>
+/// Where the core is not ready: `Again` with `nonblock`, and `Interrupted` where nobody runs who could make it ready.
+/// The buffer is unspecified then.
+pub fn random_file<R: Wait>(
+    rt: &R,
+    site: &mut Site,
+    buf: &mut [u8],
+    nonblock: bool,
+) -> Result<(), Errno>
     requires idle { IsIdle 6 site.old }
     requires cpu { IsOnCpu site.old }
     requires short { length buf.old ≤ most_bytes }

@@ -7,8 +7,8 @@ ghost use Rattle.rng_core.specs.SampleDeeds.{DumpStands, Sampled};
 ghost use Rattle.rng_core.specs.Sites.{IsIdle, IsOnCpu, IsTimely, DoesIn, Entered, own_lane, own_places};
 
 use crate::cpu_values;
-use crate::sources::samples::add;
 use crate::site::Site;
+use crate::sources::samples::add;
 use key_names::{CpuEntry, LaneId};
 use lane_table::Held;
 use std::sync::Wait;

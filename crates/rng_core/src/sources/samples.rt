@@ -5,8 +5,8 @@ ghost use Rattle.key_names.specs.declared.events.Answer.TheVariants.{Ok as Done}
 ghost use Rattle.key_names.specs.SeenLine.{count, no_data};
 ghost use Rattle.rng_core.specs.Sites.{IsIdle, IsTimely, Completes};
 
-use crate::lane_values;
 use crate::crng::reseeds::{cross, reseed};
+use crate::lane_values;
 use crate::site::Site;
 use key_names::{LaneId, PoolNote};
 use std::sync::Wait;

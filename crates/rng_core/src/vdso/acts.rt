@@ -79,18 +79,14 @@ fn is_wipe(act: InsideAct) -> bool
 }
 
 // What an act does to the core; a wipe does nothing to it.
-fn do_act<R: Wait>(
-    rt: &R,
-    site: &mut Site,
-    act: InsideAct,
-    out: &mut [u8],
-) -> Result<(), Errno>
+fn do_act<R: Wait>(rt: &R, site: &mut Site, act: InsideAct, out: &mut [u8]) -> Result<(), Errno>
     requires new { IsNew site.old }
     requires cpu { IsOnCpu site.old }
     requires moment { IsTimely site.old }
     requires short { length out.old ≤ most_bytes }
     requires fits { length out.old ≡ wants act }
-    ensures { Does most_steps (λ deeds. ActMeans (setting_of site.old.set) act (done_line deeds result out.new)) site.old
+    ensures { Does most_steps (λ deeds. ActMeans (setting_of site.old.set) act (done_line deeds result out.new))
+        site.old
         site.new }
 {
     match act {

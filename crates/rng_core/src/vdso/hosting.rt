@@ -17,8 +17,8 @@ use vdso_state::{VHost, VState};
 impl<'a, R> LaneHost<'a, R> {
     /// The host of one call, or of what is left of one, with 5 looks and 3 system calls.
     ///
-    /// The site's trace has to be empty, each act not done yet and with an empty trace, and `out` as long as all reads of
-    /// the list, each at most 2^20 bytes.
+    /// The site's trace has to be empty, each act not done yet and with an empty trace, and `out` as long as all reads
+    /// of the list, each at most 2^20 bytes.
     pub fn over(
         rt: &'a R,
         site: Site<'a>,

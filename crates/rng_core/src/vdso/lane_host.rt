@@ -13,8 +13,8 @@ use crate::vdso::attempt::Attempt;
 /// the acts are done at its points, each with a trace of its own.
 ///
 /// An act is done where the call's first attempt comes to its point, in the order of the list. A read that is an act is
-/// `getrandom` without flags; its bytes stand in `out` behind those of the reads before it in the list. A wipe makes the
-/// state all zero. An act whose point is not reached is not done.
+/// `getrandom` without flags; its bytes stand in `out` behind those of the reads before it in the list. A wipe makes
+/// the state all zero. An act whose point is not reached is not done.
 #[derive(Drop)]
 pub struct LaneHost<'a, R> {
     pub(crate) rt: &'a R,

@@ -57,7 +57,8 @@ pub(crate) fn call_host<R: Wait>(
     requires new { IsNewHost host.old }
     requires current { IsCurrent st.old host.old.site }
     requires short { length buf.old ≤ most_bytes }
-    ensures { HostCalled (length buf.old) flags st.old st.new (result_answer result) (bytes_or_none (given result buf.new))
+    ensures { HostCalled (length buf.old) flags st.old st.new (result_answer result)
+        (bytes_or_none (given result buf.new))
         host.old host.new }
 {
     let ended = vgetrandom(host, st, buf, flags);
@@ -65,8 +66,8 @@ pub(crate) fn call_host<R: Wait>(
 }
 
 /// Random bytes for a user, out of the caller's vgetrandom state where that can serve them and by the system call
-/// otherwise (`vgetrandom`). The host has to be new and without acts, and the state's generation one that its caller has
-/// seen published.
+/// otherwise (`vgetrandom`). The host has to be new and without acts, and the state's generation one that its caller
+/// has seen published.
 ///
 /// # Errors
 ///
@@ -81,7 +82,8 @@ pub fn vread<R: Wait>(
     requires alone { length host.old.acts.now ≡ 0 }
     requires current { IsCurrent st.old host.old.site }
     requires short { length buf.old ≤ most_bytes }
-    ensures { ReadsState (length buf.old) flags st.old st.new (result_answer result) (bytes_or_none (given result buf.new))
+    ensures { ReadsState (length buf.old) flags st.old st.new (result_answer result)
+        (bytes_or_none (given result buf.new))
         host.old host.new }
 {
     match vread_local(&mut host.site, st, buf, flags) {
@@ -108,7 +110,8 @@ pub fn vread_inside<R: Wait>(
     requires some { 0 < length host.old.acts.now }
     requires current { IsCurrent st.old host.old.site }
     requires short { length buf.old ≤ most_bytes }
-    ensures { ReadsInside (length buf.old) flags st.old st.new (result_answer result) (bytes_or_none (given result buf.new))
+    ensures { ReadsInside (length buf.old) flags st.old st.new (result_answer result)
+        (bytes_or_none (given result buf.new))
         host.old host.new }
 {
     call_host(host, st, buf, flags)

@@ -11,7 +11,8 @@ use Rattle.rng_core.proofs.crng.reads.draw_rooted.Goals as goal
 
 pub leave_base-requires-clause-makes : goal.leave_base-requires-clause-makes
 leave_base-requires-clause-makes g c = let e = c.extract-root.ensures in let place = c.extract-root.result.place in
-    c.draw_rooted-rest.ensures.made _ (got_of (Some place) (known_of (view c.extract-root.new.self.pass.now) 0)) place e.key
+    c.draw_rooted-rest.ensures.made _ (got_of (Some place) (known_of (view c.extract-root.new.self.pass.now) 0)) place
+    e.key
     (lent _ _ _ _ c.state_mut.ensures.value e.holds.value)
 
 pub returns-clause-does : goal.returns-clause-does

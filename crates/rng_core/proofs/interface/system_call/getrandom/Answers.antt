@@ -1,4 +1,4 @@
-use Rattle.std.proofs.Common.{◌≡◌, ◌<◌, ◌≤◌, ◌+◌, ◌-◌, ◌*◌, ◌++◌, ◌∷◌, [], ℕ, zero, suc, Bool, true, false, List, length, refl, sym, ap, ◌∙◌, subst, arith, rules, append_assoc}
+use Rattle.std.proofs.Common.{◌≡◌, ◌<◌, ◌+◌, ◌++◌, ◌∷◌, [], ℕ, zero, suc, Bool, true, false, List, length, refl, sym, ap, ◌∙◌, subst, arith, rules, append_assoc}
 use Rattle.std.specs.Prelude.{◌==◌, ◌&&◌}
 use Rattle.std.proofs.lemmas.Bool.{ne_eqb}
 use Rattle.key_names.specs.declared.entries.BaseEntry.TheVariants.{Wait, Resume, Interrupt}
@@ -49,7 +49,8 @@ returns-in-Err-clause-does g c = let good = sym c.are_bad.ensures ∙ c.if-are_b
     (length c.args.buf.now) c.args.flags c.look-found.result good must patient h.holds.first h.holds.rest deeds
     h.holds.before h.holds.behind
     (h.deeds_are ∙ ap (λ (l : List Deed). looked c.look-found.result ∷ l) h.holds.deeds_are))
-    (does_found (λ set. After (BaseOnly Wait) (Serving (BaseOnly Interrupt) [])) 2 c.look-found.result _ _ _ c.look-found.ensures.looked
+    (does_found (λ set. After (BaseOnly Wait) (Serving (BaseOnly Interrupt) [])) 2 c.look-found.result _ _ _
+    c.look-found.ensures.looked
     (does_then (λ set. Serving (BaseOnly Interrupt) []) 1 1 _ _ _ c.wait.ensures w.1))))
 
 pub returns-then-is_empty-clause-does : goal.returns-then-is_empty-clause-does
@@ -63,7 +64,8 @@ returns-then-is_empty-clause-does g c = let good = sym c.are_bad.ensures ∙ c.i
     (length c.args.buf.now) c.args.flags c.look-found.result good must patient none h.holds.first h.holds.rest deeds
     h.holds.before h.holds.behind
     (h.deeds_are ∙ ap (λ (l : List Deed). looked c.look-found.result ∷ l) h.holds.deeds_are))
-    (does_found (λ set. After (BaseOnly Wait) (Serving (BaseOnly Resume) [])) 2 c.look-found.result _ _ _ c.look-found.ensures.looked
+    (does_found (λ set. After (BaseOnly Wait) (Serving (BaseOnly Resume) [])) 2 c.look-found.result _ _ _
+    c.look-found.ensures.looked
     (does_then (λ set. Serving (BaseOnly Resume) []) 1 1 _ _ _ c.wait.ensures w.1))))
 
 pub returns-in-Ok-clause-does : goal.returns-in-Ok-clause-does
@@ -78,9 +80,11 @@ returns-in-Ok-clause-does g c = let good = sym c.are_bad.ensures ∙ c.if-are_ba
     h.holds.before h.holds.behind.before.form h.holds.behind.behind
     (h.deeds_are ∙ (λ i. looked c.look-found.result
     ∷ (h.holds.deeds_are ∙ ap (λ (l : List Deed). h.holds.first ++ l) h.holds.behind.deeds_are) i)))
-    (does_found (λ set. After (BaseOnly Wait) (After (Serving (BaseOnly Resume) []) (Serving (CpuReadForm (setting_of set) (User n)) bytes)))
+    (does_found (λ set. After (BaseOnly Wait)
+    (After (Serving (BaseOnly Resume) []) (Serving (CpuReadForm (setting_of set) (User n)) bytes)))
     5 c.look-found.result _ _ _ c.look-found.ensures.looked
-    (does_then (λ set. After (Serving (BaseOnly Resume) []) (Serving (CpuReadForm (setting_of set) (User n)) bytes)) 1 4 _ _ _
+    (does_then (λ set. After (Serving (BaseOnly Resume) []) (Serving (CpuReadForm (setting_of set) (User n)) bytes)) 1 4
+    _ _ _
     c.wait.ensures (does_then (λ set. Serving (CpuReadForm (setting_of set) (User n)) bytes) 1 3 _ _ _ w.1
     c.read_cpu.ensures))))
 
@@ -97,7 +101,8 @@ pub returns-clause-does : goal.returns-clause-does
 returns-clause-does g c = let good = sym c.are_bad.ensures ∙ c.if-are_bad.false in let takes =
     sym c.must_wait.ensures ∙ c.if-must_wait.false in let some : 0 < length c.args.buf.now = search rules in
     let n = length c.args.buf.now in let found = c.look-found.result in
-    does_within 4 _ _ _ (omega arith) (does_map 4 _ _ (λ deeds h. sys_read (setting_of c.args.site.now.set) n c.args.flags
+    does_within 4 _ _ _ (omega arith) (does_map 4 _ _
+    (λ deeds h. sys_read (setting_of c.args.site.now.set) n c.args.flags
     found good takes some h.rest deeds _ h.holds h.deeds_are)
     (does_found (λ set. Serving (ReadForm (setting_of set) (User n) found) c.read_behind.new.buf) 3 found _ _ _
     c.look-found.ensures.looked c.read_behind.ensures))

@@ -11,4 +11,5 @@ returns g c = let s = c.args.site.now in let n = c.getrandom.new.site in
     subst (λ (f : ℕ). Completes 6 (Dread (length c.args.buf.now) f) (result_answer c.getrandom.result)
     (bytes_or_none (given c.getrandom.result c.getrandom.new.buf)) s n) c.file_flags-flags.ensures
     (does_within _ 6 s n (omega arith)
-    (does_map _ s n (λ deeds h. record { form = h.form; answers = h.answers; shows = h.shows }) c.getrandom.ensures.does))
+    (does_map _ s n (λ deeds h. record { form = h.form; answers = h.answers; shows = h.shows })
+    c.getrandom.ensures.does))

@@ -1,4 +1,4 @@
-use Rattle.std.proofs.Common.{[], refl, arith}
+use Rattle.std.proofs.Common.{[], refl}
 use Rattle.rng_core.proofs.SiteReads.{serves_base}
 use Rattle.rng_core.proofs.interface.system_call.resume.Goals as goal
 

@@ -24,5 +24,6 @@ returns g c = let a = c.enter-held.ensures in let b = c.look_on-look.ensures in 
       not_back = subst (λ (s : Setting). (lane_of n (s.cpu + 2)).cpu.cpu.generation ≤ c.look_on-look.result)
           (sym same.set) (subst (λ (s : Model). s.cpu.cpu.generation ≤ c.look_on-look.result)
           (sym (b.lanes (cpu + 2)))
-          (b.cpus cpu (let e = ap (λ (t : Lanes). t.cpus) a.walked.same.lanes in let f = c.requires.cpu in omega arith)));
+          (b.cpus cpu (let e = ap (λ (t : Lanes). t.cpus) a.walked.same.lanes in let f = c.requires.cpu in omega
+          arith)));
     }

@@ -1,4 +1,4 @@
-use Rattle.std.proofs.Common.{◌≡◌, ◌≢◌, ℕ, ◌+◌, ◌≤◌, List, ◌∷◌, [], Option, Some, None, length, ap, sym, subst, refl, ◌∙◌, arith, rules}
+use Rattle.std.proofs.Common.{◌≡◌, ℕ, ◌+◌, List, ◌∷◌, [], Some, None, length, ap, sym, subst, refl, ◌∙◌, arith}
 use Rattle.key_names.specs.declared.entries.PoolEntry.TheVariants.{Extract}
 use Rattle.key_names.specs.declared.names.Step.{Step}
 use Rattle.lane_table.specs.declared.view.Handed.{Handed}
@@ -13,15 +13,17 @@ use Rattle.rng_core.specs.declared.setting.Setting.{Setting}
 use Rattle.rng_core.specs.Sites.{HasInHands, lane_of}
 use Rattle.rng_core.proofs.TellLemmas.{visited_is, visited_place}
 use Rattle.rng_core.proofs.SiteLemmas.{same_then}
-use Rattle.rng_core.proofs.SiteVisits.{can_put_naming, named, kept_under, visited_behind, Named}
+use Rattle.rng_core.proofs.SiteVisits.{can_put_naming, named, kept_under, visited_behind}
 use Rattle.rng_core.proofs.site.Site.extract.Goals as goal
 
 pub put-requires-clause-pass : goal.put-requires-clause-pass
-put-requires-clause-pass g c = (c.take-pool.ensures.hands _ ((λ e. (let a = c.requires.holds.lane_is in absurd (omega arith))), tt)
+put-requires-clause-pass g c = (c.take-pool.ensures.hands _
+    ((λ e. (let a = c.requires.holds.lane_is in absurd (omega arith))), tt)
     c.requires.holds.has).pass
 
 pub put-requires-clause-own : goal.put-requires-clause-own
-put-requires-clause-own g c = (c.take-pool.ensures.hands _ ((λ e. (let a = c.requires.holds.lane_is in absurd (omega arith))), tt)
+put-requires-clause-own g c = (c.take-pool.ensures.hands _
+    ((λ e. (let a = c.requires.holds.lane_is in absurd (omega arith))), tt)
     c.requires.holds.has).own
 
 pub put-requires-clause-entry : goal.put-requires-clause-entry

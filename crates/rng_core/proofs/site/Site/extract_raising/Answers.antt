@@ -1,4 +1,4 @@
-use Rattle.std.proofs.Common.{◌≡◌, ◌≢◌, ℕ, ◌≤◌, ap, refl, rules, arith}
+use Rattle.std.proofs.Common.{ap, refl, rules, arith}
 use Rattle.lane_table.specs.declared.view.LaneView.{LaneView}
 use Rattle.lane_table.proofs.Calls.AdvanceLemmas.{went_raised}
 use Rattle.lane_table.proofs.Calls.Lent.{lent}
@@ -17,7 +17,8 @@ returns g c = let b = c.extract-root.ensures in let r = c.raise.ensures.raised i
     visited_stays _ _ _ _ _ _ _ _ _ b.visited.1
         (told_idly _ _ _ refl (went_raised _ _ _ _ _ (let a = b.holds.has.pass.sized in omega arith) _
         (let a = b.seen in let low = c.requires.low.seen in
-        let d = c.base_generation-generation.ensures _ (lent _ _ _ _ c.state.ensures c.requires.holds.value) in omega arith) r))
+        let d = c.base_generation-generation.ensures _ (lent _ _ _ _ c.state.ensures c.requires.holds.value) in omega
+        arith) r))
         (ap (λ (a : LaneView). a.known) (r.others 0 (λ e. absurd (omega arith)))),
   );
 }

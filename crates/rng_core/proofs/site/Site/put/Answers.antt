@@ -1,4 +1,4 @@
-use Rattle.std.proofs.Common.{ℕ, refl, subst, ◌∙◌, arith}
+use Rattle.std.proofs.Common.{refl, subst, ◌∙◌, arith}
 use Rattle.key_names.specs.declared.names.Who.{Who}
 use Rattle.lane_table.specs.Calls.{Added, view, visit_by}
 use Rattle.lane_table.specs.Steps.{filled}

@@ -1,7 +1,6 @@
-use Rattle.std.proofs.Common.{◌≡◌, ◌≢◌, ℕ, ◌+◌, ◌≤◌, List, ◌∷◌, [], Option, Some, None, length, ap, sym, subst, refl, ◌∙◌, arith, rules}
+use Rattle.std.proofs.Common.{◌≡◌, ℕ, ◌+◌, List, ◌∷◌, [], Some, None, length, ap, sym, subst, refl, ◌∙◌, arith}
 use Rattle.key_names.specs.declared.entries.BaseEntry.TheVariants.{Refill}
 use Rattle.key_names.specs.declared.names.Step.{Step}
-use Rattle.lane_table.specs.declared.view.Handed.{Handed}
 use Rattle.lane_table.specs.declared.view.LaneEntry.{LaneEntry}
 use Rattle.lane_table.specs.declared.view.LaneEntry.TheVariants.{Base}
 use Rattle.lane_table.specs.Calls.{view}
@@ -14,15 +13,17 @@ use Rattle.rng_core.specs.Sites.{HasInHands, HoldsWith, lane_of}
 use Rattle.rng_core.proofs.Parents.{parent_cpu}
 use Rattle.rng_core.proofs.TellLemmas.{visited_is, visited_place}
 use Rattle.rng_core.proofs.SiteLemmas.{same_then}
-use Rattle.rng_core.proofs.SiteVisits.{can_put_naming, named, kept_under, visited_behind, Named}
+use Rattle.rng_core.proofs.SiteVisits.{can_put_naming, named, kept_under, visited_behind}
 use Rattle.rng_core.proofs.site.Site.refill.Goals as goal
 
 pub put-requires-clause-pass : goal.put-requires-clause-pass
-put-requires-clause-pass g c = (c.take-base.ensures.hands _ ((λ e. (let a = c.requires.holds.lane_is in absurd (omega arith))), tt)
+put-requires-clause-pass g c = (c.take-base.ensures.hands _
+    ((λ e. (let a = c.requires.holds.lane_is in absurd (omega arith))), tt)
     c.requires.holds.has).pass
 
 pub put-requires-clause-own : goal.put-requires-clause-own
-put-requires-clause-own g c = (c.take-base.ensures.hands _ ((λ e. (let a = c.requires.holds.lane_is in absurd (omega arith))), tt)
+put-requires-clause-own g c = (c.take-base.ensures.hands _
+    ((λ e. (let a = c.requires.holds.lane_is in absurd (omega arith))), tt)
     c.requires.holds.has).own
 
 pub put-requires-clause-entry : goal.put-requires-clause-entry
@@ -53,18 +54,20 @@ returns g c = let k = c.take-base.ensures in let v = c.put.ensures in let cpu = 
     ∙ kept_under 1 lane _ cpu None 0 l n c.requires.holds (λ e. absurd (omega arith)) k in
     let base = lent _ _ _ _ c.state.ensures k.value in record {
       same = same;
-      holds = subst (λ (s : Setting). HoldsWith (Some c.place-place.result) 0 (s.cpu + 2) cpu o) (sym same.set) (record {
-        has = subst (λ (p : ℕ). HasInHands (hand cpu.turn (Some p) 0 ∷ []) o) (sym c.place-place.ensures) m.has;
-        lane_is = on;
-        value = kept _ _ _ _ under c.requires.holds.value;
-        early = m.early;
-      });
+      holds = subst (λ (s : Setting). HoldsWith (Some c.place-place.result) 0 (s.cpu + 2) cpu o) (sym same.set)
+          (record {
+            has = subst (λ (p : ℕ). HasInHands (hand cpu.turn (Some p) 0 ∷ []) o) (sym c.place-place.ensures) m.has;
+            lane_is = on;
+            value = kept _ _ _ _ under c.requires.holds.value;
+            early = m.early;
+          });
       kept = subst (λ (s : Setting). (lane_of o (s.cpu + 2)).cpu ≡ (lane_of l lane).cpu) (sym same.set)
           (ap (λ (s : Model). s.cpu) under);
       handed = ap (λ (p : ℕ). got_of (Some p) (known_of (view o.pass.now) 1)) c.place-place.ensures ∙ m.gave
           ∙ (λ i. handing (sym (c.hand_over-key.ensures.key _ (lent _ _ _ _ c.state_mut.ensures.value k.value)) i)
           (sym (c.base_generation-generation.ensures _ base) i));
-      fresh = (let a = (k.low refl).seen in let b = k.seen in let d = c.base_generation-generation.ensures _ base in omega arith);
+      fresh = (let a = (k.low refl).seen in let b = k.seen in let d = c.base_generation-generation.ensures _ base in
+          omega arith);
       room = v.room ∙ ap (λ (t : List Step). length t + 1) k.trace;
       visited = (
         lane_of n 1,

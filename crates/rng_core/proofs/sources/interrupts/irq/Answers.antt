@@ -21,7 +21,8 @@ returns-then-not-due g c = let e = c.enter_own-cpu.ensures in
     let due = c.sample-due.ensures.due _ _ (omega arith) (lent _ _ _ _ c.state_mut.ensures.value e.holds.value) in
     does_behind (λ set. Sampled (IsOutcomeOf (setting_of set) (Irq c.args.v1 c.args.v2) Done no_data)) _ _ _ _
     e.walked e.trace (does_within 1 5 _ _ (omega arith)
-    (does_in_map _ _ _ (λ visits deeds h. sample_quiet (setting_of c.enter_own-cpu.new.site.set) _ _ _ _ visits deeds (sym due ∙ c.if-not-due.true) h)
+    (does_in_map _ _ _ (λ visits deeds h. sample_quiet (setting_of c.enter_own-cpu.new.site.set) _ _ _ _ visits deeds
+    (sym due ∙ c.if-not-due.true) h)
     (does_met _ _ _ _ tt c.leave_cpu.ensures)))
 
 pub returns : goal.returns

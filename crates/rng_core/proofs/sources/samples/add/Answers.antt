@@ -11,5 +11,6 @@ leave_pool-requires-clause-makes g c = c.mix_and_credit-crossing.ensures.made _
 pub returns : goal.returns
 returns g c = does_map _ _ _ (λ deeds h. record { form = h; answers = refl; shows = refl })
     (does_credit _ _ _ _ _ _ _ _ c.enter-pool.ensures c.leave_pool.ensures
-    (c.mix_and_credit-crossing.ensures.crossed _ (lent _ _ _ _ c.state_mut.ensures.value c.enter-pool.ensures.holds.value))
+    (c.mix_and_credit-crossing.ensures.crossed _
+    (lent _ _ _ _ c.state_mut.ensures.value c.enter-pool.ensures.holds.value))
     c.cross.ensures)

@@ -1,5 +1,4 @@
 use Rattle.std.proofs.Common.{◌++◌, List, refl, ap, ◌∙◌}
-use Rattle.key_names.specs.declared.events.Answer.{Answer}
 use Rattle.key_names.specs.declared.events.Event.TheVariants.{Reseed}
 use Rattle.key_names.specs.Deeds.{Deed}
 use Rattle.key_names.specs.SeenLine.{no_data}

@@ -1,8 +1,4 @@
-use Rattle.std.proofs.Common.{length, arith}
-use Rattle.key_names.specs.declared.events.InsideAct.{InsideAct}
-use Rattle.key_names.specs.Meaning.{ActMeans}
-use Rattle.rng_core.specs.Acts.{done_line}
-use Rattle.rng_core.specs.Makes.{setting_of}
+use Rattle.std.proofs.Common.{length}
 use Rattle.rng_core.proofs.ActCalls.{does_wipe, does_read, does_reseed}
 use Rattle.rng_core.proofs.vdso.acts.do_act.Goals as goal
 

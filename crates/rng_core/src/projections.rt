@@ -1,0 +1,35 @@
+//! A lane's value as that of its kind, where the contract says which lane it is.
+
+/// Does this with the value of the pool's lane.
+macro_rules! with_pool {
+    ($state:expr, $lane:ident => $does:expr) => {
+        match $state {
+            lane_table::LaneState::Pool($lane) => $does,
+            _ => unreachable!(),
+        }
+    };
+}
+
+/// Does this with the value of the base's lane.
+macro_rules! with_base {
+    ($state:expr, $lane:ident => $does:expr) => {
+        match $state {
+            lane_table::LaneState::Base($lane) => $does,
+            _ => unreachable!(),
+        }
+    };
+}
+
+/// Does this with the value of a CPU's lane.
+macro_rules! with_cpu {
+    ($state:expr, $lane:ident => $does:expr) => {
+        match $state {
+            lane_table::LaneState::Cpu($lane) => $does,
+            _ => unreachable!(),
+        }
+    };
+}
+
+pub(crate) use with_base;
+pub(crate) use with_cpu;
+pub(crate) use with_pool;
