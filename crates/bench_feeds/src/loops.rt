@@ -6,7 +6,7 @@ use io_edges::{NoMemory, OpenGate};
 use irq_feed::{Feeds, feed_on_new_table};
 use key_names::Trace;
 use lane_table::{Lanes, Pass};
-use rng_core::{Setting, bits, irq};
+use rng_core::{Setting, Site, bits, irq};
 use std::alloc::Global;
 use std::sync::Wait;
 use std::thread::Threads;
@@ -38,7 +38,13 @@ fn irqs_of<R: Wait>(rt: &R, lanes: &Lanes, pass: &mut Pass, feeds: &Feeds, feede
     for index in 0..feeds.each() {
         let sample = feeds.sample(feeder, index);
         let mut trace = Trace::empty();
-        irq(rt, lanes, pass, &mut trace, &SET, sample.v1, sample.v2);
+        let mut site = Site {
+            lanes,
+            pass: &mut *pass,
+            trace: &mut trace,
+            set: SET,
+        };
+        irq(rt, &mut site, sample.v1, sample.v2);
     }
 }
 
@@ -52,5 +58,11 @@ pub fn irqs<R: Wait>(rt: &R, alloc: Global, each: u32) -> Result<u32, NoMemory>
         irqs_of(rt, &lanes, &mut pass, &feeds, feeder);
     }
     let mut trace = Trace::empty();
-    Ok(bits(rt, &lanes, &mut pass, &mut trace, &SET))
+    let mut site = Site {
+        lanes: &lanes,
+        pass: &mut pass,
+        trace: &mut trace,
+        set: SET,
+    };
+    Ok(bits(rt, &mut site))
 }

@@ -1,15 +1,16 @@
 -- One call of a caller, by each kind of event.
-pub mod CanAdvance
-pub mod Callings
-pub mod CoreDone
-pub mod AloneDone
 pub mod ActSteps
 pub mod ActsMeant
+pub mod AloneDone
 pub mod BytesFit
 pub mod CallShapes
+pub mod Callings
+pub mod CanAdvance
+pub mod CoreDone
 pub mod InsideCourse
 pub mod InsideDone
 pub mod KeyCuts
+pub mod OwnSites
 pub mod StateReads
 pub mod VreadDone
 pub mod VreadGoes

@@ -2,10 +2,12 @@
 use Rattle.std.specs.Prelude.{◌≡◌, ℕ, ◌<◌, ◌≤◌, ◌^◌, List, [], length}
 use Rattle.std.specs.List.{AllByRecursion}
 use Rattle.key_names.specs.declared.events.Event.{Event}
+use Rattle.key_names.specs.declared.entries.BaseEntry.TheVariants.{End}
 use Rattle.key_names.specs.declared.events.Answer.{Answer}
 use Rattle.key_names.specs.declared.events.Word.TheVariants.{Vread as VreadWord}
 use Rattle.key_names.specs.declared.names.Step.{Step}
 use Rattle.key_names.specs.Calls.{Setting as CallSetting, vread_call}
+use Rattle.key_names.specs.Forms.{BaseOnly}
 use Rattle.key_names.specs.Meaning.{CallerState, with_state}
 use Rattle.key_names.specs.Texts.ScriptGrammar.{event_word}
 use Rattle.key_names.specs.SeenLine.{Shown}
@@ -14,13 +16,15 @@ use Rattle.key_names.specs.VgetrandomState.{VgetrandomState}
 use Rattle.key_names.specs.VreadSteps.{published_by}
 use Rattle.lane_table.specs.declared.lanes.Lanes.{Lanes}
 use Rattle.lane_table.specs.Calls.{view}
-use Rattle.lane_table.specs.Hands.{HoldsLanes}
+use Rattle.lane_table.specs.Hands.{HoldsLanes, model}
 use Rattle.lane_table.specs.Advances.{floor}
 use Rattle.rng_core.specs.declared.setting.Setting.{Setting}
 use Rattle.rng_core.specs.Traces.{Moment, moment}
-use Rattle.rng_core.specs.Makes.{MakesIn, IsOutcomeOf, setting_of}
+use Rattle.rng_core.specs.Makes.{Makes, MakesIn, IsOutcomeOf, setting_of}
 use Rattle.rng_core.specs.SampleDeeds.{Sampled}
 use Rattle.rng_core.specs.Acts.{Ask, ActOutcome}
+use Rattle.rng_core.specs.Sites.{IsIdle, IsOnCpu, IsTimely, HasInHands, Same, at}
+use Rattle.rng_core.specs.declared.site.Site.{Site}
 use Rattle.rng_core.specs.InsideMakes.{bound_acts}
 use Rattle.caller_run.specs.Done.{CallDone}
 use Rattle.caller_run.specs.Says.{shown_by, line_of, ShowsFit, IsNoCount}
@@ -50,6 +54,19 @@ StatesStand c = Seen (floor (view c.pass)) (stand c)
 abbrev pub Does : Setting → Event → Answer → Shown → Moment → Moment → Type 0
 Does set event answer shown m n = MakesIn (Sampled (IsOutcomeOf (setting_of set) event answer shown)) set m n
 
+-- any event's call can be made at this site, where no step was made yet
+pub record CanAsk (s : Site) : Type 0 where
+  pub idle : IsIdle 20 s
+  pub cpu : IsOnCpu s
+  pub timely : IsTimely s
+
+-- from m to n the call of an event was made, with this reply and these bytes
+pub record Asked (event : Event) (said : Reply) (served : List ℕ) (m n : Site) : Type 0 where
+  pub same : Same m n
+  pub has : HasInHands [] n
+  pub does : Does m.set event said.answer (shown_by served said.shows) (at m) (at n)
+  pub shows : ShowsFit (event_word event) said.shows
+
 -- the caller has no lane in its hands, and its setting is one of the table's
 pub record IsReady (t : Lanes) (c : Caller) : Type 0 where
   pub has : HoldsLanes t c.set.caller [] c.pass
@@ -64,6 +81,13 @@ pub record Called (t : Lanes) (event : Event) (c d : Caller) (said : Reply) (ser
   pub states : d.states ≡ c.states
   pub does : Does c.set event said.answer (shown_by served said.shows) (moment c.pass []) (moment d.pass steps)
   pub shows : ShowsFit (event_word event) said.shows
+
+-- the caller, then c and now d, made its last visit
+pub record HasLeft (t : Lanes) (c d : Caller) (steps : List Step) : Type 0 where
+  pub has : HoldsLanes t d.set.caller [] d.pass
+  pub set : d.set ≡ c.set
+  pub reached : floor (view d.pass) ≤ (model d.pass 1).base.generation
+  pub did : Makes (BaseOnly End) c.set (moment c.pass []) (moment d.pass steps)
 
 -- the caller, then c and now d, read n bytes out of its current state with these flags and these acts inside, of which
 -- this came

@@ -7,6 +7,7 @@ pub mod Says
 pub mod Calling
 pub mod Kinds
 pub mod Standing
+pub mod StateReads
 pub mod Laws
 pub mod Families
 pub mod Forest

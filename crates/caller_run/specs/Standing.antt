@@ -16,7 +16,7 @@ use Rattle.lane_table.specs.Calls.{view}
 use Rattle.lane_table.specs.Steps.{Grows, child as split_off}
 use Rattle.rng_core.specs.Acts.{Ask, wants, all_wanted, asks_of}
 use Rattle.rng_core.specs.InsideMakes.{IsFresh}
-use Rattle.rng_core.specs.declared.acts.Bound.{Bound}
+use Rattle.rng_core.specs.declared.vdso.acts.Bound.{Bound}
 use Rattle.transcript_text.specs.Gathered.{Gathered}
 use Rattle.caller_run.specs.Calling.{IsReady, StatesStand, stand}
 use Rattle.caller_run.specs.Done.{CallsDone}
@@ -105,6 +105,17 @@ pub record HasAdvanced (begun : Start) (events rest : List Event) (c : Caller) (
   pub fit : (more : List SeenLine) → LinesFit begun.caller c.set.event rest more
       → LinesFit begun.caller 0 events (lines ++ more)
   pub idle : AllByRecursion (HasLine begun.caller lines) asks
+
+-- the same, with the lines and the acts of a log
+abbrev pub HasLogged : Start → List Event → List Event → Caller → Log → List Start → Type 0
+HasLogged begun events rest c log kids = HasAdvanced begun events rest c log.lines.lines (waiting_in log) kids
+
+-- c made this event and is d now, and its log went on: so many bytes can be served at once, and read inside a vread
+pub record MadeEvent (t : Lanes) (served inside : ℕ) (event : Event) (c : Caller) (log : Log) (d : Caller) (after : Log)
+    : Type 0 where
+  pub can : (rest : List Event) → CanAdvance t c log served inside (event ∷ rest) → CanAdvance t d after served inside rest
+  pub gone : (begun : Start) (events rest : List Event) (kids : List Start) →
+      HasLogged begun events (event ∷ rest) c log kids → HasLogged begun events rest d after kids
 
 -- the caller has made all of its events, and ended; its pass then knew w
 pub record RunEnded (begun : Start) (events : List Event) (w : View) (lines : List SeenLine) (kids : List Start)

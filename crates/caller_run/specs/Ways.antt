@@ -35,7 +35,7 @@ use Rattle.caller_run.specs.Grove.{Grove, cleared, planted, Plot, grove_of, tree
 use Rattle.caller_run.specs.Laws.{Run, RanAll, LawfulRuns, lines_of_all}
 use Rattle.caller_run.specs.Plots.{plot}
 use Rattle.caller_run.specs.Says.{most_shown}
-use Rattle.caller_run.specs.Standing.{Start, CanAdvance, HasAdvanced, RunEnded, waiting_in, read_inside}
+use Rattle.caller_run.specs.Standing.{Start, CanAdvance, HasLogged, RunEnded, read_inside}
 use Rattle.caller_run.specs.Took.{Took}
 
 -- room for these events, with nothing in it
@@ -86,8 +86,7 @@ CanAdvanceIn t w events = CanAdvance t w.caller w.sheet.log (vec_len w.sheet.ser
 
 -- a caller on its way has made the events before these
 abbrev pub GoneIn : Start → List Event → List Event → Caller → Way → List Start → Type 0
-GoneIn begun events rest c w kids =
-    HasAdvanced begun events rest c w.sheet.log.lines.lines (waiting_in w.sheet.log) kids
+GoneIn begun events rest c w kids = HasLogged begun events rest c w.sheet.log kids
 
 -- each event that forks names a caller of a higher number
 abbrev pub AreAbove : ℕ → List Event → Type 0
@@ -124,6 +123,12 @@ pub record CanTell (t : Lanes) (script : Script) (child : ℕ) (rest : List Even
   pub ready : ArePrepared script.callers (kids_of w) (forks rest)
   pub long : length steps ≡ 1
   pub fits : AllByRecursion StepFits steps
+
+-- a fork's visit was made: the child can run, and the parent can tell of it
+pub record CanPart (t : Lanes) (script : Script) (child : ℕ) (rest : List Event) (w : Way) (steps : List Step)
+    (theirs : Pass) (a : Plot) : Type 0 where
+  pub child_can : CanRun t script (child_set child w.caller.set) theirs a
+  pub parent_can : CanTell t script child rest w steps
 
 -- ---- what is told
 

@@ -1,14 +1,13 @@
 //! Acts that wait for a caller's next `vread`.
-ghost use Rattle.std.specs.Prelude.{◌≡◌, ◌+◌, ◌*◌, ◌<◌, ◌≤◌, ◌^◌, ◌∷◌, ℕ, List, [], length, slice_set};
+ghost use Rattle.std.specs.Prelude.{◌≡◌, ◌+◌, ◌*◌, ◌<◌, ◌≤◌, ◌^◌, ◌∷◌, ℕ, [], length, slice_set};
 ghost use Rattle.std.specs.List.{AllByRecursion};
 ghost use Rattle.key_names.specs.Texts.TranscriptGrammar.{StepFits};
 ghost use Rattle.key_names.specs.VreadSteps.{number_of};
-ghost use Rattle.key_names.specs.declared.events.Event.{Event};
 ghost use Rattle.key_names.specs.declared.events.Event.TheVariants.{Inside};
 ghost use Rattle.lane_table.specs.declared.lanes.Lanes.{Lanes};
 ghost use Rattle.rng_core.specs.Acts.{all_wanted, ask_of, asks_of, outcome_of, outcomes_of};
 ghost use Rattle.rng_core.specs.InsideMakes.{act_line};
-ghost use Rattle.caller_run.specs.Standing.{Start, CanAdvance, HasAdvanced, waiting_in};
+ghost use Rattle.caller_run.specs.Standing.{CanAdvance, MadeEvent};
 ghost use Rattle.caller_run.specs.Waiting.{act_lines, told_anew};
 
 use crate::caller::Caller;
@@ -47,12 +46,8 @@ impl Caller {
         requires can { (t : Lanes) × (served : ℕ) × (inside : ℕ)
             × CanAdvance t self.old log.old served inside (event.now ∷ []) }
         requires is { event.now ≡ Inside point act }
-        ensures can { (t : Lanes) (served inside : ℕ) (rest : List Event)
-            → CanAdvance t self.old log.old served inside (event.now ∷ rest)
-            → CanAdvance t self.new log.new served inside rest }
-        ensures gone { (begun : Start) (events rest : List Event) (kids : List Start)
-            → HasAdvanced begun events (event.now ∷ rest) self.old log.old.lines.lines (waiting_in log.old) kids
-            → HasAdvanced begun events rest self.new log.new.lines.lines (waiting_in log.new) kids }
+        ensures { (t : Lanes) (served inside : ℕ)
+            → MadeEvent t served inside event.now self.old log.old self.new log.new }
     {
         let unused = Reply::only(Answer::Unused);
         self.tell(&mut log.lines, Word::Inside, unused, &Trace::empty(), &[]);

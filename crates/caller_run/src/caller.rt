@@ -4,16 +4,19 @@ ghost use Rattle.key_names.specs.declared.events.Event.{Event};
 ghost use Rattle.lane_table.specs.Calls.{view};
 ghost use Rattle.lane_table.specs.Hands.{HoldsLanes, model};
 ghost use Rattle.lane_table.specs.Advances.{floor};
+ghost use Rattle.caller_run.specs.Calling.{HasLeft};
 ghost use Rattle.caller_run.specs.Kinds.{ForksNobody, IsCall};
-ghost use Rattle.caller_run.specs.Standing.{Start, CanAdvance, HasAdvanced, RunEnded, waiting_in};
+ghost use Rattle.caller_run.specs.Standing.{Start, CanAdvance, HasLogged, MadeEvent, RunEnded};
+ghost use Rattle.caller_run.specs.Ways.{AtFork};
 
 use crate::lines::word_of;
 use crate::logs::{Log, most_shown};
 use crate::reply::Reply;
+use crate::shared::Shared;
 use crate::states::States;
 use key_names::{Answer, Event, Trace, Word};
 use lane_table::{Lanes, Pass};
-use rng_core::{Setting, end};
+use rng_core::{Setting, Site, end, fork};
 use std::sync::Wait;
 
 /// A caller between two events: its pass through the lanes, what it has set, and its vgetrandom states.
@@ -36,12 +39,8 @@ impl Caller {
     )
         requires can { (inside : ℕ) × CanAdvance lanes.now self.old log.old (length served.old) inside (event.now ∷ []) }
         requires kind { IsCall event.now }
-        ensures can { (inside : ℕ) (rest : List Event)
-            → CanAdvance lanes.now self.old log.old (length served.old) inside (event.now ∷ rest)
-            → CanAdvance lanes.now self.new log.new (length served.old) inside rest }
-        ensures gone { (begun : Start) (events rest : List Event) (kids : List Start)
-            → HasAdvanced begun events (event.now ∷ rest) self.old log.old.lines.lines (waiting_in log.old) kids
-            → HasAdvanced begun events rest self.new log.new.lines.lines (waiting_in log.new) kids }
+        ensures { (inside : ℕ)
+            → MadeEvent lanes.now (length served.old) inside event.now self.old log.old self.new log.new }
     {
         let mut trace = Trace::empty();
         let served = &mut served[..most_shown(event) as usize];
@@ -50,32 +49,66 @@ impl Caller {
         self.go_on(event);
     }
 
-    // One event. Its call serves at the front of `served`, and what acts inside a `vread` read goes to the front of `inside`.
-    pub(crate) fn step<R: Wait>(
+    /// One event, which forks nobody. Its call serves at the front of `served`, and what acts inside a `vread` read goes
+    /// to the front of `inside`.
+    pub(crate) fn step<R: Wait, G>(
         &mut self,
-        rt: &R,
-        lanes: &Lanes,
+        shared: &Shared<'_, R, G>,
         log: &mut Log,
         served: &mut [u8],
         inside: &mut [u8],
         event: &Event,
     )
-        requires can { CanAdvance lanes.now self.old log.old (length served.old) (length inside.old) (event.now ∷ []) }
+        requires can { CanAdvance shared.now.lanes.now self.old log.old (length served.old) (length inside.old)
+            (event.now ∷ []) }
         requires plain { ForksNobody event.now }
-        ensures can { (rest : List Event)
-            → CanAdvance lanes.now self.old log.old (length served.old) (length inside.old) (event.now ∷ rest)
-            → CanAdvance lanes.now self.new log.new (length served.old) (length inside.old) rest }
-        ensures gone { (begun : Start) (events rest : List Event) (kids : List Start)
-            → HasAdvanced begun events (event.now ∷ rest) self.old log.old.lines.lines (waiting_in log.old) kids
-            → HasAdvanced begun events rest self.new log.new.lines.lines (waiting_in log.new) kids }
+        ensures { MadeEvent shared.now.lanes.now (length served.old) (length inside.old) event.now self.old log.old
+            self.new log.new }
     {
         match event {
             Event::Inside { point, act } => self.wait(log, event, *point, *act),
-            Event::Vread { flags, .. } => {
-                self.read_state(rt, lanes, log, served, inside, event, *flags);
-            },
-            _ => self.make(rt, lanes, log, served, event),
+            Event::Vread { .. } => self.read_state(shared, log, served, inside, event),
+            _ => self.make(shared.rt, shared.lanes, log, served, event),
         }
+    }
+
+    /// The visit that tells of a child, and the child's pass.
+    pub(crate) fn fork<R: Wait>(
+        &mut self,
+        rt: &R,
+        lanes: &Lanes,
+        trace: &mut Trace,
+        child: u32,
+    ) -> Pass
+        requires has { HoldsLanes lanes.now self.old.set.caller [] self.old.pass }
+        requires new { trace.old ≡ [] }
+        ensures has { HoldsLanes lanes.now self.new.set.caller [] self.new.pass }
+        ensures child { HoldsLanes lanes.now child [] result }
+        ensures room { length trace.new ≡ 1 }
+        ensures at { AtFork self.old self.new trace.new child result }
+    {
+        let mut site = Site {
+            lanes,
+            pass: &mut self.pass,
+            trace,
+            set: self.set,
+        };
+        fork(rt, &mut site, child)
+    }
+
+    // The caller's last visit.
+    fn leave<R: Wait>(&mut self, rt: &R, lanes: &Lanes, trace: &mut Trace)
+        requires has { HoldsLanes lanes.now self.old.set.caller [] self.old.pass }
+        requires new { trace.old ≡ [] }
+        ensures { HasLeft lanes.now self.old self.new trace.new }
+    {
+        let mut site = Site {
+            lanes,
+            pass: &mut self.pass,
+            trace,
+            set: self.set,
+        };
+        end(rt, &mut site);
     }
 
     /// The caller's last visit, and its line.
@@ -85,11 +118,11 @@ impl Caller {
         ensures set { self.new.set ≡ self.old.set }
         ensures reached { floor (view self.new.pass) ≤ (model self.new.pass 1).base.generation }
         ensures ended { (begun : Start) (events : List Event) (kids : List Start)
-            → HasAdvanced begun events [] self.old log.old.lines.lines (waiting_in log.old) kids
+            → HasLogged begun events [] self.old log.old kids
             → RunEnded begun events (view self.new.pass) log.new.lines.lines kids }
     {
         let mut trace = Trace::empty();
-        end(rt, lanes, &mut self.pass, &mut trace, &self.set);
+        self.leave(rt, lanes, &mut trace);
         let done = Reply::only(Answer::Ok);
         self.tell(&mut log.lines, Word::End, done, &trace, &[]);
     }

@@ -7,7 +7,7 @@ ghost use Rattle.caller_run.specs.Ways.{RanHere};
 use crate::rooms::Room;
 use key_names::Trace;
 use lane_table::{Lanes, Pass};
-use rng_core::{Setting, stall, unstall};
+use rng_core::{Setting, Site, stall, unstall};
 use std::sync::Wait;
 
 /// Runs a child whose closure was handed back, as its parent, which waits meanwhile: two visits of the base tell so, one
@@ -27,8 +27,14 @@ pub fn run_here<R: Wait, F: FnOnce() -> (Pass, Room)>(
     ensures here { RanHere set.entry.now (moment pass.old trace.old) (moment pass.new trace.new) }
     ensures child { F.post child result }
 {
-    stall(rt, lanes, pass, trace, set);
+    let mut site = Site {
+        lanes,
+        pass,
+        trace,
+        set: *set,
+    };
+    stall(rt, &mut site);
     let done = child();
-    unstall(rt, lanes, pass, trace, set);
+    unstall(rt, &mut site);
     done
 }

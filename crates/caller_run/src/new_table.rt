@@ -7,6 +7,7 @@ ghost use Rattle.caller_run.specs.Laws.{LawfulRuns};
 use crate::children::Children;
 use crate::plans::Plan;
 use crate::run::run_plan;
+use crate::shared::Shared;
 use event_script::Script;
 use io_edges::Gate;
 use lane_table::Lanes;
@@ -50,7 +51,14 @@ pub fn run_new<R: Threads + Wait + Sync, G: Gate>(
 {
     let plan = Plan::make(alloc, script)?;
     let (lanes, pass) = Lanes::start(alloc, script.cpus(), 0)?;
-    let (pass, transcript) = run_plan(rt, &lanes, pass, script, plan, gate, children);
+    let shared = Shared {
+        rt,
+        lanes: &lanes,
+        script,
+        gate,
+        children,
+    };
+    let (pass, transcript) = run_plan(&shared, pass, plan);
     let _visits = lanes.close(pass);
     Ok(transcript)
 }

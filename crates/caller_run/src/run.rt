@@ -7,12 +7,13 @@ ghost use Rattle.lane_table.specs.Hands.{HoldsLanes};
 ghost use Rattle.caller_run.specs.Families.{SameShare};
 ghost use Rattle.caller_run.specs.Plans.{IsPlanFor, IsReady};
 ghost use Rattle.caller_run.specs.Plots.{plot};
-ghost use Rattle.caller_run.specs.Ways.{CanAdvanceOn, CanRun, CanTell, IsFirst, Returned, WentBeside, WentOn, WholeRan, child_set, start_of};
+ghost use Rattle.caller_run.specs.Ways.{CanAdvanceOn, CanPart, CanRun, IsFirst, Returned, WentBeside, WentOn, WholeRan, start_of};
 
 use crate::children::{Child, Children};
 use crate::here::run_here;
 use crate::plans::{Plan, gather};
 use crate::rooms::Room;
+use crate::shared::Shared;
 use crate::ways::Way;
 use event_script::Script;
 use io_edges::Gate;
@@ -27,64 +28,43 @@ use transcript_text::Transcript;
 
 /// Runs a caller from its start to its end, and joins all that it forks. It takes no memory, but for threads.
 ///
-/// The caller starts where `set` is, with wiped vgetrandom states, and fills the room. A child gets a thread, or is run
-/// here where none can be made. The gate is called before each event.
+/// The caller starts where `set` is, with wiped vgetrandom states, and fills the room. A child gets a thread where
+/// children run in threads, or is run here where none can be made. The gate is called before each event.
 pub fn run_caller<R: Threads + Wait + Sync, G: Gate>(
-    rt: &R,
-    lanes: &Lanes,
+    shared: &Shared<'_, R, G>,
     pass: Pass,
-    script: &Script,
-    caller: u32,
     set: Setting,
     room: Room,
-    gate: &G,
 ) -> (Pass, Room)
-    requires has { HoldsLanes lanes.now caller [] pass }
-    requires own { set.caller ≡ caller }
-    requires set { (set.cpu < lanes.now.cpus) × (set.now < 2 ^ 40) }
-    requires well { WellFormed script.now }
-    requires cpus { lanes.now.cpus ≡ script.now.cpus }
-    requires room { IsReady script.now.callers caller (plot room) }
-    ensures has { HoldsLanes lanes.now caller [] result.0 }
+    requires has { HoldsLanes shared.now.lanes.now set.caller [] pass }
+    requires set { (set.cpu < shared.now.lanes.now.cpus) × (set.now < 2 ^ 40) }
+    requires well { WellFormed shared.now.script.now }
+    requires cpus { shared.now.lanes.now.cpus ≡ shared.now.script.now.cpus }
+    requires room { IsReady shared.now.script.now.callers set.caller (plot room) }
+    ensures has { HoldsLanes shared.now.lanes.now set.caller [] result.0 }
     ensures share { SameShare (view pass) (view result.0) }
-    ensures ran { Returned lanes.now script.now (start_of set pass) (plot room) result.0 (plot result.1) }
+    ensures ran { Returned shared.now.lanes.now shared.now.script.now (start_of set pass) (plot room) result.0
+        (plot result.1) }
 {
-    let set = Setting {
-        caller,
-        event: 0,
-        ..set
-    };
-    run_family(
-        rt,
-        lanes,
-        pass,
-        script,
-        set,
-        room,
-        gate,
-        Children::InThreads,
-    )
+    run_family(shared, pass, Setting { event: 0, ..set }, room)
 }
 
 // Runs a caller and all that it forks.
 #[cycle(callers)]
 fn run_family<R: Threads + Wait + Sync, G: Gate>(
-    rt: &R,
-    lanes: &Lanes,
+    shared: &Shared<'_, R, G>,
     pass: Pass,
-    script: &Script,
     set: Setting,
     room: Room,
-    gate: &G,
-    children: Children,
 ) -> (Pass, Room)
-    requires { CanRun lanes.now script.now set pass (plot room) }
-    ensures { Returned lanes.now script.now (start_of set pass) (plot room) result.0 (plot result.1) }
+    requires { CanRun shared.now.lanes.now shared.now.script.now set pass (plot room) }
+    ensures { Returned shared.now.lanes.now shared.now.script.now (start_of set pass) (plot room) result.0
+        (plot result.1) }
 {
     let (caller, sheet, kids) = room.open();
-    let events = script.events(caller);
+    let events = shared.script.events(caller);
     let way = Way::starting(pass, set, sheet, kids);
-    let way = run_from(rt, lanes, script, events, way, gate, children);
+    let way = run_from(shared, events, way);
     let Way {
         caller: at,
         sheet,
@@ -96,32 +76,36 @@ fn run_family<R: Threads + Wait + Sync, G: Gate>(
 // Runs a caller from where it is to its end, with all that it forks.
 #[cycle(callers)]
 fn run_from<R: Threads + Wait + Sync, G: Gate>(
-    rt: &R,
-    lanes: &Lanes,
-    script: &Script,
+    shared: &Shared<'_, R, G>,
     events: &[Event],
     mut way: Way,
-    gate: &G,
-    children: Children,
 ) -> Way
-    requires { CanAdvanceOn lanes.now script.now events.now way }
-    ensures { WentOn lanes.now script.now events.now way result }
+    requires { CanAdvanceOn shared.now.lanes.now shared.now.script.now events.now way }
+    ensures { WentOn shared.now.lanes.now shared.now.script.now events.now way result }
 {
-    let Some((child, rest)) = way.run_plain(rt, lanes, events, gate) else {
+    let (rt, lanes, script) = (shared.rt, shared.lanes, shared.script);
+    let (gate, children) = (shared.gate, shared.children);
+    let Some((child, rest)) = way.run_plain(shared, events) else {
         way.caller.finish(rt, lanes, &mut way.sheet.log);
         return way;
     };
     let mut trace = Trace::empty();
-    let (theirs, kid) = way.begin_fork(rt, lanes, script, &mut trace, child, rest);
+    let (theirs, kid) = way.begin_fork(rt, lanes, &mut trace, child);
     let (mut way, theirs, kid) = thread::scope(
         thread::scope_env(),
         rt,
         move |scope| -> (Way, Pass, Room)
-            requires { IsSync R.row × CanRun lanes.now script.now (child_set child way.caller.set) theirs (plot kid)
-                × CanTell lanes.now script.now child rest.now way trace }
+            requires { IsSync R.row × CanPart lanes.now script.now child rest.now way trace theirs (plot kid) }
             ensures { WentBeside lanes.entry.now script.entry.now child rest.entry.now way trace theirs (plot kid) result.0
                 result.1 (plot result.2) }
         {
+            let shared = Shared {
+                rt,
+                lanes,
+                script,
+                gate,
+                children,
+            };
             let set = Setting {
                 caller: child,
                 event: 0,
@@ -141,11 +125,20 @@ fn run_from<R: Threads + Wait + Sync, G: Gate>(
                     requires { IsSync R.row × CanRun lanes.now script.now set theirs (plot kid) }
                     ensures { Returned lanes.entry.now script.entry.now (start_of set theirs) (plot kid) result.0
                         (plot result.1) }
-                { run_family(rt, lanes, theirs, script, set, kid, gate, children) },
+                {
+                    let shared = Shared {
+                        rt,
+                        lanes,
+                        script,
+                        gate,
+                        children,
+                    };
+                    run_family(&shared, theirs, set, kid)
+                },
             ) {
                 Ok(handle) => {
                     way.tell_fork(&trace, child);
-                    let way = run_from(rt, lanes, script, rest, way, gate, children);
+                    let way = run_from(&shared, rest, way);
                     let (theirs, kid) = handle.join(rt);
                     (way, theirs, kid)
                 }
@@ -160,7 +153,7 @@ fn run_from<R: Threads + Wait + Sync, G: Gate>(
                         refused.value,
                     );
                     way.tell_fork(&trace, child);
-                    let way = run_from(rt, lanes, script, rest, way, gate, children);
+                    let way = run_from(&shared, rest, way);
                     (way, theirs, kid)
                 }
             }
@@ -192,27 +185,30 @@ pub fn run_all<R: Threads + Wait + Sync, G: Gate>(
     ensures whole { IsFirst (view pass) → (view pass).share ≡ 2 ^ (view pass).halvings
         → WholeRan script.now result.1 (view result.0) }
 {
-    run_plan(rt, lanes, pass, script, plan, gate, Children::InThreads)
+    let shared = Shared {
+        rt,
+        lanes,
+        script,
+        gate,
+        children: Children::InThreads,
+    };
+    run_plan(&shared, pass, plan)
 }
 
-/// The same, where the children run so.
+/// The same, over what the callers share.
 pub(crate) fn run_plan<R: Threads + Wait + Sync, G: Gate>(
-    rt: &R,
-    lanes: &Lanes,
+    shared: &Shared<'_, R, G>,
     pass: Pass,
-    script: &Script,
     plan: Plan,
-    gate: &G,
-    children: Children,
 ) -> (Pass, Transcript)
-    requires has { HoldsLanes lanes.now 0 [] pass }
-    requires well { WellFormed script.now }
-    requires cpus { lanes.now.cpus ≡ script.now.cpus }
-    requires plan { IsPlanFor script.now plan }
-    ensures has { HoldsLanes lanes.now 0 [] result.0 }
+    requires has { HoldsLanes shared.now.lanes.now 0 [] pass }
+    requires well { WellFormed shared.now.script.now }
+    requires cpus { shared.now.lanes.now.cpus ≡ shared.now.script.now.cpus }
+    requires plan { IsPlanFor shared.now.script.now plan }
+    ensures has { HoldsLanes shared.now.lanes.now 0 [] result.0 }
     ensures share { SameShare (view pass) (view result.0) }
     ensures whole { IsFirst (view pass) → (view pass).share ≡ 2 ^ (view pass).halvings
-        → WholeRan script.now result.1 (view result.0) }
+        → WholeRan shared.now.script.now result.1 (view result.0) }
 {
     let Plan { root, mut slots } = plan;
     let set = Setting {
@@ -222,8 +218,8 @@ pub(crate) fn run_plan<R: Threads + Wait + Sync, G: Gate>(
         now: 0,
         hw: [0; 32],
     };
-    let (mut pass, room) = run_family(rt, lanes, pass, script, set, root, gate, children);
-    lanes.settle(&mut pass);
+    let (mut pass, room) = run_family(shared, pass, set, root);
+    shared.lanes.settle(&mut pass);
     gather(&mut slots, room);
     (pass, Transcript::of(slots))
 }

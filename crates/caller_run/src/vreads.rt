@@ -1,81 +1,96 @@
 //! Reads out of a caller's vgetrandom states.
-ghost use Rattle.std.specs.Prelude.{◌≡◌, ◌≤◌, ◌^◌, ◌∷◌, ℕ, List, [], length, vec_capacity};
-ghost use Rattle.std.specs.List.{AllByRecursion};
-ghost use Rattle.key_names.specs.declared.events.Event.{Event};
+ghost use Rattle.std.specs.Prelude.{◌≡◌, ◌∷◌, ℕ, [], length};
 ghost use Rattle.key_names.specs.declared.events.Event.TheVariants.{Vread};
-ghost use Rattle.rng_core.specs.Acts.{all_wanted, asks_of, outcomes_of};
-ghost use Rattle.rng_core.specs.InsideMakes.{IsFresh};
-ghost use Rattle.caller_run.specs.Calling.{IsReady, StatesStand, StateRead};
-ghost use Rattle.caller_run.specs.Standing.{Start, CanAdvance, HasAdvanced, waiting_in};
+ghost use Rattle.caller_run.specs.StateReads.{CanRead, CurrentRead};
+ghost use Rattle.caller_run.specs.Standing.{CanAdvance, MadeEvent};
 
 use crate::acts::all_wanted;
 use crate::caller::Caller;
 use crate::logs::{Log, most_shown};
 use crate::reply::Reply;
+use crate::shared::Shared;
 use key_names::{Event, Trace, Word};
 use lane_table::Lanes;
-use rng_core::{Bound, vread, vread_inside};
+use rng_core::{Bound, LaneHost, Site, vread, vread_inside};
 use std::sync::Wait;
 
+/// What a read out of a state is asked: its flags, where it puts its bytes, and where acts inside put theirs.
+#[derive(Drop)]
+pub(crate) struct ReadInto<'a> {
+    pub(crate) flags: u32,
+    pub(crate) served: &'a mut [u8],
+    pub(crate) inside: &'a mut [u8],
+}
+
+fn flags_of(event: &Event) -> u32
+    requires { (len : ℕ) × (flags : ℕ) × (event.now ≡ Vread len flags) }
+    ensures { (len flags : ℕ) → event.now ≡ Vread len flags → result ≡ flags }
+{
+    match event {
+        Event::Vread { flags, .. } => *flags,
+        _ => unreachable!(),
+    }
+}
+
 impl Caller {
-    // A read out of the current state, of as many bytes as `served` has, with these acts inside. What they read goes into
-    // `inside`.
-    fn vread<R: Wait>(
+    // A read out of the current state, of as many bytes as `into` has, with these acts inside.
+    fn vread<'x, R: Wait>(
         &mut self,
-        rt: &R,
-        lanes: &Lanes,
+        rt: &'x R,
+        lanes: &'x Lanes,
         trace: &mut Trace,
-        served: &mut [u8],
-        flags: u32,
         acts: &mut [Bound],
-        inside: &mut [u8],
+        into: &mut ReadInto,
     ) -> Reply
-        requires ready { IsReady lanes.now self.old }
-        requires states { StatesStand self.old }
-        requires short { length served.old ≤ 2 ^ 20 }
+        requires can { CanRead lanes.now self.old acts.old into.old }
         requires new { trace.old ≡ [] }
-        requires fresh { AllByRecursion IsFresh acts.old }
-        requires fits { length inside.old ≡ all_wanted (asks_of acts.old) }
-        ensures asks { asks_of acts.new ≡ asks_of acts.old }
-        ensures read { StateRead lanes.now (length served.old) flags self.old self.new result served.new trace.new
-            (asks_of acts.old) (outcomes_of acts.new inside.new) }
+        ensures { CurrentRead lanes.now self.old self.new result trace.new acts.old acts.new into.old into.new }
     {
+        let alone = acts.is_empty();
         let st = &mut self.states.all[self.states.current as usize];
-        let pass = &mut self.pass;
-        let set = &self.set;
-        if acts.is_empty() {
-            return Reply::read(vread(rt, lanes, pass, trace, set, st, served, flags));
+        let site = Site {
+            lanes,
+            pass: &mut self.pass,
+            trace: &mut *trace,
+            set: self.set,
+        };
+        let mut host = LaneHost::over(rt, site, &mut *acts, &mut *into.inside);
+        if alone {
+            return Reply::read(vread(&mut host, st, into.served, into.flags));
         }
-        Reply::read(vread_inside(rt, lanes, pass, trace, set, st, served, flags, acts, inside))
+        Reply::read(vread_inside(&mut host, st, into.served, into.flags))
     }
 
     /// A read out of the current state, with the acts inside that waited for it. Their lines are told anew.
-    pub(crate) fn read_state<R: Wait>(
+    pub(crate) fn read_state<R: Wait, G>(
         &mut self,
-        rt: &R,
-        lanes: &Lanes,
+        shared: &Shared<'_, R, G>,
         log: &mut Log,
         served: &mut [u8],
         inside: &mut [u8],
         event: &Event,
-        flags: u32,
     )
-        requires can { CanAdvance lanes.now self.old log.old (length served.old) (length inside.old) (event.now ∷ []) }
-        requires is { (len : ℕ) × (event.now ≡ Vread len flags) }
-        ensures act_room { vec_capacity log.new.acts ≡ vec_capacity log.old.acts }
-        ensures can { (rest : List Event)
-            → CanAdvance lanes.now self.old log.old (length served.old) (length inside.old) (event.now ∷ rest)
-            → CanAdvance lanes.now self.new log.new (length served.old) (length inside.old) rest }
-        ensures gone { (begun : Start) (events rest : List Event) (kids : List Start)
-            → HasAdvanced begun events (event.now ∷ rest) self.old log.old.lines.lines (waiting_in log.old) kids
-            → HasAdvanced begun events rest self.new log.new.lines.lines (waiting_in log.new) kids }
+        requires can { CanAdvance shared.now.lanes.now self.old log.old (length served.old) (length inside.old)
+            (event.now ∷ []) }
+        requires is { (len : ℕ) × (flags : ℕ) × (event.now ≡ Vread len flags) }
+        ensures { MadeEvent shared.now.lanes.now (length served.old) (length inside.old) event.now self.old log.old
+            self.new log.new }
     {
         let mut trace = Trace::empty();
-        let served = &mut served[..most_shown(event) as usize];
-        let inside = &mut inside[..all_wanted(&log.acts)];
-        let said = self.vread(rt, lanes, &mut trace, served, flags, &mut log.acts, inside);
-        self.tell_acts(&mut log.lines, &log.acts, inside);
-        self.tell(&mut log.lines, Word::Vread, said, &trace, served);
+        let mut into = ReadInto {
+            flags: flags_of(event),
+            served: &mut served[..most_shown(event) as usize],
+            inside: &mut inside[..all_wanted(&log.acts)],
+        };
+        let said = self.vread(
+            shared.rt,
+            shared.lanes,
+            &mut trace,
+            &mut log.acts,
+            &mut into,
+        );
+        self.tell_acts(&mut log.lines, &log.acts, into.inside);
+        self.tell(&mut log.lines, Word::Vread, said, &trace, into.served);
         log.acts.clear();
         self.go_on(event);
     }

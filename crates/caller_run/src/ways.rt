@@ -3,7 +3,7 @@ ghost use Rattle.std.specs.Prelude.{◌≡◌, ℕ, ◌+◌, ◌<◌, ◌≤◌,
 ghost use Rattle.std.specs.List.{AllByRecursion};
 ghost use Rattle.key_names.specs.declared.events.Event.{Event};
 ghost use Rattle.key_names.specs.declared.events.Event.TheVariants.{Fork};
-ghost use Rattle.key_names.specs.Texts.ScriptGrammar.{WellFormed};
+ghost use Rattle.key_names.specs.Texts.ScriptGrammar.{Script};
 ghost use Rattle.key_names.specs.Texts.TranscriptGrammar.{StepFits};
 ghost use Rattle.key_names.specs.VgetrandomState.{wiped_state};
 ghost use Rattle.lane_table.specs.declared.lanes.Lanes.{Lanes};
@@ -12,21 +12,20 @@ ghost use Rattle.lane_table.specs.Calls.{view};
 ghost use Rattle.lane_table.specs.Hands.{HoldsLanes, model};
 ghost use Rattle.lane_table.specs.Advances.{floor};
 ghost use Rattle.caller_run.specs.declared.caller.Caller.{Caller};
-ghost use Rattle.caller_run.specs.Forest.{forks};
 ghost use Rattle.caller_run.specs.Grove.{grove_of, plant};
 ghost use Rattle.caller_run.specs.Plots.{plot};
 ghost use Rattle.caller_run.specs.Standing.{Start, RunEnded};
-ghost use Rattle.caller_run.specs.Ways.{ArePrepared, AtFork, CanAdvanceIn, CanRun, CanTell, GoneIn, RanPlain, TookFrom, child_set, kid_of, kids_of};
+ghost use Rattle.caller_run.specs.Ways.{AtFork, CanAdvanceIn, CanAdvanceOn, CanPart, GoneIn, RanPlain, TookFrom, kid_of, kids_of};
 
 use crate::caller::Caller;
 use crate::reply::Reply;
 use crate::rooms::{Room, Sheet};
+use crate::shared::Shared;
 use crate::states::States;
-use event_script::Script;
 use io_edges::Gate;
 use key_names::{Answer, Event, Trace, Word};
 use lane_table::{Lanes, Pass};
-use rng_core::{Setting, fork};
+use rng_core::Setting;
 use std::sync::Wait;
 
 /// A caller on its way, with what it fills.
@@ -61,24 +60,22 @@ impl Way {
     /// Goes through the events up to the next fork, and answers the child and the events behind the fork.
     pub(crate) fn run_plain<'a, R: Wait, G: Gate>(
         &mut self,
-        rt: &R,
-        lanes: &Lanes,
+        shared: &Shared<'_, R, G>,
         events: &'a [Event],
-        gate: &G,
     ) -> Option<(u32, &'a [Event])>
-        requires { CanAdvanceIn lanes.now self.old events.now }
-        ensures { MatchOption result (RanPlain lanes.now events.now self.old [] self.new)
-            (λ r. RanPlain lanes.now events.now self.old (Fork r.0 ∷ r.1.now) self.new) }
+        requires { CanAdvanceIn shared.now.lanes.now self.old events.now }
+        ensures { MatchOption result (RanPlain shared.now.lanes.now events.now self.old [] self.new)
+            (λ r. RanPlain shared.now.lanes.now events.now self.old (Fork r.0 ∷ r.1.now) self.new) }
     {
         let mut rest = events;
         while let Some((event, tail)) = rest.split_first() {
-            gate.before(rt, self.caller.set.caller, self.caller.set.event);
+            let set = self.caller.set;
+            shared.gate.before(shared.rt, set.caller, set.event);
             if let Event::Fork { child } = event {
                 return Some((*child, tail));
             }
             self.caller.step(
-                rt,
-                lanes,
+                shared,
                 &mut self.sheet.log,
                 &mut self.sheet.served,
                 &mut self.sheet.inside,
@@ -94,17 +91,14 @@ impl Way {
         &mut self,
         rt: &R,
         lanes: &Lanes,
-        _script: &Script,
         trace: &mut Trace,
         child: u32,
-        _rest: &[Event],
     ) -> (Pass, Room)
-        requires can { CanAdvanceIn lanes.now self.old (Fork child ∷ _rest.now) }
-        requires well { WellFormed _script.now × (lanes.now.cpus ≡ _script.now.cpus) }
-        requires kids { ArePrepared _script.now.callers (kids_of self.old) (child ∷ forks _rest.now) }
+        requires can { (script : Script) × (rest : List Event)
+            × CanAdvanceOn lanes.now script (Fork child ∷ rest) self.old }
         requires new { trace.old ≡ [] }
-        ensures child { CanRun lanes.now _script.now (child_set child self.new.caller.set) result.0 (plot result.1) }
-        ensures parent { CanTell lanes.now _script.now child _rest.now self.new trace.new }
+        ensures can { (script : Script) (rest : List Event) → CanAdvanceOn lanes.now script (Fork child ∷ rest) self.old
+            → CanPart lanes.now script child rest self.new trace.new result.0 (plot result.1) }
         ensures at { AtFork self.old.caller self.new.caller trace.new child result.0 }
         ensures sheet { self.new.sheet ≡ self.old.sheet }
         ensures tree { kids_of self.old ≡ plant (plot result.1) (kids_of self.new) }
@@ -114,8 +108,7 @@ impl Way {
         let Some(kid) = self.kids.pop() else {
             unreachable!()
         };
-        let caller = &mut self.caller;
-        let theirs = fork(rt, lanes, &mut caller.pass, trace, &caller.set, child);
+        let theirs = self.caller.fork(rt, lanes, trace, child);
         (theirs, kid)
     }
 

@@ -20,7 +20,7 @@ use crate::words::Words;
 use arrayvec::ArrayVec;
 use key_names::Trace;
 use lane_table::{Lanes, Pass};
-use rng_core::{Setting, add};
+use rng_core::{Setting, Site, add};
 use std::alloc::{AllocError, Global};
 use std::sync::Wait;
 
@@ -119,7 +119,13 @@ fn add_sample<R: Wait>(rt: &R, lanes: &Lanes, pass: &mut Pass, set: &Setting)
         set.entry.now (moment pass.old []) (moment pass.new steps) }
 {
     let mut trace = Trace::empty();
-    add(rt, lanes, pass, &mut trace, set, &SAMPLE, SAMPLE_BITS);
+    let mut site = Site {
+        lanes,
+        pass,
+        trace: &mut trace,
+        set: *set,
+    };
+    add(rt, &mut site, &SAMPLE, SAMPLE_BITS);
 }
 
 /// Makes a core with one CPU ready by a first sample, 32 bytes that count up from 0 and are credited with 256 bits.

@@ -18,15 +18,17 @@ use Rattle.vdso_state.specs.Places.{Ends}
 use Rattle.vcall_fork.specs.declared.stage.Stage.{Stage}
 use Rattle.vcall_fork.specs.Stages.{published_or}
 use Rattle.vcall_fork.specs.Stops.{RestOfCall, Stopped}
-use Rattle.rng_core.specs.declared.lane_host.LaneHost.{LaneHost}
+use Rattle.lane_table.specs.declared.lanes.Lanes.{Lanes}
+use Rattle.rng_core.specs.declared.setting.Setting.{Setting}
+use Rattle.rng_core.specs.declared.vdso.lane_host.LaneHost.{LaneHost}
 use Rattle.rng_core.specs.Traces.{moment}
 use Rattle.rng_core.specs.Makes.{Makes, setting_of}
 use Rattle.rng_core.specs.Acts.{Ask, asks_of, wipes_at}
 use Rattle.rng_core.specs.Acting.{ActStand, acting, is_first}
 use Rattle.rng_core.specs.Hosting.{standing, SameLoans, hosting}
 use Rattle.rng_core.proofs.ActRuns.{Own}
-use Rattle.rng_core.proofs.Acting.{acted_set, acted_own, host_acts}
-use Rattle.rng_core.proofs.Hosting.{none_left, has_again}
+use Rattle.rng_core.proofs.Acting.{acted_own, host_acts}
+use Rattle.rng_core.proofs.Hosting.{none_left, free_has}
 use Rattle.fork_runs.specs.Ending.{gives}
 use Rattle.fork_runs.specs.Stretches.{AreUnwiped, StoppedOver, GivesBytes, FinishedOver}
 
@@ -52,34 +54,37 @@ module _ {R : Type 0} (h last : LaneHost R) (steps : List HostStep) (does : Does
   pub loans : SameLoans h last
   loans = (host_acts steps h last does).1
 
-  pub has_still : HoldsLanes h.lanes.now h.set.now.caller [] last.pass.now
-  has_still = has_again _ _ _ _ _ loans.lanes (acted_set steps (standing h) (standing last) acted) last.free
+  pub has_still : HoldsLanes h.site.lanes.now h.site.set.caller [] last.site.pass.now
+  has_still =
+      subst (λ (set : Setting). HoldsLanes h.site.lanes.now set.caller [] last.site.pass.now) loans.site.set
+      (subst (λ (t : Lanes). HoldsLanes t last.site.set.caller [] last.site.pass.now) loans.site.lanes
+      (free_has _ _ _ last.free))
 
-  module _ (idle : length h.acts.now ≡ 0) (two : 1 < length (view h.pass.now).lanes) where
+  module _ (idle : length h.acts.now ≡ 0) (two : 1 < length (view h.site.pass.now).lanes) where
     none : asks_of h.acts.now ≡ []
     none = ap asks_of (none_left h.acts.now idle)
 
-    own : Own h.set.now (asks_of h.acts.now ≡ []) (Shows (setting_of h.set.now) steps)
-        (moment h.pass.now h.trace.now) (moment last.pass.now last.trace.now)
-    own = acted_own steps h.set.now (asks_of h.acts.now) (standing h) (standing last) refl refl two acted
+    own : Own h.site.set (asks_of h.acts.now ≡ []) (Shows (setting_of h.site.set) steps)
+        (moment h.site.pass.now h.site.trace.now) (moment last.site.pass.now last.site.trace.now)
+    own = acted_own steps h.site.set (asks_of h.acts.now) (standing h) (standing last) refl refl two acted
 
-    pub did_own : Makes (Shows (setting_of h.set.now) steps) h.set.now (moment h.pass.now h.trace.now)
-        (moment last.pass.now last.trace.now)
+    pub did_own : Makes (Shows (setting_of h.site.set) steps) h.site.set (moment h.site.pass.now h.site.trace.now)
+        (moment last.site.pass.now last.site.trace.now)
     did_own = record { made_steps = own.made_steps; told = own.alone none; stands = own.stands }
 
     pub stays_unwiped : AreUnwiped steps
     stays_unwiped = unwiped steps (standing h) (standing last) none acted
 
-module _ {R : Type 0} (h last : LaneHost R) (idle : length h.acts.now ≡ 0) (two : 1 < length (view h.pass.now).lanes)
+module _ {R : Type 0} (h last : LaneHost R) (idle : length h.acts.now ≡ 0) (two : 1 < length (view h.site.pass.now).lanes)
     (n flags : ℕ) (stage : Stage) (held : List ℕ) (s : VgetrandomState) where
   abbrev floor_of : LaneHost R → ℕ
-  floor_of k = published_by (floor (view k.pass.now))
+  floor_of k = published_by (floor (view k.site.pass.now))
 
   pub stopped_over : (turn : Turn) (point : Point) (begun : ℕ) (left : Stage) (t : VgetrandomState) (out : List ℕ) →
       Stopped hosting floor_of (RestOfCall stage n flags held s) n flags turn point begun left h last t out →
       1 ≤ published_or 1 left →
-      StoppedOver h.set.now n flags stage held s turn point left out t (moment h.pass.now h.trace.now)
-      (moment last.pass.now last.trace.now)
+      StoppedOver h.site.set n flags stage held s turn point left out t (moment h.site.pass.now h.site.trace.now)
+      (moment last.site.pass.now last.site.trace.now)
   stopped_over turn point begun left t out k ready = record {
     stop = record {
       place = k.place;
@@ -110,8 +115,8 @@ module _ {R : Type 0} (h last : LaneHost R) (idle : length h.acts.now ≡ 0) (tw
   pub finished_over : (t : VgetrandomState) (result : Result VEnd Errno) (out : List ℕ) →
       Ends hosting floor_of (RestOfCall stage n flags held s) h last
       (record { state = t; result = result; buf = out }) → gives result ≡ true →
-      FinishedOver h.set.now n flags stage held s out (moment h.pass.now h.trace.now)
-      (moment last.pass.now last.trace.now)
+      FinishedOver h.site.set n flags stage held s out (moment h.site.pass.now h.site.trace.now)
+      (moment last.site.pass.now last.site.trace.now)
   finished_over t result out k met = record {
     steps = k.runs.steps;
     outcome = k.runs.outcome;

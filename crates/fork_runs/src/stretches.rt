@@ -13,7 +13,7 @@ ghost use Rattle.fork_runs.specs.Stretches.{StoppedOver, FinishedOver};
 
 use key_names::{Errno, Trace};
 use lane_table::{Lanes, Pass};
-use rng_core::{LaneHost, Setting};
+use rng_core::{LaneHost, Setting, Site};
 use std::sync::Wait;
 use vcall_fork::{Point, Progress, Turn, VCall, VEnd};
 use vdso_state::VState;
@@ -32,14 +32,14 @@ fn run_on_host<R: Wait>(
     requires idle { length host.old.acts.now ≡ 0 }
     requires open { is_open call.old.stage ≡ true }
     requires length { length buf.old ≡ call.old.len }
-    requires known { published_or 0 call.old.stage ≤ published_by (floor (view host.old.pass.now)) }
+    requires known { published_or 0 call.old.stage ≤ published_by (floor (view host.old.site.pass.now)) }
     ensures loans { SameLoans host.old host.new }
-    ensures has { HoldsLanes host.old.lanes.now host.old.set.now.caller [] host.new.pass.now }
+    ensures has { HoldsLanes host.old.site.lanes.now host.old.site.set.caller [] host.new.site.pass.now }
     ensures len { call.new.len ≡ call.old.len }
     ensures flags { call.new.flags ≡ call.old.flags }
-    ensures stopped { result ≡ true → StoppedOver host.old.set.now call.old.len call.old.flags call.old.stage buf.old
+    ensures stopped { result ≡ true → StoppedOver host.old.site.set call.old.len call.old.flags call.old.stage buf.old
         st.old attempt point call.new.stage buf.new st.new
-        (moment host.old.pass.now host.old.trace.now) (moment host.new.pass.now host.new.trace.now) }
+        (moment host.old.site.pass.now host.old.site.trace.now) (moment host.new.site.pass.now host.new.site.trace.now) }
 {
     match call.run_to(host, st, buf, attempt, point) {
         Progress::At => true,
@@ -48,9 +48,9 @@ fn run_on_host<R: Wait>(
 }
 
 /// Runs a call to a point of an attempt. The answer is whether it stands there now: otherwise it is over.
-pub(crate) fn run_to<R: Wait>(
-    rt: &R,
-    lanes: &Lanes,
+pub(crate) fn run_to<'x, R: Wait>(
+    rt: &'x R,
+    lanes: &'x Lanes,
     pass: &mut Pass,
     set: &Setting,
     call: &mut VCall,
@@ -72,7 +72,13 @@ pub(crate) fn run_to<R: Wait>(
         (moment pass.old []) (moment pass.new steps) }
 {
     let mut trace = Trace::empty();
-    let mut host = LaneHost::over(rt, lanes, pass, &mut trace, set, &mut [], &mut []);
+    let site = Site {
+        lanes,
+        pass: &mut *pass,
+        trace: &mut trace,
+        set: *set,
+    };
+    let mut host = LaneHost::over(rt, site, &mut [], &mut []);
     run_on_host(&mut host, call, st, buf, attempt, point)
 }
 
@@ -98,20 +104,20 @@ fn finish_on_host<R: Wait>(
     requires idle { length host.old.acts.now ≡ 0 }
     requires stopped { is_stopped call.stage ≡ true }
     requires length { length buf.old ≡ call.len }
-    requires known { published_or 0 call.stage ≤ published_by (floor (view host.old.pass.now)) }
+    requires known { published_or 0 call.stage ≤ published_by (floor (view host.old.site.pass.now)) }
     ensures loans { SameLoans host.old host.new }
-    ensures has { HoldsLanes host.old.lanes.now host.old.set.now.caller [] host.new.pass.now }
-    ensures finished { result ≡ true → FinishedOver host.old.set.now call.len call.flags call.stage buf.old st.old
-        buf.new (moment host.old.pass.now host.old.trace.now) (moment host.new.pass.now host.new.trace.now) }
+    ensures has { HoldsLanes host.old.site.lanes.now host.old.site.set.caller [] host.new.site.pass.now }
+    ensures finished { result ≡ true → FinishedOver host.old.site.set call.len call.flags call.stage buf.old st.old
+        buf.new (moment host.old.site.pass.now host.old.site.trace.now) (moment host.new.site.pass.now host.new.site.trace.now) }
 {
     let ended = call.finish(host, st, buf);
     gave_bytes(ended)
 }
 
 /// Runs a call that stands at a point to its end. The answer is whether it gave bytes.
-pub(crate) fn finish<R: Wait>(
-    rt: &R,
-    lanes: &Lanes,
+pub(crate) fn finish<'x, R: Wait>(
+    rt: &'x R,
+    lanes: &'x Lanes,
     pass: &mut Pass,
     set: &Setting,
     call: VCall,
@@ -128,6 +134,12 @@ pub(crate) fn finish<R: Wait>(
         call.stage buf.old st.old buf.new (moment pass.old []) (moment pass.new steps) }
 {
     let mut trace = Trace::empty();
-    let mut host = LaneHost::over(rt, lanes, pass, &mut trace, set, &mut [], &mut []);
+    let site = Site {
+        lanes,
+        pass: &mut *pass,
+        trace: &mut trace,
+        set: *set,
+    };
+    let mut host = LaneHost::over(rt, site, &mut [], &mut []);
     finish_on_host(&mut host, call, st, buf)
 }

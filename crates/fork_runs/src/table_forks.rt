@@ -19,7 +19,7 @@ ghost use Rattle.fork_runs.specs.TableForks.{AreForkedBytes, first_setting};
 use crate::stretches::{finish, run_to};
 use key_names::Trace;
 use lane_table::{Lanes, Pass};
-use rng_core::{Setting, add, fork, reseed};
+use rng_core::{Setting, Site, add, fork, reseed};
 use std::alloc::{AllocError, Global};
 use std::sync::Wait;
 use vcall_fork::laws::{child_takes_key, forks_are_told};
@@ -63,7 +63,13 @@ fn add_sample<R: Wait>(rt: &R, lanes: &Lanes, pass: &mut Pass, set: &Setting)
         set.entry.now (moment pass.old []) (moment pass.new steps) }
 {
     let mut trace = Trace::empty();
-    add(rt, lanes, pass, &mut trace, set, &SAMPLE, SAMPLE_BITS);
+    let mut site = Site {
+        lanes,
+        pass,
+        trace: &mut trace,
+        set: *set,
+    };
+    add(rt, &mut site, &SAMPLE, SAMPLE_BITS);
 }
 
 // Reseeds the core. The answer is whether it was ready.
@@ -75,7 +81,13 @@ fn reseed_once<R: Wait>(rt: &R, lanes: &Lanes, pass: &mut Pass, set: &Setting) -
         set.entry.now (moment pass.old []) (moment pass.new steps) }
 {
     let mut trace = Trace::empty();
-    match reseed(rt, lanes, pass, &mut trace, set) {
+    let mut site = Site {
+        lanes,
+        pass,
+        trace: &mut trace,
+        set: *set,
+    };
+    match reseed(rt, &mut site) {
         Ok(()) => true,
         Err(_) => false,
     }
@@ -175,7 +187,13 @@ fn fork_at_stop<R: Wait>(
         child_buf.new (view pass.old) (view pass.new) }
 {
     let mut trace = Trace::empty();
-    let mut child_pass = fork(rt, lanes, pass, &mut trace, set, 1);
+    let mut site = Site {
+        lanes,
+        pass: &mut *pass,
+        trace: &mut trace,
+        set: *set,
+    };
+    let mut child_pass = fork(rt, &mut site, 1);
     let (child_call, mut child_st) = call.fork_call(buf, child_buf);
     let parent_gave = finish(rt, lanes, pass, set, call, st, buf);
     let child_set = first_setting(1);

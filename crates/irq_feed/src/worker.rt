@@ -16,7 +16,7 @@ use crossbeam_utils::Backoff;
 use io_edges::Gate;
 use key_names::Trace;
 use lane_table::{Lanes, Pass};
-use rng_core::{Setting, irq};
+use rng_core::{Setting, Site, irq};
 use std::sync::Wait;
 
 fn pop<R: Wait>(rt: &R, queue: &FeedQueue, worker: &mut FeedPass) -> Sample
@@ -58,7 +58,13 @@ fn mix<R: Wait>(
         ..*set
     };
     let mut trace = Trace::empty();
-    irq(rt, lanes, pass, &mut trace, &set, sample.v1, sample.v2);
+    let mut site = Site {
+        lanes,
+        pass,
+        trace: &mut trace,
+        set,
+    };
+    irq(rt, &mut site, sample.v1, sample.v2);
     mixed.samples.push_reserved(sample);
 }
 

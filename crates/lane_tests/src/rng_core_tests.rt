@@ -12,7 +12,8 @@ use crate::passes::started;
 use key_names::{Errno, InsideAct, LaneId, Mark, Point, Step, Trace};
 use lane_table::{Lanes, Pass};
 use rng_core::{
-    Bound, Setting, add, bits, getrandom, input, int, random_file, reseed, vread_inside,
+    Bound, LaneHost, Setting, Site, add, bits, getrandom, input, int, random_file, reseed,
+    vread_inside,
 };
 use std::sync::Wait;
 use std::test::Fail;
@@ -87,7 +88,13 @@ fn added<R: Wait>(
     ensures has { HoldsLanes lanes.now set.entry.now.caller [] pass.new }
 {
     let mut trace = Trace::empty();
-    add(rt, lanes, pass, &mut trace, set, text, bits);
+    let mut site = Site {
+        lanes,
+        pass,
+        trace: &mut trace,
+        set: *set,
+    };
+    add(rt, &mut site, text, bits);
     has_steps(&trace, want)
 }
 
@@ -97,7 +104,13 @@ fn reseeded<R: Wait>(rt: &R, lanes: &Lanes, pass: &mut Pass, set: &Setting, want
     ensures has { HoldsLanes lanes.now set.entry.now.caller [] pass.new }
 {
     let mut trace = Trace::empty();
-    let answer = reseed(rt, lanes, pass, &mut trace, set);
+    let mut site = Site {
+        lanes,
+        pass,
+        trace: &mut trace,
+        set: *set,
+    };
+    let answer = reseed(rt, &mut site);
     answer == Ok(()) && has_steps(&trace, want)
 }
 
@@ -114,7 +127,13 @@ fn key_pressed<R: Wait>(
     ensures has { HoldsLanes lanes.now set.entry.now.caller [] pass.new }
 {
     let mut trace = Trace::empty();
-    input(rt, lanes, pass, &mut trace, set, 0, 1, 30, value);
+    let mut site = Site {
+        lanes,
+        pass,
+        trace: &mut trace,
+        set: *set,
+    };
+    input(rt, &mut site, 0, 1, 30, value);
     has_steps(&trace, want)
 }
 
@@ -129,7 +148,13 @@ fn bits_of<R: Wait>(
     ensures has { HoldsLanes lanes.now set.entry.now.caller [] pass.new }
 {
     let mut trace = Trace::empty();
-    let bits = bits(rt, lanes, pass, &mut trace, set);
+    let mut site = Site {
+        lanes,
+        pass,
+        trace: &mut trace,
+        set: *set,
+    };
+    let bits = bits(rt, &mut site);
     has_steps(&trace, want).then_some(bits)
 }
 
@@ -148,7 +173,13 @@ fn read_of<R: Wait, const N: usize>(
 {
     let mut trace = Trace::empty();
     let mut bytes = [0; N];
-    let answer = getrandom(rt, lanes, pass, &mut trace, set, &mut bytes, flags);
+    let mut site = Site {
+        lanes,
+        pass,
+        trace: &mut trace,
+        set: *set,
+    };
+    let answer = getrandom(rt, &mut site, &mut bytes, flags);
     if !has_steps(&trace, want) {
         return None;
     }
@@ -173,7 +204,13 @@ fn file_read_of<R: Wait, const N: usize>(
 {
     let mut trace = Trace::empty();
     let mut bytes = [0; N];
-    let answer = random_file(rt, lanes, pass, &mut trace, set, &mut bytes, nonblock);
+    let mut site = Site {
+        lanes,
+        pass,
+        trace: &mut trace,
+        set: *set,
+    };
+    let answer = random_file(rt, &mut site, &mut bytes, nonblock);
     if !has_steps(&trace, want) {
         return None;
     }
@@ -197,7 +234,13 @@ fn int_of<R: Wait, const W: usize>(
 {
     let mut trace = Trace::empty();
     let mut bytes = [0; W];
-    int(rt, lanes, pass, &mut trace, set, &mut bytes);
+    let mut site = Site {
+        lanes,
+        pass,
+        trace: &mut trace,
+        set: *set,
+    };
+    int(rt, &mut site, &mut bytes);
     has_steps(&trace, want).then_some(bytes)
 }
 
@@ -333,9 +376,9 @@ fn device_file_before_readiness(rt: HostRuntime) -> Result<(), Fail> {
 }
 
 // A read of 64 bytes with acts inside: the answer and the bytes, where its steps are those that are wanted.
-fn inside_of<R: Wait>(
-    rt: &R,
-    lanes: &Lanes,
+fn inside_of<'x, R: Wait>(
+    rt: &'x R,
+    lanes: &'x Lanes,
     pass: &mut Pass,
     set: &Setting,
     acts: &mut [Bound],
@@ -353,9 +396,14 @@ fn inside_of<R: Wait>(
     let mut trace = Trace::empty();
     let mut bytes = [0; 64];
     let mut st = VState::wiped();
-    let answer = vread_inside(
-        rt, lanes, pass, &mut trace, set, &mut st, &mut bytes, 0, acts, out,
-    );
+    let site = Site {
+        lanes,
+        pass: &mut *pass,
+        trace: &mut trace,
+        set: *set,
+    };
+    let mut host = LaneHost::over(rt, site, &mut *acts, &mut *out);
+    let answer = vread_inside(&mut host, &mut st, &mut bytes, 0);
     if !has_steps(&trace, want) {
         return None;
     }

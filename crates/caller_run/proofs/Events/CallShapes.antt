@@ -7,7 +7,7 @@ use Rattle.key_names.specs.declared.point.Point.TheVariants.{Start, Written, Ser
 use Rattle.key_names.specs.Flags.{is_bad}
 use Rattle.key_names.specs.Vgetrandom.{CpuPlace, SystemAnswer, read, failed, HostStep, publishes, system_call, at_point, AttemptEnd, holds, outdated, Attempt, AtPoint, FromServe, AfterKeyRead, FromWritten, FromStart, Outcome, BySystem, AfterAttempt, SecondAttempt, FirstAttempt, ByNothing, FromPublished, FromLook, IsCall}
 use Rattle.key_names.specs.VgetrandomState.{VgetrandomState}
-use Rattle.rng_core.specs.declared.attempt.Attempt.TheVariants.{Before, First}
+use Rattle.rng_core.specs.declared.vdso.attempt.Attempt.TheVariants.{Before, First}
 use Rattle.caller_run.proofs.Orders.OwnSteps.{Quiet, later_quiet, LooksFirst}
 
 -- a second attempt, and what follows it

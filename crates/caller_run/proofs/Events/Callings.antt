@@ -11,19 +11,21 @@ use Rattle.key_names.specs.Calls as calls
 use Rattle.key_names.specs.Deeds.{deeds_of}
 use Rattle.key_names.specs.Texts.ScriptGrammar.{event_word}
 use Rattle.key_names.specs.SeenLine.{Shown, no_data}
-use Rattle.lane_table.specs.declared.lanes.Lanes.{Lanes}
+use Rattle.lane_table.specs.declared.lanes.Pass.{Pass}
 use Rattle.lane_table.specs.BookLists.{book_lists}
-use Rattle.lane_table.specs.Hands.{HoldsLanes}
 use Rattle.lane_table.specs.Advances.{step_of}
 use Rattle.rng_core.specs.declared.setting.Setting.{Setting}
 use Rattle.rng_core.specs.Traces.{Moment, moment}
 use Rattle.rng_core.specs.Makes.{Makes, IsOutcomeOf, setting_of}
-use Rattle.rng_core.specs.SampleDeeds.{fast_in}
+use Rattle.rng_core.specs.SampleDeeds.{Sampled, fast_in}
+use Rattle.rng_core.specs.Sites.{Completes, DoesIn, at}
+use Rattle.rng_core.specs.declared.site.Site.{Site}
 use Rattle.rng_core.proofs.Makings.{did_nothing}
-use Rattle.caller_run.specs.Calling.{Does, IsReady, Called}
+use Rattle.caller_run.specs.Calling.{Does, CanAsk, Asked, Called}
+use Rattle.caller_run.proofs.Events.OwnSites.{own_hands}
 use Rattle.caller_run.specs.Kinds.{IsSetting}
 use Rattle.caller_run.specs.Says.{shown_by, ShowsFit, IsNoCount}
-use Rattle.caller_run.specs.declared.caller.Caller.{Caller}
+use Rattle.caller_run.specs.declared.states.States.{States}
 use Rattle.caller_run.specs.declared.reply.Shows.{Shows}
 use Rattle.caller_run.specs.declared.reply.Shows.TheVariants.{Nothing, Served, Count}
 use Rattle.caller_run.specs.declared.reply.Reply.{Reply}
@@ -42,43 +44,51 @@ quietly set event answer shown m n other did = record {
   };
 }
 
--- c made the call of an event, and is d behind it
-module _ (t : Lanes) (event e : Event) (c d : Caller) (said : Reply) (served : List ℕ) (before steps : List Step)
-    (is : event ≡ e)
-    (new : before ≡ []) (same : d ≡ record c { pass = d.pass }) (has : HoldsLanes t c.set.caller [] d.pass) where
-  pub by_does : (answer : Answer) (shown : Shown) → said.answer ≡ answer → shown_by served said.shows ≡ shown →
-      ShowsFit (event_word e) said.shows → Does c.set e answer shown (moment c.pass before) (moment d.pass steps) →
-      Called t event c d said served steps
-  by_does answer shown answers shows fit does =
-      subst (λ (x : Event). Called t x c d said served steps) (sym is) (record {
-        has = subst (λ (x : Caller). HoldsLanes t x.set.caller [] d.pass) (sym same) has;
-        set = ap (λ (x : Caller). x.set) same;
-        states = ap (λ (x : Caller). x.states) same;
-        does = subst (λ (a : Answer). Does c.set e a (shown_by served said.shows) (moment c.pass [])
-            (moment d.pass steps)) (sym answers)
-            (subst (λ (x : Shown). Does c.set e answer x (moment c.pass []) (moment d.pass steps)) (sym shows)
-            (subst (λ (l : List Step). Does c.set e answer shown (moment c.pass l) (moment d.pass steps)) new does));
+-- from m to n the call of an event was made
+module _ {event e : Event} {m n : Site} {said : Reply} {served : List ℕ} {steps : ℕ} (is : event ≡ e) where
+  pub by_does : {answer : Answer} (shown : Shown) → said.answer ≡ answer → shown_by served said.shows ≡ shown →
+      ShowsFit (event_word e) said.shows →
+      DoesIn steps (Sampled (IsOutcomeOf (setting_of m.set) e answer shown)) m n → Asked event said served m n
+  by_does {answer = answer} shown answers shows fit done =
+      subst (λ (x : Event). Asked x said served m n) (sym is) (record {
+        same = done.same;
+        has = done.has;
+        does = subst (λ (a : Answer). Does m.set e a (shown_by served said.shows) (at m) (at n)) (sym answers)
+            (subst (λ (x : Shown). Does m.set e answer x (at m) (at n)) (sym shows) done.did);
         shows = fit;
       })
 
+  -- where it was no interrupt
+  pub by_shown : {answer : Answer} (shown : Shown) → said.answer ≡ answer → shown_by served said.shows ≡ shown →
+      ShowsFit (event_word e) said.shows → IsNoInterrupt e → Completes steps e answer shown m n →
+      Asked event said served m n
+  by_shown {answer = answer} shown answers shows fit other done = by_does shown answers shows fit (record {
+    same = done.same;
+    has = done.has;
+    room = done.room;
+    did = quietly m.set e answer shown (at m) (at n) other done.did;
+  })
+
   -- and nothing but an answer is told of it
-  pub by_answer : (answer : Answer) → said ≡ record { answer = answer; shows = Nothing } → IsNoInterrupt e →
-      Makes (IsOutcomeOf (setting_of c.set) e answer no_data) c.set (moment c.pass before) (moment d.pass steps) →
-      Called t event c d said served steps
-  by_answer answer says other did =
-      by_does answer no_data (ap (λ (s : Reply). s.answer) says) (ap (λ (s : Reply). shown_by served s.shows) says)
-      (subst (λ (s : Reply). ShowsFit (event_word e) s.shows) (sym says) tt)
-      (quietly c.set e answer no_data (moment c.pass before) (moment d.pass steps) other did)
+  pub by_answer : {answer : Answer} → said ≡ record { answer = answer; shows = Nothing } → IsNoInterrupt e →
+      Completes steps e answer no_data m n → Asked event said served m n
+  by_answer says other done =
+      by_shown no_data (ap (λ (s : Reply). s.answer) says) (ap (λ (s : Reply). shown_by served s.shows) says)
+      (subst (λ (s : Reply). ShowsFit (event_word e) s.shows) (sym says) tt) other done
 
 -- credit alone is credit for no bytes
-pub as_credit : (set : Setting) (bits : ℕ) (m n : Moment) →
-    Makes (IsOutcomeOf (setting_of set) (Add [] bits) Done no_data) set m n →
-    Makes (IsOutcomeOf (setting_of set) (Credit bits) Done no_data) set m n
-as_credit set bits m n did = record {
-  made_steps = did.made_steps;
-  told = did.told;
-  stands = λ lanes visits callers c.
-      let h = did.stands lanes visits callers c in record { form = h.form; answers = h.answers; shows = h.shows };
+pub as_credit : {steps bits : ℕ} {m n : Site} → Completes steps (Add [] bits) Done no_data m n →
+    Completes steps (Credit bits) Done no_data m n
+as_credit done = record {
+  same = done.same;
+  has = done.has;
+  room = done.room;
+  did = record {
+    made_steps = done.did.made_steps;
+    told = done.did.told;
+    stands = λ lanes visits callers c. let h = done.did.stands lanes visits callers c in
+        record { form = h.form; answers = h.answers; shows = h.shows };
+  };
 }
 
 -- what is only set
@@ -95,15 +105,29 @@ no_interrupt : (event : Event) → IsSetting event → IsNoInterrupt event
 no_interrupt (Irq v1 v2) is = absurd is
 no_interrupt event is = tt
 
-pub asks_nothing : (t : Lanes) (event : Event) (c : Caller) (said : Reply) (served : List ℕ) (steps : List Step) →
-    steps ≡ [] → IsReady t c →
-    1 ≤ t.cpus → said ≡ record { answer = Done; shows = Nothing } → IsSetting event →
-    Called t event c c said served steps
-asks_nothing t event c said served steps new ready some says is =
-    subst (λ (l : List Step). Called t event c c said served l) (sym new)
-    (by_answer t event event c c said served [] [] refl refl refl ready.has Done says (no_interrupt event is)
-    (did_nothing c.set (moment c.pass []) (let s = ready.has.pass.sized in omega arith)
-    (settings_fulfil (setting_of c.set) event is)))
+pub asks_nothing : {event : Event} {m : Site} {said : Reply} {served : List ℕ} → CanAsk m → IsSetting event →
+    said ≡ record { answer = Done; shows = Nothing } → Asked event said served m m
+asks_nothing {event = event} {m = m} can is says = by_answer {steps = 0} refl says (no_interrupt event is) (record {
+  same = record { lanes = refl; set = refl; pass = refl; trace = refl };
+  has = can.idle.has;
+  room = omega arith;
+  did = did_nothing m.set (at m) (let s = can.idle.has.pass.sized in let some = m.lanes.now.few.0 in omega arith)
+      (settings_fulfil (setting_of m.set) event is);
+})
+
+-- at a site that a caller made, what was asked there is its own call
+pub called : {event : Event} {m n : Site} {said : Reply} {served : List ℕ} {states : States} {p : Pass}
+    {steps : List Step} → p ≡ n.pass.now → steps ≡ n.trace.now → m.trace.now ≡ [] → Asked event said served m n →
+    Called m.lanes.now event (record { pass = m.pass.now; set = m.set; states = states })
+    (record { pass = p; set = m.set; states = states }) said served steps
+called {event = event} {m = m} {n = n} {said = said} {served = served} pass trace new asked = rw pass (rw trace (record {
+  has = own_hands asked.same asked.has;
+  set = refl;
+  states = refl;
+  does = subst (λ (l : List Step). Does m.set event said.answer (shown_by served said.shows) (moment m.pass.now l) (at n))
+      new asked.does;
+  shows = asked.shows;
+}))
 
 -- bytes stand on the line of a word that is not bits
 pub no_count : (word : Word) (shows : Shows) → (word ≡ Bits → ⊥) → IsNoCount shows → ShowsFit word shows

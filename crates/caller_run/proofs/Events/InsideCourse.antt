@@ -14,8 +14,8 @@ use Rattle.lane_table.specs.Advances.{step_of, floor}
 use Rattle.lane_table.proofs.Book.BookEnds.{continues_before, known_lanes}
 use Rattle.lane_table.proofs.Lists.VisitLists.{begins_refl}
 use Rattle.vdso_state.specs.Host.{DoesAll}
-use Rattle.rng_core.specs.declared.attempt.Attempt.{Attempt}
-use Rattle.rng_core.specs.declared.attempt.Attempt.TheVariants.{Before, First}
+use Rattle.rng_core.specs.declared.vdso.attempt.Attempt.{Attempt}
+use Rattle.rng_core.specs.declared.vdso.attempt.Attempt.TheVariants.{Before, First}
 use Rattle.rng_core.specs.declared.setting.Setting.{Setting}
 use Rattle.rng_core.specs.Acts.{Ask}
 use Rattle.rng_core.specs.Acting.{acting, ActPublished, ActPassed}

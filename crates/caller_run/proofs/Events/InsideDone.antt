@@ -15,7 +15,7 @@ use Rattle.lane_table.specs.declared.view.View.{View}
 use Rattle.lane_table.specs.declared.view.Visit.{Visit}
 use Rattle.lane_table.specs.BookLists.{StateLists, book_lists}
 use Rattle.lane_table.specs.BookLaws.{Continues}
-use Rattle.rng_core.specs.declared.attempt.Attempt.TheVariants.{Before}
+use Rattle.rng_core.specs.declared.vdso.attempt.Attempt.TheVariants.{Before}
 use Rattle.rng_core.specs.declared.setting.Setting.{Setting}
 use Rattle.rng_core.specs.Makes.{setting_of}
 use Rattle.rng_core.specs.Acts.{Ask, ActOutcome}

@@ -15,15 +15,17 @@ use Rattle.lane_table.specs.Calls.{view}
 use Rattle.lane_table.specs.Advances.{MadeStep, step_of, floor}
 use Rattle.lane_table.specs.Hands.{HoldsLanes}
 use Rattle.lane_table.specs.declared.lanes.Lanes.{Lanes}
+use Rattle.lane_table.specs.declared.lanes.Pass.{Pass}
 use Rattle.key_names.specs.Meaning.{CallerState}
 use Rattle.key_names.specs.VreadSteps.{published_by}
 use Rattle.std.proofs.lemmas.Option.{slice_get-get_or}
 use Rattle.rng_core.specs.Acts.{ActOutcome}
+use Rattle.rng_core.proofs.Hosting.{none_left}
 use Rattle.rng_core.proofs.InsideCalls.{fresh_undone, outcomes_long}
 use Rattle.caller_run.specs.Calling.{StateRead}
 use Rattle.caller_run.specs.Says.{IsNoCount}
-use Rattle.rng_core.specs.declared.acts.Bound.{Bound}
-use Rattle.rng_core.specs.declared.attempt.Attempt.TheVariants.{Before}
+use Rattle.rng_core.specs.declared.vdso.acts.Bound.{Bound}
+use Rattle.rng_core.specs.declared.vdso.attempt.Attempt.TheVariants.{Before}
 use Rattle.rng_core.specs.Acting.{act_stand, InsideRan}
 use Rattle.rng_core.specs.Acts.{Ask, asks_of, outcomes_of}
 use Rattle.rng_core.specs.Makes.{result_answer, given}
@@ -36,8 +38,22 @@ use Rattle.caller_run.specs.Done.{CallDone}
 use Rattle.caller_run.specs.Says.{shown_by, line_of}
 use Rattle.caller_run.specs.declared.caller.Caller.{Caller}
 use Rattle.caller_run.specs.declared.reply.Reply.{Reply}
+use Rattle.caller_run.specs.declared.states.States.{States}
+use Rattle.rng_core.specs.declared.setting.Setting.{Setting}
 use Rattle.caller_run.proofs.Events.InsideDone.{inside_done}
 use Rattle.caller_run.proofs.Events.VreadDone.{vread_done}
+
+-- where nothing is asked, nothing comes of it
+pub no_outcomes : (acts : List Bound) (out : List ℕ) → length acts ≡ 0 → outcomes_of acts out ≡ []
+no_outcomes acts out none = ap (λ (bs : List Bound). outcomes_of bs out) (none_left acts none)
+
+-- what was lent is what came back
+pub lent_read : {t : Lanes} {n flags : ℕ} {c : Caller} {set : Setting} {states : States} {said : Reply} {served : List ℕ}
+    {asks : List Ask} {p q : Pass} {steps told : List Step} {zs left : List ActOutcome} → p ≡ q → steps ≡ told →
+    zs ≡ left →
+    StateRead t n flags c (record { pass = q; set = set; states = states }) said served told asks left →
+    StateRead t n flags c (record { pass = p; set = set; states = states }) said served steps asks zs
+lent_read pass trace outcomes read = rw pass (rw trace (rw outcomes read))
 
 -- the current one of some states
 pub current_is : (states : List VgetrandomState) (i : ℕ) (other : VgetrandomState) → i < length states →
@@ -100,13 +116,12 @@ module _ {t : Lanes} {c d : Caller} {said : Reply} {served : List ℕ} {before :
     }
 
     -- with no act inside
-    pub read_alone : (acts : List Bound) (out : List ℕ) → acts ≡ [] →
+    pub read_alone : (acts : List Bound) → acts ≡ [] →
         VreadMakes n flags st left (result_answer ended) (bytes_or_none (given ended served)) c.set
         (moment c.pass before) (moment d.pass steps) →
-        StateRead t n flags c d said served steps (asks_of acts) (outcomes_of acts out)
-    read_alone acts out none did =
-        subst (λ (bs : List Bound). StateRead t n flags c d said served steps (asks_of bs) (outcomes_of bs out))
-        (sym none)
+        StateRead t n flags c d said served steps (asks_of acts) []
+    read_alone acts none did =
+        subst (λ (bs : List Bound). StateRead t n flags c d said served steps (asks_of bs) []) (sym none)
         (read_by [] []
         (vread_done c.set (view c.pass) (view d.pass) (stand c) n flags left said.answer (shown_by served said.shows)
         VreadWord steps refl

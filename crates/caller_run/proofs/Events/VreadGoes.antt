@@ -10,7 +10,7 @@ use Rattle.lane_table.specs.declared.lanes.Lanes.{Lanes}
 use Rattle.key_names.specs.Meaning.{CallerState}
 use Rattle.lane_table.specs.Calls.{view}
 use Rattle.rng_core.specs.declared.setting.Setting.{Setting}
-use Rattle.rng_core.specs.declared.acts.Bound.{Bound}
+use Rattle.rng_core.specs.declared.vdso.acts.Bound.{Bound}
 use Rattle.transcript_text.specs.Gathered.{Gathered}
 use Rattle.rng_core.specs.Acts.{Ask, ActOutcome, all_wanted, asks_of}
 use Rattle.rng_core.specs.InsideMakes.{bound_acts}

@@ -26,7 +26,7 @@ use Rattle.lane_table.specs.Steps.{halved, both_of}
 use Rattle.lane_table.specs.Advances.{floor, step_of}
 use Rattle.lane_table.proofs.Calls.HandLemmas.{has_joined}
 use Rattle.rng_core.specs.declared.setting.Setting.{Setting}
-use Rattle.rng_core.specs.declared.acts.Bound.{Bound}
+use Rattle.rng_core.specs.declared.vdso.acts.Bound.{Bound}
 use Rattle.rng_core.specs.Acts.{Ask, asks_of, all_wanted}
 use Rattle.rng_core.specs.Makes.{Makes, setting_of}
 use Rattle.rng_core.specs.InsideMakes.{IsFresh}

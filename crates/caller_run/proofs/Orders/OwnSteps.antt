@@ -12,8 +12,8 @@ use Rattle.key_names.specs.VreadSteps.{number_of}
 use Rattle.lane_table.specs.declared.view.View.{View}
 use Rattle.lane_table.specs.Advances.{MadeStep, looked, step_of}
 use Rattle.vdso_state.specs.Host.{DoesAll}
-use Rattle.rng_core.specs.declared.attempt.Attempt.{Attempt}
-use Rattle.rng_core.specs.declared.attempt.Attempt.TheVariants.{First, Later}
+use Rattle.rng_core.specs.declared.vdso.attempt.Attempt.{Attempt}
+use Rattle.rng_core.specs.declared.vdso.attempt.Attempt.TheVariants.{First, Later}
 use Rattle.rng_core.specs.declared.setting.Setting.{Setting}
 use Rattle.rng_core.specs.Traces.{Moment, TraceRecords, BeginsWithLook}
 use Rattle.rng_core.specs.Acts.{Ask, ActOutcome, ActsAt}

@@ -19,7 +19,7 @@ use Rattle.key_names.specs.VreadSteps.{number_of}
 use Rattle.key_names.proofs.Lists.Each.{each_more}
 use Rattle.lane_table.specs.declared.lanes.Lanes.{Lanes}
 use Rattle.lane_table.specs.Calls.{view}
-use Rattle.rng_core.specs.declared.acts.Bound.{Bound}
+use Rattle.rng_core.specs.declared.vdso.acts.Bound.{Bound}
 use Rattle.transcript_text.specs.Gathered.{Gathered}
 use Rattle.rng_core.specs.Acts.{Ask, asks_of, ask_of}
 use Rattle.caller_run.specs.declared.caller.Caller.{Caller}

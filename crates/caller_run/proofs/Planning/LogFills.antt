@@ -11,7 +11,7 @@ use Rattle.std.proofs.Common.{false, Ok}
 use Rattle.key_names.specs.Texts.ScriptGrammar.{ActInRange, acts_after}
 use Rattle.key_names.specs.SeenLine.{SeenLine}
 use Rattle.key_names.proofs.Lists.Each.{each_more}
-use Rattle.rng_core.specs.declared.acts.Bound.{Bound}
+use Rattle.rng_core.specs.declared.vdso.acts.Bound.{Bound}
 use Rattle.rng_core.specs.Acts.{Ask, wants, all_wanted, ask_of, asks_of}
 use Rattle.rng_core.specs.InsideMakes.{IsFresh}
 use Rattle.caller_run.specs.Kinds.{IsCall}

@@ -9,7 +9,7 @@ use crate::passes::{is_set_in_time, sees_another_queued, split_off, started};
 use crate::reseeds::{install, put_base, raise, rooted};
 use key_names::{LaneId, Trace};
 use lane_table::{Lanes, Pass};
-use rng_core::{Setting, bits, irq, stall, vread_local};
+use rng_core::{Setting, Site, bits, irq, stall, vread_local};
 use std::alloc::{AllocError, Global};
 use std::sync::Wait;
 use std::sync::atomic::{AtomicBool, Ordering};
@@ -46,13 +46,18 @@ fn visit_of<R: Wait>(
         return None;
     }
     let mut trace = Trace::empty();
-    let set = setting_of(0);
+    let mut site = Site {
+        lanes,
+        pass: &mut pass,
+        trace: &mut trace,
+        set: setting_of(0),
+    };
     match lane {
         LaneId::Pool => {
-            bits(rt, lanes, &mut pass, &mut trace, &set);
+            bits(rt, &mut site);
         }
-        LaneId::Base => stall(rt, lanes, &mut pass, &mut trace, &set),
-        LaneId::Cpu(_) => irq(rt, lanes, &mut pass, &mut trace, &set, 1, 2),
+        LaneId::Base => stall(rt, &mut site),
+        LaneId::Cpu(_) => irq(rt, &mut site, 1, 2),
     }
     Some(trace)
 }
@@ -126,8 +131,13 @@ fn local_read(lanes: &Lanes, pass: &mut Pass) -> Option<Local>
     let mut trace = Trace::empty();
     let mut bytes = [0; 8];
     let mut st = VState::wiped();
-    let set = setting_of(1);
-    let local = vread_local(lanes, pass, &mut trace, &set, &mut st, &mut bytes, 0);
+    let mut site = Site {
+        lanes,
+        pass,
+        trace: &mut trace,
+        set: setting_of(1),
+    };
+    let local = vread_local(&mut site, &mut st, &mut bytes, 0);
     has_steps(&trace, &[]).then_some(local)
 }
 

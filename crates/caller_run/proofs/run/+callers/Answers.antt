@@ -14,8 +14,8 @@ use Rattle.caller_run.proofs.run.+callers.Goals as goal
 pub run_from-scope-run_from-way-requires-after_bounds : goal.run_from-scope-run_from-way-requires-after_bounds
 run_from-scope-run_from-way-requires-after_bounds g t c κs within =
     let k = c.captures in
-    can_on k.lanes.now k.script.now k.child k.rest.now k.way c.tell_fork.new.self k.trace c.requires.2
-    c.tell_fork.ensures.kids (c.tell_fork.ensures.can k.lanes.now k.rest.now c.requires.2.can)
+    can_on k.lanes.now k.script.now k.child k.rest.now k.way c.tell_fork.new.self k.trace c.requires.1.parent_can
+    c.tell_fork.ensures.kids (c.tell_fork.ensures.can k.lanes.now k.rest.now c.requires.1.parent_can.can)
 
 pub run_from-scope-tell_fork-requires-in-Err : goal.run_from-scope-tell_fork-requires-in-Err
 run_from-scope-tell_fork-requires-in-Err g t c =
@@ -26,21 +26,21 @@ run_from-scope-tell_fork-requires-in-Err g t c =
         k.rest.now,
         can_still k.lanes.now w (record w { pass = here.new.pass }) k.way.sheet.log refl refl here.ensures.has
             (here_floor w.set (moment w.pass k.trace) (moment here.new.pass here.new.trace) here.ensures.here)
-            c.requires.2.can,
+            c.requires.1.parent_can.can,
       );
       fits = here_fits w.set (moment w.pass k.trace) (moment here.new.pass here.new.trace) here.ensures.here
-          c.requires.2.fits;
+          c.requires.1.parent_can.fits;
     }
 
 pub run_from-scope-run_from-way-requires-in-Err-after_bounds : goal.run_from-scope-run_from-way-requires-in-Err-after_bounds
 run_from-scope-run_from-way-requires-in-Err-after_bounds g t c κs within =
     let k = c.captures in let w = k.way.caller in let here = c.run_here-theirs in
-    can_on k.lanes.now k.script.now k.child k.rest.now k.way c.tell_fork-in-Err.new.self k.trace c.requires.2
+    can_on k.lanes.now k.script.now k.child k.rest.now k.way c.tell_fork-in-Err.new.self k.trace c.requires.1.parent_can
     c.tell_fork-in-Err.ensures.kids
     (c.tell_fork-in-Err.ensures.can k.lanes.now k.rest.now
     (can_still k.lanes.now w (record w { pass = here.new.pass }) k.way.sheet.log refl refl here.ensures.has
     (here_floor w.set (moment w.pass k.trace) (moment here.new.pass here.new.trace) here.ensures.here)
-    c.requires.2.can))
+    c.requires.1.parent_can.can))
 
 pub run_from-scope-returns-in-Ok : goal.run_from-scope-returns-in-Ok
 run_from-scope-returns-in-Ok g t c =
@@ -77,7 +77,7 @@ run_from-scope-returns-in-Err g t c =
 
 pub run_family-run_from-way-requires : goal.run_family-run_from-way-requires
 run_family-run_from-way-requires g t c κs within =
-    let a = plot c.args.room in let opened = c.open-caller.ensures in let callers = c.args.script.now.callers in
+    let a = plot c.args.room in let opened = c.open-caller.ensures in let callers = c.args.shared.now.script.now.callers in
     let events = c.events-events.result.now in let way = c.starting-way.result in
     let kids : kids_of way ≡ a.kids =
     ap (λ ks. grove_of (map plot ks.items)) c.starting-way.ensures.rest.1 ∙ sym (ap (λ (p : Plot). p.kids) opened) in
@@ -95,7 +95,7 @@ run_family-run_from-way-requires g t c κs within =
             search rules,
             (
               search rules,
-              can_start c.args.lanes.now c.args.script.now c.args.set c.args.pass a c.open-caller.result.1 way
+              can_start c.args.shared.now.lanes.now c.args.shared.now.script.now c.args.set c.args.pass a c.open-caller.result.1 way
                   c.requires c.starting-way.ensures.caller c.starting-way.ensures.rest.0 kids
                   (ap (λ (p : Plot). p.sheet) opened) there,
             ),
@@ -107,11 +107,11 @@ run_family-run_from-way-requires g t c κs within =
 pub run_family-returns : goal.run_family-returns
 run_family-returns g t c =
     let a = plot c.args.room in let opened = c.open-caller.ensures in let y = c.run_from-way.result in
-    returned c.args.lanes.now c.args.script.now c.args.set c.args.pass a c.open-caller.result.1 c.starting-way.result
+    returned c.args.shared.now.lanes.now c.args.shared.now.script.now c.args.set c.args.pass a c.open-caller.result.1 c.starting-way.result
     c.requires c.starting-way.ensures.caller c.starting-way.ensures.rest.0
     (ap (λ ks. grove_of (map plot ks.items)) c.starting-way.ensures.rest.1 ∙ sym (ap (λ (p : Plot). p.kids) opened))
     (ap (λ (p : Plot). p.sheet) opened)
-    (ap (slice_get c.args.script.now.callers) (ap (λ (p : Plot). p.caller) opened) ∙ c.events-events.ensures)
+    (ap (slice_get c.args.shared.now.script.now.callers) (ap (λ (p : Plot). p.caller) opened) ∙ c.events-events.ensures)
     y (plot c.with.result)
     (c.with.ensures ∙ ap (λ (n : ℕ). plot_by n y.sheet (map plot y.kids.items)) (sym (ap (λ (p : Plot). p.caller) opened)))
     c.run_from-way.ensures
@@ -120,21 +120,21 @@ run_family-returns g t c =
 
 pub run_from-returns-in_default : goal.run_from-returns-in_default
 run_from-returns-in_default g t c =
-    went_end c.args.lanes.now c.args.script.now _ c.requires c.in_default.ensures refl c.finish.ensures.set
+    went_end c.args.shared.now.lanes.now c.args.shared.now.script.now _ c.requires c.in_default.ensures refl c.finish.ensures.set
     c.finish.ensures.has c.finish.ensures.reached c.finish.ensures.ended
 
 pub run_from-join-requires-clause-idle : goal.run_from-join-requires-clause-idle
 run_from-join-requires-clause-idle g t c =
     let r = c.scoped-way.result in let f = c.begin_fork-theirs in
-    let beside : WentBeside c.args.lanes.now c.args.script.now c.in-Some.child c.in-Some.rest.now f.new.self f.new.trace
+    let beside : WentBeside c.args.shared.now.lanes.now c.args.shared.now.script.now c.in-Some.child c.in-Some.rest.now f.new.self f.new.trace
     f.result.0 (plot f.result.1) r.0 r.1 (plot r.2) = search rules in
-    (idle_of c.args.lanes.now c.in-Some.child r.1 beside.of_child.has, beside.of_child.has.out)
+    (idle_of c.args.shared.now.lanes.now c.in-Some.child r.1 beside.of_child.has, beside.of_child.has.out)
 
 pub run_from-returns : goal.run_from-returns
 run_from-returns g t c =
     let r = c.scoped-way.result in let f = c.begin_fork-theirs in
-    let beside : WentBeside c.args.lanes.now c.args.script.now c.in-Some.child c.in-Some.rest.now f.new.self f.new.trace
+    let beside : WentBeside c.args.shared.now.lanes.now c.args.shared.now.script.now c.in-Some.child c.in-Some.rest.now f.new.self f.new.trace
     f.result.0 (plot f.result.1) r.0 r.1 (plot r.2) = search rules in
-    went_fork c.args.lanes.now c.args.script.now c.in-Some.child f.result.1 r.2 _ c.in-Some.ensures f.ensures.at
+    went_fork c.args.shared.now.lanes.now c.args.shared.now.script.now c.in-Some.child f.result.1 r.2 _ c.in-Some.ensures f.ensures.at
     f.ensures.sheet f.ensures.tree f.ensures.space beside refl refl c.join.ensures.pass c.join.ensures.both
     c.push_reserved.ensures.items c.push_reserved.ensures.len c.push_reserved.ensures.capacity

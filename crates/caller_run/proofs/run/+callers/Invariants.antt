@@ -12,7 +12,7 @@ decreases-run_from-scope g l = length l.rest.now + load l.script.now.callers (ki
     + (length (list_at l.script.now.callers (plot l.kid).caller) + load l.script.now.callers (plot l.kid).kids + 4)
 
 abbrev pub decreases-run_family : goal.decreases-run_family
-decreases-run_family g l = length (list_at l.script.now.callers (plot l.room).caller) + load l.script.now.callers (plot l.room).kids + 2
+decreases-run_family g l = length (list_at l.shared.now.script.now.callers (plot l.room).caller) + load l.shared.now.script.now.callers (plot l.room).kids + 2
 
 abbrev pub decreases-run_from : goal.decreases-run_from
-decreases-run_from g l = length l.events.now + load l.script.now.callers (kids_of l.way)
+decreases-run_from g l = length l.events.now + load l.shared.now.script.now.callers (kids_of l.way)

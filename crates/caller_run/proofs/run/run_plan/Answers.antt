@@ -14,28 +14,28 @@ run_family-pass-requires g c = (
   search rules,
   (
     search rules,
-    can_all c.args.lanes.now c.args.script.now c.args.pass (plot c.args.plan.root) c.args.plan.slots.items
+    can_all c.args.shared.now.lanes.now c.args.shared.now.script.now c.args.pass (plot c.args.plan.root) c.args.plan.slots.items
         c.requires.has c.requires.well c.requires.cpus c.requires.plan,
   ),
 )
 
 pub settle-requires-clause-idle : goal.settle-requires-clause-idle
-settle-requires-clause-idle g c = idle_of c.args.lanes.now 0 c.run_family-pass.result.0 c.run_family-pass.ensures.has
+settle-requires-clause-idle g c = idle_of c.args.shared.now.lanes.now 0 c.run_family-pass.result.0 c.run_family-pass.ensures.has
 
 pub gather-requires : goal.gather-requires
 gather-requires g c =
     let a = c.args in let r = c.requires in
-    slots_there a.lanes.now a.script.now a.pass (plot a.plan.root) c.run_family-pass.result.0
+    slots_there a.shared.now.lanes.now a.shared.now.script.now a.pass (plot a.plan.root) c.run_family-pass.result.0
     (plot c.run_family-pass.result.1)
-    (can_all a.lanes.now a.script.now a.pass (plot a.plan.root) a.plan.slots.items r.has r.well r.cpus r.plan)
+    (can_all a.shared.now.lanes.now a.shared.now.script.now a.pass (plot a.plan.root) a.plan.slots.items r.has r.well r.cpus r.plan)
     c.run_family-pass.ensures (length c.deref_mut.result.now) (ap length c.deref_mut.ensures.value ∙ r.plan.slots')
 
 pub of-requires-clause-last : goal.of-requires-clause-last
 of-requires-clause-last g c =
     let a = c.args in let r = c.requires in
-    last_there a.lanes.now a.script.now a.pass (plot a.plan.root) c.run_family-pass.result.0
+    last_there a.shared.now.lanes.now a.shared.now.script.now a.pass (plot a.plan.root) c.run_family-pass.result.0
     (plot c.run_family-pass.result.1)
-    (can_all a.lanes.now a.script.now a.pass (plot a.plan.root) a.plan.slots.items r.has r.well r.cpus r.plan)
+    (can_all a.shared.now.lanes.now a.shared.now.script.now a.pass (plot a.plan.root) a.plan.slots.items r.has r.well r.cpus r.plan)
     c.run_family-pass.ensures (lines_in a.plan.slots.items) _
     (length-map a.plan.slots.items (λ (x : Gathered). x.lines) ∙ r.plan.slots')
     (slots_back a.plan.slots.len a.plan.slots.items c.deref_mut.result.now c.gather.new.slots
@@ -45,9 +45,9 @@ of-requires-clause-last g c =
 pub returns-clause-whole : goal.returns-clause-whole
 returns-clause-whole g c =
     let a = c.args in let r = c.requires in
-    whole_ran a.lanes.now a.script.now a.pass (plot a.plan.root) c.run_family-pass.result.0
+    whole_ran a.shared.now.lanes.now a.shared.now.script.now a.pass (plot a.plan.root) c.run_family-pass.result.0
     (plot c.run_family-pass.result.1)
-    (can_all a.lanes.now a.script.now a.pass (plot a.plan.root) a.plan.slots.items r.has r.well r.cpus r.plan)
+    (can_all a.shared.now.lanes.now a.shared.now.script.now a.pass (plot a.plan.root) a.plan.slots.items r.has r.well r.cpus r.plan)
     c.run_family-pass.ensures (lines_in a.plan.slots.items) c.of.result
     (length-map a.plan.slots.items (λ (x : Gathered). x.lines) ∙ r.plan.slots')
     (c.of.ensures.lines

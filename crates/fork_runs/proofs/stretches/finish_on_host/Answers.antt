@@ -10,5 +10,5 @@ returns-clause-has g c = has_still _ _ _ c.finish-ended.ensures.runs.does
 
 pub returns-clause-finished : goal.returns-clause-finished
 returns-clause-finished g c = λ met. finished_over c.args.host.now c.finish-ended.new.host c.requires.idle
-    (let a = c.args.host.now.free.pass.sized in let b = c.args.host.now.lanes.now.few in omega arith) _ _ _ _ _ _ _ _
+    (let a = c.args.host.now.free.pass.sized in let b = c.args.host.now.site.lanes.now.few in omega arith) _ _ _ _ _ _ _ _
     c.finish-ended.ensures (sym c.gave_bytes.ensures ∙ met)

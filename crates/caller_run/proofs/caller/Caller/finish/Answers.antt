@@ -13,11 +13,7 @@ use Rattle.caller_run.proofs.caller.Caller.finish.Goals as goal
 
 pub returns-clause-ended : goal.returns-clause-ended
 returns-clause-ended g c begun events kids gone =
-    let self = c.args.self.now in let end = c.end.new in
-    subst (λ l. RunEnded begun events (view c.end.new.pass) l kids) (sym c.tell.ensures.lines)
-    (gone_all (record self { pass = end.pass }) [] c.only-done.result end.trace refl
-    (ap (λ (s : Reply). s.answer) c.only-done.ensures)
-    (ap (λ (s : Reply). shown_by [] s.shows) c.only-done.ensures)
-    (subst (λ (l : List Step). Makes (BaseOnly End) self.set (moment self.pass l) (moment end.pass end.trace))
-    c.empty-trace.ensures c.end.ensures.did)
-    gone)
+    let left = c.leave.ensures in let self = c.leave.new.self in
+    subst (λ l. RunEnded begun events (view self.pass) l kids) (sym c.tell.ensures.lines)
+    (gone_all self [] c.only-done.result c.leave.new.trace left.set (ap (λ (s : Reply). s.answer) c.only-done.ensures)
+    (ap (λ (s : Reply). shown_by [] s.shows) c.only-done.ensures) left.did gone)

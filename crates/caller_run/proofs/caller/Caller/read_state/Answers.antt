@@ -1,9 +1,10 @@
-use Rattle.std.proofs.Common.{◌≤◌, ◌≡◌, ◌∷◌, ◌++◌, [], List, length, ℕ, take, drop, sym, subst, ap, ◌∙◌, arith, rules}
+use Rattle.std.proofs.Common.{vec_capacity, ◌≤◌, ◌≡◌, ◌∷◌, ◌++◌, [], List, length, ℕ, take, drop, sym, subst, ap, ◌∙◌, arith, rules}
 use Rattle.std.proofs.lemmas.List.{length-map, length-take, length-take-le}
 use Rattle.std.proofs.Math.Seq.{take-append_seam}
-use Rattle.rng_core.specs.declared.acts.Bound.{Bound}
+use Rattle.rng_core.specs.declared.vdso.acts.Bound.{Bound}
 use Rattle.rng_core.specs.Acts.{all_wanted, ask_of, asks_of, outcomes_of}
 use Rattle.caller_run.specs.Calling.{StateRead}
+use Rattle.key_names.specs.declared.events.Event.TheVariants.{Vread}
 use Rattle.key_names.specs.declared.events.Word.TheVariants.{Vread as VreadWord}
 use Rattle.key_names.specs.SeenLine.{SeenLine}
 use Rattle.caller_run.specs.Waiting.{told_anew, act_lines}
@@ -26,7 +27,7 @@ tell_acts-requires-clause-short g c =
     let few = wanted_few c.args.log.now.acts.items can.fresh in
     let same = ap (λ (bs : List Bound). all_wanted (asks_of bs)) c.deref.ensures.value in
     let many = can.few.0 in
-    let long : length c.vread-said.new.inside ≡ all_wanted (asks_of c.deref.result.now) = search rules in omega arith
+    let long : length c.vread-said.new.into.inside.now ≡ all_wanted (asks_of c.deref.result.now) = search rules in omega arith
 
 -- a list whose items were lent out is as long as it was
 back_long : (back items : List Bound) (n : ℕ) → length (take n (back ++ drop (length back) items)) ≤ n
@@ -49,9 +50,6 @@ tell-requires-clause-step_room g c =
 pub tell-requires-clause-steps : goal.tell-requires-clause-steps
 tell-requires-clause-steps g c = c.vread-said.ensures.read.steps_fit
 
-pub returns-clause-act_room : goal.returns-clause-act_room
-returns-clause-act_room g c = search rules
-
 -- a list whose items were lent out, with those that came back
 put_back : (back items : List Bound) (n : ℕ) → length back ≡ n → take n (back ++ drop (length back) items) ≡ back
 put_back back items n long =
@@ -59,15 +57,15 @@ put_back back items n long =
     ∙ take-append_seam back (drop (length back) items)
 
 -- what the caller did for its event
-has_read : (g : _) (c : After-go_on g) → HasRead c.args.lanes.now c.args.event.now c.args.self.now
+has_read : (g : _) (c : After-go_on g) → HasRead c.args.shared.now.lanes.now c.args.event.now c.args.self.now
     c.vread-said.new.self c.go_on.new.self
     c.args.log.now.lines c.tell.new.lines c.args.log.now.acts.items c.clear.new.self.items
 has_read g c =
     let acts = c.args.log.now.acts in let after = c.vread-said.new in let left = c.deref-2.result.now in
-    let len = c.requires.is.0 in
+    let len = c.requires.is.0 in let flags = c.flags_of.result in let is = c.requires.is.2 in
     let low : c.most_shown.result ≤ length c.args.served.now =
     (let e = c.most_shown.ensures in let l = c.requires.can.goes.longest.0 in omega arith) in
-    let shown : c.most_shown.result ≡ len = c.most_shown.ensures ∙ ap most_shown c.requires.is.1 in
+    let shown : c.most_shown.result ≡ len = c.most_shown.ensures ∙ ap most_shown c.requires.is.2 in
     let n_is : length (take c.most_shown.result c.args.served.now) ≡ len =
     length-take-le c.most_shown.result c.args.served.now low ∙ shown in
     let left_is : left ≡ after.acts = c.deref-2.ensures.value
@@ -81,32 +79,32 @@ has_read g c =
       ap length c.vread-said.ensures.asks,
       ap (λ (bs : List Bound). length (asks_of bs)) c.deref_mut.ensures.value,
     ) in
-    let zs = outcomes_of after.acts after.inside in
-    let served : length after.served ≡ c.most_shown.result = search rules in
-    let inside : length after.inside ≡ all_wanted (asks_of c.deref.result.now) = search rules in
+    let zs = outcomes_of after.acts after.into.inside.now in
+    let served : length after.into.served.now ≡ c.most_shown.result = search rules in
+    let inside : length after.into.inside.now ≡ all_wanted (asks_of c.deref.result.now) = search rules in
     let same = ap (λ (bs : List Bound). all_wanted (asks_of bs)) c.deref.ensures.value in
     record {
       len = len;
-      flags = c.args.flags;
-      event_is = c.requires.is.1;
+      flags = flags;
+      event_is = is ∙ ap (Vread len) (sym (c.flags_of.ensures len c.requires.is.1 is));
       said = c.vread-said.result;
-      served = after.served;
+      served = after.into.served.now;
       steps = after.trace;
       zs = zs;
-      read = subst (λ (n : ℕ). StateRead c.args.lanes.now n c.args.flags c.args.self.now after.self c.vread-said.result
-          after.served after.trace (asks_of acts.items) zs) n_is
-          (subst (λ (bs : List Bound). StateRead c.args.lanes.now (length (take c.most_shown.result c.args.served.now))
-          c.args.flags
-          c.args.self.now after.self c.vread-said.result after.served after.trace (asks_of bs) zs)
+      read = subst (λ (n : ℕ). StateRead c.args.shared.now.lanes.now n flags c.args.self.now after.self c.vread-said.result
+          after.into.served.now after.trace (asks_of acts.items) zs) n_is
+          (subst (λ (bs : List Bound). StateRead c.args.shared.now.lanes.now (length (take c.most_shown.result c.args.served.now))
+          flags
+          c.args.self.now after.self c.vread-said.result after.into.served.now after.trace (asks_of bs) zs)
           c.deref_mut.ensures.value
           c.vread-said.ensures.read);
       on = c.go_on.ensures;
       lines = c.tell.ensures.lines
-          ∙ ap (λ (ls : List SeenLine). ls ++ line_of after.self.set VreadWord after.served c.vread-said.result
+          ∙ ap (λ (ls : List SeenLine). ls ++ line_of after.self.set VreadWord after.into.served.now c.vread-said.result
           after.trace ∷ [])
           (c.tell_acts.ensures.lines
           ∙ (λ i. told_anew c.args.log.now.lines.lines (asks_are i)
-          (act_lines after.self.set (asks_are i) (outcomes_of (left_is i) after.inside))));
+          (act_lines after.self.set (asks_are i) (outcomes_of (left_is i) after.into.inside.now))));
       line_room = c.tell.ensures.line_room ∙ c.tell_acts.ensures.line_room;
       step_room = (let a = c.tell.ensures.step_room in let few = c.tell.ensures.few_steps in
           let b = c.tell_acts.ensures.step_room in let many = ap length left_is in omega arith);
@@ -114,11 +112,12 @@ has_read g c =
       none = c.clear.ensures.items;
     }
 
-pub returns-clause-can : goal.returns-clause-can
-returns-clause-can g c rest can = record {
-  goes = can_read (has_read g c) can.goes;
-  act_room = (let e = returns-clause-act_room g c in let b = can.act_room in omega arith);
+pub returns : goal.returns
+returns g c = record {
+  can = λ rest can. record {
+    goes = can_read (has_read g c) can.goes;
+    act_room = (let e : vec_capacity c.clear.new.self ≡ vec_capacity c.args.log.now.acts = search rules in
+        let b = can.act_room in omega arith);
+  };
+  gone = gone_read (has_read g c);
 }
-
-pub returns-clause-gone : goal.returns-clause-gone
-returns-clause-gone g c = gone_read (has_read g c)

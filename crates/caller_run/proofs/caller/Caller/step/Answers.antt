@@ -19,9 +19,8 @@ make-requires g c = record {
   kind = is_call c.args.event.now c.requires.plain c.in_default.not-Vread c.in_default.not-Inside;
 }
 
-pub returns-in-Inside-clause-can : goal.returns-in-Inside-clause-can
-returns-in-Inside-clause-can g c rest can = c.wait.ensures.can c.args.lanes.now (length c.args.served.now)
-    (length c.args.inside.now) rest can
+pub returns-in-Inside : goal.returns-in-Inside
+returns-in-Inside g c = c.wait.ensures c.args.shared.now.lanes.now (length c.args.served.now) (length c.args.inside.now)
 
 pub returns-in_default : goal.returns-in_default
-returns-in_default g c = record { can = c.make.ensures.can (length c.args.inside.now); gone = c.make.ensures.gone }
+returns-in_default g c = c.make.ensures (length c.args.inside.now)

@@ -1,42 +1,66 @@
-use Rattle.std.proofs.Common.{refl, length, ◌<◌, sym, arith}
+use Rattle.std.proofs.Common.{◌≡◌, List, [], rules, refl, length, ◌<◌, ◌∙◌, sym, ap, arith}
 use Rattle.std.proofs.lemmas.Bool.{eqb-true}
 use Rattle.lane_table.specs.Calls.{view}
+use Rattle.rng_core.specs.Acts.{all_wanted, asks_of}
+use Rattle.rng_core.specs.declared.vdso.acts.Bound.{Bound}
 use Rattle.rng_core.proofs.Hosting.{none_left}
-use Rattle.caller_run.proofs.Events.StateReads.{read_alone, read_inside, current_is}
+use Rattle.caller_run.proofs.Events.OwnSites.{own_hands}
+use Rattle.caller_run.proofs.Events.StateReads.{lent_read, no_outcomes, read_alone, read_inside, current_is}
 use Rattle.caller_run.proofs.caller.Caller.vread.Goals as goal
 
-pub returns-then-is_empty-clause-read : goal.returns-then-is_empty-clause-read
-returns-then-is_empty-clause-read g c =
-    let states = c.args.self.now.states in let stand = c.requires.states in let acts = c.args.acts.now in
-    read_alone (record {
-      has = c.vread.ensures.has;
-      set = refl;
-      stands = refl;
-      published = c.vread.ensures.current;
-      new = c.requires.new;
-      current = current_is states.all states.current c.index-self-self.result
-          (let m = stand.many in let l = stand.current in omega arith);
-      answers = c.read.ensures.answer;
-      shows = c.read.ensures.shows c.vread.new.buf;
-      bytes = c.read.ensures.bytes;
-    }) acts c.args.inside.now (none_left acts (eqb-true (length acts) 0 (sym c.if-is_empty.ensures)))
-    c.vread.ensures.did
+pub returns-then-alone : goal.returns-then-alone
+returns-then-alone g c =
+    let states = c.args.self.now.states in let stand = c.requires.can.states in let acts = c.args.acts.now in
+    let told = c.vread.ensures in let over = c.over-host.ensures in
+    let none : acts ≡ [] = none_left acts (eqb-true (length acts) 0 (sym c.is_empty-alone.ensures ∙ c.if-alone.true)) in
+    record {
+      served = refl;
+      inside = refl;
+      long = search rules;
+      fits = ap length (search rules) ∙ c.vread.new.host.fits
+          ∙ ap (λ (bs : List Bound). all_wanted (asks_of bs)) (none_left _ (search rules) ∙ sym none);
+      asks = ap asks_of (none_left _ (search rules) ∙ sym none);
+      read = lent_read (search rules) (search rules) (no_outcomes _ _ (search rules))
+          (read_alone (record {
+            has = rw over.site at (own_hands told.loans.site told.has);
+            set = refl;
+            stands = refl;
+            published = told.current;
+            new = c.requires.new;
+            current = current_is states.all states.current c.index-self-self.result
+                (let m = stand.many in let l = stand.current in omega arith);
+            answers = c.read.ensures.answer;
+            shows = c.read.ensures.shows c.vread.new.buf;
+            bytes = c.read.ensures.bytes;
+          }) acts none (rw over.site at told.did));
+    }
 
-pub returns-clause-read : goal.returns-clause-read
-returns-clause-read g c =
-    let states = c.args.self.now.states in let stand = c.requires.states in let told = c.vread_inside.ensures in
+pub returns : goal.returns
+returns g c =
+    let states = c.args.self.now.states in let stand = c.requires.can.states in let acts = c.args.acts.now in
+    let told = c.vread_inside.ensures in let over = c.over-host.ensures in let next = c.vread_inside.new.host in
     let two : 1 < length (view c.args.self.now.pass).lanes =
-    (let s = c.requires.ready.has.pass.sized in let f = c.args.lanes.now.few in omega arith) in
-    read_inside (record {
-      has = told.has;
-      set = refl;
-      stands = refl;
-      published = told.current;
-      new = c.requires.new;
-      current = current_is states.all states.current c.index-self-self.result
-          (let m = stand.many in let l = stand.current in omega arith);
-      answers = c.read-2.ensures.answer;
-      shows = c.read-2.ensures.shows c.vread_inside.new.buf;
-      bytes = c.read-2.ensures.bytes;
-    }) c.args.acts.now c.vread_inside.new.acts c.args.inside.now c.vread_inside.new.out c.requires.fresh two told.asks
-    told.did told.ran
+    (let s = c.requires.can.ready.has.pass.sized in let f = c.args.lanes.now.few in omega arith) in
+    let asks : asks_of next.acts.now ≡ asks_of acts = told.asks ∙ ap asks_of over.acts.1 in
+    record {
+      served = refl;
+      inside = refl;
+      long = search rules;
+      fits = ap length (search rules) ∙ next.fits ∙ ap all_wanted asks;
+      asks = ap asks_of (search rules) ∙ asks;
+      read = lent_read (search rules) (search rules) (search rules)
+          (read_inside (record {
+            has = rw over.site at (own_hands told.loans.site told.has);
+            set = refl;
+            stands = refl;
+            published = told.current;
+            new = c.requires.new;
+            current = current_is states.all states.current c.index-self-self.result
+                (let m = stand.many in let l = stand.current in omega arith);
+            answers = c.read-2.ensures.answer;
+            shows = c.read-2.ensures.shows c.vread_inside.new.buf;
+            bytes = c.read-2.ensures.bytes;
+          }) acts next.acts.now c.args.into.now.inside.now next.out.now c.requires.can.fresh two asks
+          (rw over.acts.1 at (rw over.site at told.did))
+          (rw over.new.before at (rw over.out.1 at (rw over.acts.1 at (rw over.site at told.ran)))));
+    }

@@ -1,7 +1,7 @@
 use Rattle.std.proofs.Common.{ℕ, ◌∷◌, ◌++◌, [], length, sym, ap, ◌∙◌, arith}
 use Rattle.key_names.specs.declared.events.Event.TheVariants.{Inside}
 use Rattle.key_names.specs.declared.events.Word.TheVariants.{Inside as InsideWord}
-use Rattle.rng_core.specs.declared.acts.Bound.{Bound}
+use Rattle.rng_core.specs.declared.vdso.acts.Bound.{Bound}
 use Rattle.caller_run.specs.Says.{line_of}
 use Rattle.caller_run.proofs.Planning.ActWaits.{Keeps, can_keep, gone_keep}
 use Rattle.caller_run.proofs.caller.Caller.wait.Goals as goal
@@ -28,11 +28,11 @@ kept c =
           c.of-bound.ensures;
     }
 
-pub returns-clause-can : goal.returns-clause-can
-returns-clause-can c t served inside rest can = record {
-  goes = can_keep (kept c) can.goes;
-  act_room = (let a = c.push_reserved.ensures.capacity in let b = can.act_room in omega arith);
+pub returns : goal.returns
+returns c t served inside = record {
+  can = λ rest can. record {
+    goes = can_keep (kept c) can.goes;
+    act_room = (let a = c.push_reserved.ensures.capacity in let b = can.act_room in omega arith);
+  };
+  gone = gone_keep (kept c) c.requires.can.3.goes.at;
 }
-
-pub returns-clause-gone : goal.returns-clause-gone
-returns-clause-gone c = gone_keep (kept c) c.requires.can.3.goes.at

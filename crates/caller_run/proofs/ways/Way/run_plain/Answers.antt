@@ -12,10 +12,10 @@ step-requires g c =
     let way = c.loop-event.self in
     let is : c.loop-event.rest.now ≡ c.in-Some.event.now ∷ c.in-Some.tail.now = search rules in
     record {
-      can = as_slices (λ n m. CanAdvance c.args.lanes.now way.caller way.sheet.log n m (c.in-Some.event.now ∷ []))
-          (vec_len way.sheet.served) (vec_len way.sheet.inside) _ _ c.deref_mut.ensures.len
+      can = as_slices (λ n m. CanAdvance c.args.shared.now.lanes.now way.caller way.sheet.log n m
+          (c.in-Some.event.now ∷ [])) (vec_len way.sheet.served) (vec_len way.sheet.inside) _ _ c.deref_mut.ensures.len
           c.deref_mut-in-Some.ensures.len
-          (first_can (subst (CanAdvanceIn c.args.lanes.now way) is c.loop-event.invariant.can));
+          (first_can (subst (CanAdvanceIn c.args.shared.now.lanes.now way) is c.loop-event.invariant.can));
       plain = plain_event c.in-Some.event.now c.in_default-event.not-Fork;
     }
 
@@ -25,12 +25,13 @@ loop-event-preserved g c =
     let served = vec_len way.sheet.served in let inside = vec_len way.sheet.inside in
     let first = c.deref_mut.ensures.len in let second = c.deref_mut-in-Some.ensures.len in
     let is : c.loop-event.rest.now ≡ c.in-Some.event.now ∷ rest = search rules in
+    let t = c.args.shared.now.lanes.now in
     record {
-      can = as_slices (λ n m. CanAdvance c.args.lanes.now c.step.new.self c.step.new.log n m rest) _ _ served inside
-          (sym first) (sym second)
+      can = as_slices (λ n m. CanAdvance t c.step.new.self c.step.new.log n m rest) _ _ served inside (sym first)
+          (sym second)
           (c.step.ensures.can rest
-          (as_slices (λ n m. CanAdvance c.args.lanes.now way.caller way.sheet.log n m (c.in-Some.event.now ∷ rest))
-          served inside _ _ first second (subst (CanAdvanceIn c.args.lanes.now way) is k.can)));
+          (as_slices (λ n m. CanAdvance t way.caller way.sheet.log n m (c.in-Some.event.now ∷ rest)) served inside _ _
+          first second (subst (CanAdvanceIn t way) is k.can)));
       gone = λ begun all kids gone. c.step.ensures.gone begun all rest kids
           (subst (λ (l : List Event). GoneIn begun all l way.caller way kids) is (k.gone begun all kids gone));
       forks' = search rules;

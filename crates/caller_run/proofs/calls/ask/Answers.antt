@@ -1,16 +1,28 @@
-use Rattle.std.proofs.Common.{◌≡◌, ℕ, refl, sym, ap, subst}
+use Rattle.std.proofs.Common.{◌≡◌, ℕ, rules, sym, ap, subst}
 use Rattle.key_names.specs.declared.events.Event.{Event}
 use Rattle.key_names.specs.declared.events.Event.TheVariants.{Int8, Int16, Int32, Int64}
 use Rattle.key_names.specs.declared.events.Word.TheVariants.{Bits}
 use Rattle.key_names.specs.Texts.ScriptGrammar.{event_word}
 use Rattle.key_names.specs.SeenLine.{bytes_or_none}
+use Rattle.key_names.proofs.Transcripts.QuietForms.{IsNoInterrupt}
 use Rattle.rng_core.specs.Integers.{int_event}
 use Rattle.caller_run.specs.Kinds.{IsInteger}
 use Rattle.caller_run.specs.Says.{shown_by, most_shown}
 use Rattle.caller_run.specs.declared.reply.Reply.{Reply}
-use Rattle.caller_run.proofs.Events.Callings.{by_does, quietly}
-use Rattle.key_names.proofs.Transcripts.QuietForms.{IsNoInterrupt}
-use Rattle.caller_run.proofs.caller.Caller.integer.Goals as goal
+use Rattle.caller_run.proofs.Events.Callings.{asks_nothing, by_shown}
+use Rattle.caller_run.proofs.calls.ask.Goals as goal
+
+pub returns-in-Prepare : goal.returns-in-Prepare
+returns-in-Prepare g c = c.come_online.ensures c.args.served.now
+
+pub returns-in-Reseed : goal.returns-in-Reseed
+returns-in-Reseed g c = c.reseed_by.ensures c.args.served.now
+
+pub returns-in-Write : goal.returns-in-Write
+returns-in-Write g c = c.sample.ensures c.args.served.now
+
+pub returns-in-At : goal.returns-in-At
+returns-in-At g c = asks_nothing c.requires.can (search rules) c.only.ensures
 
 -- the event of an integer is that of its width
 by_width : (event : Event) (width : ℕ) → IsInteger event → width ≡ most_shown event → event ≡ int_event width
@@ -34,12 +46,11 @@ no_interrupt Int32 is = tt
 no_interrupt Int64 is = tt
 no_interrupt event is = absurd is
 
-pub returns : goal.returns
-returns g c =
-    let kind = c.requires.kind in
+pub returns-in-Int8 : goal.returns-in-Int8
+returns-in-Int8 g c =
+    let kind : IsInteger c.args.event.now = search rules in
     let is = by_width _ _ kind c.requires.len in
-    by_does _ _ _ _ _ _ _ _ _ is c.requires.new refl c.int.ensures.has
-    _ (bytes_or_none c.int.new.out) (ap (λ (s : Reply). s.answer) c.done.ensures)
+    by_shown is (bytes_or_none c.int.new.out) (ap (λ (s : Reply). s.answer) c.done.ensures)
     (ap (λ (s : Reply). shown_by c.int.new.out s.shows) c.done.ensures)
     (rw c.done.ensures (subst (λ (e : Event). event_word e ≡ Bits → ⊥) is (no_bits _ kind)))
-    (quietly _ _ _ _ _ _ (subst IsNoInterrupt is (no_interrupt _ kind)) c.int.ensures.did)
+    (subst IsNoInterrupt is (no_interrupt _ kind)) c.int.ensures

@@ -1,0 +1,111 @@
+#!/bin/sh
+# What reads cost whose callers share one CPU's generator: run by hand. The words say what is measured, all of it
+# without words:
+#   reads    instructions of one read, of few bytes and of 1 MiB, for the kernel and for a user
+#   load     instructions of an event in the mix of a load
+#   eight    seconds of 8 callers that each read 1 MiB again and again on CPU 0, beside one caller that makes all of them
+# No text is written in any of it. Another build of the program is measured where BENCH_CALLERS names it, and what
+# BENCH_UNDER says stands before each run that is timed, as in bench/threads.sh.
+set -eu
+cd "$(dirname "$0")/.."
+room=$(mktemp -d)
+trap 'rm -rf "$room"' EXIT
+times=15
+turns=4
+
+if [ -z "${BENCH_CALLERS:-}" ]; then
+    (cd crates/bench_callers && rt run </dev/null) >/dev/null 2>&1
+fi
+loops=${BENCH_CALLERS:-crates/bench_callers/out/bench_callers}
+
+# script NUMBER TURN: one caller on a ready core makes so many events, as the awk function turn(j) in TURN prints them.
+script() {
+    awk -v number="$1" "$2"'
+    BEGIN {
+        print "rngscript 1\ncpus 1\ncaller 0\ncredit 256"
+        for (j = 0; j < number; j++) print turn(j)
+        print "end"
+    }'
+}
+
+# instructions TIMES FILE: how many it takes to read a script, and to run it so many times.
+instructions() {
+    valgrind --tool=callgrind --callgrind-out-file=/dev/null "$loops" runs "$1" <"$2" 2>&1 >"$room/out" |
+        awk '/Collected/ { print $NF }'
+}
+
+# each NUMBER TURN: the instructions of one of so many events, without those of a run that has none of them.
+each() {
+    script 0 "$2" >"$room/none"
+    script "$1" "$2" >"$room/script"
+    all=$(($(instructions 1 "$room/script") - $(instructions 0 "$room/script")))
+    none=$(($(instructions 1 "$room/none") - $(instructions 0 "$room/none")))
+    echo $(((all - none) / $1))
+}
+
+reads() {
+    echo "instructions of one read, with its line"
+    for bytes in 8 16 32 33 64 96 128 1048576; do
+        [ "$bytes" -le 128 ] && number=8000 || number=4
+        printf '%-44s %12d\n' "kernel, $bytes bytes" "$(each "$number" "function turn(j) { return \"kread $bytes\" }")" \
+            "user, $bytes bytes" "$(each "$number" "function turn(j) { return \"read $bytes 0\" }")"
+    done
+}
+
+load() {
+    mix='
+        function turn(j,  k, n) {
+            k = j % 8; n = 1 + (17 * j) % 100
+            if (k == 0) return "read " n " 0"
+            if (k == 1) return "vread " n " 0"
+            if (k == 2) return "kread " n
+            if (k == 3) return "int64"
+            if (k == 4) return "irq " j " 0"
+            if (k == 5) return "write 0011223344556677"
+            return k == 6 ? "uread " n : "reseed"
+        }'
+    printf '%-44s %12d\n' "instructions of an event of a load's mix" "$(each 64000 "$mix")"
+}
+
+# large CALLERS: 16 reads of 1 MiB on CPU 0 of a ready core, as many by each of so many callers.
+large() {
+    awk -v callers="$1" 'BEGIN {
+        print "rngscript 1\ncpus 1\ncaller 0\ncredit 256"
+        for (c = 1; c < callers; c++) print "fork " c
+        for (c = 0; c < callers; c++) {
+            if (c > 0) print "caller " c
+            for (j = 0; j < 16 / callers; j++) print "kread 1048576"
+        }
+        print "end"
+    }'
+}
+
+# least NUMBER FILE: the least nanoseconds of some times in which a script is read and run so often.
+least() {
+    for _ in $(seq "$times"); do
+        begun=$(date +%s%N)
+        # shellcheck disable=SC2086
+        ${BENCH_UNDER:-} "$loops" runs "$1" <"$2" >"$room/out"
+        echo $(($(date +%s%N) - begun))
+    done | sort -n | head -n 1
+}
+
+eight() {
+    echo "16 reads of 1 MiB on CPU 0, the least of $times, on $(nproc) processors"
+    for callers in 1 8; do
+        large "$callers" >"$room/large"
+        took=$((($(least "$turns" "$room/large") - $(least 0 "$room/large")) / turns))
+        awk -v callers="$callers" -v took="$took" 'BEGIN { printf "%-44s %9.1f ms\n", "callers: " callers, took / 1e6 }'
+    done
+}
+
+[ $# -gt 0 ] || set -- reads load eight
+for word; do
+    case $word in
+    reads | load | eight) "$word" ;;
+    *)
+        echo "usage: bench/one_cpu.sh [reads | load | eight]..." >&2
+        exit 2
+        ;;
+    esac
+done

@@ -1,0 +1,66 @@
+-- A caller whose calls are made at a site over its own pass: what was lent to the site is what came back.
+use Rattle.std.proofs.Common.{◌≡◌, ◌≤◌, ℕ, List, [], refl, sym, subst}
+use Rattle.key_names.specs.declared.entries.BaseEntry.TheVariants.{End, Stall, Unstall}
+use Rattle.key_names.specs.declared.names.Step.{Step}
+use Rattle.key_names.specs.Forms.{BaseOnly}
+use Rattle.lane_table.specs.declared.lanes.Lanes.{Lanes}
+use Rattle.lane_table.specs.declared.lanes.Pass.{Pass}
+use Rattle.lane_table.specs.declared.view.View.{View}
+use Rattle.lane_table.specs.Calls.{view}
+use Rattle.lane_table.specs.Hands.{HoldsLanes}
+use Rattle.rng_core.specs.declared.setting.Setting.{Setting}
+use Rattle.rng_core.specs.declared.site.Site.{Site}
+use Rattle.rng_core.specs.Forks.{Forked}
+use Rattle.rng_core.specs.Makes.{Makes}
+use Rattle.rng_core.specs.Sites.{Does, HasInHands, Same, at, base_lane, lane_of, seen_by}
+use Rattle.rng_core.specs.Traces.{moment}
+use Rattle.caller_run.specs.declared.states.States.{States}
+use Rattle.caller_run.specs.Calling.{HasLeft}
+use Rattle.caller_run.specs.Ways.{AtFork, RanHere}
+
+-- the hands at a site are those of its pass
+pub own_hands : {m n : Site} → Same m n → HasInHands [] n → HoldsLanes m.lanes.now m.set.caller [] n.pass.now
+own_hands {m = m} {n = n} same has =
+    subst (λ (set : Setting). HoldsLanes m.lanes.now set.caller [] n.pass.now) same.set
+    (subst (λ (t : Lanes). HoldsLanes t n.set.caller [] n.pass.now) same.lanes has)
+
+pub lent_hands : {t : Lanes} {caller : ℕ} {p q : Pass} → p ≡ q → HoldsLanes t caller [] q → HoldsLanes t caller [] p
+lent_hands {t = t} {caller = caller} is has = subst (λ (p : Pass). HoldsLanes t caller [] p) (sym is) has
+
+pub given_hands : {m n : Site} {caller : ℕ} {p : Pass} → Same m n → HoldsLanes n.lanes.now caller [] p →
+    HoldsLanes m.lanes.now caller [] p
+given_hands {caller = caller} {p = p} same has = subst (λ (t : Lanes). HoldsLanes t caller [] p) same.lanes has
+
+-- the last visit of the caller that made the site
+pub has_left : {m n : Site} {states : States} {p : Pass} {steps : List Step} → p ≡ n.pass.now → steps ≡ n.trace.now →
+    m.trace.now ≡ [] → Does 1 (BaseOnly End) m n → seen_by n ≤ (lane_of n base_lane).base.generation →
+    HasLeft m.lanes.now (record { pass = m.pass.now; set = m.set; states = states })
+    (record { pass = p; set = m.set; states = states }) steps
+has_left {m = m} {n = n} pass trace new done reached = rw pass (rw trace (record {
+  has = own_hands done.same done.has;
+  set = refl;
+  reached = reached;
+  did = subst (λ (l : List Step). Makes (BaseOnly End) m.set (moment m.pass.now l) (moment n.pass.now n.trace.now)) new
+      done.did;
+}))
+
+-- and its fork
+pub at_fork : (m n : Site) {states : States} {p theirs : Pass} {steps : List Step} {child : ℕ} → p ≡ n.pass.now →
+    steps ≡ n.trace.now → m.trace.now ≡ [] → Forked m.set (at m) n.trace.now child n.pass.now theirs →
+    AtFork (record { pass = m.pass.now; set = m.set; states = states })
+    (record { pass = p; set = m.set; states = states }) steps child theirs
+at_fork m n {theirs = theirs} {child = child} pass trace new forked = rw pass (rw trace (record {
+  set = refl;
+  states = refl;
+  forked = subst (λ (l : List Step). Forked m.set (moment m.pass.now l) n.trace.now child n.pass.now theirs) new forked;
+}))
+
+-- and what it did before a child that ran in its place, and behind it
+pub ran_here : {l m n : Site} {v : View} {steps : List Step} → v ≡ view n.pass.now → steps ≡ n.trace.now →
+    Does 1 (BaseOnly Stall) l m → Does 1 (BaseOnly Unstall) m n →
+    RanHere l.set (at l) (record { view = v; steps = steps })
+ran_here {m = m} {n = n} pass trace stalls unstalls = rw pass (rw trace (record {
+  middle = at m;
+  stall = stalls.did;
+  unstall = subst (λ (set : Setting). Makes (BaseOnly Unstall) set (at m) (at n)) stalls.same.set unstalls.did;
+}))

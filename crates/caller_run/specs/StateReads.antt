@@ -1,0 +1,31 @@
+-- A read out of a caller's current state, and what it was lent for that.
+use Rattle.std.specs.Prelude.{◌≡◌, ℕ, ◌≤◌, ◌^◌, List, length}
+use Rattle.std.specs.List.{AllByRecursion}
+use Rattle.key_names.specs.declared.names.Step.{Step}
+use Rattle.lane_table.specs.declared.lanes.Lanes.{Lanes}
+use Rattle.rng_core.specs.Acts.{all_wanted, asks_of, outcomes_of}
+use Rattle.rng_core.specs.InsideMakes.{IsFresh}
+use Rattle.rng_core.specs.declared.vdso.acts.Bound.{Bound}
+use Rattle.caller_run.specs.Calling.{IsReady, StatesStand, StateRead}
+use Rattle.caller_run.specs.declared.caller.Caller.{Caller}
+use Rattle.caller_run.specs.declared.reply.Reply.{Reply}
+use Rattle.caller_run.specs.declared.vreads.ReadInto.{ReadInto}
+
+-- a caller can read: its acts are not done yet, and there is a place for the bytes of each
+pub record CanRead (t : Lanes) (c : Caller) (acts : List Bound) (into : ReadInto) : Type 0 where
+  pub ready : IsReady t c
+  pub states : StatesStand c
+  pub short : length into.served.now ≤ 2 ^ 20
+  pub fresh : AllByRecursion IsFresh acts
+  pub fits : length into.inside.now ≡ all_wanted (asks_of acts)
+
+-- the caller, then c and now d, read in these steps, with these acts inside, which are those now
+pub record CurrentRead (t : Lanes) (c d : Caller) (said : Reply) (steps : List Step) (acts after : List Bound)
+    (into done : ReadInto) : Type 0 where
+  pub served : done.served.ghost_name ≡ into.served.ghost_name
+  pub inside : done.inside.ghost_name ≡ into.inside.ghost_name
+  pub long : length done.served.now ≡ length into.served.now
+  pub fits : length done.inside.now ≡ all_wanted (asks_of acts)
+  pub asks : asks_of after ≡ asks_of acts
+  pub read : StateRead t (length into.served.now) into.flags c d said done.served.now steps (asks_of acts)
+      (outcomes_of after done.inside.now)
