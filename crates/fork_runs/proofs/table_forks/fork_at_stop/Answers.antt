@@ -1,4 +1,8 @@
-use Rattle.std.proofs.Common.{ap, arith}
+use Rattle.std.proofs.Common.{◌≡◌, ◌≤◌, rules, ap, arith, subst}
+use Rattle.key_names.specs.VreadSteps.{published_by}
+use Rattle.lane_table.specs.declared.lanes.Pass.{Pass}
+use Rattle.lane_table.specs.Advances.{floor}
+use Rattle.vcall_fork.specs.Stages.{published_or}
 use Rattle.lane_table.specs.Calls.{view}
 use Rattle.lane_table.proofs.Calls.HandLemmas.{has_joined}
 use Rattle.rng_core.proofs.Makings.{did_floor}
@@ -9,8 +13,10 @@ use Rattle.fork_runs.proofs.table_forks.fork_at_stop.Goals as goal
 pub finish-parent_gave-requires-clause-known : goal.finish-parent_gave-requires-clause-known
 finish-parent_gave-requires-clause-known g c =
     let f = c.fork-child_pass.ensures.forked in
-    parent_known c.args.call.stage (view c.args.pass.now) f.before (view c.fork-child_pass.new.pass) c.requires.known
-    (did_floor _ _ _ f.did) f.pass_is
+    let back : c.fork-child_pass.new.site.pass.now ≡ c.pass-1.given.0 = search rules in
+    subst (λ (p : Pass). published_or 0 c.args.call.stage ≤ published_by (floor (view p))) back
+    (parent_known c.args.call.stage (view c.args.pass.now) f.before (view c.fork-child_pass.new.site.pass.now)
+    c.requires.known (did_floor _ _ _ f.did) f.pass_is)
 
 pub finish-child_gave-requires-clause-known : goal.finish-child_gave-requires-clause-known
 finish-child_gave-requires-clause-known g c =
