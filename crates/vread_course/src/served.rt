@@ -157,15 +157,34 @@ fn are_same(a: &[u8], b: &[u8]) -> bool
     a == b
 }
 
-/// Puts bytes of the key's stream behind those of `out`, a piece at a time.
+/// Puts bytes of the key's stream behind those of `out`. The piece that they are made in is no longer than it has to be,
+/// since it is cleared for each read.
 fn put_key(key: &[u8; 32], from: u64, len: usize, out: &mut Vec<u8>) -> Result<(), AllocError>
     requires { from + len < 2 ^ 40 }
     ensures { IfOk result (λ _. out.new.items ≡ out.old.items ++ keystream key.now from len) }
 {
-    let mut piece = [0; PIECE_BYTES];
+    if len <= SHORT_BYTES {
+        put_key_by(key, from, len, out, &mut [0; SHORT_BYTES])
+    } else {
+        put_key_by(key, from, len, out, &mut [0; PIECE_BYTES])
+    }
+}
+
+/// The same, as many bytes at a time as the piece has room for.
+fn put_key_by(
+    key: &[u8; 32],
+    from: u64,
+    len: usize,
+    out: &mut Vec<u8>,
+    piece: &mut [u8],
+) -> Result<(), AllocError>
+    requires near { from + len < 2 ^ 40 }
+    requires room { 0 < length piece.old }
+    ensures { IfOk result (λ _. out.new.items ≡ out.old.items ++ keystream key.now from len) }
+{
     let mut done = 0;
     while done < len {
-        let next = PIECE_BYTES.min(len - done);
+        let next = piece.len().min(len - done);
         let part = &mut piece[..next];
         fill(key, from + done as u64, part);
         out.extend_from_slice(part)?;
@@ -174,8 +193,7 @@ fn put_key(key: &[u8; 32], from: u64, len: usize, out: &mut Vec<u8>) -> Result<(
     Ok(())
 }
 
-/// Whether the bytes are those of the key's stream from this position on. The piece that they are compared with is no
-/// longer than it has to be, since it is cleared for each read.
+/// Whether the bytes are those of the key's stream from this position on.
 fn is_key(key: &[u8; 32], from: u64, bytes: &[u8]) -> bool
     requires { from + length bytes.now < 2 ^ 40 }
     ensures { IsTrue result ↔ (bytes.now ≡ keystream key.now from (length bytes.now)) }
