@@ -13,7 +13,7 @@ pub trait Source {
     /// The bytes that are left, where the source tells them.
     ghost left: { Self → Option (List ℕ) };
 
-    /// How often it has failed. The count never falls, and stands still at `u64::MAX`.
+    /// How often it has failed. The count rises with a failure alone, and stands still at `u64::MAX`.
     ghost faults: { Self → ℕ };
 
     /// Takes bytes from the front of what is left into the front of `buf`, and answers how many.
@@ -28,6 +28,7 @@ pub trait Source {
         ensures taken { IfOk result (λ n. Consumes (left self.old) (left self.new) (take n buf.new)) }
         ensures end { IfOk result (λ n. n ≡ 0 → 0 < length buf.old → IsAtEnd (left self.new)) }
         ensures not_taken { OnErr result (Keeps (left self.old) (left self.new)) }
+        ensures not_counted { OnOk result (faults self.new ≡ faults self.old) }
         ensures cause { OnErr result (Rose (faults self.old) (faults self.new)) }
         ensures never_falls { faults self.old ≤ faults self.new };
 }

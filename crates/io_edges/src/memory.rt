@@ -108,6 +108,7 @@ impl Source for MemSource {
         ensures bound { ReadsAtMost result buf.new }
         ensures taken { IfOk result (λ n. Consumes (Some self.old.left) (Some self.new.left) (take n buf.new)) }
         ensures end { IfOk result (λ n. n ≡ 0 → 0 < length buf.old → self.new.left ≡ []) }
+        ensures not_counted { OnOk result (self.new.faults ≡ self.old.faults) }
         ensures never_falls { self.old.faults ≤ self.new.faults }
     {
         if self.calls.next_fails() {

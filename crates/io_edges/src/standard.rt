@@ -34,7 +34,7 @@ impl<I: Read + Drop> Source for StdSource<I> {
     // A read that a signal interrupts is tried again. It is a fault only after 2^64 - 1 tries.
     fn take(&mut self, buf: &mut [u8]) -> Result<usize, Failed>
         // A fault is counted exactly where the call fails.
-        ensures same { OnOk result (source_faults self.new ≡ source_faults self.old) }
+        ensures not_counted { OnOk result (source_faults self.new ≡ source_faults self.old) }
         ensures counted { OnErr result (source_faults self.new ≡ next_count (source_faults self.old)) }
 
         // What each source promises.

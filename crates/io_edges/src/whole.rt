@@ -41,8 +41,8 @@ impl From<NoMemory> for ReadError {
 ///
 /// # Errors
 ///
-/// `Fault` where the source failed, which it has counted as a fault. `NoMemory` where the bytes find
-/// no room. Either way the bytes that were taken are lost.
+/// `Fault` where the source failed, which it has counted as a fault. `NoMemory` where the bytes find no room, and the
+/// source did not fail. Either way the bytes that were taken are lost.
 #[tactic(auto, using(crate::proofs::Pieces::ConsumesSome_more))]
 pub fn read_to_limit<S: Source>(
     alloc: Global,
@@ -56,6 +56,8 @@ pub fn read_to_limit<S: Source>(
     ensures bound { IfOk result (λ bytes. vec_len bytes ≤ limit + 1) }
     ensures front { ConsumesSome (S.left source.old) (S.left source.new) }
     ensures cause { IsErrOf result ReadError.Fault → Rose (S.faults source.old) (S.faults source.new) }
+    ensures no_memory { IsErrOf result ReadError.NoMemory → S.faults source.new ≡ S.faults source.old }
+    ensures not_counted { OnOk result (S.faults source.new ≡ S.faults source.old) }
     ensures never_falls { S.faults source.old ≤ S.faults source.new }
 {
     let mut bytes = Vec::new(alloc);

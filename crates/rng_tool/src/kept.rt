@@ -1,5 +1,5 @@
 //! A source that remembers what it gave, up to the length of a script.
-ghost use Rattle.std.specs.Prelude.{◌≡◌, ◌<◌, ◌≤◌, ◌++◌, [], take, length, None, Some, IfOk, IfSome, OnErr};
+ghost use Rattle.std.specs.Prelude.{◌≡◌, ◌<◌, ◌≤◌, ◌++◌, [], take, length, None, Some, IfOk, IfSome, OnOk, OnErr};
 ghost use Rattle.std.specs.Io.{ReadsAtMost};
 ghost use Rattle.std.specs.Io.KnownBytes.{Consumes, IsAtEnd, Keeps};
 ghost use Rattle.io_edges.specs.Faults.{Rose};
@@ -72,6 +72,7 @@ impl<S: Source + Drop> Source for KeptSource<S> {
             Consumes (S.left (source_of self.old)) (S.left (source_of self.new)) (take n buf.new)) }
         ensures end { IfOk result (λ n. n ≡ 0 → 0 < length buf.old → IsAtEnd (S.left (source_of self.new))) }
         ensures not_taken { OnErr result (Keeps (S.left (source_of self.old)) (S.left (source_of self.new))) }
+        ensures not_counted { OnOk result (S.faults (source_of self.new) ≡ S.faults (source_of self.old)) }
         ensures cause { OnErr result (Rose (S.faults (source_of self.old)) (S.faults (source_of self.new))) }
         ensures never_falls { S.faults (source_of self.old) ≤ S.faults (source_of self.new) }
     {
