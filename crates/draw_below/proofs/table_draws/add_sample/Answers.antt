@@ -13,7 +13,9 @@ pub returns-clause-did : goal.returns-clause-did
 returns-clause-did g c =
     let set = c.args.set.now in let steps = c.add.new.site.trace.now in
     let back : c.add.new.site.pass.now ≡ c.pass-1.given.0 = search rules in
-    let P = IsOutcomeOf (setting_of set) (Add (range_with_len 0 32) 256) Done no_data in
-    (steps, subst (λ (p : Pass). Makes P set (moment c.args.pass.now []) (moment p steps)) back
-    (subst (λ (l : List Step). Makes P set (moment c.args.pass.now l) (moment c.add.new.site.pass.now steps))
-    c.empty-trace.ensures c.add.ensures.did))
+    let P = IsOutcomeOf (setting_of set) (Add (range_with_len 0 32) 256) Done no_data in (
+      steps,
+      subst (λ (p : Pass). Makes P set (moment c.args.pass.now []) (moment p steps)) back
+          (subst (λ (l : List Step). Makes P set (moment c.args.pass.now l) (moment c.add.new.site.pass.now steps))
+          c.empty-trace.ensures c.add.ensures.did),
+    )
