@@ -1,0 +1,3 @@
+-- What stands in proofs/.
+mod UsesMore
+mod HeldUnused

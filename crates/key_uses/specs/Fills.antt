@@ -1,0 +1,36 @@
+-- The last fills of a CPU's batches, as the code keeps them.
+use Rattle.std.specs.Prelude.{ℕ, ◌+◌, ◌*◌, ◌<◌, ◌≡◌, ◌==◌, Bool, false, Option, Some, None, List, [], slice_get, unwrap_or}
+use Rattle.std.specs.Prelude.{if◌then◌else◌}
+use Rattle.key_names.specs.Batches.{Fill as BookFill, one_more_served}
+use Rattle.key_names.specs.Uses.{Use, named_use, served}
+use Rattle.key_names.specs.CpuList.{CpuState}
+use Rattle.key_uses.specs.declared.cpu_uses.Fill.{Fill}
+use Rattle.key_uses.specs.declared.cpu_uses.CpuKeys.{CpuKeys}
+
+-- what the code keeps of a fill
+abbrev pub fill_of : Option BookFill → Option Fill
+fill_of None = None
+fill_of (Some fill) = Some (record { key = fill.key; count = fill.count })
+
+-- what the next integer of a batch puts to use
+abbrev pub fill_uses : ℕ → Option Fill → List Use
+fill_uses width None = []
+fill_uses width (Some fill) = named_use served fill.key (32 + width * fill.count) width
+
+-- of each width that a byte can tell, what is kept of its last fill
+abbrev pub AreFills : (ℕ → Option BookFill) → List (Option Fill) → Type 0
+AreFills fills kept = (w : ℕ) → w < 256 → slice_get kept w ≡ Some (fill_of (fills w))
+
+-- one integer more of a width was served
+abbrev pub served_more : ℕ → (ℕ → Option BookFill) → ℕ → Option BookFill
+served_more width fills w = if w == width then one_more_served (fills w) else fills w
+
+-- key and fills are those of the CPU before the entry at a place
+pub record CpuStands (s : CpuState) (place : ℕ) (keys : CpuKeys) : Type 0 where
+  pub place_is : s.place ≡ place
+  pub key : keys.key ≡ s.key
+  pub fills : AreFills s.fills keys.fills
+
+-- whether the read at each place is taken by a vgetrandom state
+abbrev pub rekeys_of : List Bool → ℕ → Bool
+rekeys_of rekeyed place = unwrap_or (slice_get rekeyed place) false

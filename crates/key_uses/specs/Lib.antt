@@ -1,0 +1,6 @@
+-- What stands in specs/.
+pub mod UsesSeen
+pub mod KeptEntries
+pub mod Fills
+pub mod StateKeys
+pub mod HeldUnused

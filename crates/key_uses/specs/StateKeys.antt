@@ -1,0 +1,12 @@
+-- The keys of a vgetrandom state, as the code keeps them.
+use Rattle.std.specs.Prelude.{ℕ, ◌≡◌}
+use Rattle.key_names.specs.StateList.{NamedState}
+use Rattle.key_uses.specs.declared.state_uses.StateKeys.{StateKeys}
+
+-- they are those of the state before the entry at a place
+pub record StateStands (s : NamedState) (place : ℕ) (keys : StateKeys) : Type 0 where
+  pub place_is : s.place ≡ place
+  pub key : keys.key ≡ s.key
+  pub refills : keys.refills ≡ s.refills
+  pub batch_key : keys.batch_key ≡ s.batch_key
+  pub batch_from : keys.batch_from ≡ s.batch_from

@@ -1,0 +1,91 @@
+//! What the entries of the base put to use.
+ghost use Rattle.std.specs.Prelude.{◌≡◌, ◌++◌, IfOk, OnOk};
+ghost use Rattle.key_names.specs.BaseList.{BaseState, base_start, base_step, base_key_in_use, base_key_after, root_of};
+ghost use Rattle.key_names.specs.Uses.{base_uses_at, uses_from};
+ghost use Rattle.key_uses.specs.KeptEntries.{base_entries};
+ghost use Rattle.key_uses.specs.UsesSeen.{uses_seen};
+
+use crate::read_uses::{InUse, push_read};
+use crate::used::{Origin, Used};
+use key_names::{BaseEntry, KeyName, LaneId};
+use list_replay::KeptBase;
+use std::alloc::{AllocError, Global};
+
+/// The root that an entry names.
+pub fn root_of(entry: BaseEntry) -> Option<u64>
+    ensures { result ≡ root_of entry }
+{
+    match entry {
+        BaseEntry::Early { root } | BaseEntry::Tick { root, .. } | BaseEntry::Draw { root, .. } =>
+            root,
+        BaseEntry::Reseed { root, .. } => Some(root),
+        _ => None,
+    }
+}
+
+/// The key in use at an entry: the root that it names, or else the key before it.
+pub fn key_in_use(entry: BaseEntry, key: Option<KeyName>) -> Option<KeyName>
+    ensures { result ≡ base_key_in_use entry key }
+{
+    match root_of(entry) {
+        Some(root) => Some(KeyName::Root(root)),
+        None => key,
+    }
+}
+
+/// The key after the entry at a place.
+pub fn key_after(place: u64, entry: BaseEntry, key: Option<KeyName>) -> Option<KeyName>
+    ensures { result ≡ base_key_after place entry key }
+{
+    match entry {
+        BaseEntry::Draw { .. } | BaseEntry::Refill { .. } => Some(KeyName::Base(place)),
+        _ => key_in_use(entry, key),
+    }
+}
+
+// Adds what the entry at a place puts to use, where this is the key before it.
+fn push_uses(
+    uses: &mut Vec<Used>,
+    key: Option<KeyName>,
+    place: u64,
+    entry: BaseEntry,
+) -> Result<(), AllocError>
+    ensures { (s : BaseState) → s.place ≡ place → s.key ≡ key → OnOk result (uses_seen uses.new.items
+        ≡ uses_seen uses.old.items ++ base_uses_at s entry) }
+{
+    let Some(key) = key_in_use(entry, key) else {
+        return Ok(());
+    };
+    let by = Origin::Lane(LaneId::Base, place);
+    let used = InUse { key, by };
+    let call = KeyName::Call(LaneId::Base, place);
+    match entry {
+        BaseEntry::Draw { taken, .. } => {
+            push_read(uses, used, KeyName::Base(place), call, false, taken)?;
+        }
+        BaseEntry::Refill { .. } => {
+            uses.push(used.kept(0, KeyName::Base(place)))?;
+            uses.push(used.kept(32, call))?;
+        }
+        _ => {}
+    }
+    Ok(())
+}
+
+/// Every use of the base's entries, in their order.
+///
+/// # Errors
+///
+/// `AllocError` where there is no memory for them.
+pub fn base_uses(alloc: Global, base: &[KeptBase]) -> Result<Vec<Used>, AllocError>
+    ensures { IfOk result (λ uses.
+        uses_seen uses.items ≡ uses_from base_uses_at base_step base_start (base_entries base.now)) }
+{
+    let mut uses = Vec::new(alloc);
+    let mut key = None;
+    for (place, kept) in base.iter().enumerate() {
+        push_uses(&mut uses, key, place as u64, kept.entry)?;
+        key = key_after(place as u64, kept.entry, key);
+    }
+    Ok(uses)
+}

@@ -1,0 +1,250 @@
+//! What the entries of a CPU put to use.
+ghost use Rattle.std.specs.Prelude.{ℕ, Bool, List, ◌≡◌, ◌+◌, ◌*◌, ◌++◌, Option, None, IfOk, OnOk};
+ghost use Rattle.key_names.specs.declared.entries.BaseEntry.{BaseEntry as BookBase};
+ghost use Rattle.key_names.specs.CpuList.{CpuState, cpu_start, cpu_step, cpu_key_in_use, cpu_key_after, base_refill_of};
+ghost use Rattle.key_names.specs.Batches.{Fill as BookFill, one_more_served};
+ghost use Rattle.key_names.specs.Uses.{cpu_uses_at, uses_from};
+ghost use Rattle.key_uses.specs.Fills.{fill_of, fill_uses, served_more, AreFills, CpuStands, rekeys_of};
+ghost use Rattle.key_uses.specs.KeptEntries.{cpu_entries};
+ghost use Rattle.key_uses.specs.UsesSeen.{uses_seen};
+
+use crate::read_uses::{InUse, push_read};
+use crate::used::{Origin, Used};
+use key_names::{CpuEntry, KeyName, LaneId};
+use list_replay::KeptCpu;
+use std::alloc::{AllocError, Global};
+
+/// The widths of batches that a byte can tell.
+const WIDTHS: usize = 256;
+
+/// The last fill of a batch: the key in use at it, and how many integers were served since, the first one included.
+#[derive(Clone, Copy, Debug, PartialEq, Eq)]
+pub struct Fill {
+    pub key: Option<KeyName>,
+    pub count: u64,
+}
+
+/// The key of a CPU, and the last fill of each width's batch.
+#[derive(Clone, Copy)]
+pub struct CpuKeys {
+    pub key: Option<KeyName>,
+    pub fills: [Option<Fill>; WIDTHS],
+}
+
+/// The refill that an entry names.
+pub fn refill_of(entry: CpuEntry) -> Option<u64>
+    ensures { result ≡ base_refill_of entry }
+{
+    match entry {
+        CpuEntry::Read { refill, .. } | CpuEntry::Int { refill, .. } => refill,
+        _ => None,
+    }
+}
+
+/// The key in use at an entry: what the base handed over in the refill that it names, or else the key before it.
+pub fn key_in_use(entry: CpuEntry, key: Option<KeyName>) -> Option<KeyName>
+    ensures { result ≡ cpu_key_in_use entry key }
+{
+    match refill_of(entry) {
+        Some(refill) => Some(KeyName::Call(LaneId::Base, refill)),
+        None => key,
+    }
+}
+
+/// The key after the entry at a place of a CPU.
+pub fn key_after(cpu: u32, place: u64, entry: CpuEntry, key: Option<KeyName>) -> Option<KeyName>
+    ensures { result ≡ cpu_key_after cpu place entry key }
+{
+    match entry {
+        CpuEntry::Read { .. } | CpuEntry::Int { filled: true, .. } => {
+            Some(KeyName::Cpu(cpu, place))
+        }
+        _ => key_in_use(entry, key),
+    }
+}
+
+// The byte of a fill's keystream from which its next integer comes. No memory has room for so many integers that it
+// has no number.
+fn next_byte(width: u8, count: u64) -> Result<u64, AllocError>
+    ensures { IfOk result (λ from. from ≡ 32 + width * count) }
+{
+    let Some(served) = u64::from(width).checked_mul(count) else {
+        return Err(AllocError);
+    };
+    let Some(from) = served.checked_add(32) else {
+        return Err(AllocError);
+    };
+    Ok(from)
+}
+
+// Adds what the next integer of a batch puts to use.
+fn push_batched(
+    uses: &mut Vec<Used>,
+    by: Origin,
+    width: u8,
+    fill: Option<Fill>,
+) -> Result<(), AllocError>
+    ensures { OnOk result (uses_seen uses.new.items ≡ uses_seen uses.old.items ++ fill_uses width fill) }
+{
+    let Some(
+        Fill {
+            key: Some(key),
+            count,
+        },
+    ) = fill
+    else {
+        return Ok(());
+    };
+    let from = next_byte(width, count)?;
+    uses.push(InUse { key, by }.served(from, u64::from(width)))?;
+    Ok(())
+}
+
+// One integer more was served.
+fn one_more(fill: Option<Fill>) -> Result<Option<Fill>, AllocError>
+    ensures { (book : Option BookFill) → fill ≡ fill_of book →
+        IfOk result (λ more. more ≡ fill_of (one_more_served book)) }
+{
+    let Some(Fill { key, count }) = fill else {
+        return Ok(None);
+    };
+    let Some(count) = count.checked_add(1) else {
+        return Err(AllocError);
+    };
+    Ok(Some(Fill { key, count }))
+}
+
+// No batch is filled.
+fn no_fills() -> [Option<Fill>; WIDTHS]
+    ensures { AreFills (λ w. None) result }
+{
+    [None; WIDTHS]
+}
+
+// One integer more of this width was served.
+fn serve_more(fills: &mut [Option<Fill>; WIDTHS], width: u8) -> Result<(), AllocError>
+    ensures { (book : ℕ → Option BookFill) → AreFills book fills.old →
+        OnOk result (AreFills (served_more width book) fills.new) }
+{
+    fills[width as usize] = one_more(fills[width as usize])?;
+    Ok(())
+}
+
+impl CpuKeys {
+    /// Before its first entry a CPU has no key, and no batch was filled.
+    pub fn start() -> CpuKeys
+        ensures key { result.key ≡ None }
+        ensures fills { AreFills (λ w. None) result.fills }
+    {
+        CpuKeys {
+            key: None,
+            fills: no_fills(),
+        }
+    }
+
+    // Adds what the entry at a place puts to use.
+    fn push_uses(
+        &self,
+        uses: &mut Vec<Used>,
+        cpu: u32,
+        place: u64,
+        entry: CpuEntry,
+        rekeys: bool,
+    ) -> Result<(), AllocError>
+        ensures { (s : CpuState) (rekeyed : ℕ → Bool) → CpuStands s place self.now → rekeyed place ≡ rekeys →
+            OnOk result (uses_seen uses.new.items
+            ≡ uses_seen uses.old.items ++ cpu_uses_at cpu rekeyed s entry) }
+    {
+        let by = Origin::Lane(LaneId::Cpu(cpu), place);
+        if let CpuEntry::Int {
+            width,
+            filled: false,
+            ..
+        } = entry
+        {
+            return push_batched(uses, by, width, self.fills[width as usize]);
+        }
+        let Some(key) = key_in_use(entry, self.key) else {
+            return Ok(());
+        };
+        let used = InUse { key, by };
+        let next = KeyName::Cpu(cpu, place);
+        let call = KeyName::Call(LaneId::Cpu(cpu), place);
+        match entry {
+            CpuEntry::Read { taken, .. } => push_read(uses, used, next, call, rekeys, taken),
+            CpuEntry::Int { width, .. } => {
+                uses.push(used.kept(0, next))?;
+                uses.push(used.served(32, u64::from(width)))?;
+                Ok(())
+            }
+            _ => Ok(()),
+        }
+    }
+
+    /// Keys and fills after the entry at a place.
+    ///
+    /// # Errors
+    ///
+    /// `AllocError` where there are more integers than any memory has room for.
+    pub fn step(&mut self, cpu: u32, place: u64, entry: CpuEntry) -> Result<(), AllocError>
+        ensures { (s : CpuState) (base : List BookBase) → CpuStands s place self.old →
+            OnOk result (CpuStands (cpu_step base cpu s entry) (place + 1) self.new) }
+    {
+        let used = key_in_use(entry, self.key);
+        self.key = key_after(cpu, place, entry, self.key);
+        match entry {
+            CpuEntry::Int {
+                width,
+                filled: true,
+                ..
+            } => {
+                self.fills[width as usize] = Some(Fill {
+                    key: used,
+                    count: 1,
+                });
+            }
+            CpuEntry::Int {
+                width,
+                filled: false,
+                ..
+            } => serve_more(&mut self.fills, width)?,
+            CpuEntry::Prepare => self.fills = no_fills(),
+            _ => {}
+        }
+        Ok(())
+    }
+}
+
+// Whether a vgetrandom state takes the read at a place.
+fn rekeys_at(rekeyed: &[bool], place: u64) -> bool
+    ensures { result ≡ rekeys_of rekeyed.now place }
+{
+    match rekeyed.get(place as usize) {
+        Some(rekeys) => *rekeys,
+        None => false,
+    }
+}
+
+/// Every use of a CPU's entries, in their order; `rekeyed` says of each place whether a vgetrandom state takes its read.
+///
+/// # Errors
+///
+/// `AllocError` where there is no memory for them.
+pub fn cpu_uses(
+    alloc: Global,
+    cpu: u32,
+    lane: &[KeptCpu],
+    rekeyed: &[bool],
+) -> Result<Vec<Used>, AllocError>
+    ensures { (base : List BookBase) → IfOk result (λ uses. uses_seen uses.items
+        ≡ uses_from (cpu_uses_at cpu (rekeys_of rekeyed.now)) (cpu_step base cpu) cpu_start (cpu_entries lane.now)) }
+{
+    let mut uses = Vec::new(alloc);
+    let mut keys = CpuKeys::start();
+    for (place, kept) in lane.iter().enumerate() {
+        let rekeys = rekeys_at(rekeyed, place as u64);
+        keys.push_uses(&mut uses, cpu, place as u64, kept.entry, rekeys)?;
+        keys.step(cpu, place as u64, kept.entry)?;
+    }
+    Ok(uses)
+}

@@ -1,0 +1,94 @@
+//! What a read puts to use.
+ghost use Rattle.std.specs.Prelude.{◌≡◌, ◌++◌, ◌∷◌, [], OnOk};
+ghost use Rattle.key_names.specs.Uses.{use_of, taken_uses, read_uses, kept, served};
+ghost use Rattle.key_uses.specs.UsesSeen.{uses_seen};
+
+use crate::used::{Origin, Purpose, Used};
+use key_names::{KeyName, Span, Taken};
+use std::alloc::AllocError;
+
+/// The bytes of a key that an erasure keeps, of which the next key is made.
+const KEY_BYTES: u32 = 32;
+
+/// A key with the entry that it is in use at.
+#[derive(Clone, Copy)]
+pub(crate) struct InUse {
+    pub(crate) key: KeyName,
+    pub(crate) by: Origin,
+}
+
+impl InUse {
+    /// These bytes of the key became a key.
+    pub(crate) fn kept(self, from: u64, name: KeyName) -> Used
+        ensures { uses_seen (result ∷ []) ≡ use_of kept self.key from 32 ∷ [] }
+    {
+        Used {
+            span: Span {
+                key: self.key,
+                from,
+                len: u64::from(KEY_BYTES),
+            },
+            purpose: Purpose::Kept(name),
+            by: self.by,
+        }
+    }
+
+    /// These bytes of the key were served.
+    pub(crate) fn served(self, from: u64, len: u64) -> Used
+        ensures { uses_seen (result ∷ []) ≡ use_of served self.key from len ∷ [] }
+    {
+        Used {
+            span: Span {
+                key: self.key,
+                from,
+                len,
+            },
+            purpose: Purpose::Served,
+            by: self.by,
+        }
+    }
+}
+
+// Adds what a read takes behind the bytes that the erasure keeps.
+fn push_taken(
+    uses: &mut Vec<Used>,
+    used: InUse,
+    call: KeyName,
+    rekeys: bool,
+    taken: Taken,
+) -> Result<(), AllocError>
+    ensures { OnOk result (uses_seen uses.new.items
+        ≡ uses_seen uses.old.items ++ taken_uses rekeys used.key call taken) }
+{
+    match taken {
+        Taken::User(len) if len > KEY_BYTES => {
+            uses.push(used.kept(32, call))?;
+            let by = used.by;
+            uses.push(InUse { key: call, by }.served(64, u64::from(len)))?;
+        }
+        Taken::User(_) if rekeys => uses.push(used.kept(32, call))?,
+        Taken::User(len) | Taken::Kernel(len) => uses.push(used.served(32, u64::from(len)))?,
+    }
+    Ok(())
+}
+
+/// Adds what an erasure and its read put to use: `next` is the key that is kept, `call` the name of the 32 bytes behind it
+/// where they become a key, and `rekeys` says whether a vgetrandom state takes them.
+///
+/// # Errors
+///
+/// `AllocError` where there is no memory for it.
+pub(crate) fn push_read(
+    uses: &mut Vec<Used>,
+    used: InUse,
+    next: KeyName,
+    call: KeyName,
+    rekeys: bool,
+    taken: Taken,
+) -> Result<(), AllocError>
+    ensures { OnOk result (uses_seen uses.new.items
+        ≡ uses_seen uses.old.items ++ read_uses rekeys used.key call taken) }
+{
+    uses.push(used.kept(0, next))?;
+    push_taken(uses, used, call, rekeys, taken)
+}

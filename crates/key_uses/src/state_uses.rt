@@ -1,0 +1,142 @@
+//! What the entries of a vgetrandom state put to use.
+ghost use Rattle.std.specs.Prelude.{ℕ, ◌≡◌, ◌+◌, ◌*◌, ◌++◌, IfOk, OnOk};
+ghost use Rattle.key_names.specs.StateList.{NamedState, state_start, state_step};
+ghost use Rattle.key_names.specs.Uses.{state_uses_at, uses_from};
+ghost use Rattle.key_uses.specs.StateKeys.{StateStands};
+ghost use Rattle.key_uses.specs.UsesSeen.{uses_seen};
+
+use crate::read_uses::InUse;
+use crate::used::{Origin, Used};
+use key_names::{KeyName, LaneId, VEntry};
+use std::alloc::{AllocError, Global};
+
+/// The bytes of a block of keystream.
+const BLOCK_BYTES: u64 = 64;
+
+/// The bytes of a batch, behind which a refill keeps the next key.
+const BATCH_BYTES: u64 = 96;
+
+/// A vgetrandom state of a caller.
+#[derive(Clone, Copy, Debug, PartialEq, Eq)]
+pub struct StateOf {
+    pub caller: u32,
+    pub state: u32,
+}
+
+/// The keys of a vgetrandom state and of its batch.
+#[derive(Clone, Copy)]
+pub(crate) struct StateKeys {
+    pub(crate) key: Option<KeyName>,
+    /// How many refills there were.
+    pub(crate) refills: u64,
+    pub(crate) batch_key: Option<KeyName>,
+    /// The block at which the batch begins.
+    pub(crate) batch_from: u64,
+}
+
+// The first byte of a block, and `more` bytes behind it. No run asks for so much that it has no number.
+fn byte_of(block: u64, more: u64) -> Result<u64, AllocError>
+    ensures { IfOk result (λ byte. byte ≡ 64 * block + more) }
+{
+    let Some(byte) = BLOCK_BYTES.checked_mul(block) else {
+        return Err(AllocError);
+    };
+    let Some(byte) = byte.checked_add(more) else {
+        return Err(AllocError);
+    };
+    Ok(byte)
+}
+
+impl StateKeys {
+    // Before its first entry a state has no key.
+    fn start() -> StateKeys
+        ensures { StateStands state_start 0 result }
+    {
+        StateKeys {
+            key: None,
+            refills: 0,
+            batch_key: None,
+            batch_from: 0,
+        }
+    }
+
+    // Adds what the entry at a place puts to use.
+    fn push_uses(
+        &self,
+        uses: &mut Vec<Used>,
+        of: StateOf,
+        place: u64,
+        entry: VEntry,
+    ) -> Result<(), AllocError>
+        ensures { (s : NamedState) → StateStands s place self.now → OnOk result (uses_seen uses.new.items
+            ≡ uses_seen uses.old.items ++ state_uses_at s entry) }
+    {
+        let by = Origin::State {
+            caller: of.caller,
+            state: of.state,
+            place,
+        };
+        match (entry, self.key, self.batch_key) {
+            (VEntry::Blocks { from, count }, Some(key), _) => {
+                let from = byte_of(from, 0)?;
+                let len = byte_of(count, 0)?;
+                uses.push(InUse { key, by }.served(from, len))?;
+            }
+            (VEntry::Refill { from }, Some(key), _) => {
+                let from = byte_of(from, BATCH_BYTES)?;
+                let next = KeyName::Vdso(of.caller, of.state, self.refills);
+                uses.push(InUse { key, by }.kept(from, next))?;
+            }
+            (VEntry::Serve { pos, len }, _, Some(key)) => {
+                let from = byte_of(self.batch_from, u64::from(pos))?;
+                uses.push(InUse { key, by }.served(from, u64::from(len)))?;
+            }
+            _ => {}
+        }
+        Ok(())
+    }
+
+    // The keys after the entry at a place.
+    fn step(&mut self, of: StateOf, entry: VEntry) -> Result<(), AllocError>
+        ensures { (s : NamedState) (place : ℕ) → StateStands s place self.old →
+            OnOk result (StateStands (state_step of.caller of.state s entry) (place + 1) self.new) }
+    {
+        match entry {
+            VEntry::Rekey { cpu, cpu_place } => {
+                self.key = Some(KeyName::Call(LaneId::Cpu(cpu), cpu_place));
+                self.batch_key = None;
+            }
+            VEntry::Refill { from } => {
+                let next = KeyName::Vdso(of.caller, of.state, self.refills);
+                self.refills = self.refills.checked_add(1).ok_or(AllocError)?;
+                self.batch_key = self.key;
+                self.batch_from = from;
+                self.key = self.key.map(|_| next);
+            }
+            VEntry::Wipe => {
+                self.key = None;
+                self.batch_key = None;
+            }
+            VEntry::Blocks { .. } | VEntry::Serve { .. } => {}
+        }
+        Ok(())
+    }
+}
+
+/// Every use of the entries of a vgetrandom state, in their order.
+///
+/// # Errors
+///
+/// `AllocError` where there is no memory for them.
+pub fn state_uses(alloc: Global, of: StateOf, entries: &[VEntry]) -> Result<Vec<Used>, AllocError>
+    ensures { IfOk result (λ uses. uses_seen uses.items
+        ≡ uses_from state_uses_at (state_step of.caller of.state) state_start entries.now) }
+{
+    let mut uses = Vec::new(alloc);
+    let mut keys = StateKeys::start();
+    for (place, entry) in entries.iter().enumerate() {
+        keys.push_uses(&mut uses, of, place as u64, *entry)?;
+        keys.step(of, *entry)?;
+    }
+    Ok(uses)
+}

@@ -1,0 +1,26 @@
+//! A use of bytes of a key, and the entry that it is of.
+use key_names::{KeyName, LaneId, Span};
+
+/// An entry that makes, uses or erases a key: at a place of a lane, or of the list of a caller's vgetrandom state.
+#[derive(Clone, Copy, Debug, PartialEq, Eq)]
+pub enum Origin {
+    Lane(LaneId, u64),
+    State { caller: u32, state: u32, place: u64 },
+}
+
+/// What bytes of a keystream were put to use for.
+#[derive(Clone, Copy, Debug, PartialEq, Eq)]
+pub enum Purpose {
+    /// They became this key.
+    Kept(KeyName),
+    /// They were served to a caller.
+    Served,
+}
+
+/// A use of some bytes of a key, and the entry that put them to use.
+#[derive(Clone, Copy, Debug, PartialEq, Eq)]
+pub struct Used {
+    pub span: Span,
+    pub purpose: Purpose,
+    pub by: Origin,
+}
