@@ -1,2 +1,0 @@
--- What stands in specs/.
-pub mod Lives
