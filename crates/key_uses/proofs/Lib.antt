@@ -1,3 +1,5 @@
 -- What stands in proofs/.
 mod UsesMore
+mod Beginnings
 mod HeldUnused
+mod Moments

@@ -4,3 +4,4 @@ pub mod KeptEntries
 pub mod Fills
 pub mod StateKeys
 pub mod HeldUnused
+pub mod Moments

@@ -1,5 +1,6 @@
 //! The laws of what is held, each as the contract of a function without code.
 ghost use Rattle.key_uses.specs.HeldUnused.{BooksHoldUnused, TranscriptsHoldUnused};
+ghost use Rattle.key_uses.specs.Moments.{BeginningsHoldUnused, MomentsHoldUnused};
 
 /// What is held in a book was put to no use, also while visits are half finished.
 #[tactic(auto, using(crate::proofs::HeldUnused::books_hold_unused))]
@@ -7,8 +8,20 @@ pub fn books_hold_unused()
     ensures { BooksHoldUnused }
 {}
 
+/// So it is behind beginnings of a book's lists, in what stands in them.
+#[tactic(auto, using(crate::proofs::Beginnings::beginnings_hold_unused))]
+pub fn beginnings_hold_unused()
+    ensures { BeginningsHoldUnused }
+{}
+
 /// So it is in the book of a lawful transcript.
 #[tactic(auto, using(crate::proofs::HeldUnused::transcripts_hold_unused))]
 pub fn transcripts_hold_unused()
     ensures { TranscriptsHoldUnused }
+{}
+
+/// And in that book as it stood at any moment of the run.
+#[tactic(auto, using(crate::proofs::Moments::moments_hold_unused))]
+pub fn moments_hold_unused()
+    ensures { MomentsHoldUnused }
 {}

@@ -1,9 +1,9 @@
 //! What the entries of a book do with keys: which bytes of which key each puts to use.
 //!
-//! [`base_uses`], [`cpu_uses`] and [`state_uses`] give the uses of the entries of a lane or of a vgetrandom state, each with
-//! the entry that puts the bytes to use. Their contracts say that these are the uses of `key_names`
-//! (`specs/Uses.antt`), each once. The [`laws`] say that nothing which is held was used. It stands on what `list_replay`
-//! keeps of the lanes' lists.
+//! [`base_uses`], [`cpu_uses`] and [`state_uses`] give the uses of the entries of a lane or of a vgetrandom state, each
+//! with the entry that puts the bytes to use. Their contracts say that these are the uses of `key_names`
+//! (`specs/Uses.antt`), each once. The [`laws`] say that nothing which is held at any moment of a run was used before
+//! it. The crate stands on what `list_replay` keeps of the lanes' lists.
 #![tactic(auto)]
 
 pub mod base_uses;
