@@ -6,6 +6,7 @@ ghost use Rattle.rng_core.specs.Integers.{IsWidth};
 ghost use Rattle.rng_core.specs.Acts.{asks_of, all_wanted};
 ghost use Rattle.rng_core.specs.InsideMakes.{IsFresh};
 
+mod long_reads;
 mod waits;
 
 use crate::passes::started;
