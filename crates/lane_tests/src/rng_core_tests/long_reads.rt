@@ -1,12 +1,13 @@
 //! Reads of one caller while another one's long read of the same CPU goes on.
-ghost use Rattle.std.specs.Prelude.{◌≡◌, ◌<◌, ◌≤◌, ◌^◌, [], length, vec_len};
+ghost use Rattle.std.specs.Prelude.{◌<◌, ◌≤◌, ◌^◌, [], length, vec_len};
 ghost use Rattle.lane_table.specs.Hands.{HoldsLanes};
 
 use super::added;
+use super::waits::setting_of;
 use crate::passes::{split_off, started};
 use key_names::{Step, Trace};
 use lane_table::{Lanes, Pass};
-use rng_core::{Setting, Site, kernel_read};
+use rng_core::{Site, kernel_read};
 use std::alloc::{AllocError, Global};
 use std::sync::Wait;
 use std::sync::atomic::{AtomicBool, Ordering};
@@ -23,20 +24,6 @@ const MANY: u64 = 64;
 const ROUNDS: u32 = 500;
 
 const MOST_READS: u32 = 1_000_000;
-
-fn setting_of(caller: u32) -> Setting
-    ensures caller { result.caller ≡ caller }
-    ensures cpu { result.cpu ≡ 0 }
-    ensures now { result.now ≡ 0 }
-{
-    Setting {
-        caller,
-        event: 0,
-        cpu: 0,
-        now: 0,
-        hw: [0; 32],
-    }
-}
 
 // The place of the last visit of a call.
 fn last_place(trace: &Trace) -> u64 {

@@ -18,7 +18,7 @@ use std::thread;
 use std::thread::Threads;
 use vdso_state::{Local, VState};
 
-fn setting_of(caller: u32) -> Setting
+pub(crate) fn setting_of(caller: u32) -> Setting
     ensures caller { result.caller ≡ caller }
     ensures cpu { result.cpu ≡ 0 }
     ensures now { result.now ≡ 0 }
