@@ -1,16 +1,15 @@
 #!/usr/bin/env python3
 """Runs the gate, or another command, and tells where its processor time went, crate by crate.
 
-    bench/gate_times.py [--anew] [--page FILE] [COMMAND..]        `rt ci` where no command is given
+    bench/gate_times.py [--page FILE] [COMMAND..]        `rt ci` where no command is given
 
 Every half second it reads from /proc what each process below the command has used so far, and asks its command line
 which crate it works for and whether that is a proof, a test's proof, or a wrong edit. What a process uses in its last
 half second is lost; the system's own sum stands behind the table. The table has processor minutes, the dearest crate
 first. The command's status is the answer.
 
-`--anew` has `rt ci` prove and try all, whatever it kept of earlier runs on this machine; without it a whole table needs
-a new machine. `--page` puts the table into a page, as of CONTRIBUTING.md, between its two lines `gate times`. A crate's
-budget there is kept; a crate that has none gets what it took and a fifth more. What is over its budget is told.
+`--page` puts the table into a page, as of CONTRIBUTING.md, between its two lines `gate times`. A crate's budget there is
+kept; a crate that has none gets what it took and a fifth more. What is over its budget is told.
 """
 import os
 import re
@@ -141,17 +140,14 @@ def into_page(path, rows, ending):
 
 
 def main(words):
-    page, flags = None, []
+    page = None
     while words and words[0].startswith('--'):
         word, *words = words
-        if word == '--page' and words:
-            page, *words = words
-        elif word == '--anew':
-            flags = [word]
-        else:
+        if word != '--page' or not words:
             sys.exit(__doc__)
+        page, *words = words
     began = time.monotonic()
-    gate = subprocess.Popen(words or ['rt', 'ci', *flags])
+    gate = subprocess.Popen(words or ['rt', 'ci'])
     sums = Sums(gate.pid)
     while gate.poll() is None:
         sums.look()
