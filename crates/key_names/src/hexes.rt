@@ -1,5 +1,5 @@
 //! Fields that spell bytes.
-ghost use Rattle.std.specs.Prelude.{◌≡◌, ◌*◌, ◌<◌, ◌↔◌, [], true, IsTrue, IfOk, length, slice_index};
+ghost use Rattle.std.specs.Prelude.{◌≡◌, ◌*◌, ◌/◌, ◌%◌, ◌↔◌, [], true, IsTrue, IfOk, length, slice_index};
 ghost use Rattle.std.specs.Option.{option_map};
 ghost use Rattle.std.specs.Str.{bytes_eq};
 ghost use Rattle.hex.specs.Hex.{encode_lower, lower_digits};
@@ -29,27 +29,27 @@ fn is_lower_hex(field: &[u8]) -> bool
     !bad
 }
 
+// A digit's low four bits are its value, and nine less for a letter, which alone has the bit of 64. The two digits stand
+// in one word, so that the compiler makes many bytes at once.
 #[inline(always)]
-fn digit_value(digit: u8) -> u8
-    requires { is_lower_digit digit ≡ true }
-    ensures digit { slice_index lower_digits result ≡ digit }
-    ensures small { result < 16 }
+fn byte_value(high: u8, low: u8) -> u8
+    requires high { is_lower_digit high ≡ true }
+    requires low { is_lower_digit low ≡ true }
+    ensures high_digit { slice_index lower_digits (result / 16) ≡ high }
+    ensures low_digit { slice_index lower_digits (result % 16) ≡ low }
 {
-    if digit < b'a' {
-        digit - b'0'
-    } else {
-        digit - b'a' + 10
-    }
+    let digits = low as u16 * 256 + high as u16;
+    let values = (digits & 0x0f0f) + 9 * (digits / 64 & 0x0101);
+    (values % 256 * 16 + values / 256) as u8
 }
 
-// Values by arithmetic: the compiler makes many of them at once, where a table takes a load for each.
 fn write_bytes(out: &mut [u8], digits: &[u8])
     requires lower { AllLower digits.now }
     requires twice { length digits.now ≡ 2 * length out.old }
     ensures { encode_lower out.new ≡ digits.now }
 {
     for i in 0..out.len() {
-        out[i] = digit_value(digits[2 * i]) * 16 + digit_value(digits[2 * i + 1]);
+        out[i] = byte_value(digits[2 * i], digits[2 * i + 1]);
     }
 }
 

@@ -1,8 +1,9 @@
 -- Bytes from their digits, one byte after the other.
-use Rattle.std.proofs.Common.{◌≡◌, ℕ, zero, suc, ◌+◌, ◌-◌, ◌*◌, ◌/◌, ◌%◌, ◌<◌, ◌≤◌, leb, true, ◌&&◌, inl, inr, Some, List, [], ◌∷◌, ◌++◌, drop, get_or, length, take, refl, sym, subst, ap, ◌∙◌, append_assoc, arith}
+use Rattle.std.proofs.Common.{◌≡◌, ℕ, zero, suc, ◌+◌, ◌-◌, ◌*◌, ◌/◌, ◌%◌, ◌<◌, ◌≤◌, ◌==◌, leb, true, ◌&&◌, inl, inr, Some, List, [], ◌∷◌, ◌++◌, drop, get_or, length, take, refl, sym, subst, ap, ◌∙◌, append_assoc, arith}
 use Rattle.std.specs.Prelude.{slice_index}
 use Rattle.std.proofs.Math.ListN.{set}
-use Rattle.std.proofs.lemmas.Bool.{and_parts, cases_lt, leb-true, or_cases}
+use Rattle.std.proofs.lemmas.Bool.{agree_below_at, and_parts, cases_lt, eqb-true, leb-true, or_cases}
+use Rattle.std.specs.Int.Bits.{bit_and}
 use Rattle.std.proofs.lemmas.List.{get_or_past, take_all, take_more, take_more_set, take-append-le}
 use Rattle.hex.specs.Hex.{IsBytes, encode_lower, encode_with, lower_digits}
 use Rattle.key_names.specs.Texts.ScriptFaults.{bytes_of}
@@ -15,27 +16,48 @@ lower_at [] i lower here = absurd (omega arith)
 lower_at (c ∷ digits) zero lower here = lower.0
 lower_at (c ∷ digits) (suc i) lower here = lower_at digits i lower.1 (omega arith)
 
-pub number_value : (c : ℕ) → is_lower_digit c ≡ true → c < 97 →
-    (48 ≤ c) × (c - 48 < 10) × (slice_index lower_digits (c - 48) ≡ c)
-number_value c lower small =
+-- a digit stands at its value in the table
+place_of : (c : ℕ) → is_lower_digit c ≡ true → (d : ℕ) × (d < 16) × (slice_index lower_digits d ≡ c)
+place_of c lower =
     elim (or_cases (leb 48 c && leb c 57) (leb 97 c && leb c 102) lower) [
       | inl number ↦
           let low = leb-true _ _ (and_parts (leb 48 c) (leb c 57) number).0 in
           let high = leb-true _ _ (and_parts (leb 48 c) (leb c 57) number).1 in
-          (low, omega arith, spells_number (c - 48) (omega arith) ∙ omega arith)
-      | inr letter ↦ let low = leb-true _ _ (and_parts (leb 97 c) (leb c 102) letter).0 in absurd (omega arith)
+          (c - 48, omega arith, spells_number (c - 48) (omega arith) ∙ omega arith)
+      | inr letter ↦
+          let low = leb-true _ _ (and_parts (leb 97 c) (leb c 102) letter).0 in
+          let high = leb-true _ _ (and_parts (leb 97 c) (leb c 102) letter).1 in
+          (10 + (c - 97), omega arith, spells_letter (c - 97) (omega arith) ∙ omega arith)
     ]
 
-pub letter_value : (c : ℕ) → is_lower_digit c ≡ true → 97 ≤ c →
-    (c - 97 < 6) × (slice_index lower_digits (c - 97 + 10) ≡ c)
-letter_value c lower large =
-    elim (or_cases (leb 48 c && leb c 57) (leb 97 c && leb c 102) lower) [
-      | inl number ↦ let high = leb-true _ _ (and_parts (leb 48 c) (leb c 57) number).1 in absurd (omega arith)
-      | inr letter ↦
-          let high = leb-true _ _ (and_parts (leb 97 c) (leb c 102) letter).1 in
-          let place : c - 97 + 10 ≡ 10 + (c - 97) = omega arith in
-          (omega arith, rw place (spells_letter (c - 97) (omega arith) ∙ omega arith))
-    ]
+-- the values of two digits, the first in the low byte of both words
+abbrev values_of : ℕ → ℕ
+values_of digits = bit_and digits 0x0f0f + 9 * bit_and (digits / 64) 0x0101
+
+abbrev byte_of : ℕ → ℕ → ℕ
+byte_of high low = values_of (low * 256 + high) % 256 * 16 + values_of (low * 256 + high) / 256
+
+-- tried for each two digits of the table
+byte_of-digits : (high low h l : ℕ) → h < 16 → l < 16 → slice_index lower_digits h ≡ high →
+    slice_index lower_digits l ≡ low → byte_of high low ≡ h * 16 + l
+byte_of-digits high low h l small_high small_low at_high at_low =
+    let tens : (h * 16 + l) / 16 ≡ h = omega arith in
+    let ones : (h * 16 + l) % 16 ≡ l = omega arith in
+    let tried = eqb-true _ _ (agree_below_at
+    (λ k. byte_of (slice_index lower_digits (k / 16)) (slice_index lower_digits (k % 16)) == k) (λ k. true) 256
+    (h * 16 + l) refl (omega arith)) in
+    rw (tens, ones, at_high, at_low) at tried
+
+pub byte_spelt : (high low : ℕ) → is_lower_digit high ≡ true → is_lower_digit low ≡ true →
+    (byte_of high low < 256) × (slice_index lower_digits (byte_of high low / 16) ≡ high)
+    × (slice_index lower_digits (byte_of high low % 16) ≡ low)
+byte_spelt high low is_high is_low =
+    let h = place_of high is_high in
+    let l = place_of low is_low in
+    let is = byte_of-digits high low h.0 l.0 h.1 l.1 h.2 l.2 in
+    let tens : byte_of high low / 16 ≡ h.0 = omega arith in
+    let ones : byte_of high low % 16 ≡ l.0 = omega arith in
+    (omega arith, rw tens h.2, rw ones l.2)
 
 pub encode_with-append : (t xs ys : List ℕ) → encode_with t (xs ++ ys) ≡ encode_with t xs ++ encode_with t ys
 unfolding encode_with
@@ -52,17 +74,13 @@ unfolding encode_with
 no_bytes = refl
 
 -- one more byte, from the two digits behind those before
-pub byte_read : (out digits : List ℕ) (i high low : ℕ) → i < length out → length digits ≡ 2 * length out →
-    encode_lower (take i out) ≡ take (2 * i) digits → high < 16 → low < 16 →
-    slice_index lower_digits high ≡ get_or digits (2 * i) 0 →
-    slice_index lower_digits low ≡ get_or digits (2 * i + 1) 0 →
-    encode_lower (take (i + 1) (set out i (high * 16 + low))) ≡ take (2 * (i + 1)) digits
-byte_read out digits i high low here twice before small_high small_low at_high at_low =
-    let byte = high * 16 + low in
-    let tens : byte / 16 ≡ high = omega arith in
-    let ones : byte % 16 ≡ low = omega arith in
+pub byte_read : (out digits : List ℕ) (i byte : ℕ) → i < length out → length digits ≡ 2 * length out →
+    encode_lower (take i out) ≡ take (2 * i) digits → slice_index lower_digits (byte / 16) ≡ get_or digits (2 * i) 0 →
+    slice_index lower_digits (byte % 16) ≡ get_or digits (2 * i + 1) 0 →
+    encode_lower (take (i + 1) (set out i byte)) ≡ take (2 * (i + 1)) digits
+byte_read out digits i byte here twice before at_high at_low =
     let two : encode_lower (byte ∷ []) ≡ get_or digits (2 * i) 0 ∷ get_or digits (2 * i + 1) 0 ∷ [] =
-    one_byte byte ∙ rw (tens, ones, at_high, at_low) refl in
+    one_byte byte ∙ rw (at_high, at_low) refl in
     let place : 2 * (i + 1) ≡ (2 * i + 1) + 1 = omega arith in
     ap encode_lower (take_more_set out i byte here)
     ∙ encode_with-append lower_digits (take i out) (byte ∷ [])
