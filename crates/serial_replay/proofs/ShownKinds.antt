@@ -96,25 +96,7 @@ event_kind Int8 deeds = bytes_kind (event_word Int8) (λ e. cc) (served_bytes de
 event_kind Int16 deeds = bytes_kind (event_word Int16) (λ e. cc) (served_bytes deeds)
 event_kind Int32 deeds = bytes_kind (event_word Int32) (λ e. cc) (served_bytes deeds)
 event_kind Int64 deeds = bytes_kind (event_word Int64) (λ e. cc) (served_bytes deeds)
-event_kind (At moment) deeds = tt
-event_kind (On cpu) deeds = tt
-event_kind (Hw hw) deeds = tt
-event_kind Drop deeds = tt
-event_kind (State number) deeds = tt
-event_kind (Write text) deeds = tt
-event_kind (Device word text) deeds = tt
-event_kind (Add text bits) deeds = tt
-event_kind (Credit bits) deeds = tt
-event_kind (Input word kind code value) deeds = tt
-event_kind (Irq v1 v2) deeds = tt
-event_kind Reseed deeds = tt
-event_kind Tick deeds = tt
-event_kind (Fork child) deeds = tt
-event_kind (Prepare cpu) deeds = tt
-event_kind (Online cpu) deeds = tt
-event_kind (Vmfork word text) deeds = tt
-event_kind (Vread len flags) deeds = tt
-event_kind (Inside point act) deeds = tt
+event_kind _ deeds = tt
 
 -- what calls show
 

@@ -46,14 +46,7 @@ clean_arguments version cpus (Prepare cpu) few range = (clean_decimal cpu (omega
 clean_arguments version cpus (Online cpu) few range = (clean_decimal cpu (omega arith), tt)
 clean_arguments version cpus (Vmfork word text) few range = (clean_decimal word range.1, (clean_hex text range.2, tt))
 clean_arguments version cpus (State number) few range = (clean_decimal number (omega arith), tt)
-clean_arguments version cpus Bits few range = tt
-clean_arguments version cpus Int8 few range = tt
-clean_arguments version cpus Int16 few range = tt
-clean_arguments version cpus Int32 few range = tt
-clean_arguments version cpus Int64 few range = tt
-clean_arguments version cpus Reseed few range = tt
-clean_arguments version cpus Tick few range = tt
-clean_arguments version cpus Drop few range = tt
+clean_arguments version cpus _ few range = tt
 
 pub clean_event : (version cpus : ℕ) (event : Event) → cpus ≤ 256 → InRange version cpus event →
     AllByRecursion Clean (event_fields event)

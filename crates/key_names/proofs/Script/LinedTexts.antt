@@ -67,38 +67,12 @@ pub clean_hex : (bytes : List ℕ) → IsBytes bytes → Clean (hex bytes)
 clean_hex [] small = clean_by (hex []) refl
 clean_hex (b ∷ bytes) small = clean_lower (hex (b ∷ bytes)) (lower_encoded (b ∷ bytes) small)
 
+graphic_word : (word : Word) → list_all is_graphic (word_text word) ≡ true
+graphic_word End = refl
+graphic_word _ = refl
+
 pub clean_word : (word : Word) → Clean (word_text word)
-clean_word word = clean_by (word_text word) (elim word as (λ w. list_all is_graphic (word_text w) ≡ true) [
-  | At ↦ refl
-  | On ↦ refl
-  | Hw ↦ refl
-  | Device ↦ refl
-  | Write ↦ refl
-  | Add ↦ refl
-  | Credit ↦ refl
-  | Bits ↦ refl
-  | Irq ↦ refl
-  | Input ↦ refl
-  | Read ↦ refl
-  | Vread ↦ refl
-  | Kread ↦ refl
-  | Dread ↦ refl
-  | Uread ↦ refl
-  | Int8 ↦ refl
-  | Int16 ↦ refl
-  | Int32 ↦ refl
-  | Int64 ↦ refl
-  | Reseed ↦ refl
-  | Tick ↦ refl
-  | Drop ↦ refl
-  | Fork ↦ refl
-  | Inside ↦ refl
-  | Prepare ↦ refl
-  | Online ↦ refl
-  | Vmfork ↦ refl
-  | State ↦ refl
-  | End ↦ refl
-])
+clean_word word = clean_by (word_text word) (graphic_word word)
 
 -- ---- a line of fields
 
