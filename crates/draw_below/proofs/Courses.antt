@@ -1,5 +1,5 @@
 -- What calls one after another did on a table, and what they are in the end.
-use Rattle.std.proofs.Common.{◌≡◌, ℕ, ◌+◌, ◌<◌, ◌≤◌, ◌^◌, List, [], ◌∷◌, ◌++◌, length, refl, sym, ap, ◌∙◌, subst, arith}
+use Rattle.std.proofs.Common.{◌≡◌, ℕ, ◌+◌, ◌≤◌, ◌^◌, List, [], ◌∷◌, ◌++◌, length, refl, sym, ap, ◌∙◌, subst, arith}
 use Rattle.std.specs.List.{range_with_len}
 use Rattle.key_names.specs.declared.events.Event.TheVariants.{Add, Int32}
 use Rattle.key_names.specs.declared.events.Answer.TheVariants.{Ok as Done}

@@ -1,8 +1,8 @@
 -- A fork on a new table, in the words of its book.
-use Rattle.std.proofs.Common.{◌≡◌, ℕ, ◌+◌, ◌*◌, ◌-◌, ◌^◌, ◌<◌, ◌≤◌, max, List, [], ◌∷◌, ◌++◌, length, map, refl, sym, ap, ◌∙◌, subst, arith, lit<, zero, suc}
+use Rattle.std.proofs.Common.{◌≡◌, ℕ, ◌+◌, ◌*◌, ◌-◌, ◌^◌, ◌<◌, ◌≤◌, max, List, [], ◌∷◌, ◌++◌, length, refl, sym, ap, ◌∙◌, subst, arith}
 use Rattle.std.proofs.Math.ListN.{get_or-map}
 use Rattle.std.proofs.lemmas.List.{length-map}
-use Rattle.std.specs.List.{AllByRecursion, sum_by, range_with_len}
+use Rattle.std.specs.List.{AllByRecursion, range_with_len}
 use Rattle.key_names.specs.declared.events.Answer.TheVariants.{Ok as Done}
 use Rattle.key_names.specs.declared.events.Event.TheVariants.{Add}
 use Rattle.key_names.specs.declared.names.Step.{Step}
@@ -11,28 +11,24 @@ use Rattle.key_names.specs.Book.{Lists}
 use Rattle.key_names.specs.Deeds.{Deed, deeds_of}
 use Rattle.key_names.specs.IsTranscript.{MarkBy}
 use Rattle.key_names.specs.SeenLine.{no_data}
-use Rattle.key_names.specs.Vgetrandom.{HostStep, Outcome}
+use Rattle.key_names.specs.Vgetrandom.{HostStep}
 use Rattle.key_names.specs.VgetrandomState.{VgetrandomState, wiped_state}
 use Rattle.key_names.specs.VreadSteps.{published_by}
-use Rattle.key_names.proofs.Lists.Each.{each_append, each_weaker}
+use Rattle.key_names.proofs.Lists.Each.{each_append}
 use Rattle.lane_table.specs.declared.view.LaneView.{LaneView}
 use Rattle.lane_table.specs.declared.view.View.{View}
 use Rattle.lane_table.specs.declared.view.Visit.{Visit}
 use Rattle.lane_table.specs.BookLaws.{Continues}
-use Rattle.lane_table.specs.BookLists.{StateLists, book_lists, book_of}
-use Rattle.lane_table.specs.Calls.{Ended, made_in, plan_of}
-use Rattle.lane_table.specs.LaneNumbers.{index_of}
+use Rattle.lane_table.specs.BookLists.{book_lists, book_of}
+use Rattle.lane_table.specs.Calls.{Ended}
 use Rattle.lane_table.specs.Meaning.{replay}
-use Rattle.lane_table.specs.Steps.{Grows, first_view, halved, both_of, merged, with_list, told}
+use Rattle.lane_table.specs.Steps.{Grows, halved, merged, with_list, told}
 use Rattle.lane_table.specs.Steps as steps
 use Rattle.lane_table.specs.Advances.{floor}
 use Rattle.lane_table.specs.WorldRule.{AllBegin, Begins, at, blank, known_of}
-use Rattle.lane_table.proofs.Book.BookEnds.{continues_before, ended_lanes, ended_lawful, ended_visits}
-use Rattle.lane_table.proofs.Book.BookMarks.{MarksVisit}
-use Rattle.lane_table.proofs.Lists.Places.{stands_at}
+use Rattle.lane_table.proofs.Book.BookEnds.{continues_before, ended_lanes, ended_lawful}
 use Rattle.lane_table.proofs.Rule.Shares.{merged_at, length_merged}
 use Rattle.lane_table.proofs.Lists.VisitLists.{begins_refl, begins_nil}
-use Rattle.lane_table.proofs.Calls.AdvanceLemmas.{mark_grown}
 use Rattle.vdso_state.specs.declared.place.Place.{Place}
 use Rattle.vdso_state.specs.declared.place.Turn.{Turn}
 use Rattle.vdso_state.specs.declared.place.Turn.TheVariants.{First, Second}
@@ -47,7 +43,7 @@ use Rattle.rng_core.specs.Makes.{IsOutcomeOf, setting_of}
 use Rattle.rng_core.proofs.Makings.{did_floor}
 use Rattle.rng_core.proofs.Courses.{Course, IsKnown, known_grown, marks_both, marks_in, none_made, start, three_visits}
 use Rattle.rng_core.proofs.Hosting.{published_more}
-use Rattle.fork_runs.specs.Stretches.{Stop, FinishedOver}
+use Rattle.fork_runs.specs.Stretches.{FinishedOver}
 use Rattle.fork_runs.specs.Runs.{knowing, DidAll, RanBy, ReachedStop, ForkedOver}
 use Rattle.fork_runs.specs.TableForks.{first_setting, marks_of, Way, IsEnd, AreForkedBytes}
 use Rattle.fork_runs.proofs.Courses.{course_did, course_calls}

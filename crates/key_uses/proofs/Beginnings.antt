@@ -1,6 +1,6 @@
 -- What is held behind beginnings of a book's lists was put to no use in them.
 use Rattle.std.proofs.Common.{◌≡◌, ℕ, ◌+◌, ◌-◌, ◌*◌, ◌++◌, List, [], ◌∷◌, length, Option, Some, None, inl, inr, refl, sym, subst, ap, ◌∙◌, arith}
-use Rattle.std.specs.Prelude.{Bool, true, false, slice_get, option_and_then, unwrap_or}
+use Rattle.std.specs.Prelude.{Bool, true, false, slice_get, option_and_then}
 use Rattle.std.specs.List.{fold}
 use Rattle.std.proofs.Math.Seq.{take-append_seam}
 use Rattle.key_names.specs.declared.names.LaneId.TheVariants.{Pool as PoolLane, Base as BaseLane, Cpu as CpuLane}
@@ -12,15 +12,14 @@ use Rattle.key_names.specs.declared.entries.BaseEntry.{BaseEntry}
 use Rattle.key_names.specs.declared.entries.CpuEntry.{CpuEntry}
 use Rattle.key_names.specs.declared.entries.CpuEntry.TheVariants.{Read, Int, Irq, Dump, Prepare, Online}
 use Rattle.key_names.specs.LawfulList.{LawfulFrom}
-use Rattle.key_names.specs.Batches.{Fill}
 use Rattle.key_names.specs.BaseList.{BaseMayCome, base_step, base_start}
 use Rattle.key_names.specs.CpuList.{CpuState, CpuMayCome, cpu_step, cpu_start, cpu_after, cpu_generation_after, taken_of, taken_at}
 use Rattle.key_names.specs.StateList.{NamedState, Expected, StateMayCome, state_step, state_start, rekey_of, rekey_at}
-use Rattle.key_names.specs.Book.{Lists, list_at, cpu_list, state_list, ForwardLawful, LawfulStates, StatePlace}
-use Rattle.key_names.specs.LiveMaterial.{KeyHolder, base_key, cpu_key, state_key, BatchHolder, cpu_batch, state_batch, live_key, live_rest, named_span, fill_rest, state_end}
-use Rattle.key_names.specs.Uses.{Use, HoldsByte, IsUsed, uses_from, cpu_uses_at, base_uses_at, base_uses, cpu_uses, state_uses, caller_uses, uses, uses_below, is_rekeyed}
+use Rattle.key_names.specs.Book.{Lists, cpu_list, state_list, ForwardLawful, LawfulStates, StatePlace}
+use Rattle.key_names.specs.LiveMaterial.{KeyHolder, base_key, cpu_key, state_key, BatchHolder, cpu_batch, state_batch, live_key, live_rest, fill_rest, state_end}
+use Rattle.key_names.specs.Uses.{Use, HoldsByte, IsUsed, uses_from, cpu_uses_at, base_uses_at, cpu_uses, uses, is_rekeyed}
 use Rattle.key_names.proofs.Lists.Growing.{lawful_take, named_stays}
-use Rattle.key_names.proofs.Uses.UseLists.{IsUsed-append_cases, used_first, used_second, used_below, UsesByte, IsLong}
+use Rattle.key_names.proofs.Uses.UseLists.{IsUsed-append_cases, used_first, used_second, IsLong}
 use Rattle.key_names.proofs.Uses.BatchFills.{InBatch}
 use Rattle.key_names.proofs.Uses.BookUses.{Own, uses_of, used_by, owner, named_byte, fill_byte, own_once, own_uses}
 use Rattle.key_names.proofs.Uses.BaseUses as base_side

@@ -6,7 +6,7 @@ use Rattle.std.proofs.lemmas.Option.{same_Some}
 use Rattle.key_names.specs.declared.events.Answer.{Answer}
 use Rattle.key_names.specs.declared.events.Answer.TheVariants as answers
 use Rattle.key_names.specs.declared.events.Word.{Word}
-use Rattle.key_names.specs.declared.events.Word.TheVariants.{At, On, Hw, Device, Write, Add, Credit, Bits, Irq, Input, Read, Vread, Kread, Dread, Uread, Int8, Int16, Int32, Int64, Reseed, Tick, Drop, Fork, Inside, Prepare, Online, Vmfork, State, End}
+use Rattle.key_names.specs.declared.events.Word.TheVariants.{End}
 use Rattle.key_names.specs.Texts.Spelling.{word_text}
 use Rattle.key_names.specs.Texts.ScriptFaults.{word_of}
 use Rattle.key_names.specs.Texts.TranscriptGrammar.{answer_text}

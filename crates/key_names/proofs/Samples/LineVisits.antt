@@ -1,6 +1,6 @@
 -- The visits of a book whose visits are the marks of lines: each is behind a step of the line of its event, and what is
 -- behind a step of a line is a visit of that event.
-use Rattle.std.proofs.Common.{◌≡◌, ℕ, ◌<◌, inl, inr, List, [], ◌∷◌, refl, sym, ap, ◌∙◌, subst, arith, Some, Option}
+use Rattle.std.proofs.Common.{◌≡◌, ℕ, ◌<◌, List, sym, ap, ◌∙◌, subst, arith, Some}
 use Rattle.std.specs.Prelude.{slice_get, option_map}
 use Rattle.std.proofs.lemmas.Option.{slice_get_within, slice_get-map}
 use Rattle.key_names.specs.declared.names.LaneId.{LaneId}
@@ -12,7 +12,7 @@ use Rattle.key_names.specs.declared.names.Step.TheVariants.{Look, Visit as Marke
 use Rattle.key_names.specs.declared.entries.PoolEntry.{PoolEntry}
 use Rattle.key_names.specs.declared.entries.CpuEntry.{CpuEntry}
 use Rattle.key_names.specs.Book.{Book, Lists, Visit, cpu_list, entries_of, lists_of}
-use Rattle.key_names.specs.Deeds.{Deed, PoolVisit, CpuVisit, at_pool, at_base, at_cpu}
+use Rattle.key_names.specs.Deeds.{Deed, PoolVisit, CpuVisit, at_pool, at_cpu}
 use Rattle.key_names.specs.Deeds.{deed_or, deed_at, deed_of, deeds_of, pool_visit, cpu_visit}
 use Rattle.key_names.specs.Samples.{visits_of}
 use Rattle.key_names.specs.SeenLine.{SeenLine}

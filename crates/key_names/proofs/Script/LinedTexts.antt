@@ -11,7 +11,7 @@ use Rattle.std.proofs.lemmas.List.Splits.{join_with_byte-slice_split}
 use Rattle.std.proofs.lemmas.Str.Parse.{digit_from_value}
 use Rattle.hex.specs.Hex.{IsBytes}
 use Rattle.key_names.specs.declared.events.Word.{Word}
-use Rattle.key_names.specs.declared.events.Word.TheVariants.{At, On, Hw, Device, Write, Add, Credit, Bits, Irq, Input, Read, Vread, Kread, Dread, Uread, Int8, Int16, Int32, Int64, Reseed, Tick, Drop, Fork, Inside, Prepare, Online, Vmfork, State, End}
+use Rattle.key_names.specs.declared.events.Word.TheVariants.{End}
 use Rattle.key_names.specs.Texts.Spelling.{AllLower, is_lower_digit, hex, spaced, lined, word_text}
 use Rattle.key_names.specs.Texts.ScriptFaults.{parts, is_unprintable}
 use Rattle.key_names.proofs.Script.HexFields.{lower_encoded}

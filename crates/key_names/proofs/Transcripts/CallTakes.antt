@@ -1,7 +1,7 @@
 -- In a lawful transcript the calls take no more reads as keys than the lines have marks.
 use Rattle.std.proofs.Common.{◌≡◌, ℕ, suc, ◌+◌, ◌≤◌, List, [], ◌∷◌, ◌++◌, refl, ap, arith}
 use Rattle.key_names.specs.declared.events.Event.{Event}
-use Rattle.key_names.specs.declared.events.Event.TheVariants.{At, On, Hw, Device, Write, Add, Credit, Bits, Irq, Input, Read, Vread, Kread, Dread, Uread, Int8, Int16, Int32, Int64, Reseed, Tick, Drop, Fork, Inside, Prepare, Online, Vmfork, State}
+use Rattle.key_names.specs.declared.events.Event.TheVariants.{At}
 use Rattle.key_names.specs.declared.names.LaneId.{LaneId}
 use Rattle.key_names.specs.declared.names.LaneId.TheVariants.{Cpu as CpuLane}
 use Rattle.key_names.specs.declared.entries.VEntry.{VEntry}
