@@ -25,7 +25,7 @@ pub after_entry-Tick_root : (place now : ℕ) (root : List ℕ) (b : BaseValue) 
     after_entry (Tick now (Some place)) root b ≡ fired now root b
 after_entry-Tick_root place now root b = refl
 
--- `draw`, `kernel_read` and `user_read`; in the phase Empty after `fill_empty`
+-- `draw` and `call_key`; in the phase Empty after `fill_empty`
 pub after_entry-Draw : (taken : Taken) (root : List ℕ) (b : BaseValue) → after_entry (Draw None taken) root b ≡ erased b
 after_entry-Draw taken root b = refl
 

@@ -1,14 +1,12 @@
 //! The base key and what is kept beside it.
 
 ghost use Rattle.std.specs.Prelude.{◌≡◌, ◌↔◌, ◌+◌, ◌^◌, ◌<◌, ◌≤◌, Some, length, IsTrue};
-ghost use Rattle.key_names.specs.declared.entries.Taken.TheVariants.{User, Kernel};
 ghost use Rattle.key_names.specs.Keystream.{keystream};
-ghost use Rattle.key_names.specs.KeyInUse.{taken_bytes};
 ghost use Rattle.key_names.specs.BaseList.{empty, ready, IsDue, interval, early_boot_after, one_more, one_less};
 ghost use Rattle.base_gen.specs.BaseValue.{phase_of, start, erased, seeded_early, reseeded, fired};
 
 use crate::phase::Phase;
-use chacha_blocks::{Detached, derive_key, erase, erase_and_fill, user_read};
+use chacha_blocks::{Detached, derive_key, erase};
 use std::marker::Model;
 
 /// The base key (`base_crng`), how far the core is, how often it was reseeded, when it is due again, and how many
@@ -67,7 +65,7 @@ impl Base {
         self.generation
     }
 
-    /// How many callers run.
+    /// How many callers run. It is for a caller of this crate alone: the core asks [`Base::idle`].
     pub fn running(&self) -> u32
         ensures { result ≡ self.now.running }
     {
@@ -168,25 +166,6 @@ impl Base {
         ensures key { result ≡ keystream self.old.key 32 32 }
     {
         derive_key(&mut self.key)
-    }
-
-    /// Erases the key, and fills `buf` for the kernel (`_get_random_bytes`). It is [`Base::draw`] and
-    /// [`Detached::more`] in one.
-    pub fn kernel_read(&mut self, buf: &mut [u8])
-        requires { length buf.old < 2 ^ 32 }
-        ensures state { self.new ≡ erased self.old }
-        ensures bytes { buf.new ≡ taken_bytes self.old.key (Kernel (length buf.old)) }
-    {
-        erase_and_fill(&mut self.key, buf);
-    }
-
-    /// Erases the key, and fills `buf` for a user, as [`user_read`] does.
-    pub fn user_read(&mut self, buf: &mut [u8])
-        requires { length buf.old < 2 ^ 32 }
-        ensures state { self.new ≡ erased self.old }
-        ensures bytes { buf.new ≡ taken_bytes self.old.key (User (length buf.old)) }
-    {
-        user_read(&mut self.key, buf);
     }
 
     /// One more caller runs. 2^32 - 1 stay as they are.

@@ -9,7 +9,6 @@ ghost use Rattle.caller_run.specs.Kinds.{ForksNobody, IsCall};
 ghost use Rattle.caller_run.specs.Standing.{Start, CanAdvance, HasLogged, MadeEvent, RunEnded};
 ghost use Rattle.caller_run.specs.Ways.{AtFork};
 
-use crate::lines::word_of;
 use crate::logs::{Log, most_shown};
 use crate::reply::Reply;
 use crate::shared::Shared;
@@ -45,7 +44,7 @@ impl Caller {
         let mut trace = Trace::empty();
         let served = &mut served[..most_shown(event) as usize];
         let said = self.call(rt, lanes, &mut trace, served, event);
-        self.tell(&mut log.lines, word_of(event), said, &trace, served);
+        self.tell(&mut log.lines, event.word(), said, &trace, served);
         self.go_on(event);
     }
 

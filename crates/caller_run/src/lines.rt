@@ -1,51 +1,14 @@
 //! The lines that tell of a caller's events.
-ghost use Rattle.std.specs.Prelude.{◌≡◌, ◌+◌, ◌<◌, ◌≤◌, ◌^◌, ◌∷◌, ◌++◌, [], length};
+ghost use Rattle.std.specs.Prelude.{◌+◌, ◌<◌, ◌≤◌, ◌^◌, ◌∷◌, ◌++◌, [], length};
 ghost use Rattle.std.specs.List.{AllByRecursion};
-ghost use Rattle.key_names.specs.Texts.ScriptGrammar.{event_word};
 ghost use Rattle.key_names.specs.Texts.TranscriptGrammar.{StepFits};
 ghost use Rattle.transcript_text.specs.Views.{bytes_of, seen, seen_shown};
 ghost use Rattle.caller_run.specs.Says.{line_of, ShowsFit};
 
 use crate::caller::Caller;
 use crate::reply::{Reply, Shows};
-use key_names::{Answer, Event, Step, Trace, Word};
+use key_names::{Answer, Step, Trace, Word};
 use transcript_text::{CallerLines, LineView, Shown};
-
-/// The word of an event's line.
-pub(crate) fn word_of(event: &Event) -> Word
-    ensures { result ≡ event_word event.now }
-{
-    match event {
-        Event::At { .. } => Word::At,
-        Event::On { .. } => Word::On,
-        Event::Hw { .. } => Word::Hw,
-        Event::Device { .. } => Word::Device,
-        Event::Write { .. } => Word::Write,
-        Event::Add { .. } => Word::Add,
-        Event::Credit { .. } => Word::Credit,
-        Event::Bits => Word::Bits,
-        Event::Irq { .. } => Word::Irq,
-        Event::Input { .. } => Word::Input,
-        Event::Read { .. } => Word::Read,
-        Event::Vread { .. } => Word::Vread,
-        Event::Kread { .. } => Word::Kread,
-        Event::Dread { .. } => Word::Dread,
-        Event::Uread { .. } => Word::Uread,
-        Event::Int8 => Word::Int8,
-        Event::Int16 => Word::Int16,
-        Event::Int32 => Word::Int32,
-        Event::Int64 => Word::Int64,
-        Event::Reseed => Word::Reseed,
-        Event::Tick => Word::Tick,
-        Event::Drop => Word::Drop,
-        Event::Fork { .. } => Word::Fork,
-        Event::Inside { .. } => Word::Inside,
-        Event::Prepare { .. } => Word::Prepare,
-        Event::Online { .. } => Word::Online,
-        Event::Vmfork { .. } => Word::Vmfork,
-        Event::State { .. } => Word::State,
-    }
-}
 
 impl Caller {
     // A line of the event that the caller is at.

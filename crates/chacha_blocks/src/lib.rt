@@ -10,11 +10,10 @@
 
 mod block;
 pub mod erasure;
-pub mod reader;
+mod reader;
 pub mod reads;
 pub mod stream;
 
 pub use erasure::{Detached, derive_key, erase, erase_and_fill};
-pub use reader::Reader;
 pub use reads::user_read;
 pub use stream::fill;

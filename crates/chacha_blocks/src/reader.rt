@@ -13,7 +13,7 @@ use std::marker::Model;
 /// The cipher makes four blocks at a time, so a caller that needs several runs of one key's bytes, one after another,
 /// reads them all from one reader.
 #[derive(Drop)]
-pub struct Reader {
+pub(crate) struct Reader {
     key: [u8; 32],
     rng: ChaCha20Rng,
 }
@@ -33,7 +33,7 @@ impl Reader {
     /// The key's stream from this word on. Nothing is computed before the first read, unless the word stands inside a
     /// block.
     #[inline]
-    pub fn at(key: &[u8; 32], word: u64) -> Reader
+    pub(crate) fn at(key: &[u8; 32], word: u64) -> Reader
         ensures { result ≡ record { key = key.now; word = word } }
     {
         let mut rng = ChaCha20Rng::from_seed(*key);
@@ -46,7 +46,7 @@ impl Reader {
     /// Writes the next bytes of the stream over all of `buf`. The place then is the first word that was not begun: what
     /// a last word has over is given up.
     #[inline]
-    pub fn read(&mut self, buf: &mut [u8])
+    pub(crate) fn read(&mut self, buf: &mut [u8])
         requires { self.old.word + length buf.old < 2 ^ 66 }
         ensures bytes { buf.new ≡ keystream self.old.key (4 * self.old.word) (length buf.old) }
         ensures place { self.new ≡ record self.old { word = self.old.word + (length buf.old + 3) / 4 } }

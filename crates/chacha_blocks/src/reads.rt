@@ -10,6 +10,7 @@ use crate::stream::fill_from_block;
 
 /// Erases `key` and fills `buf` for a user, as the kernel's `get_random_bytes_user`: up to 32 bytes are what the
 /// erasure's block has over; for more, that is a key of this read alone, and the bytes are its stream from block 1 on.
+/// It is for a caller with one key and no lanes: the core makes the same read in two parts, under a lane and behind it.
 pub fn user_read(key: &mut [u8; 32], buf: &mut [u8])
     requires { length buf.old < 2 ^ 32 }
     ensures erased { key.new ≡ keystream key.old 0 32 }

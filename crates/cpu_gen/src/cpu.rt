@@ -1,12 +1,12 @@
 //! One CPU's key and its generation.
 
 ghost use Rattle.std.specs.Prelude.{◌≡◌, ◌≢◌, ◌^◌, ◌<◌, ◌≤◌, length, MatchBool};
-ghost use Rattle.key_names.specs.declared.entries.Taken.TheVariants.{User, Kernel};
+ghost use Rattle.key_names.specs.declared.entries.Taken.TheVariants.{Kernel};
 ghost use Rattle.key_names.specs.Keystream.{keystream};
 ghost use Rattle.key_names.specs.KeyInUse.{taken_bytes};
 ghost use Rattle.cpu_gen.specs.CpuValue.{start, erased, prepared};
 
-use chacha_blocks::{Detached, derive_key, erase, erase_and_fill, user_read};
+use chacha_blocks::{Detached, derive_key, erase, erase_and_fill};
 use std::marker::Model;
 
 /// One CPU's generator (`struct crng`). Each read erases the key.
@@ -48,7 +48,8 @@ impl Cpu {
         self.generation
     }
 
-    /// Whether the key is not of generation `g`, so that a read at `g` has to refill first.
+    /// Whether the key is not of generation `g`, so that a read at `g` has to refill first. It is for a caller of this
+    /// crate alone: the core compares [`Cpu::generation`], which its entries tell.
     pub fn needs(&self, g: u64) -> bool
         ensures { MatchBool result (self.now.generation ≢ g) (self.now.generation ≡ g) }
     {
@@ -93,15 +94,6 @@ impl Cpu {
         if !buf.is_empty() {
             erase_and_fill(&mut self.key, buf);
         }
-    }
-
-    /// Erases the key, and fills `buf` for a user (`get_random_bytes_user`), as [`user_read`] does.
-    pub fn user_read(&mut self, buf: &mut [u8])
-        requires { length buf.old < 2 ^ 32 }
-        ensures state { self.new ≡ erased self.old }
-        ensures bytes { buf.new ≡ taken_bytes self.old.key (User (length buf.old)) }
-    {
-        user_read(&mut self.key, buf);
     }
 
     /// The CPU is about to come online (`random_prepare_cpu`): its key counts as old, and stays until it is replaced.

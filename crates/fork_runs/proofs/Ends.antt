@@ -1,8 +1,8 @@
 -- A fork on a new table, in the words of its book.
-use Rattle.std.proofs.Common.{◌≡◌, ℕ, ◌+◌, ◌*◌, ◌-◌, ◌^◌, ◌<◌, ◌≤◌, max, List, [], ◌∷◌, ◌++◌, length, map, refl, sym, ap, ◌∙◌, subst, arith, lit<, zero, suc}
+use Rattle.std.proofs.Common.{◌≡◌, ℕ, ◌+◌, ◌*◌, ◌-◌, ◌^◌, ◌<◌, ◌≤◌, max, List, [], ◌∷◌, ◌++◌, length, refl, sym, ap, ◌∙◌, subst, arith}
 use Rattle.std.proofs.Math.ListN.{get_or-map}
 use Rattle.std.proofs.lemmas.List.{length-map}
-use Rattle.std.specs.List.{AllByRecursion, sum_by, range_with_len}
+use Rattle.std.specs.List.{AllByRecursion, range_with_len}
 use Rattle.key_names.specs.declared.events.Answer.TheVariants.{Ok as Done}
 use Rattle.key_names.specs.declared.events.Event.TheVariants.{Add}
 use Rattle.key_names.specs.declared.names.Step.{Step}
@@ -11,28 +11,24 @@ use Rattle.key_names.specs.Book.{Lists}
 use Rattle.key_names.specs.Deeds.{Deed, deeds_of}
 use Rattle.key_names.specs.IsTranscript.{MarkBy}
 use Rattle.key_names.specs.SeenLine.{no_data}
-use Rattle.key_names.specs.Vgetrandom.{HostStep, Outcome}
+use Rattle.key_names.specs.Vgetrandom.{HostStep}
 use Rattle.key_names.specs.VgetrandomState.{VgetrandomState, wiped_state}
 use Rattle.key_names.specs.VreadSteps.{published_by}
-use Rattle.key_names.proofs.Lists.Each.{each_append, each_weaker}
+use Rattle.key_names.proofs.Lists.Each.{each_append}
 use Rattle.lane_table.specs.declared.view.LaneView.{LaneView}
 use Rattle.lane_table.specs.declared.view.View.{View}
 use Rattle.lane_table.specs.declared.view.Visit.{Visit}
 use Rattle.lane_table.specs.BookLaws.{Continues}
-use Rattle.lane_table.specs.BookLists.{StateLists, book_lists, book_of}
-use Rattle.lane_table.specs.Calls.{Ended, made_in, plan_of}
-use Rattle.lane_table.specs.LaneNumbers.{index_of}
+use Rattle.lane_table.specs.BookLists.{book_lists, book_of}
+use Rattle.lane_table.specs.Calls.{Ended}
 use Rattle.lane_table.specs.Meaning.{replay}
-use Rattle.lane_table.specs.Steps.{Grows, first_view, halved, both_of, merged, with_list, told}
+use Rattle.lane_table.specs.Steps.{Grows, halved, merged, with_list, told}
 use Rattle.lane_table.specs.Steps as steps
 use Rattle.lane_table.specs.Advances.{floor}
 use Rattle.lane_table.specs.WorldRule.{AllBegin, Begins, at, blank, known_of}
-use Rattle.lane_table.proofs.Book.BookEnds.{continues_before, ended_lanes, ended_lawful, ended_visits}
-use Rattle.lane_table.proofs.Book.BookMarks.{MarksVisit}
-use Rattle.lane_table.proofs.Lists.Places.{stands_at}
+use Rattle.lane_table.proofs.Book.BookEnds.{continues_before, ended_lanes, ended_lawful}
 use Rattle.lane_table.proofs.Rule.Shares.{merged_at, length_merged}
 use Rattle.lane_table.proofs.Lists.VisitLists.{begins_refl, begins_nil}
-use Rattle.lane_table.proofs.Calls.AdvanceLemmas.{mark_grown}
 use Rattle.vdso_state.specs.declared.place.Place.{Place}
 use Rattle.vdso_state.specs.declared.place.Turn.{Turn}
 use Rattle.vdso_state.specs.declared.place.Turn.TheVariants.{First, Second}
@@ -45,11 +41,12 @@ use Rattle.vcall_fork.specs.Forks.{ForksAreTold, ChildTakesKey}
 use Rattle.rng_core.specs.declared.setting.Setting.{Setting}
 use Rattle.rng_core.specs.Makes.{IsOutcomeOf, setting_of}
 use Rattle.rng_core.proofs.Makings.{did_floor}
+use Rattle.rng_core.proofs.Courses.{Course, IsKnown, known_grown, marks_both, marks_in, none_made, start, three_visits}
 use Rattle.rng_core.proofs.Hosting.{published_more}
-use Rattle.fork_runs.specs.Stretches.{Stop, FinishedOver}
+use Rattle.fork_runs.specs.Stretches.{FinishedOver}
 use Rattle.fork_runs.specs.Runs.{knowing, DidAll, RanBy, ReachedStop, ForkedOver}
 use Rattle.fork_runs.specs.TableForks.{first_setting, marks_of, Way, IsEnd, AreForkedBytes}
-use Rattle.fork_runs.proofs.Courses.{Course, IsKnown, marks_in, course_did, course_calls, by_lanes, made_of_three, marks_both}
+use Rattle.fork_runs.proofs.Courses.{course_did, course_calls}
 use Rattle.fork_runs.proofs.TwoStops.{parents_call, childs_call}
 
 -- Joined passes
@@ -133,9 +130,6 @@ module _ (lanes : ℕ) (visits : ℕ → List Visit) where
     own = own;
     shown = shown_in (first_setting caller) v w own k.did c;
   }
-
-abbrev start : View
-start = first_view (plan_of 3 0)
 
 -- caller 0 called on a new table behind a sample, and forked
 module _ (turn : Turn) (point : Point) (n : ℕ) (p q w x : View) (left : Stage) (out : List ℕ) (t : VgetrandomState)
@@ -248,57 +242,25 @@ module _ (turn : Turn) (point : Point) (n : ℕ) (p q w x : View) (left : Stage)
     abbrev marks : List MarkBy
     marks = parents_marks ++ rest_marks ++ child_marks
 
-    grown : (v : View) (xs : List MarkBy) → length x.lanes ≡ length v.lanes → Grows v x → AllByRecursion (IsKnown v) xs →
-        AllByRecursion (IsKnown x) xs
-    grown v xs sized grows all = each_weaker (IsKnown v) (IsKnown x) xs
-        (λ by k. (k.0, mark_grown v x by.mark by.who k.0 sized grows k.1)) all
-
     known : AllByRecursion (IsKnown x) marks
     known =
-        let fork_known = each_weaker (IsKnown mid) (IsKnown over.parent_end) parents_marks
-        (λ by k. (k.0, mark_grown mid over.parent_end by.mark by.who k.0 parent_course.same.sized parent_course.grows k.1))
-        fork_course.known in
+        let fork_known =
+        known_grown mid over.parent_end parents_marks parent_course.same.sized parent_course.grows fork_course.known in
         each_append (IsKnown x) (parents_marks ++ rest_marks) child_marks
-        (grown over.parent_end (parents_marks ++ rest_marks) (wide ∙ sym parent_wide) parent_grows
+        (known_grown over.parent_end x (parents_marks ++ rest_marks) (wide ∙ sym parent_wide) parent_grows
         (each_append (IsKnown over.parent_end) parents_marks rest_marks fork_known parent_course.known))
-        (grown over.child_end child_marks (wide ∙ sym child_wide) child_grows child_course.known)
-
-    visit : AllByRecursion (MarksVisit (length x.lanes) (known_of x)) marks
-    visit = each_weaker (IsKnown x) (MarksVisit (length x.lanes) (known_of x)) marks
-        (λ by k. let m = k.1 in (
-          m.visit,
-          m.near,
-          stands_at (known_of x (index_of by.mark.lane)) by.mark.place m.visit m.there,
-          (λ i. (m.stamped i, m.by i)),
-        )) known
+        (known_grown over.child_end x child_marks (wide ∙ sym child_wide) child_grows child_course.known)
 
     made_at : (lane : ℕ) → lane < 3 → (at lane x).made ≡ marks_in lane marks
     made_at lane near =
         let all = ap (λ (a : LaneView). a.made) (both_at lane) in
         let a = fork_course.made lane near in
-        let start_made : (at lane start).made ≡ 0 = nothing_made lane near in
+        let start_made = none_made lane near in
         let b = parent_course.made lane (let e = fork_course.same.sized in omega arith) in
         let c = child_course.made lane (let e = fork_course.same.sized in let f = length-map mid.lanes told in omega arith) in
         let d = ap (λ (z : LaneView). z.made) (child_at mid lane) in
         let e = marks_both lane (parents_marks ++ rest_marks) child_marks in
         let f = marks_both lane parents_marks rest_marks in
-        omega arith
-      where
-        nothing_made : (lane : ℕ) → lane < 3 → (at lane start).made ≡ 0
-        nothing_made zero low = refl
-        nothing_made (suc zero) low = refl
-        nothing_made (suc (suc zero)) low = refl
-        nothing_made (suc (suc (suc i))) low = absurd (omega arith)
-
-    many : length marks ≡ sum_by made_in x.lanes
-    many =
-        let near = each_weaker (IsKnown x) (λ by. index_of by.mark.lane < 3) marks
-        (λ by k. let e = k.1.near in let f = wide in omega arith) known in
-        let count = by_lanes marks near in
-        let all = made_of_three x wide in
-        let a = made_at 0 (lit< tt) in
-        let b = made_at 1 (lit< tt) in
-        let c = made_at 2 (lit< tt) in
         omega arith
 
     -- Both ends
@@ -345,7 +307,7 @@ module _ (turn : Turn) (point : Point) (n : ℕ) (p q w x : View) (left : Stage)
       child_keyed = λ bytes is. key_law n 0 reached.stop.place reached.stop.held over.child_ends.steps
           over.child_ends.outcome (published_by (floor over.child_end)) bytes child_is.rest reached.stop.ready
           child_climbs is;
-      visits = ended_visits x [] low ended marks visit many;
+      visits = three_visits x marks wide ended made_at known;
       at_fork = mid.stamp;
       parents_last = over.parent_end.stamp;
       childs_last = over.child_end.stamp;

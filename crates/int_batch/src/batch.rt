@@ -75,8 +75,8 @@ impl<const W: usize> Batch<W> {
     }
 
     /// Serves the next integer at generation `g`. Where the batch wants it, `fill` makes new bytes first; elsewhere it
-    /// is not called. This is [`Batch::wants`], [`Batch::refill`] and [`Batch::serve`] in one; a proof that has to know
-    /// what `fill` left in what it captured calls the three.
+    /// is not called. This is [`Batch::wants`], [`Batch::refill`] and [`Batch::serve`] in one, for a caller of this crate
+    /// alone; a proof that has to know what `fill` left in what it captured calls the three, as the core does.
     pub fn next<F: FnOnce(&mut [u8; 96])>(&mut self, g: u64, fill: F) -> [u8; W]
         requires { IsTrue (wants g W self.old) → F.IsAlwaysCallable fill }
         ensures { ServesAt W g (FnOnceReturnsAtMut F.FnOnce fill self.old.bytes tt) self.old result self.new }

@@ -4,7 +4,8 @@ ghost use Rattle.std.specs.Prelude.{◌≡◌, [], length, Some, None, IsOk};
 use crate::{Failed, Sink, Source};
 use std::marker::Model;
 
-/// A source over bytes in memory that never fails. Clauses see what is left.
+/// A source over bytes in memory that never fails. Clauses see what is left. It is for a program that calls a run as a
+/// function: over it the clauses of `run` rule a fault out.
 #[derive(Drop)]
 pub struct NoFaultSource {
     bytes: Vec<u8>,
@@ -45,7 +46,7 @@ impl Source for NoFaultSource {
     }
 }
 
-/// A sink that takes every piece whole and keeps none of the bytes.
+/// A sink that takes every piece whole and keeps none of the bytes, for a caller that wants the status alone.
 #[derive(Clone, Copy, Debug, PartialEq, Eq)]
 pub struct NoFaultSink;
 

@@ -15,7 +15,7 @@ use Rattle.key_names.specs.Deeds.{Deed, looked, at_pool, at_base, at_cpu, nothin
 use Rattle.key_names.specs.IsTranscript.{marks_from}
 use Rattle.key_names.specs.PlacesInOrder.{InOrder}
 use Rattle.lane_table.specs.LaneNumbers.{index_of}
-use Rattle.irq_feed.proofs.Courses.{lane_of}
+use Rattle.rng_core.proofs.Courses.{lane_of}
 
 abbrev pub cpu_seen : List Deed → List (ℕ × CpuEntry)
 cpu_seen [] = []

@@ -45,7 +45,8 @@ use Rattle.irq_feed.specs.Feeds.{Numbers, numbers}
 use Rattle.irq_feed.specs.Fed.{AllMixed, mixed_in}
 use Rattle.irq_feed.specs.Samples.{first_samples, of_feeder}
 use Rattle.irq_feed.specs.TableFeed.{AreCalls, IsFed, IsFedBook, first_setting, irq_entry, marks_of}
-use Rattle.irq_feed.proofs.Courses.{Course, all_here, calls_in, course_in, in_order, lane_append, lane_of, share_is, start, visits_made, wide}
+use Rattle.rng_core.proofs.Courses.{Course, lane_append, lane_of, start}
+use Rattle.irq_feed.proofs.Courses.{all_here, calls_in, course_in, in_order, share_is, visits_made, wide}
 use Rattle.irq_feed.proofs.Dumps.{Dumped, bits_at_dump, dumps_are, due_more, none_dumped, quiet_more}
 use Rattle.irq_feed.proofs.Entries.{AllThere, CountUp, Counts, count_up, cpu_here, cpu_seen, next_entry, parts_count, pool_here, pool_seen}
 

@@ -5,5 +5,6 @@ pub mod Uses
 pub mod Values
 pub mod Vgetrandom
 pub mod Transcripts
+pub mod Samples
 pub mod Unique
 pub mod History

@@ -1,6 +1,6 @@
 -- What is held behind beginnings of a book's lists was put to no use in them.
 use Rattle.std.proofs.Common.{◌≡◌, ℕ, ◌+◌, ◌-◌, ◌*◌, ◌++◌, List, [], ◌∷◌, length, Option, Some, None, inl, inr, refl, sym, subst, ap, ◌∙◌, arith}
-use Rattle.std.specs.Prelude.{Bool, true, false, slice_get, option_and_then, unwrap_or}
+use Rattle.std.specs.Prelude.{Bool, true, false, slice_get, option_and_then}
 use Rattle.std.specs.List.{fold}
 use Rattle.std.proofs.Math.Seq.{take-append_seam}
 use Rattle.key_names.specs.declared.names.LaneId.TheVariants.{Pool as PoolLane, Base as BaseLane, Cpu as CpuLane}
@@ -12,17 +12,16 @@ use Rattle.key_names.specs.declared.entries.BaseEntry.{BaseEntry}
 use Rattle.key_names.specs.declared.entries.CpuEntry.{CpuEntry}
 use Rattle.key_names.specs.declared.entries.CpuEntry.TheVariants.{Read, Int, Irq, Dump, Prepare, Online}
 use Rattle.key_names.specs.LawfulList.{LawfulFrom}
-use Rattle.key_names.specs.Batches.{Fill}
 use Rattle.key_names.specs.BaseList.{BaseMayCome, base_step, base_start}
 use Rattle.key_names.specs.CpuList.{CpuState, CpuMayCome, cpu_step, cpu_start, cpu_after, cpu_generation_after, taken_of, taken_at}
 use Rattle.key_names.specs.StateList.{NamedState, Expected, StateMayCome, state_step, state_start, rekey_of, rekey_at}
-use Rattle.key_names.specs.Book.{Lists, list_at, cpu_list, state_list, ForwardLawful, LawfulStates, StatePlace}
-use Rattle.key_names.specs.LiveMaterial.{KeyHolder, base_key, cpu_key, state_key, BatchHolder, cpu_batch, state_batch, live_key, live_rest, named_span, fill_rest, state_end}
-use Rattle.key_names.specs.Uses.{Use, HoldsByte, IsUsed, uses_from, cpu_uses_at, base_uses_at, base_uses, cpu_uses, state_uses, caller_uses, uses, uses_below, is_rekeyed}
+use Rattle.key_names.specs.Book.{Lists, cpu_list, state_list, ForwardLawful, LawfulStates, StatePlace}
+use Rattle.key_names.specs.LiveMaterial.{KeyHolder, base_key, cpu_key, state_key, BatchHolder, cpu_batch, state_batch, live_key, live_rest, fill_rest, state_end}
+use Rattle.key_names.specs.Uses.{Use, HoldsByte, IsUsed, uses_from, cpu_uses_at, base_uses_at, cpu_uses, uses, is_rekeyed}
 use Rattle.key_names.proofs.Lists.Growing.{lawful_take, named_stays}
-use Rattle.key_names.proofs.Uses.UseLists.{IsUsed-append_cases, used_first, used_second, used_below, UsesByte, IsLong}
+use Rattle.key_names.proofs.Uses.UseLists.{IsUsed-append_cases, used_first, used_second, IsLong}
 use Rattle.key_names.proofs.Uses.BatchFills.{InBatch}
-use Rattle.key_names.proofs.Uses.BookUses.{Own, own_once, own_uses}
+use Rattle.key_names.proofs.Uses.BookUses.{Own, uses_of, used_by, owner, named_byte, fill_byte, own_once, own_uses}
 use Rattle.key_names.proofs.Uses.BaseUses as base_side
 use Rattle.key_names.proofs.Uses.CpuNames as cpu_names
 use Rattle.key_names.proofs.Uses.CpuUses as cpu_side
@@ -85,52 +84,6 @@ module _ (base other : List BaseEntry) (c : ℕ) where
       (same_uses_at rekeys g s e)
       ∙ ap (λ us. cpu_uses_at c rekeys s e ++ us)
       (same_uses rekeys (cpu_generation_after base e g) (cpu_step other c s e) es)
-
--- the uses of a holder
-abbrev uses_of : Lists → KeyHolder → List Use
-uses_of lists base_key = base_uses lists
-uses_of lists (cpu_key c) = cpu_uses lists c
-uses_of lists (state_key caller state) = state_uses lists caller state
-
--- whose use a byte of the lists is in
-used_by : (lists : Lists) (k : KeyName) (q : ℕ) → IsUsed (uses lists) k q →
-    (h : KeyHolder) × IsUsed (uses_of lists h) k q
-used_by lists k q h = elim (IsUsed-append_cases (base_uses lists ++ uses_below (length lists.cpus) (cpu_uses lists))
-    (uses_below (length lists.callers) (caller_uses lists)) k q h) [
-      | inl l ↦ elim (IsUsed-append_cases (base_uses lists) (uses_below (length lists.cpus) (cpu_uses lists)) k q l) [
-        | inl a ↦ (base_key, a)
-        | inr b ↦ (let m = used_below (cpu_uses lists) (length lists.cpus) k q b in (cpu_key m.0, m.1))
-      ]
-      | inr r ↦ (let m = used_below (caller_uses lists) (length lists.callers) k q r in
-          let n = used_below (state_uses lists m.0) (length (list_at lists.callers m.0)) k q m.1 in
-          (state_key m.0 n.0, n.1))
-    ]
-
--- whose key a batch was filled with
-abbrev owner : BatchHolder → KeyHolder
-owner (cpu_batch c width) = cpu_key c
-owner (state_batch caller state) = state_key caller state
-
--- a byte of a span that has a name
-named_byte : (o : Option KeyName) (from len : ℕ) (span : Span) (k : KeyName) (q : ℕ) →
-    named_span o from len ≡ Some span → HoldsByte span k q → UsesByte o from len k q
-named_byte None from len span k q is h = cc
-named_byte (Some key) from len span k q is h =
-    let e : record { key = key; from = from; len = len } ≡ span = ap (λ o. unwrap_or o span) is in
-    let P : Span → Type 0 = λ x. HoldsByte x k q in
-    let b : HoldsByte (record { key = key; from = from; len = len }) k q = subst P (sym e) h in
-    record { key_is = ap Some b.same_key; above = b.from; below = b.below }
-
--- an unserved byte of a CPU's batch
-fill_byte : (fills : ℕ → Option Fill) (width : ℕ) (span : Span) (k : KeyName) (q : ℕ) →
-    fill_rest width (fills width) ≡ Some span → HoldsByte span k q → InBatch fills k q
-fill_byte fills width span k q is h = go (fills width) refl is
-  where
-    go : (o : Option Fill) → fills width ≡ o → fill_rest width o ≡ Some span → InBatch fills k q
-    go None at is = cc
-    go (Some fill) at is =
-        let m = named_byte fill.key (32 + width * fill.count) (96 - width * fill.count) span k q is h in
-        record { width = width; fill = fill; is = at; key_is = m.key_is; unserved = m.above }
 
 module _ (whole part : Lists) (lanes : ForwardLawful whole) (states : LawfulStates whole)
     (begins : AreBeginnings whole part) where
@@ -259,7 +212,7 @@ module _ (whole part : Lists) (lanes : ForwardLawful whole) (states : LawfulStat
       let s : CpuState = cpu_after whole.base c (cpu_list part c) in
       let live : fill_rest width (s.fills width) ≡ Some span =
       sym (ap (λ (x : CpuState). fill_rest width (x.fills width)) same) ∙ is in
-      let b : InBatch s.fills k q = fill_byte s.fills width span k q live h in
+      let b : InBatch s.fills k q = (fill_byte s.fills width span k q live h).0 in
       record {
         own = elim ((cpu_walk c).before k q (inr (inl b)))
             [ inl e ↦ cc | inr (inl b') ↦ (let e = b'.is in cc) | inr (inr l) ↦ cpu_own c k l ];

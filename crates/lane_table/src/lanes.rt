@@ -115,7 +115,7 @@ impl Held {
     ghost use Rattle.lane_table.specs.Lending.{LendsState};
     ghost use Rattle.std.specs.Borrow.{sem};
 
-    /// Which lane it is.
+    /// Which lane it is. It is for a caller that keeps several holds in one place: the core has a name for each.
     pub fn lane(&self) -> LaneId
         ensures { index_of result ≡ self.now.turn.lane }
     {
@@ -129,7 +129,7 @@ impl Held {
         self.turn.place
     }
 
-    /// The last stamp of the lane.
+    /// The last stamp of the lane. It is for a caller that looks on: the core reads a visit's stamp off its mark.
     pub fn stamp(&self) -> u64
         ensures { result ≡ self.now.turn.stamp }
     {

@@ -114,7 +114,8 @@ impl Lanes {
         Ok(held(lane, serving, content))
     }
 
-    /// Takes a lane where that needs no wait. A refusal changes nothing about the lane, and no ticket is drawn for it.
+    /// Takes a lane where that needs no wait. A refusal leaves the lane's value, place and stamp as they were. It draws no
+    /// ticket, except where the lane's last stamp is 2^62 or more: that is read behind the ticket, and the lane given back.
     ///
     /// # Errors
     ///

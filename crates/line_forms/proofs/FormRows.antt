@@ -9,10 +9,10 @@ use Rattle.key_names.specs.declared.entries.BaseEntry.{BaseEntry}
 use Rattle.key_names.specs.declared.entries.BaseEntry.TheVariants.{Early, Reseed as Reseeded, Draw}
 use Rattle.key_names.specs.declared.entries.CpuEntry.{CpuEntry}
 use Rattle.key_names.specs.declared.entries.CpuEntry.TheVariants.{Read as CpuRead, Int}
-use Rattle.key_names.specs.declared.events.Event.TheVariants.{At, On, Hw, Device, Write, Add, Credit, Bits, Irq, Input}
+use Rattle.key_names.specs.declared.events.Event.TheVariants.{Device, Write, Add, Credit, Bits, Irq, Input}
 use Rattle.key_names.specs.declared.events.Event.TheVariants.{Read, Vread, Kread, Dread, Uread, Int8, Int16, Int32}
-use Rattle.key_names.specs.declared.events.Event.TheVariants.{Int64, Reseed, Tick, Drop, Fork, Inside, Prepare, Online}
-use Rattle.key_names.specs.declared.events.Event.TheVariants.{Vmfork, State}
+use Rattle.key_names.specs.declared.events.Event.TheVariants.{Int64, Reseed, Tick, Fork, Inside, Prepare, Online}
+use Rattle.key_names.specs.declared.events.Event.TheVariants.{Vmfork}
 use Rattle.key_names.specs.CpuList.{CpuState, CpuFits}
 use Rattle.key_names.specs.PoolList.{Crossing, crossing}
 use Rattle.key_names.specs.Flags.{is_bad, is_nonblock, is_insecure}
@@ -301,11 +301,6 @@ module _ (c : LaneFacts) (set : Setting) where
       f.deeds_are)
 
 pub form_row : FormIsRow
-form_row c set (At moment) x ds is form fit = none_row c set ds form
-form_row c set (On cpu) x ds is form fit = none_row c set ds form
-form_row c set (Hw bytes) x ds is form fit = none_row c set ds form
-form_row c set Drop x ds is form fit = none_row c set ds form
-form_row c set (State number) x ds is form fit = none_row c set ds form
 form_row c set (Write text) x ds is form fit = pool c set _ ds form
 form_row c set (Device word text) x ds is form fit = pool c set _ ds form
 form_row c set Bits x ds is form fit = pool c set _ ds form
@@ -329,6 +324,7 @@ form_row c set (Vmfork word text) x ds is form fit = vmfork c set word text ds f
 form_row c set (Irq v1 v2) x ds is form fit = irq c set v1 v2 x ds is form
 form_row c set (Vread len flags) x ds is form fit = absurd form
 form_row c set (Inside point act) x ds is form fit = absurd form
+form_row c set _ x ds is form fit = none_row c set ds form
 
 pub end_form : EndFormIsRow
 end_form set ds f = row_of set.cpu (Base ∷ []) ((f.base, ap base_kind f.is), tt) f.deeds_are

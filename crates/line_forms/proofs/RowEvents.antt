@@ -8,10 +8,10 @@ use Rattle.key_names.specs.declared.entries.PoolEntry.TheVariants.{Mix, Extract,
 use Rattle.key_names.specs.declared.entries.BaseEntry.TheVariants.{Early}
 use Rattle.key_names.specs.declared.entries.CpuEntry.{CpuEntry}
 use Rattle.key_names.specs.declared.entries.CpuEntry.TheVariants.{Prepare as Prepared, Online as Onlined}
-use Rattle.key_names.specs.declared.events.Event.TheVariants.{At, On, Hw, Device, Write, Add, Credit, Bits, Irq, Input}
+use Rattle.key_names.specs.declared.events.Event.TheVariants.{Device, Write, Add, Credit, Bits, Irq, Input}
 use Rattle.key_names.specs.declared.events.Event.TheVariants.{Read, Vread, Kread, Dread, Uread, Int8, Int16, Int32}
-use Rattle.key_names.specs.declared.events.Event.TheVariants.{Int64, Reseed, Tick, Drop, Fork, Inside, Prepare, Online}
-use Rattle.key_names.specs.declared.events.Event.TheVariants.{Vmfork, State}
+use Rattle.key_names.specs.declared.events.Event.TheVariants.{Int64, Reseed, Tick, Fork, Inside, Prepare, Online}
+use Rattle.key_names.specs.declared.events.Event.TheVariants.{Vmfork}
 use Rattle.key_names.specs.Batches.{must_fill}
 use Rattle.key_names.specs.FastPool.{dump_bytes, dump_bits}
 use Rattle.key_names.specs.PoolList.{Crossing, crossing}
@@ -355,11 +355,6 @@ module _ (c : LaneFacts) (set : Setting) where
       })
 
 pub row_form : RowIsForm
-row_form c set (At moment) x ds is close fill row = no_more set.cpu ds row
-row_form c set (On cpu) x ds is close fill row = no_more set.cpu ds row
-row_form c set (Hw bytes) x ds is close fill row = no_more set.cpu ds row
-row_form c set Drop x ds is close fill row = no_more set.cpu ds row
-row_form c set (State number) x ds is close fill row = no_more set.cpu ds row
 row_form c set (Write text) x ds is close fill row = pool_row c set (Mix text 0) ds fill row
 row_form c set (Device word text) x ds is close fill row = pool_row c set (device_entry word text) ds fill row
 row_form c set Bits x ds is close fill row = pool_row c set ReadBits ds fill row
@@ -384,6 +379,7 @@ row_form c set (Vmfork word text) x ds is close fill row = vmfork_row c set word
 row_form c set (Irq v1 v2) x ds is close fill row = irq_row c set v1 v2 x ds is close fill row
 row_form c set (Vread len flags) x ds is close fill row = absurd row
 row_form c set (Inside point act) x ds is close fill row = absurd row
+row_form c set _ x ds is close fill row = no_more set.cpu ds row
 
 pub end_row : EndRowIsForm
 end_row c set ds fill k =

@@ -8,10 +8,10 @@ use Rattle.key_names.specs.declared.entries.BaseEntry.{BaseEntry}
 use Rattle.key_names.specs.declared.entries.CpuEntry.{CpuEntry}
 use Rattle.key_names.specs.declared.entries.CpuEntry.TheVariants.{Int, Dump, Prepare as Prepared, Online as Onlined}
 use Rattle.key_names.specs.declared.events.Event.{Event}
-use Rattle.key_names.specs.declared.events.Event.TheVariants.{At, On, Hw, Device, Write, Add, Credit, Bits, Irq, Input}
+use Rattle.key_names.specs.declared.events.Event.TheVariants.{Device, Write, Add, Credit, Bits, Irq, Input}
 use Rattle.key_names.specs.declared.events.Event.TheVariants.{Read, Vread, Kread, Dread, Uread, Int8, Int16, Int32}
-use Rattle.key_names.specs.declared.events.Event.TheVariants.{Int64, Reseed, Tick, Drop, Fork, Inside, Prepare, Online}
-use Rattle.key_names.specs.declared.events.Event.TheVariants.{Vmfork, State}
+use Rattle.key_names.specs.declared.events.Event.TheVariants.{Int64, Reseed, Tick, Fork, Inside, Prepare, Online}
+use Rattle.key_names.specs.declared.events.Event.TheVariants.{Vmfork}
 use Rattle.key_names.specs.CpuList.{CpuState, CpuFits}
 use Rattle.key_names.specs.Batches.{must_fill}
 use Rattle.key_names.specs.FastPool.{dump_bytes, dump_bits}
@@ -211,11 +211,6 @@ module _ (c : LaneFacts) (set : Setting) where
           (f.mixes, (tt, (r.1.extracts, (r.1.names, tt))))
 
 pub form_told : FormIsTold
-form_told c set (At moment) ds form fit stand = none_told c set silent ds form
-form_told c set (On cpu) ds form fit stand = none_told c set silent ds form
-form_told c set (Hw bytes) ds form fit stand = none_told c set silent ds form
-form_told c set Drop ds form fit stand = none_told c set silent ds form
-form_told c set (State number) ds form fit stand = none_told c set silent ds form
 form_told c set (Write text) ds form fit stand = pool_line c set (Mix text 0) ds form
 form_told c set (Device word text) ds form fit stand = pool_line c set (device_entry word text) ds form
 form_told c set Bits ds form fit stand = pool_line c set ReadBits ds form
@@ -243,6 +238,7 @@ form_told c set (Vmfork word text) ds form fit stand = vmfork_line c set word te
 form_told c set (Irq v1 v2) ds form fit stand = irq_line c set v1 v2 ds form fit stand
 form_told c set (Vread len flags) ds form fit stand = absurd form
 form_told c set (Inside point act) ds form fit stand = absurd form
+form_told c set _ ds form fit stand = none_told c set silent ds form
 
 pub end_told : EndIsTold
 end_told c set ds f = line_at c set ends f.deeds_are (f.is, tt)

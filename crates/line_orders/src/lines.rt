@@ -1,47 +1,11 @@
 //! Whether each caller has its lines.
-ghost use Rattle.std.specs.Prelude.{◌≡◌, ◌↔◌, IsTrue, map, length};
-ghost use Rattle.key_names.specs.Texts.ScriptGrammar.{event_word};
+ghost use Rattle.std.specs.Prelude.{◌↔◌, IsTrue, map, length};
 ghost use Rattle.key_names.specs.IsTranscript.{LineIs, LinesFit, HasLines};
 ghost use Rattle.line_orders.specs.Seen.{seen_bare, seen_callers};
 
 use crate::bare::BareLine;
 use event_script::Script;
 use key_names::{Event, Word};
-
-fn word_of(event: &Event) -> Word
-    ensures { result ≡ event_word event.now }
-{
-    match event {
-        Event::At { .. } => Word::At,
-        Event::On { .. } => Word::On,
-        Event::Hw { .. } => Word::Hw,
-        Event::Device { .. } => Word::Device,
-        Event::Write { .. } => Word::Write,
-        Event::Add { .. } => Word::Add,
-        Event::Credit { .. } => Word::Credit,
-        Event::Bits => Word::Bits,
-        Event::Irq { .. } => Word::Irq,
-        Event::Input { .. } => Word::Input,
-        Event::Read { .. } => Word::Read,
-        Event::Vread { .. } => Word::Vread,
-        Event::Kread { .. } => Word::Kread,
-        Event::Dread { .. } => Word::Dread,
-        Event::Uread { .. } => Word::Uread,
-        Event::Int8 => Word::Int8,
-        Event::Int16 => Word::Int16,
-        Event::Int32 => Word::Int32,
-        Event::Int64 => Word::Int64,
-        Event::Reseed => Word::Reseed,
-        Event::Tick => Word::Tick,
-        Event::Drop => Word::Drop,
-        Event::Fork { .. } => Word::Fork,
-        Event::Inside { .. } => Word::Inside,
-        Event::Prepare { .. } => Word::Prepare,
-        Event::Online { .. } => Word::Online,
-        Event::Vmfork { .. } => Word::Vmfork,
-        Event::State { .. } => Word::State,
-    }
-}
 
 fn is_line(line: &BareLine<'_>, caller: u32, event: usize, word: Word) -> bool
     ensures { IsTrue result ↔ LineIs caller event word (seen_bare line.now) }
@@ -57,7 +21,7 @@ fn caller_fits(caller: u32, events: &[Event], lines: &[BareLine<'_>]) -> bool
         return false;
     }
     for (number, event) in events.iter().enumerate() {
-        if !is_line(&lines[number], caller, number, word_of(event)) {
+        if !is_line(&lines[number], caller, number, event.word()) {
             return false;
         }
     }

@@ -1,4 +1,4 @@
-use crate::streams::{are_of_call_key, zero_stream};
+use crate::streams::zero_stream;
 use base_gen::{Base, Phase};
 
 #[test]
@@ -27,23 +27,6 @@ fn draws_hand_out_the_second_half(rt: HostRuntime) {
     );
 
     assert_eq!(rt; Some(&Base::start().call_key()[..]), zero_stream(32, 64));
-}
-
-#[test]
-fn kernel_read_goes_on_in_the_next_block(rt: HostRuntime) {
-    let mut bytes = [1; 96];
-    Base::start().kernel_read(&mut bytes);
-    assert_eq!(rt; Some(&bytes[..]), zero_stream(32, 128));
-}
-
-#[test]
-fn user_read_over_32_has_a_key_of_its_own(rt: HostRuntime) {
-    let mut short = [1; 32];
-    Base::start().user_read(&mut short);
-    assert_eq!(rt; Some(&short[..]), zero_stream(32, 64));
-    let mut long = [1; 33];
-    Base::start().user_read(&mut long);
-    assert!(rt; are_of_call_key(&long));
 }
 
 #[test]

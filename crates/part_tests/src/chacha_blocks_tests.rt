@@ -1,5 +1,5 @@
 use crate::streams::{are_of_call_key, zero_stream};
-use chacha_blocks::{Detached, Reader, derive_key, erase, erase_and_fill, fill, user_read};
+use chacha_blocks::{Detached, derive_key, erase, erase_and_fill, fill, user_read};
 
 // The keystream of the key 00 01 .. 1f from 0 on and from 4095 on, by another implementation.
 const COUNT_STREAM: [u8; 208] = *b"\x39\xfd\x2b\x7d\xd9\xc5\x19\x6a\x8d\xbd\x03\x77\xb8\xdc\x4a\x49\
@@ -202,15 +202,4 @@ fn user_read_of_100_bytes(rt: HostRuntime) {
     user_read(&mut key, &mut bytes);
     assert_eq!(rt; Some(&key[..]), zero_stream(0, 32));
     assert!(rt; are_of_call_key(&bytes));
-}
-
-// Words 1 and 2, of which five bytes are read, and then word 3.
-#[test]
-fn reader_goes_on_at_the_next_word(rt: HostRuntime) {
-    let mut reader = Reader::at(&count_key(), 1);
-    let mut bytes = [0; 5];
-    reader.read(&mut bytes);
-    assert_eq!(rt; Some(&bytes[..]), count_stream(4, 9));
-    reader.read(&mut bytes);
-    assert_eq!(rt; Some(&bytes[..]), count_stream(12, 17));
 }

@@ -1,4 +1,4 @@
-use crate::streams::{are_of_call_key, zero_stream};
+use crate::streams::zero_stream;
 use cpu_gen::Cpu;
 
 // The bytes of the call key of the key that is the first half of block 0.
@@ -32,18 +32,6 @@ fn kernel_read_of_nothing_keeps_the_key(rt: HostRuntime) {
     let mut cpu = zero_cpu();
     cpu.kernel_read(&mut []);
     assert_eq!(rt; Some(&cpu.call_key()[..]), zero_stream(32, 64));
-}
-
-#[test]
-fn user_read_over_32_has_a_key_of_its_own(rt: HostRuntime) {
-    let mut short = [1; 32];
-    zero_cpu().user_read(&mut short);
-    assert_eq!(rt; Some(&short[..]), zero_stream(32, 64));
-    let mut cpu = zero_cpu();
-    let mut long = [1; 33];
-    cpu.user_read(&mut long);
-    assert!(rt; are_of_call_key(&long));
-    assert!(rt; cpu.call_key().starts_with(NEXT_CALL_KEY));
 }
 
 #[test]

@@ -3,10 +3,9 @@ use Rattle.std.proofs.Common.{◌≡◌, ℕ, suc, Bool, true, false, List, [], 
 use Rattle.std.specs.Prelude.{◌≢◌, MatchBool, if◌then◌else◌}
 use Rattle.std.specs.List.{AllByRecursion}
 use Rattle.key_names.specs.declared.events.Event.{Event}
-use Rattle.key_names.specs.declared.events.Event.TheVariants.{At, On, Hw, Device, Write, Add, Credit, Bits, Irq, Input}
+use Rattle.key_names.specs.declared.events.Event.TheVariants.{Bits}
 use Rattle.key_names.specs.declared.events.Event.TheVariants.{Read, Vread, Kread, Dread, Uread, Int8, Int16, Int32}
-use Rattle.key_names.specs.declared.events.Event.TheVariants.{Int64, Reseed, Tick, Drop, Fork, Inside, Prepare, Online}
-use Rattle.key_names.specs.declared.events.Event.TheVariants.{Vmfork, State}
+use Rattle.key_names.specs.declared.events.Event.TheVariants.{Int64, Inside}
 use Rattle.key_names.specs.declared.events.InsideAct.{InsideAct}
 use Rattle.key_names.specs.declared.events.InsideAct.TheVariants.{Wipe as WipeAct, Vread as VreadAct, Reseed as ReseedAct}
 use Rattle.key_names.specs.declared.events.Word.{Word}
@@ -96,25 +95,7 @@ event_kind Int8 deeds = bytes_kind (event_word Int8) (λ e. cc) (served_bytes de
 event_kind Int16 deeds = bytes_kind (event_word Int16) (λ e. cc) (served_bytes deeds)
 event_kind Int32 deeds = bytes_kind (event_word Int32) (λ e. cc) (served_bytes deeds)
 event_kind Int64 deeds = bytes_kind (event_word Int64) (λ e. cc) (served_bytes deeds)
-event_kind (At moment) deeds = tt
-event_kind (On cpu) deeds = tt
-event_kind (Hw hw) deeds = tt
-event_kind Drop deeds = tt
-event_kind (State number) deeds = tt
-event_kind (Write text) deeds = tt
-event_kind (Device word text) deeds = tt
-event_kind (Add text bits) deeds = tt
-event_kind (Credit bits) deeds = tt
-event_kind (Input word kind code value) deeds = tt
-event_kind (Irq v1 v2) deeds = tt
-event_kind Reseed deeds = tt
-event_kind Tick deeds = tt
-event_kind (Fork child) deeds = tt
-event_kind (Prepare cpu) deeds = tt
-event_kind (Online cpu) deeds = tt
-event_kind (Vmfork word text) deeds = tt
-event_kind (Vread len flags) deeds = tt
-event_kind (Inside point act) deeds = tt
+event_kind _ deeds = tt
 
 -- what calls show
 

@@ -27,7 +27,7 @@ use Rattle.list_replay.specs.Lawful.{Lawful, DueStands, DumpsAt}
 use Rattle.list_replay.specs.Tables.{Tables}
 use Rattle.told_entries.specs.Rows.{IsPoolRow, dumps_told, cpu_row}
 use Rattle.told_entries.proofs.RowsBehind.{CpuRow, PoolRow, RowBehind}
-use Rattle.told_entries.proofs.SampleLaw.{quiet_dump}
+use Rattle.key_names.proofs.Samples.SampleLaw.{quiet_dump}
 use Rattle.told_entries.proofs.IrqShapes.{IrqOnly, IrqDumps, Crossed, crosses, sample_quiet, sample_due}
 
 -- ---- entries

@@ -1,7 +1,6 @@
 pub mod BareRows
 pub mod CallForms
 pub mod CallLines
-pub mod DeedPlaces
 pub mod DumpRows
 pub mod FilledLanes
 pub mod GatheredTables
@@ -9,7 +8,6 @@ pub mod Gathers
 pub mod IrqShapes
 pub mod LanePlaces
 pub mod LineVisits
-pub mod Lines
 pub mod MadeBooks
 pub mod MadeIsTold
 pub mod MarkedSteps
@@ -18,7 +16,6 @@ pub mod OneRow
 pub mod RisingSteps
 pub mod RowRanges
 pub mod RowsBehind
-pub mod SampleLaw
 pub mod SampledLines
 pub mod Samples
 pub mod SpotRows

@@ -1,8 +1,5 @@
--- The visits of a book whose visits are the marks of lines: each is behind a step of the line of its event, and what is
--- behind a step of a line is a visit of that event.
-use Rattle.std.proofs.Common.{◌≡◌, ℕ, ◌<◌, inl, inr, List, [], ◌∷◌, refl, sym, ap, ◌∙◌, subst, arith, Some, Option}
-use Rattle.std.specs.Prelude.{slice_get, option_map}
-use Rattle.std.proofs.lemmas.Option.{slice_get_within, slice_get-map}
+-- Something stands behind each step of the lines whose marks a book's visits are.
+use Rattle.std.proofs.Common.{◌≡◌, ℕ, inl, inr, List, [], ◌∷◌, refl, sym, subst, Some, Option}
 use Rattle.key_names.specs.declared.names.LaneId.{LaneId}
 use Rattle.key_names.specs.declared.names.LaneId.TheVariants.{Pool as PoolLane, Base as BaseLane, Cpu as CpuLane}
 use Rattle.key_names.specs.declared.names.Mark.{Mark}
@@ -12,182 +9,28 @@ use Rattle.key_names.specs.declared.names.Step.TheVariants.{Look, Visit as Marke
 use Rattle.key_names.specs.declared.entries.PoolEntry.{PoolEntry}
 use Rattle.key_names.specs.declared.entries.BaseEntry.{BaseEntry}
 use Rattle.key_names.specs.declared.entries.CpuEntry.{CpuEntry}
-use Rattle.key_names.specs.Book.{Book, Lists, Visit, cpu_list, entries_of, lists_of}
-use Rattle.key_names.specs.Deeds.{Deed, PoolVisit, CpuVisit, at_pool, at_base, at_cpu}
-use Rattle.key_names.specs.Deeds.{deed_or, deed_at, deed_of, deeds_of, pool_visit, base_visit, cpu_visit}
+use Rattle.key_names.specs.Book.{Book, Lists, lists_of}
+use Rattle.key_names.specs.Deeds.{deed_or, deed_at, deeds_of, at_pool, at_base, at_cpu}
+use Rattle.key_names.specs.Deeds.{pool_visit, base_visit, cpu_visit}
 use Rattle.key_names.specs.Samples.{visits_of}
 use Rattle.key_names.specs.SeenLine.{SeenLine}
-use Rattle.key_names.specs.IsTranscript.{MarkBy, all_marks, lane_marks, stamped, stamped_at, PlacesStand, VisitsAre}
-use Rattle.key_names.proofs.Transcripts.LaneCounts.{every_place, lane_length, lane_counts}
+use Rattle.key_names.specs.IsTranscript.{all_marks, stamped_at, VisitsAre}
 use Rattle.key_names.proofs.History.SortedVisits.{IsIn}
-use Rattle.key_names.proofs.Unique.UniqueEvents.{entries_at}
 use Rattle.key_names.proofs.Unique.UniqueMarks.{Found, found}
+use Rattle.key_names.proofs.Samples.Lines.{Among, MarkOf, mark_of}
+use Rattle.key_names.proofs.Samples.LineVisits.{entry_at, cpu_entry_at, pool_entry_at, stamp_at}
 use Rattle.line_forms.specs.Told.{IsThere, AllThere}
-use Rattle.told_entries.proofs.DeedPlaces.{CpuAt, PoolAt, cpu_at, pool_at}
-use Rattle.told_entries.proofs.Lines.{each_in, each_of, deed_in, step_of_deed, Among, LineOf, line_of, MarkOf, mark_of}
-
-entry_at : {E : Type 0} (visits : List (Visit E)) (place : ℕ) (v : Visit E) → slice_get visits place ≡ Some v →
-    slice_get (entries_of visits) place ≡ Some v.entry
-entry_at {E = E} visits place v at =
-    let entry : Visit E → E = λ visit. visit.entry in
-    slice_get-map entry visits place ∙ ap (λ o. option_map entry o) at
 
 module _ (t : List (List SeenLine)) (book : Book) (visits : VisitsAre book (all_marks t)) where
   abbrev lists : Lists
   lists = lists_of book
-
-  -- what stands in the book at a place stands in its lists
-  pub cpu_entry_at : (c place : ℕ) (v : Visit CpuEntry) → slice_get (visits_of book c) place ≡ Some v →
-      slice_get (cpu_list lists c) place ≡ Some v.entry
-  cpu_entry_at c place v at =
-      ap (λ es. slice_get es place) (sym (entries_at book.cpus c)) ∙ entry_at (visits_of book c) place v at
-
-  pub pool_entry_at : (place : ℕ) (v : Visit PoolEntry) → slice_get book.pool place ≡ Some v →
-      slice_get lists.pool place ≡ Some v.entry
-  pool_entry_at place v at = entry_at book.pool place v at
-
-  -- a deed of this maker's line
-  pub record InLine (who : Who) (deed : Deed) : Type 0 where
-    pub line : SeenLine
-    pub among : Among line t
-    pub event : line.event ≡ who.event
-    pub by : who.caller ≡ line.caller
-    pub deed_there : IsIn deed (deeds_of lists line.steps)
-
-  marked_in : (by : MarkBy) → IsIn by (all_marks t) → InLine by.who (deed_at lists by.mark.lane by.mark.place)
-  marked_in by there =
-      let f : LineOf t by = line_of t by there in
-      record {
-        line = f.line;
-        among = f.among;
-        event = sym f.event_is;
-        by = f.caller_is;
-        deed_there = deed_in lists (Marked by.mark) f.line.steps f.step;
-      }
-
-  stamp_of : (by : MarkBy) → IsIn by (all_marks t) →
-      stamped_at book by.mark.lane by.mark.place ≡ Some (by.mark.stamp, by.who)
-  stamp_of by there =
-      each_in (λ b. stamped_at book b.mark.lane b.mark.place ≡ Some (b.mark.stamp, b.who)) by (all_marks t) visits.stand
-      there
-
-  -- ---- from visits to lines
-
-  module _ (places : (lane : LaneId) → PlacesStand (lane_marks lane (all_marks t))) where
-    -- who made the visit at a place, and in which line
-    record MadeAt (lane : LaneId) (place : ℕ) : Type 0 where
-      stamp : ℕ
-      who : Who
-      at : stamped_at book lane place ≡ Some (stamp, who)
-      within : InLine who (deed_at lists lane place)
-
-    made_at : (lane : LaneId) (place : ℕ) → place < lane_length book lane → MadeAt lane place
-    made_at lane place lt =
-        let counts = lane_counts book (all_marks t) places visits lane in
-        every_place MadeAt lane (all_marks t) (places lane)
-        (each_of (λ by. MadeAt by.mark.lane by.mark.place) (all_marks t)
-        (λ by there. record {
-          stamp = by.mark.stamp;
-          who = by.who;
-          at = stamp_of by there;
-          within = marked_in by there;
-        })) place (omega arith)
-
-    who_is : {E : Type 0} (visits : List (Visit E)) (place stamp : ℕ) (who : Who) (v : Visit E) →
-        stamped visits place ≡ Some (stamp, who) → slice_get visits place ≡ Some v → who ≡ v.who
-    who_is {E = E} visits place stamp who v at is =
-        let f : Found visits place who = found visits place stamp who at in
-        let same : f.visit ≡ v = (let p = f.is in cc) in
-        sym f.made ∙ ap (λ (x : Visit E). x.who) same
-
-    pub cpu_in_line : (c place : ℕ) (v : Visit CpuEntry) → slice_get (visits_of book c) place ≡ Some v →
-        InLine v.who (at_cpu (cpu_visit lists c place v.entry))
-    cpu_in_line c place v at =
-        let m : MadeAt (CpuLane c) place =
-        made_at (CpuLane c) place (slice_get_within (visits_of book c) place v at) in
-        let deed : deed_at lists (CpuLane c) place ≡ at_cpu (cpu_visit lists c place v.entry) =
-        ap (deed_or (λ e. at_cpu (cpu_visit lists c place e))) (cpu_entry_at c place v at) in
-        subst (λ d. InLine v.who d) deed
-        (subst (λ w. InLine w (deed_at lists (CpuLane c) place))
-        (who_is (visits_of book c) place m.stamp m.who v m.at at) m.within)
-
-    pub pool_in_line : (place : ℕ) (v : Visit PoolEntry) → slice_get book.pool place ≡ Some v →
-        InLine v.who (at_pool (pool_visit lists place v.entry))
-    pool_in_line place v at =
-        let m : MadeAt PoolLane place = made_at PoolLane place (slice_get_within book.pool place v at) in
-        let deed : deed_at lists PoolLane place ≡ at_pool (pool_visit lists place v.entry) =
-        ap (deed_or (λ e. at_pool (pool_visit lists place e))) (pool_entry_at place v at) in
-        subst (λ d. InLine v.who d) deed
-        (subst (λ w. InLine w (deed_at lists PoolLane place)) (who_is book.pool place m.stamp m.who v m.at at) m.within)
-
-  -- ---- from lines to visits
-
-  pub record Behind {E : Type 0} (list : List (Visit E)) (place : ℕ) (entry : E) (line : SeenLine) : Type 0 where
-    pub visit : Visit E
-    pub at : slice_get list place ≡ Some visit
-    pub is : visit.entry ≡ entry
-    pub by : visit.who.caller ≡ line.caller
-    pub event : visit.who.event ≡ line.event
-
-  -- the visit of a mark whose stamp stands at its place
-  visit_behind : {E : Type 0} (list : List (Visit E)) (place : ℕ) (entry : E) (line : SeenLine) (mark : Mark) →
-      (m : MarkOf t line mark) → stamped list place ≡ Some (m.by.mark.stamp, m.by.who) →
-      ((v : Visit E) → slice_get list place ≡ Some v → v.entry ≡ entry) → Behind list place entry line
-  visit_behind list place entry line mark m stamp is =
-      let f : Found list place m.by.who = found list place m.by.mark.stamp m.by.who stamp in
-      record {
-        visit = f.visit;
-        at = f.is;
-        is = is f.visit f.is;
-        by = ap (λ (w : Who). w.caller) f.made ∙ m.caller_is;
-        event = ap (λ (w : Who). w.event) f.made ∙ m.event_is;
-      }
-
-  -- the stamp at a place that a mark has
-  pub stamp_at : (lane : LaneId) (place : ℕ) (line : SeenLine) (mark : Mark) (m : MarkOf t line mark) → mark.lane ≡ lane →
-      mark.place ≡ place → stamped_at book lane place ≡ Some (m.by.mark.stamp, m.by.who)
-  stamp_at lane place line mark m p q =
-      (λ i. stamped_at book (sym p i) (sym q i))
-      ∙ ap (λ (k : Mark). stamped_at book k.lane k.place) (sym m.mark_is) ∙ stamp_of m.by m.there
-
-  pub cpu_behind : (line : SeenLine) (s : CpuVisit) → Among line t → IsIn (at_cpu s) (deeds_of lists line.steps) →
-      Behind (visits_of book s.cpu) s.place s.entry line
-  cpu_behind line s among here =
-      let f = step_of_deed lists (at_cpu s) line.steps here in go f.0 f.1 f.2
-    where
-      go : (step : Step) → IsIn step line.steps → deed_of lists step ≡ at_cpu s →
-          Behind (visits_of book s.cpu) s.place s.entry line
-      go (Look g) at is = absurd (cc is)
-      go (Marked mark) at is =
-          let d : CpuAt lists mark.lane mark.place s = cpu_at lists mark.lane mark.place s is in
-          let m : MarkOf t line mark = mark_of t line mark among at in
-          visit_behind (visits_of book s.cpu) s.place s.entry line mark m
-          (stamp_at (CpuLane s.cpu) s.place line mark m d.lane_is d.place_is)
-          (λ v there. let p = cpu_entry_at s.cpu s.place v there in let q = d.entry in cc)
-
-  pub pool_behind : (line : SeenLine) (s : PoolVisit) → Among line t → IsIn (at_pool s) (deeds_of lists line.steps) →
-      Behind book.pool s.place s.entry line
-  pool_behind line s among here =
-      let f = step_of_deed lists (at_pool s) line.steps here in go f.0 f.1 f.2
-    where
-      go : (step : Step) → IsIn step line.steps → deed_of lists step ≡ at_pool s →
-          Behind book.pool s.place s.entry line
-      go (Look g) at is = absurd (cc is)
-      go (Marked mark) at is =
-          let d : PoolAt lists mark.lane mark.place s = pool_at lists mark.lane mark.place s is in
-          let m : MarkOf t line mark = mark_of t line mark among at in
-          visit_behind book.pool s.place s.entry line mark m
-          (stamp_at PoolLane s.place line mark m d.lane_is d.place_is)
-          (λ v there. let p = pool_entry_at s.place v there in let q = d.entry in cc)
-
-  -- ---- something stands behind each step of a line
 
   there_at : (lane : LaneId) (place stamp : ℕ) (who : Who) → stamped_at book lane place ≡ Some (stamp, who) →
       IsThere (deed_at lists lane place)
   there_at PoolLane place stamp who at =
       let f : Found book.pool place who = found book.pool place stamp who at in
       let P : Option PoolEntry → Type 0 = λ o. IsThere (deed_or (λ e. at_pool (pool_visit lists place e)) o) in
-      subst P (sym (pool_entry_at place f.visit f.is)) tt
+      subst P (sym (pool_entry_at t book visits place f.visit f.is)) tt
   there_at BaseLane place stamp who at =
       let f : Found book.base place who = found book.base place stamp who at in
       let P : Option BaseEntry → Type 0 = λ o. IsThere (deed_or (λ e. at_base (base_visit lists place e)) o) in
@@ -195,7 +38,7 @@ module _ (t : List (List SeenLine)) (book : Book) (visits : VisitsAre book (all_
   there_at (CpuLane c) place stamp who at =
       let f : Found (visits_of book c) place who = found (visits_of book c) place stamp who at in
       let P : Option CpuEntry → Type 0 = λ o. IsThere (deed_or (λ e. at_cpu (cpu_visit lists c place e)) o) in
-      subst P (sym (cpu_entry_at c place f.visit f.is)) tt
+      subst P (sym (cpu_entry_at t book visits c place f.visit f.is)) tt
 
   all_there : (steps : List Step) →
       ((mark : Mark) → IsIn (Marked mark) steps → IsThere (deed_at lists mark.lane mark.place)) →
@@ -208,4 +51,4 @@ module _ (t : List (List SeenLine)) (book : Book) (visits : VisitsAre book (all_
   pub line_there : (line : SeenLine) → Among line t → AllThere (deeds_of lists line.steps)
   line_there line among = all_there line.steps
       (λ mark here. let m : MarkOf t line mark = mark_of t line mark among here in
-      there_at mark.lane mark.place m.by.mark.stamp m.by.who (stamp_at mark.lane mark.place line mark m refl refl))
+      there_at mark.lane mark.place m.by.mark.stamp m.by.who (stamp_at t book visits mark.lane mark.place line mark m refl refl))

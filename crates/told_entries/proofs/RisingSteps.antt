@@ -21,9 +21,9 @@ use Rattle.key_names.specs.IsTranscript.{stamped_at, script_calls}
 use Rattle.key_names.proofs.History.CallerOrders.{order_is_start_and_own}
 use Rattle.key_names.proofs.History.SortedVisits.{IsIn}
 use Rattle.key_names.proofs.Transcripts.TranscriptBooks.{lt_or_le}
-use Rattle.told_entries.proofs.DeedPlaces.{CpuStep, cpu_step}
-use Rattle.told_entries.proofs.Lines.{each_in, Among, MarkOf, mark_of}
-use Rattle.told_entries.proofs.LineVisits.{stamp_at}
+use Rattle.key_names.proofs.Samples.DeedPlaces.{CpuStep, cpu_step}
+use Rattle.key_names.proofs.Samples.Lines.{each_in, Among, MarkOf, mark_of}
+use Rattle.key_names.proofs.Samples.LineVisits.{stamp_at}
 
 -- ---- parts of what rises
 

@@ -1,15 +1,17 @@
 -- In a book whose samples are lawful, those of each line stand whose calls mean what they may.
-use Rattle.std.proofs.Common.{◌≡◌, ℕ, ◌<◌, inl, inr, Bool, true, false, List, [], ◌∷◌, refl, sym, ap, ◌∙◌, subst}
+use Rattle.std.proofs.Common.{◌≡◌, ℕ, ◌<◌, inl, inr, Bool, true, false, List, [], ◌∷◌, refl, sym, ap, ◌∙◌, subst, Some}
+use Rattle.std.specs.Prelude.{slice_get, take}
 use Rattle.std.specs.List.{AllByRecursion}
 use Rattle.key_names.specs.declared.names.LaneId.{LaneId}
 use Rattle.key_names.specs.declared.names.Who.{Who}
 use Rattle.key_names.specs.declared.entries.PoolEntry.TheVariants.{Mix}
 use Rattle.key_names.specs.declared.entries.CpuEntry.TheVariants.{Irq as IrqSample}
 use Rattle.key_names.specs.declared.events.Event.{Event}
-use Rattle.key_names.specs.Book.{Book, Lists, LawfulLanes, lists_of, list_at}
+use Rattle.key_names.specs.Book.{Book, Lists, LawfulLanes, Visit, lists_of, list_at}
 use Rattle.key_names.specs.Calls.{Setting, Call, alone, vread_call, unbound, ending, setting_after_call}
 use Rattle.key_names.specs.Deeds.{Deed, CpuVisit, at_pool, at_cpu, deeds_of, cpu_visit}
-use Rattle.key_names.specs.FastPool.{FastPool, makes_due, dump_bytes, dump_bits}
+use Rattle.key_names.specs.declared.entries.CpuEntry.{CpuEntry}
+use Rattle.key_names.specs.FastPool.{FastPool, fast_after, makes_due, dump_bytes, dump_bits}
 use Rattle.key_names.specs.Forms.{IrqForm}
 use Rattle.key_names.specs.LineSamples.{IsQuiet, IsCrossing, SamplesStand}
 use Rattle.key_names.specs.Samples.{MakesDue, IsDump, DueAt, DumpAt, visits_of, fast_before, LawfulSamples}
@@ -19,6 +21,7 @@ use Rattle.key_names.specs.Meaning.{CallMeaning}
 use Rattle.key_names.specs.IsTranscript.{HasLines, MarksStand, script_calls, start_setting, all_marks, lane_marks}
 use Rattle.key_names.specs.IsTranscript.{PlacesStand, VisitsAre}
 use Rattle.key_names.proofs.History.SortedVisits.{IsIn}
+use Rattle.key_names.proofs.Unique.UniqueEvents.{entries_at}
 use Rattle.key_names.proofs.Unique.UniqueMeanings.{OfCall}
 use Rattle.line_forms.specs.LaneFacts.{facts_of}
 use Rattle.told_entries.specs.Gathered.{IsBookOf, AllMean}
@@ -26,8 +29,17 @@ use Rattle.told_entries.proofs.CallForms.{CallsForm, all_forms}
 use Rattle.told_entries.proofs.CallLines.{to_calls, to_lines}
 use Rattle.told_entries.proofs.IrqShapes.{IrqOnly, IrqDumps, irq_shape, crosses, sample_quiet, sample_due}
 use Rattle.told_entries.proofs.IrqShapes.{CallsHere, calls_stand}
-use Rattle.told_entries.proofs.Lines.{Among, Apart, apart, each_among, each_in}
-use Rattle.told_entries.proofs.SampleLaw.{due_dump, fast_is, due_at, dump_at, mix_at, due_in, dump_in_line}
+use Rattle.key_names.proofs.Samples.Lines.{Among, Apart, apart, each_among, each_in}
+use Rattle.key_names.proofs.Samples.SampleLaw.{due_dump, due_at, dump_at, mix_at, due_in, dump_in_line}
+
+-- a CPU's fast pool before a place, read from its entries alone
+fast_before_is : (book : Book) (c place : ℕ) →
+    fast_before (visits_of book c) place ≡ (facts_of (lists_of book)).fast c place
+fast_before_is book c place = ap (λ es. fast_after (take place es)) (entries_at book.cpus c)
+
+pub fast_is : (book : Book) (c place : ℕ) (v : Visit CpuEntry) → slice_get (visits_of book c) place ≡ Some v →
+    fast_before (visits_of book c) place ≡ (facts_of (lists_of book)).fast c place
+fast_is book c place v at = fast_before_is book c place
 
 module _ (t : List (List SeenLine)) (book : Book) (apart : Apart t) (visits : VisitsAre book (all_marks t))
     (places : (lane : LaneId) → PlacesStand (lane_marks lane (all_marks t))) (samples : LawfulSamples book) where
@@ -68,12 +80,12 @@ module _ (t : List (List SeenLine)) (book : Book) (apart : Apart t) (visits : Vi
             (sample_quiet (fast f.sample.cpu f.sample.place) f.sample.entry v1 v2 set.now f.samples not_due, tt))
         go true due_now =
             let due : DueAt (visits_of book f.sample.cpu) f.sample.place who =
-            due_at t book apart visits places line f.sample who here there refl refl
+            due_at t book fast (fast_is book) apart visits places line f.sample who here there refl refl
             (sample_due (fast f.sample.cpu f.sample.place) f.sample.entry v1 v2 set.now f.samples due_now) in
             let d = samples.due_is_dumped f.sample.cpu f.sample.place who due in
             let v : CpuVisit = cpu_visit lists f.sample.cpu d.0 d.2.visit.entry in
             let in_line : IsIn (at_cpu v) (deeds line) =
-            dump_in_line t book apart visits places line f.sample.cpu d.0 who here refl refl d.2 in
+            dump_in_line t book fast (fast_is book) apart visits places line f.sample.cpu d.0 who here refl refl d.2 in
             absurd (no_dump v d.2.dumps (subst (IsIn (at_cpu v)) f.deeds_are in_line))
 
     dumps_stand : IrqDumps set v1 v2 (deeds line) → Stands line
@@ -88,7 +100,7 @@ module _ (t : List (List SeenLine)) (book : Book) (apart : Apart t) (visits : Vi
       after = the_sample.1;
       dumps = is_dump;
       mixes = f.mixes ∙ (λ i. Mix (mixed.0 i) (mixed.1 i))
-          ∙ ap (λ (p : FastPool). Mix (dump_bytes p) (dump_bits p)) (fast_is book f.dump.cpu f.dump.place);
+          ∙ ap (λ (p : FastPool). Mix (dump_bytes p) (dump_bits p)) (fast_before_is book f.dump.cpu f.dump.place);
       crosses = crosses f.rest f.crossed;
     })
       where
@@ -99,13 +111,13 @@ module _ (t : List (List SeenLine)) (book : Book) (apart : Apart t) (visits : Vi
         there d among = subst (IsIn d) (sym f.deeds_are) among
 
         dumped : DumpAt (visits_of book f.dump.cpu) f.dump.place who
-        dumped = dump_at t book apart visits places line f.dump who here (there (at_cpu f.dump) (inr (inl refl))) refl
+        dumped = dump_at t book fast (fast_is book) apart visits places line f.dump who here (there (at_cpu f.dump) (inr (inl refl))) refl
             refl is_dump
 
         mixed : (f.text ≡ dump_bytes (fast_before (visits_of book f.dump.cpu) f.dump.place))
             × (f.bits ≡ dump_bits (fast_before (visits_of book f.dump.cpu) f.dump.place))
         mixed = samples.mix_is_dump f.dump.cpu f.dump.place f.mix.place who f.text f.bits dumped
-            (mix_at t book apart visits places line f.mix who f.text f.bits here
+            (mix_at t book fast (fast_is book) apart visits places line f.mix who f.text f.bits here
             (there (at_pool f.mix) (inr (inr (inl refl)))) refl refl f.mixes)
 
         -- what made a dump due in this line is the sample
@@ -127,7 +139,7 @@ module _ (t : List (List SeenLine)) (book : Book) (apart : Apart t) (visits : Vi
         the_sample =
             let d = samples.dump_is_due f.dump.cpu f.dump.place who dumped in
             let v : CpuVisit = cpu_visit lists f.dump.cpu d.0 d.2.visit.entry in
-            let found = due_in t book apart visits places line f.dump.cpu d.0 who here refl refl d.2 in
+            let found = due_in t book fast (fast_is book) apart visits places line f.dump.cpu d.0 who here refl refl d.2 in
             at_sample v d.1 found.1 (subst (IsIn (at_cpu v)) f.deeds_are found.0)
 
   abbrev Here : Setting → Event → SeenLine → Type 0

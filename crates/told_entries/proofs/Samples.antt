@@ -50,12 +50,12 @@ use Rattle.told_entries.proofs.DumpRows.{only_samples, dumps_samples}
 use Rattle.told_entries.proofs.RowsBehind.{RowBehind, rows_behind, first_is}
 use Rattle.told_entries.proofs.IrqShapes.{irq_shape, act_quiet, none_quiet, part_quiet}
 use Rattle.told_entries.proofs.IrqShapes.{CallsHere, calls_stand}
-use Rattle.told_entries.proofs.Lines.{Among, apart, each_among, each_in, each_of, deed_in, LineOf, line_of}
+use Rattle.key_names.proofs.Samples.Lines.{Among, apart, each_among, each_in, each_of, deed_in, LineOf, line_of}
 use Rattle.told_entries.proofs.LineVisits.{line_there}
 use Rattle.key_names.proofs.Transcripts.QuietForms.{quiet, end_quiet}
 use Rattle.told_entries.proofs.RisingSteps.{LineRises, lines_rise, after}
-use Rattle.told_entries.proofs.SampledLines.{all_sampled}
-use Rattle.told_entries.proofs.SampleLaw.{samples_lawful}
+use Rattle.told_entries.proofs.SampledLines.{all_sampled, fast_is}
+use Rattle.key_names.proofs.Samples.SampleLaw.{samples_lawful}
 
 module _ (told : Tables) (t : List (List SeenLine)) (book : Book) (visits : VisitsAre book (all_marks t))
     (places : (lane : LaneId) → PlacesStand (lane_marks lane (all_marks t))) where
@@ -262,7 +262,8 @@ module _ (script : Script) (t : List (List SeenLine)) (told : Tables) (lines : H
 
   from_tables : Lawful told (lists_of book) → LawfulSamples book
   from_tables lawful =
-      samples_lawful t book (apart script.callers t lines) of.visits marks.lanes
+      samples_lawful t book (facts_of (lists_of book)).fast (fast_is book) (apart script.callers t lines) of.visits
+      marks.lanes
       (to_lines Sampled script.callers t lines
       (λ c lt. calls_samples told t book of.visits marks.lanes fills lawful (start c) (calls_at c) (here c) (rows c lt)
       (lines_rise script t marks c lt) (forms c lt)))

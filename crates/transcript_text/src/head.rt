@@ -3,7 +3,7 @@ ghost use Rattle.std.specs.Prelude.{◌≡◌, ◌+◌, ◌≤◌, ◌++◌, [],
 ghost use Rattle.key_names.specs.Texts.TranscriptGrammar.{lane_text, step_text, steps_text};
 ghost use Rattle.transcript_text.specs.Heads.{head_text};
 
-use crate::fields::{answer_name, word_name};
+use crate::fields::answer_name;
 use crate::line_buffer::Piece;
 use crate::view::LineView;
 use key_names::{LaneId, Step};
@@ -76,7 +76,7 @@ pub(crate) fn append_head(piece: &mut Piece, line: LineView<'_>)
     piece.push(b'.');
     piece.append_number(line.event as u64);
     piece.push(b' ');
-    piece.append(word_name(line.word));
+    piece.append(line.word.text());
     piece.push(b' ');
     piece.append(answer_name(line.answer));
     piece.push(b' ');

@@ -62,7 +62,8 @@ impl VState {
         }
     }
 
-    /// A state with this key for a published generation, and no batch yet.
+    /// A state with this key for a published generation, and no batch yet. It is for a caller that begins in the middle
+    /// of a run, as tests do: a run's states begin wiped.
     pub fn keyed(key: [u8; 32], generation: u64) -> VState
         ensures { result
             ≡ record { batch = replicate 96 0; key = key; generation = generation; pos = 96; in_use = false } }

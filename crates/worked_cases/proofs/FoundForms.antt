@@ -13,10 +13,10 @@ use Rattle.key_names.specs.declared.entries.CpuEntry.{CpuEntry}
 use Rattle.key_names.specs.declared.entries.CpuEntry.TheVariants.{Read as CpuRead, Int, Irq as IrqSample, Dump}
 use Rattle.key_names.specs.declared.entries.CpuEntry.TheVariants.{Prepare as Prepared, Online as Onlined}
 use Rattle.key_names.specs.declared.events.Event.{Event}
-use Rattle.key_names.specs.declared.events.Event.TheVariants.{At, On, Hw, Device, Write, Add, Credit, Bits, Irq, Input}
+use Rattle.key_names.specs.declared.events.Event.TheVariants.{Device, Write, Add, Credit, Bits, Irq, Input}
 use Rattle.key_names.specs.declared.events.Event.TheVariants.{Read, Vread, Kread, Dread, Uread, Int8, Int16, Int32}
-use Rattle.key_names.specs.declared.events.Event.TheVariants.{Int64, Reseed, Tick, Drop, Fork, Inside, Prepare, Online}
-use Rattle.key_names.specs.declared.events.Event.TheVariants.{Vmfork, State}
+use Rattle.key_names.specs.declared.events.Event.TheVariants.{Int64, Reseed, Tick, Fork, Inside, Prepare, Online}
+use Rattle.key_names.specs.declared.events.Event.TheVariants.{Vmfork}
 use Rattle.key_names.specs.PoolList.{Crossing, crossing, ready, early, none}
 use Rattle.key_names.specs.Flags.{is_bad, is_nonblock, is_insecure}
 use Rattle.key_names.specs.Calls.{Setting}
@@ -208,11 +208,6 @@ vmfork_found set word text _ = None
 
 -- the form of an event by itself
 abbrev pub form_found : (set : Setting) (event : Event) (deeds : List Deed) → Option (Form set event deeds)
-form_found set (At moment) deeds = no_steps deeds
-form_found set (On cpu) deeds = no_steps deeds
-form_found set (Hw bytes) deeds = no_steps deeds
-form_found set Drop deeds = no_steps deeds
-form_found set (State number) deeds = no_steps deeds
 form_found set (Write text) deeds = pool_only (Mix text 0) deeds
 form_found set (Device word text) deeds = pool_only (device_entry word text) deeds
 form_found set Bits deeds = pool_only ReadBits deeds
@@ -239,6 +234,7 @@ form_found set (Vmfork word text) deeds = vmfork_found set word text deeds
 form_found set (Irq v1 v2) deeds = irq_found set v1 v2 deeds
 form_found set (Vread len flags) deeds = None
 form_found set (Inside point act) deeds = None
+form_found set _ deeds = no_steps deeds
 
 abbrev pub end_form : (deeds : List Deed) → Option (EndForm deeds)
 end_form deeds = base_only End deeds

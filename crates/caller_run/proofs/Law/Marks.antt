@@ -1,8 +1,7 @@
 -- The marks of all callers are the book's visits, each place once.
-use Rattle.std.proofs.Common.{◌≡◌, ℕ, zero, suc, ◌+◌, ◌<◌, ◌≤◌, cond, List, [], ◌∷◌, ◌++◌, length, refl, sym, ap, ◌∙◌, subst, arith, inl, inr, append-nil, Bool, true, false, Some}
-use Rattle.std.specs.Prelude.{◌==◌, if◌then◌else◌, slice_get}
+use Rattle.std.proofs.Common.{◌≡◌, ℕ, zero, suc, ◌+◌, ◌<◌, ◌≤◌, cond, List, [], ◌∷◌, length, refl, sym, ap, ◌∙◌, subst, arith, inl, inr, Bool, true, false, Some}
+use Rattle.std.specs.Prelude.{◌==◌, slice_get}
 use Rattle.std.specs.List.{AllByRecursion, flat_map, sum_by, range_with_len}
-use Rattle.std.proofs.lemmas.Grind.{flat_map-append}
 use Rattle.std.proofs.lemmas.List.Sums.{sum_by-cons}
 use Rattle.key_names.specs.declared.events.Event.{Event}
 use Rattle.key_names.specs.declared.names.LaneId.{LaneId}
@@ -26,7 +25,6 @@ use Rattle.caller_run.proofs.Orders.CallSteps.{lines_items}
 use Rattle.caller_run.proofs.Orders.CallWeights.{calls_each}
 use Rattle.caller_run.proofs.Orders.Chains.{stood_grown}
 use Rattle.caller_run.proofs.Law.LineMarks.{mark_of, marks_are, fit_own, lane_sum, same_lane}
-use Rattle.caller_run.proofs.Law.Members.{IsIn, Apart, each_in, in_append, same_line}
 use Rattle.caller_run.proofs.Planning.Sums.{each_flat, sum_range, sum_none, sum_same, sum_both, sum_ones, once_in_range}
 use Rattle.std.proofs.lemmas.Bool.{eqb-true}
 use Rattle.caller_run.specs.Items.{Item}
@@ -99,53 +97,6 @@ module _ (caller : ℕ) (w : View) (numbered_steps : List NumberedStep)
           AllByRecursion Visits (items_of numbered_steps)
       all [] stood = tt
       all (d ∷ numbered_steps) stood = (one d d.made_step stood.0, all numbered_steps stood.1)
-
--- all lines as one list
-
-abbrev pub flat : List (List SeenLine) → List SeenLine
-flat t = flat_map (λ lines. lines) t
-
-pub flat_marks : (t : List (List SeenLine)) → all_marks (flat t ∷ []) ≡ all_marks t
-flat_marks t = append-nil (flat_map line_marks (flat t)) ∙ go t
-  where
-    go : (t : List (List SeenLine)) → flat_map line_marks (flat t) ≡ all_marks t
-    go [] = refl
-    go (lines ∷ t) = flat_map-append line_marks lines (flat t)
-        ∙ ap (λ (l : List MarkBy). flat_map line_marks lines ++ l) (go t)
-
-own_numbers : (k : ℕ) (callers : List (List Event)) (runs : List Run) → EachCaller HasRun k callers runs →
-    (a : SeenLine) → IsIn a (flat (lines_of_all runs)) → k ≤ a.caller
-own_numbers k [] [] each a here = absurd here
-own_numbers k [] (r ∷ rs) each a here = absurd each
-own_numbers k (es ∷ callers) [] each a here = absurd each
-own_numbers k (es ∷ callers) (r ∷ rs) each a here = elim (in_append a r.lines (flat (lines_of_all rs)) here) [
-  | inl first ↦ (let e = each_in (λ line. line.caller ≡ r.begun.caller) a r.lines
-      (fit_own r.begun.caller 0 es r.lines each.0.ended.fit) first in let own = each.0.own in omega arith)
-  | inr rest ↦ (let low = own_numbers (suc k) callers rs each.1 a rest in omega arith)
-]
-
--- no two lines have one caller and one event
-pub apart : (k : ℕ) (callers : List (List Event)) (runs : List Run) → EachCaller HasRun k callers runs →
-    Apart (flat (lines_of_all runs))
-apart k [] [] each a b here there caller event = absurd here
-apart k [] (r ∷ rs) each a b here there caller event = absurd each
-apart k (es ∷ callers) [] each a b here there caller event = absurd each
-apart k (es ∷ callers) (r ∷ rs) each a b here there caller event =
-    let fit = each.0.ended.fit in let own = each.0.own in
-    let mine : (x : SeenLine) → IsIn x r.lines → x.caller ≡ k =
-    λ x is. each_in (λ line. line.caller ≡ r.begun.caller) x r.lines (fit_own r.begun.caller 0 es r.lines fit) is ∙ own in
-    elim (in_append a r.lines (flat (lines_of_all rs)) here) [
-      | inl one ↦ elim (in_append b r.lines (flat (lines_of_all rs)) there) [
-        | inl two ↦ same_line r.begun.caller 0 es r.lines a b fit one two event
-        | inr two ↦ (let x = mine a one in let y = own_numbers (suc k) callers rs each.1 b two in
-            absurd (omega arith))
-      ]
-      | inr one ↦ elim (in_append b r.lines (flat (lines_of_all rs)) there) [
-        | inl two ↦ (let x = own_numbers (suc k) callers rs each.1 a one in let y = mine b two in
-            absurd (omega arith))
-        | inr two ↦ apart (suc k) callers rs each.1 a b one two caller event
-      ]
-    ]
 
 -- Each mark is that of a visit
 
@@ -232,10 +183,6 @@ module _ (w : View) (t : List (List SeenLine)) (callers : StateLists) (low : 2 �
   counted : (lane : LaneId) → index_of lane < length w.lanes →
       length (lane_marks lane marks) ≡ (at (index_of lane) w).made
   counted lane near = sym (sum_ones (lane_marks lane marks)) ∙ sym (made lane near)
-
-  pub all_many : (lane : LaneId) → index_of lane < length w.lanes →
-      length (lane_marks lane marks) ≡ length (known_of w (index_of lane))
-  all_many lane near = counted lane near ∙ ended.made (index_of lane) near
 
   pub all_places : (lane : LaneId) → PlacesStand (lane_marks lane marks)
   all_places lane = elim (lt_or_le (index_of lane) (length w.lanes)) [

@@ -1,22 +1,24 @@
 -- What all callers of a script did, from the start of a table to its end, is a lawful transcript of the script.
-use Rattle.std.proofs.Common.{◌≡◌, ℕ, suc, ◌+◌, ◌-◌, ◌<◌, ◌≤◌, List, [], ◌∷◌, ◌++◌, length, map, refl, sym, ap, ◌∙◌, subst, arith, inl, inr}
+use Rattle.std.proofs.Common.{◌≡◌, ℕ, suc, ◌+◌, ◌-◌, ◌<◌, ◌≤◌, List, [], ◌∷◌, ◌++◌, length, map, refl, sym, ap, ◌∙◌, subst, arith, inl, inr, Some}
+use Rattle.std.specs.Prelude.{slice_get}
 use Rattle.std.specs.List.{AllByRecursion, range_with_len}
 use Rattle.std.proofs.lemmas.List.{length-map}
 use Rattle.std.proofs.lemmas.List.FromFn.{length-range_with_len}
+use Rattle.std.proofs.lemmas.Option.{slice_get_within}
+use Rattle.key_names.specs.declared.entries.CpuEntry.{CpuEntry}
 use Rattle.key_names.specs.declared.events.Event.{Event}
 use Rattle.key_names.specs.declared.names.LaneId.{LaneId}
 use Rattle.key_names.specs.declared.names.Step.{Step}
 use Rattle.key_names.specs.BaseList.{base_after}
-use Rattle.key_names.specs.Book.{Book, lists_of, list_at}
+use Rattle.key_names.specs.Book.{Book, Visit, lists_of, list_at}
 use Rattle.key_names.specs.Calls.{Setting, Call, calls_of, all_calls, alone, vread_call, unbound, ending, BoundAct}
 use Rattle.key_names.specs.Deeds.{deeds_of, Deed, deed_at, deed_of}
 use Rattle.key_names.specs.History.{ancestors_steps, calls_steps, orders_from, caller_orders, stamps_of, LooksStand}
 use Rattle.key_names.specs.Meaning.{CallMeaning, caller_start, LineMeaning}
-use Rattle.key_names.specs.Samples.{LawfulSamples}
+use Rattle.key_names.specs.Samples.{LawfulSamples, fast_before, visits_of}
 use Rattle.key_names.specs.Texts.ScriptGrammar.{Script, WellFormed}
 use Rattle.key_names.specs.SeenLine.{SeenLine}
 use Rattle.key_names.specs.IsTranscript.{EachCaller, EachLine, CallsMean, CallerMeans, LinesFit, state_lists, start_setting, Rises, VisitsAre, all_marks, lane_marks, PlacesStand, FormsStand, IsTranscriptBy, EachAct, EachOfCall}
-use Rattle.key_names.proofs.Lists.Each.{each_append}
 use Rattle.base_gen.specs.BaseValue.{BaseValue}
 use Rattle.key_names.proofs.History.CallerOrders.{long_ancestors}
 use Rattle.lane_table.specs.declared.view.View.{View}
@@ -36,13 +38,15 @@ use Rattle.rng_core.specs.SampleDeeds.{fast_in}
 use Rattle.caller_run.specs.Done.{CallsMeant}
 use Rattle.caller_run.specs.Items.{steps_of}
 use Rattle.caller_run.specs.Laws.{Run, HasRun, IsOneOf, lines_of_all, RanAll, LawfulRuns}
-use Rattle.caller_run.proofs.Law.Marks.{flat, flat_marks, apart, all_visit, all_visits, all_many, all_places}
+use Rattle.caller_run.proofs.Law.Marks.{all_visit, all_visits, all_places}
 use Rattle.caller_run.proofs.Planning.Ancestors.{Course, course_more, starts_so, has_course}
 use Rattle.caller_run.proofs.Orders.CallWeights.{calls_lines}
 use Rattle.caller_run.proofs.Orders.ItemSteps.{same_steps}
 use Rattle.caller_run.proofs.Law.Looks.{looks_stand}
 use Rattle.caller_run.proofs.Planning.Parents.{each_of}
-use Rattle.caller_run.proofs.Law.SampleLaw.{samples_lawful}
+use Rattle.key_names.proofs.Samples.Lines.{apart}
+use Rattle.key_names.proofs.Samples.SampleLaw.{samples_lawful}
+use Rattle.lane_table.proofs.Book.BookSamples.{OfLane, cpu_visited, fast_met}
 use Rattle.key_names.specs.declared.names.LaneId.TheVariants.{Pool as PoolLane, Base as BaseLane, Cpu as CpuLane}
 use Rattle.key_names.specs.declared.names.Step.TheVariants.{Look, Visit as Marked}
 
@@ -306,28 +310,32 @@ module _ (script : Script) (runs : List Run) (w : View) (ok : WellFormed script)
   places : (lane : LaneId) → PlacesStand (lane_marks lane (all_marks t))
   places = all_places w t states low ended visit ran.placed ran.made
 
+  -- a CPU's fast pool before a visit
+  fast_is : (c place : ℕ) (v : Visit CpuEntry) → slice_get (visits_of book c) place ≡ Some v →
+      fast_before (visits_of book c) place ≡ fast_in (known_of w) c place
+  fast_is c place v at =
+      let x : OfLane lanes (known_of w) states c place v = cpu_visited lanes (known_of w) states closed c place v at in
+      let within = slice_get_within (known_of w (c + 2)) place x.visited.visit x.visited.stands in
+      fast_met lanes (known_of w) states closed c place x.below (omega arith)
+
+  abbrev Sampled : SeenLine → Type 0
+  Sampled line = SamplesStand (fast_in (known_of w)) (deeds_of (lists_of book) line.steps)
+
   sampled : (k : ℕ) (es : List (List Event)) (rs : List Run) → EachCaller HasRun k es rs → Here rs →
-      AllByRecursion (λ line. SamplesStand (fast_in (known_of w)) (deeds_of (lists_of book) line.steps))
-      (flat (lines_of_all rs))
+      AllByRecursion (AllByRecursion Sampled) (lines_of_all rs)
   sampled k [] [] each sub = tt
   sampled k [] (r ∷ rs) each sub = absurd each
   sampled k (events ∷ es) [] each sub = absurd each
-  sampled k (events ∷ es) (r ∷ rs) each sub =
-      each_append (λ line. SamplesStand (fast_in (known_of w)) (deeds_of (lists_of book) line.steps)) r.lines
-      (flat (lines_of_all rs))
-      (calls_lines (λ line. SamplesStand (fast_in (known_of w)) (deeds_of (lists_of book) line.steps)) r.begun.caller
-      events r.lines each.0.ended.fit
-      (each.0.ended.done.samples lanes (known_of w) states (continues r (sub r (inl refl)))))
-      (sampled (suc k) es rs each.1 (λ q is. sub q (inr is)))
+  sampled k (events ∷ es) (r ∷ rs) each sub = (
+    calls_lines Sampled r.begun.caller events r.lines each.0.ended.fit
+        (each.0.ended.done.samples lanes (known_of w) states (continues r (sub r (inl refl)))),
+    sampled (suc k) es rs each.1 (λ q is. sub q (inr is)),
+  )
 
   samples : LawfulSamples book
   samples =
-      let same = flat_marks t in
-      samples_lawful w (flat t) states closed (apart 0 script.callers runs ran.each)
-      (subst (VisitsAre book) (sym same) visits)
-      (λ lane. subst (λ m. PlacesStand (lane_marks lane m)) (sym same) (places lane))
-      (λ lane near. ap (λ m. length (lane_marks lane m)) same
-      ∙ all_many w t states low ended visit ran.placed ran.made lane near)
+      samples_lawful t book (fast_in (known_of w)) fast_is
+      (apart script.callers t (lines_fit 0 script.callers runs ran.each)) visits places
       (sampled 0 script.callers runs ran.each (λ r is. is))
 
   forms : FormsStand script t book meanings

@@ -1,15 +1,15 @@
 -- A caller's order is its start and its own steps; looks go by a number.
-use Rattle.std.proofs.Common.{◌≡◌, ◌⊎◌, inl, inr, ℕ, zero, suc, ◌+◌, ◌<◌, List, [], ◌∷◌, ◌++◌, length, refl, sym, subst, ap, ◌∙◌, arith, length-append}
+use Rattle.std.proofs.Common.{◌≡◌, ◌⊎◌, inl, inr, ℕ, zero, suc, ◌<◌, List, [], ◌∷◌, ◌++◌, length, refl, sym, subst, ap, ◌∙◌, arith, length-append}
 use Rattle.std.specs.List.{fold}
 use Rattle.std.proofs.lemmas.List.Sums.{fold-append}
 use mathlib.Core.Logic.{dite}
 use native.Mathlib.Decide.{ℕ_discrete}
 use Rattle.key_names.specs.declared.names.Step.{Step}
 use Rattle.key_names.specs.Book.{list_at}
-use Rattle.key_names.specs.Calls.{Call, Parent, parent_from}
+use Rattle.key_names.specs.Calls.{Call}
 use Rattle.key_names.specs.Deeds.{Deed}
-use Rattle.key_names.specs.History.{ancestors_steps, inherited_steps, orders_from, caller_orders, calls_steps, through_visit}
-use Rattle.key_names.specs.History.{seen, seen_after, LookStands, LooksStand}
+use Rattle.key_names.specs.History.{ancestors_steps, inherited_steps, orders_from, calls_steps, through_visit}
+use Rattle.key_names.specs.History.{seen, seen_after, LooksStand}
 use Rattle.key_names.specs.CallerOrders.{start_of, OrderIsStartAndOwn, StartIsAFront, LooksFrom, LooksAreCounted, LooksInParts}
 
 -- Lists that grow at the end

@@ -3,7 +3,7 @@ use Rattle.std.proofs.Common.{ℕ, ◌≤◌, refl, arith}
 use Rattle.std.specs.List.{AllByRecursion}
 use Rattle.std.specs.Prelude.{codes}
 use Rattle.key_names.specs.declared.events.Event.{Event}
-use Rattle.key_names.specs.declared.events.Event.TheVariants.{At, On, Hw, Device, Write, Add, Credit, Bits, Irq, Input, Read, Vread, Kread, Dread, Uread, Int8, Int16, Int32, Int64, Reseed, Tick, Drop, Fork, Inside, Prepare, Online, Vmfork, State}
+use Rattle.key_names.specs.declared.events.Event.TheVariants.{At, On, Hw, Device, Write, Add, Credit, Irq, Input, Read, Vread, Kread, Dread, Uread, Fork, Inside, Prepare, Online, Vmfork, State}
 use Rattle.key_names.specs.declared.events.InsideAct.{InsideAct}
 use Rattle.key_names.specs.declared.events.InsideAct.TheVariants.{Wipe, Vread as VreadAct, Reseed as ReseedAct}
 use Rattle.key_names.specs.Texts.ScriptGrammar.{ActInRange, InRange, act_fields, arguments, event_fields, event_word}
@@ -46,14 +46,7 @@ clean_arguments version cpus (Prepare cpu) few range = (clean_decimal cpu (omega
 clean_arguments version cpus (Online cpu) few range = (clean_decimal cpu (omega arith), tt)
 clean_arguments version cpus (Vmfork word text) few range = (clean_decimal word range.1, (clean_hex text range.2, tt))
 clean_arguments version cpus (State number) few range = (clean_decimal number (omega arith), tt)
-clean_arguments version cpus Bits few range = tt
-clean_arguments version cpus Int8 few range = tt
-clean_arguments version cpus Int16 few range = tt
-clean_arguments version cpus Int32 few range = tt
-clean_arguments version cpus Int64 few range = tt
-clean_arguments version cpus Reseed few range = tt
-clean_arguments version cpus Tick few range = tt
-clean_arguments version cpus Drop few range = tt
+clean_arguments version cpus _ few range = tt
 
 pub clean_event : (version cpus : ℕ) (event : Event) → cpus ≤ 256 → InRange version cpus event →
     AllByRecursion Clean (event_fields event)

@@ -230,7 +230,6 @@ event_again version cpus (Write text) few range = unary_again byte_fields Write 
 event_again version cpus (Add text bits) few range =
     binary_again byte_fields (numbers (2 ^ 31) (omega arith)) Add text bits range.0 range.1
 event_again version cpus (Credit bits) few range = unary_again (numbers (2 ^ 31) (omega arith)) Credit bits range
-event_again version cpus Bits few range = refl
 event_again version cpus (Irq v1 v2) few range =
     binary_again (numbers (2 ^ 64) (omega arith)) (numbers (2 ^ 64) (omega arith)) Irq v1 v2 range.0 range.1
 event_again version cpus (Input word kind code value) few range = input_again word kind code value range
@@ -245,13 +244,6 @@ event_again version cpus (Dread len flag) few range =
     binary_again (numbers 1048577 (omega arith)) (numbers 2 (omega arith)) Dread len flag (omega (arith, range.0))
     range.1
 event_again version cpus (Uread len) few range = unary_again (numbers 1048577 (omega arith)) Uread len (omega arith)
-event_again version cpus Int8 few range = refl
-event_again version cpus Int16 few range = refl
-event_again version cpus Int32 few range = refl
-event_again version cpus Int64 few range = refl
-event_again version cpus Reseed few range = refl
-event_again version cpus Tick few range = refl
-event_again version cpus Drop few range = refl
 event_again version cpus (Fork child) few range = unary_again (numbers_in 1 64 (omega arith)) Fork child range
 event_again version cpus (Inside point act) few range = inside_again point act range
 event_again version cpus (Prepare cpu) few range =
@@ -263,3 +255,4 @@ event_again version cpus (Vmfork word text) few range =
     range.2)
 event_again version cpus (State number) few range =
     rw (le-leb 3 version range.0) (unary_again (numbers 16 (omega arith)) State number range.1)
+event_again version cpus _ few range = refl

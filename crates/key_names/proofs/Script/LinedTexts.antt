@@ -11,7 +11,7 @@ use Rattle.std.proofs.lemmas.List.Splits.{join_with_byte-slice_split}
 use Rattle.std.proofs.lemmas.Str.Parse.{digit_from_value}
 use Rattle.hex.specs.Hex.{IsBytes}
 use Rattle.key_names.specs.declared.events.Word.{Word}
-use Rattle.key_names.specs.declared.events.Word.TheVariants.{At, On, Hw, Device, Write, Add, Credit, Bits, Irq, Input, Read, Vread, Kread, Dread, Uread, Int8, Int16, Int32, Int64, Reseed, Tick, Drop, Fork, Inside, Prepare, Online, Vmfork, State, End}
+use Rattle.key_names.specs.declared.events.Word.TheVariants.{End}
 use Rattle.key_names.specs.Texts.Spelling.{AllLower, is_lower_digit, hex, spaced, lined, word_text}
 use Rattle.key_names.specs.Texts.ScriptFaults.{parts, is_unprintable}
 use Rattle.key_names.proofs.Script.HexFields.{lower_encoded}
@@ -67,38 +67,12 @@ pub clean_hex : (bytes : List ℕ) → IsBytes bytes → Clean (hex bytes)
 clean_hex [] small = clean_by (hex []) refl
 clean_hex (b ∷ bytes) small = clean_lower (hex (b ∷ bytes)) (lower_encoded (b ∷ bytes) small)
 
+graphic_word : (word : Word) → list_all is_graphic (word_text word) ≡ true
+graphic_word End = refl
+graphic_word _ = refl
+
 pub clean_word : (word : Word) → Clean (word_text word)
-clean_word word = clean_by (word_text word) (elim word as (λ w. list_all is_graphic (word_text w) ≡ true) [
-  | At ↦ refl
-  | On ↦ refl
-  | Hw ↦ refl
-  | Device ↦ refl
-  | Write ↦ refl
-  | Add ↦ refl
-  | Credit ↦ refl
-  | Bits ↦ refl
-  | Irq ↦ refl
-  | Input ↦ refl
-  | Read ↦ refl
-  | Vread ↦ refl
-  | Kread ↦ refl
-  | Dread ↦ refl
-  | Uread ↦ refl
-  | Int8 ↦ refl
-  | Int16 ↦ refl
-  | Int32 ↦ refl
-  | Int64 ↦ refl
-  | Reseed ↦ refl
-  | Tick ↦ refl
-  | Drop ↦ refl
-  | Fork ↦ refl
-  | Inside ↦ refl
-  | Prepare ↦ refl
-  | Online ↦ refl
-  | Vmfork ↦ refl
-  | State ↦ refl
-  | End ↦ refl
-])
+clean_word word = clean_by (word_text word) (graphic_word word)
 
 -- ---- a line of fields
 

@@ -36,71 +36,13 @@ word_takes : (field : List ℕ) (w : Word) → word_of field ≡ Some w → fiel
 word_takes field w e = sym ((bytes_eq-Decides (word_text w) field).0
     (found_passes (λ v. bytes_eq (word_text v) field) all_words w e))
 
-word_again : (w : Word) → word_of (word_text w) ≡ Some w
-word_again w = elim w as (λ v. word_of (word_text v) ≡ Some v) [
-  | words.At ↦ refl
-  | words.On ↦ refl
-  | words.Hw ↦ refl
-  | words.Device ↦ refl
-  | words.Write ↦ refl
-  | words.Add ↦ refl
-  | words.Credit ↦ refl
-  | words.Bits ↦ refl
-  | words.Irq ↦ refl
-  | words.Input ↦ refl
-  | words.Read ↦ refl
-  | words.Vread ↦ refl
-  | words.Kread ↦ refl
-  | words.Dread ↦ refl
-  | words.Uread ↦ refl
-  | words.Int8 ↦ refl
-  | words.Int16 ↦ refl
-  | words.Int32 ↦ refl
-  | words.Int64 ↦ refl
-  | words.Reseed ↦ refl
-  | words.Tick ↦ refl
-  | words.Drop ↦ refl
-  | words.Fork ↦ refl
-  | words.Inside ↦ refl
-  | words.Prepare ↦ refl
-  | words.Online ↦ refl
-  | words.Vmfork ↦ refl
-  | words.State ↦ refl
-  | words.End ↦ refl
-]
+pub word_again : (w : Word) → word_of (word_text w) ≡ Some w
+word_again words.End = refl
+word_again _ = refl
 
 not_caller : (w : Word) → bytes_eq (word_text w) (codes "caller") ≡ false
-not_caller w = elim w as (λ v. bytes_eq (word_text v) (codes "caller") ≡ false) [
-  | words.At ↦ refl
-  | words.On ↦ refl
-  | words.Hw ↦ refl
-  | words.Device ↦ refl
-  | words.Write ↦ refl
-  | words.Add ↦ refl
-  | words.Credit ↦ refl
-  | words.Bits ↦ refl
-  | words.Irq ↦ refl
-  | words.Input ↦ refl
-  | words.Read ↦ refl
-  | words.Vread ↦ refl
-  | words.Kread ↦ refl
-  | words.Dread ↦ refl
-  | words.Uread ↦ refl
-  | words.Int8 ↦ refl
-  | words.Int16 ↦ refl
-  | words.Int32 ↦ refl
-  | words.Int64 ↦ refl
-  | words.Reseed ↦ refl
-  | words.Tick ↦ refl
-  | words.Drop ↦ refl
-  | words.Fork ↦ refl
-  | words.Inside ↦ refl
-  | words.Prepare ↦ refl
-  | words.Online ↦ refl
-  | words.Vmfork ↦ refl
-  | words.State ↦ refl
-  | words.End ↦ refl
-]
+not_caller words.End = refl
+not_caller _ = refl
 
 -- ---- what is said
 

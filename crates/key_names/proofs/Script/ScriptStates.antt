@@ -3,7 +3,7 @@ use Rattle.std.proofs.Common.{ℕ, ◌<◌, List, []}
 use Rattle.std.specs.Prelude.{⊤}
 use Rattle.std.specs.List.{AllByRecursion}
 use Rattle.key_names.specs.declared.events.Event.{Event}
-use Rattle.key_names.specs.declared.events.Event.TheVariants.{At, On, Hw, Device, Write, Add, Credit, Bits, Irq, Input, Read, Vread, Kread, Dread, Uread, Int8, Int16, Int32, Int64, Reseed, Tick, Drop, Fork, Inside, Prepare, Online, Vmfork, State}
+use Rattle.key_names.specs.declared.events.Event.TheVariants.{State}
 use Rattle.key_names.specs.Calls.{BoundAct, Call, alone, vread_call, unbound, ending, calls_of}
 use Rattle.key_names.specs.SeenLine.{SeenLine}
 use Rattle.key_names.specs.Texts.ScriptGrammar.{InRange}
@@ -34,30 +34,4 @@ calls_in_range version cpus events lines =
 pub current_below : (version cpus : ℕ) (s : CallerState) (event : Event) → InRange version cpus event → s.current < 16 →
     (caller_after s event).current < 16
 current_below version cpus s (State number) range below = range.1
-current_below version cpus s (At moment) range below = below
-current_below version cpus s (On cpu) range below = below
-current_below version cpus s (Hw bytes) range below = below
-current_below version cpus s (Device word text) range below = below
-current_below version cpus s (Write text) range below = below
-current_below version cpus s (Add text bits) range below = below
-current_below version cpus s (Credit bits) range below = below
-current_below version cpus s Bits range below = below
-current_below version cpus s (Irq v1 v2) range below = below
-current_below version cpus s (Input word kind code value) range below = below
-current_below version cpus s (Read n flags) range below = below
-current_below version cpus s (Vread n flags) range below = below
-current_below version cpus s (Kread n) range below = below
-current_below version cpus s (Dread n flag) range below = below
-current_below version cpus s (Uread n) range below = below
-current_below version cpus s Int8 range below = below
-current_below version cpus s Int16 range below = below
-current_below version cpus s Int32 range below = below
-current_below version cpus s Int64 range below = below
-current_below version cpus s Reseed range below = below
-current_below version cpus s Tick range below = below
-current_below version cpus s Drop range below = below
-current_below version cpus s (Fork child) range below = below
-current_below version cpus s (Inside point act) range below = below
-current_below version cpus s (Prepare cpu) range below = below
-current_below version cpus s (Online cpu) range below = below
-current_below version cpus s (Vmfork word text) range below = below
+current_below version cpus s _ range below = below

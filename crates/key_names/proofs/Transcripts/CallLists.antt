@@ -2,7 +2,7 @@
 use Rattle.std.proofs.Common.{ℕ, Bool, true, false, List, [], ◌∷◌, ◌++◌}
 use Rattle.std.specs.Prelude.{if◌then◌else◌}
 use Rattle.key_names.specs.declared.events.Event.{Event}
-use Rattle.key_names.specs.declared.events.Event.TheVariants.{At, On, Hw, Device, Write, Add, Credit, Bits, Irq, Input, Read, Vread, Kread, Dread, Uread, Int8, Int16, Int32, Int64, Reseed, Tick, Drop, Fork, Inside, Prepare, Online, Vmfork, State}
+use Rattle.key_names.specs.declared.events.Event.TheVariants.{Vread, Inside}
 use Rattle.key_names.specs.declared.events.InsideAct.{InsideAct}
 use Rattle.key_names.specs.Calls.{Call, alone, vread_call, unbound, ending, BoundAct, has_vread, calls_from}
 use Rattle.key_names.specs.SeenLine.{SeenLine}
@@ -50,55 +50,5 @@ of_calls Q step waiting (Vread n flags ∷ es) (line ∷ lines) =
 of_calls Q step waiting (Inside point act ∷ es) (line ∷ lines) =
     inside Q step waiting point act es line lines (has_vread es) _ _
     (of_calls Q step (waiting ++ act_of point act line ∷ []) es lines) (of_calls Q step waiting es lines)
-of_calls Q step waiting (At moment ∷ es) (line ∷ lines) =
-    step.goes waiting (At moment) es line lines _ (of_calls Q step waiting es lines)
-of_calls Q step waiting (On cpu ∷ es) (line ∷ lines) =
-    step.goes waiting (On cpu) es line lines _ (of_calls Q step waiting es lines)
-of_calls Q step waiting (Hw bytes ∷ es) (line ∷ lines) =
-    step.goes waiting (Hw bytes) es line lines _ (of_calls Q step waiting es lines)
-of_calls Q step waiting (Device word text ∷ es) (line ∷ lines) =
-    step.goes waiting (Device word text) es line lines _ (of_calls Q step waiting es lines)
-of_calls Q step waiting (Write text ∷ es) (line ∷ lines) =
-    step.goes waiting (Write text) es line lines _ (of_calls Q step waiting es lines)
-of_calls Q step waiting (Add text bits ∷ es) (line ∷ lines) =
-    step.goes waiting (Add text bits) es line lines _ (of_calls Q step waiting es lines)
-of_calls Q step waiting (Credit bits ∷ es) (line ∷ lines) =
-    step.goes waiting (Credit bits) es line lines _ (of_calls Q step waiting es lines)
-of_calls Q step waiting (Bits ∷ es) (line ∷ lines) =
-    step.goes waiting Bits es line lines _ (of_calls Q step waiting es lines)
-of_calls Q step waiting (Irq v1 v2 ∷ es) (line ∷ lines) =
-    step.goes waiting (Irq v1 v2) es line lines _ (of_calls Q step waiting es lines)
-of_calls Q step waiting (Input word kind code value ∷ es) (line ∷ lines) =
-    step.goes waiting (Input word kind code value) es line lines _ (of_calls Q step waiting es lines)
-of_calls Q step waiting (Read n flags ∷ es) (line ∷ lines) =
-    step.goes waiting (Read n flags) es line lines _ (of_calls Q step waiting es lines)
-of_calls Q step waiting (Kread n ∷ es) (line ∷ lines) =
-    step.goes waiting (Kread n) es line lines _ (of_calls Q step waiting es lines)
-of_calls Q step waiting (Dread n flag ∷ es) (line ∷ lines) =
-    step.goes waiting (Dread n flag) es line lines _ (of_calls Q step waiting es lines)
-of_calls Q step waiting (Uread n ∷ es) (line ∷ lines) =
-    step.goes waiting (Uread n) es line lines _ (of_calls Q step waiting es lines)
-of_calls Q step waiting (Int8 ∷ es) (line ∷ lines) =
-    step.goes waiting Int8 es line lines _ (of_calls Q step waiting es lines)
-of_calls Q step waiting (Int16 ∷ es) (line ∷ lines) =
-    step.goes waiting Int16 es line lines _ (of_calls Q step waiting es lines)
-of_calls Q step waiting (Int32 ∷ es) (line ∷ lines) =
-    step.goes waiting Int32 es line lines _ (of_calls Q step waiting es lines)
-of_calls Q step waiting (Int64 ∷ es) (line ∷ lines) =
-    step.goes waiting Int64 es line lines _ (of_calls Q step waiting es lines)
-of_calls Q step waiting (Reseed ∷ es) (line ∷ lines) =
-    step.goes waiting Reseed es line lines _ (of_calls Q step waiting es lines)
-of_calls Q step waiting (Tick ∷ es) (line ∷ lines) =
-    step.goes waiting Tick es line lines _ (of_calls Q step waiting es lines)
-of_calls Q step waiting (Drop ∷ es) (line ∷ lines) =
-    step.goes waiting Drop es line lines _ (of_calls Q step waiting es lines)
-of_calls Q step waiting (Fork child ∷ es) (line ∷ lines) =
-    step.goes waiting (Fork child) es line lines _ (of_calls Q step waiting es lines)
-of_calls Q step waiting (Prepare cpu ∷ es) (line ∷ lines) =
-    step.goes waiting (Prepare cpu) es line lines _ (of_calls Q step waiting es lines)
-of_calls Q step waiting (Online cpu ∷ es) (line ∷ lines) =
-    step.goes waiting (Online cpu) es line lines _ (of_calls Q step waiting es lines)
-of_calls Q step waiting (Vmfork word text ∷ es) (line ∷ lines) =
-    step.goes waiting (Vmfork word text) es line lines _ (of_calls Q step waiting es lines)
-of_calls Q step waiting (State number ∷ es) (line ∷ lines) =
-    step.goes waiting (State number) es line lines _ (of_calls Q step waiting es lines)
+of_calls Q step waiting (event ∷ es) (line ∷ lines) =
+    step.goes waiting event es line lines _ (of_calls Q step waiting es lines)

@@ -1,7 +1,7 @@
 -- In a lawful transcript the calls take no more reads as keys than the lines have marks.
 use Rattle.std.proofs.Common.{◌≡◌, ℕ, suc, ◌+◌, ◌≤◌, List, [], ◌∷◌, ◌++◌, refl, ap, arith}
 use Rattle.key_names.specs.declared.events.Event.{Event}
-use Rattle.key_names.specs.declared.events.Event.TheVariants.{At, On, Hw, Device, Write, Add, Credit, Bits, Irq, Input, Read, Vread, Kread, Dread, Uread, Int8, Int16, Int32, Int64, Reseed, Tick, Drop, Fork, Inside, Prepare, Online, Vmfork, State}
+use Rattle.key_names.specs.declared.events.Event.TheVariants.{At}
 use Rattle.key_names.specs.declared.names.LaneId.{LaneId}
 use Rattle.key_names.specs.declared.names.LaneId.TheVariants.{Cpu as CpuLane}
 use Rattle.key_names.specs.declared.entries.VEntry.{VEntry}
@@ -79,33 +79,7 @@ module _ (c p : ℕ) where
 
   pub event_takes : (event : Event) → takes c p (event_entries event) ≡ 0
   event_takes (At moment) = refl
-  event_takes (On cpu) = refl
-  event_takes (Hw bytes) = refl
-  event_takes (Device word text) = refl
-  event_takes (Write text) = refl
-  event_takes (Add text bits) = refl
-  event_takes (Credit bits) = refl
-  event_takes Bits = refl
-  event_takes (Irq v1 v2) = refl
-  event_takes (Input word kind code value) = refl
-  event_takes (Read n flags) = refl
-  event_takes (Vread n flags) = refl
-  event_takes (Kread n) = refl
-  event_takes (Dread n flag) = refl
-  event_takes (Uread n) = refl
-  event_takes Int8 = refl
-  event_takes Int16 = refl
-  event_takes Int32 = refl
-  event_takes Int64 = refl
-  event_takes Reseed = refl
-  event_takes Tick = refl
-  event_takes Drop = refl
-  event_takes (Fork child) = refl
-  event_takes (Inside point act) = refl
-  event_takes (Prepare cpu) = refl
-  event_takes (Online cpu) = refl
-  event_takes (Vmfork word text) = refl
-  event_takes (State number) = refl
+  event_takes _ = refl
 
   abbrev pub caller_takes : List CallMeaning → ℕ
   caller_takes [] = 0

@@ -1,12 +1,11 @@
 -- Marks that stand and are sorted by stamp have places that count up.
 use Rattle.std.proofs.Common.{ℕ, zero, suc, ◌+◌, ◌≡◌, ◌<◌, ◌≤◌, Bool, true, false, cond, List, [], ◌∷◌, length, refl, sym, subst, ap, ◌∙◌, arith}
 use Rattle.std.specs.Prelude.{count_by, ◌==◌, IsPermutation}
-use Rattle.std.specs.List.{AllByRecursion, All, range_with_len}
+use Rattle.std.specs.List.{AllByRecursion, range_with_len}
 use Rattle.std.proofs.lemmas.Bool.Decides.{nat_tests}
 use Rattle.std.proofs.lemmas.List.Elements.{All-from_recursion, recursion_from_All}
 use Rattle.std.proofs.lemmas.List.Sorted.{All-permutation, sum_by-IsPermutation, length_permutation}
 use Rattle.key_names.specs.declared.names.Mark.{Mark}
-use Rattle.key_names.specs.IsTranscript.{PlacesStand}
 use Rattle.key_names.specs.PlacesInOrder.{InOrder, ByStamp, PlacesCountUp, PlacesInAnyOrder}
 use Rattle.key_names.proofs.Lists.Each.{each_weaker, each_both}
 use Rattle.key_names.proofs.Lists.MarkLists.{at_place, count_more, Above, in_order_stand}

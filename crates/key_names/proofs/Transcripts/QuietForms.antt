@@ -8,7 +8,7 @@ use Rattle.key_names.specs.declared.entries.PoolEntry.{PoolEntry}
 use Rattle.key_names.specs.declared.entries.BaseEntry.{BaseEntry}
 use Rattle.key_names.specs.declared.entries.CpuEntry.{CpuEntry}
 use Rattle.key_names.specs.declared.events.Event.{Event}
-use Rattle.key_names.specs.declared.events.Event.TheVariants.{At, On, Hw, Device, Write, Add, Credit, Bits, Irq, Input, Read, Vread, Kread, Dread, Uread, Int8, Int16, Int32, Int64, Reseed, Tick, Drop, Fork, Inside, Prepare, Online, Vmfork, State}
+use Rattle.key_names.specs.declared.events.Event.TheVariants.{Device, Write, Add, Credit, Bits, Irq, Input, Read, Vread, Kread, Dread, Uread, Int8, Int16, Int32, Int64, Reseed, Tick, Fork, Inside, Prepare, Online, Vmfork}
 use Rattle.key_names.specs.PoolList.{Crossing, crossing, ready, early, none}
 use Rattle.key_names.specs.Flags.{is_bad, is_nonblock, is_insecure}
 use Rattle.key_names.specs.Calls.{Setting}
@@ -117,11 +117,6 @@ module _ (fast : ℕ → ℕ → FastPool) where
 
   pub quiet : (set : Setting) (event : Event) (deeds : List Deed) → IsNoInterrupt event → Form set event deeds →
       Quiet deeds
-  quiet set (At moment) deeds other f = empty deeds f
-  quiet set (On c) deeds other f = empty deeds f
-  quiet set (Hw bytes) deeds other f = empty deeds f
-  quiet set Drop deeds other f = empty deeds f
-  quiet set (State number) deeds other f = empty deeds f
   quiet set (Write text) deeds other f = pool_only _ deeds f
   quiet set (Device word text) deeds other f = pool_only _ deeds f
   quiet set Bits deeds other f = pool_only _ deeds f
@@ -149,6 +144,7 @@ module _ (fast : ℕ → ℕ → FastPool) where
   quiet set (Irq v1 v2) deeds other f = absurd other
   quiet set (Vread n flags) deeds other f = absurd f
   quiet set (Inside point act) deeds other f = absurd f
+  quiet set _ deeds other f = empty deeds f
 
   pub end_quiet : (deeds : List Deed) → EndForm deeds → Quiet deeds
   end_quiet deeds f = base_only _ deeds f

@@ -7,7 +7,7 @@ use Rattle.std.proofs.lemmas.Bool.{eqb-true, eq-eqb}
 use Rattle.std.proofs.lemmas.List.Sums.{fold-append}
 use Rattle.key_names.specs.declared.entries.VEntry.{VEntry}
 use Rattle.key_names.specs.declared.events.Event.{Event}
-use Rattle.key_names.specs.declared.events.Event.TheVariants.{At, On, Hw, Device, Write, Add, Credit, Bits, Irq, Input, Read, Vread, Kread, Dread, Uread, Int8, Int16, Int32, Int64, Reseed, Tick, Drop, Fork, Inside, Prepare, Online, Vmfork, State}
+use Rattle.key_names.specs.declared.events.Event.TheVariants.{Drop}
 use Rattle.key_names.specs.StateList.{state_start, state_step}
 use Rattle.key_names.specs.LiveMaterial.{StateBytes, state_bytes_start, state_bytes_step}
 use Rattle.key_names.specs.KeyInUse.{state_value_step}
@@ -98,60 +98,8 @@ module _ (lists : Lists) (caller k : ℕ) (below : k < 16) where
   alone_holds x Drop m len h means = set_state x m wiped_state len h (ap (λ (s : CallerState). s.states) means.after)
       (λ same. let P : List VEntry → Type 0 = λ es. Holds (after x es) wiped_state in
       subst P (sym means.entries) (replay.wiped_holds lists caller k x))
-  alone_holds x (At moment) m len h means = same_holds x m len h means.entries
-      (ap (λ (s : CallerState). s.states) means.after)
-  alone_holds x (On cpu) m len h means = same_holds x m len h means.entries
-      (ap (λ (s : CallerState). s.states) means.after)
-  alone_holds x (Hw bytes) m len h means = same_holds x m len h means.entries
-      (ap (λ (s : CallerState). s.states) means.after)
-  alone_holds x (Device word text) m len h means = same_holds x m len h means.entries
-      (ap (λ (s : CallerState). s.states) means.after)
-  alone_holds x (Write text) m len h means = same_holds x m len h means.entries
-      (ap (λ (s : CallerState). s.states) means.after)
-  alone_holds x (Add text bits) m len h means = same_holds x m len h means.entries
-      (ap (λ (s : CallerState). s.states) means.after)
-  alone_holds x (Credit bits) m len h means = same_holds x m len h means.entries
-      (ap (λ (s : CallerState). s.states) means.after)
-  alone_holds x Bits m len h means = same_holds x m len h means.entries
-      (ap (λ (s : CallerState). s.states) means.after)
-  alone_holds x (Irq v1 v2) m len h means = same_holds x m len h means.entries
-      (ap (λ (s : CallerState). s.states) means.after)
-  alone_holds x (Input word kind code value) m len h means = same_holds x m len h means.entries
-      (ap (λ (s : CallerState). s.states) means.after)
-  alone_holds x (Read n flags) m len h means = same_holds x m len h means.entries
-      (ap (λ (s : CallerState). s.states) means.after)
-  alone_holds x (Vread n flags) m len h means = same_holds x m len h means.entries
-      (ap (λ (s : CallerState). s.states) means.after)
-  alone_holds x (Kread n) m len h means = same_holds x m len h means.entries
-      (ap (λ (s : CallerState). s.states) means.after)
-  alone_holds x (Dread n flag) m len h means = same_holds x m len h means.entries
-      (ap (λ (s : CallerState). s.states) means.after)
-  alone_holds x (Uread n) m len h means = same_holds x m len h means.entries
-      (ap (λ (s : CallerState). s.states) means.after)
-  alone_holds x Int8 m len h means = same_holds x m len h means.entries
-      (ap (λ (s : CallerState). s.states) means.after)
-  alone_holds x Int16 m len h means = same_holds x m len h means.entries
-      (ap (λ (s : CallerState). s.states) means.after)
-  alone_holds x Int32 m len h means = same_holds x m len h means.entries
-      (ap (λ (s : CallerState). s.states) means.after)
-  alone_holds x Int64 m len h means = same_holds x m len h means.entries
-      (ap (λ (s : CallerState). s.states) means.after)
-  alone_holds x Reseed m len h means = same_holds x m len h means.entries
-      (ap (λ (s : CallerState). s.states) means.after)
-  alone_holds x Tick m len h means = same_holds x m len h means.entries
-      (ap (λ (s : CallerState). s.states) means.after)
-  alone_holds x (Fork child) m len h means = same_holds x m len h means.entries
-      (ap (λ (s : CallerState). s.states) means.after)
-  alone_holds x (Inside point act) m len h means = same_holds x m len h means.entries
-      (ap (λ (s : CallerState). s.states) means.after)
-  alone_holds x (Prepare cpu) m len h means = same_holds x m len h means.entries
-      (ap (λ (s : CallerState). s.states) means.after)
-  alone_holds x (Online cpu) m len h means = same_holds x m len h means.entries
-      (ap (λ (s : CallerState). s.states) means.after)
-  alone_holds x (Vmfork word text) m len h means = same_holds x m len h means.entries
-      (ap (λ (s : CallerState). s.states) means.after)
-  alone_holds x (State number) m len h means = same_holds x m len h means.entries
-      (ap (λ (s : CallerState). s.states) means.after)
+  alone_holds x _ m len h means =
+      same_holds x m len h means.entries (ap (λ (s : CallerState). s.states) means.after)
 
   vgetrandom_holds : (x : Both) (n flags : ℕ) (acts : List BoundAct) (m : CallMeaning) →
       length m.before.states ≡ 16 → Holds x (state_number k m.before) → AllThere lists m.own.deeds →

@@ -5,7 +5,7 @@ use Rattle.std.specs.List.{fold, AllByRecursion}
 use Rattle.std.proofs.lemmas.Bool.{eqb-true, eq-eqb}
 use Rattle.key_names.specs.declared.entries.VEntry.{VEntry}
 use Rattle.key_names.specs.declared.events.Event.{Event}
-use Rattle.key_names.specs.declared.events.Event.TheVariants.{At, On, Hw, Device, Write, Add, Credit, Bits, Irq, Input, Read, Vread, Kread, Dread, Uread, Int8, Int16, Int32, Int64, Reseed, Tick, Drop, Fork, Inside, Prepare, Online, Vmfork, State}
+use Rattle.key_names.specs.declared.events.Event.TheVariants.{Drop}
 use Rattle.key_names.specs.StateList.{NamedState, anything, state_start, state_step, TakesRead, LawfulStateList}
 use Rattle.key_names.specs.Book.{Lists, cpu_list}
 use Rattle.key_names.specs.Calls.{Setting, Call, alone, vread_call, unbound, ending, BoundAct}
@@ -121,60 +121,8 @@ module _ (lists : Lists) (caller k : ℕ) (below : k < 16) where
       (λ same. let P : List VEntry → Type 0 = λ es. Keeps caller k (λ u. Settled u wiped_state) t es in
       subst P (sym means.entries) (wipe_keeps caller k t (state_at m.before k) h))
       (subst Reads (sym means.entries) (tt, tt))
-  alone_leaves t (At moment) m len h means = same_states t m len h means.entries
-      (ap (λ (s : CallerState). s.states) means.after)
-  alone_leaves t (On cpu) m len h means = same_states t m len h means.entries
-      (ap (λ (s : CallerState). s.states) means.after)
-  alone_leaves t (Hw bytes) m len h means = same_states t m len h means.entries
-      (ap (λ (s : CallerState). s.states) means.after)
-  alone_leaves t (Device word text) m len h means = same_states t m len h means.entries
-      (ap (λ (s : CallerState). s.states) means.after)
-  alone_leaves t (Write text) m len h means = same_states t m len h means.entries
-      (ap (λ (s : CallerState). s.states) means.after)
-  alone_leaves t (Add text bits) m len h means = same_states t m len h means.entries
-      (ap (λ (s : CallerState). s.states) means.after)
-  alone_leaves t (Credit bits) m len h means = same_states t m len h means.entries
-      (ap (λ (s : CallerState). s.states) means.after)
-  alone_leaves t Bits m len h means = same_states t m len h means.entries
-      (ap (λ (s : CallerState). s.states) means.after)
-  alone_leaves t (Irq v1 v2) m len h means = same_states t m len h means.entries
-      (ap (λ (s : CallerState). s.states) means.after)
-  alone_leaves t (Input word kind code value) m len h means = same_states t m len h means.entries
-      (ap (λ (s : CallerState). s.states) means.after)
-  alone_leaves t (Read n flags) m len h means = same_states t m len h means.entries
-      (ap (λ (s : CallerState). s.states) means.after)
-  alone_leaves t (Vread n flags) m len h means = same_states t m len h means.entries
-      (ap (λ (s : CallerState). s.states) means.after)
-  alone_leaves t (Kread n) m len h means = same_states t m len h means.entries
-      (ap (λ (s : CallerState). s.states) means.after)
-  alone_leaves t (Dread n flag) m len h means = same_states t m len h means.entries
-      (ap (λ (s : CallerState). s.states) means.after)
-  alone_leaves t (Uread n) m len h means = same_states t m len h means.entries
-      (ap (λ (s : CallerState). s.states) means.after)
-  alone_leaves t Int8 m len h means = same_states t m len h means.entries
-      (ap (λ (s : CallerState). s.states) means.after)
-  alone_leaves t Int16 m len h means = same_states t m len h means.entries
-      (ap (λ (s : CallerState). s.states) means.after)
-  alone_leaves t Int32 m len h means = same_states t m len h means.entries
-      (ap (λ (s : CallerState). s.states) means.after)
-  alone_leaves t Int64 m len h means = same_states t m len h means.entries
-      (ap (λ (s : CallerState). s.states) means.after)
-  alone_leaves t Reseed m len h means = same_states t m len h means.entries
-      (ap (λ (s : CallerState). s.states) means.after)
-  alone_leaves t Tick m len h means = same_states t m len h means.entries
-      (ap (λ (s : CallerState). s.states) means.after)
-  alone_leaves t (Fork child) m len h means = same_states t m len h means.entries
-      (ap (λ (s : CallerState). s.states) means.after)
-  alone_leaves t (Inside point act) m len h means = same_states t m len h means.entries
-      (ap (λ (s : CallerState). s.states) means.after)
-  alone_leaves t (Prepare cpu) m len h means = same_states t m len h means.entries
-      (ap (λ (s : CallerState). s.states) means.after)
-  alone_leaves t (Online cpu) m len h means = same_states t m len h means.entries
-      (ap (λ (s : CallerState). s.states) means.after)
-  alone_leaves t (Vmfork word text) m len h means = same_states t m len h means.entries
-      (ap (λ (s : CallerState). s.states) means.after)
-  alone_leaves t (State number) m len h means = same_states t m len h means.entries
-      (ap (λ (s : CallerState). s.states) means.after)
+  alone_leaves t _ m len h means =
+      same_states t m len h means.entries (ap (λ (s : CallerState). s.states) means.after)
 
   vgetrandom_leaves : (t : NamedState) (n flags : ℕ) (acts : List BoundAct) (m : CallMeaning) →
       length m.before.states ≡ 16 →

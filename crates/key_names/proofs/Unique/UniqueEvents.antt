@@ -10,10 +10,10 @@ use Rattle.key_names.specs.declared.entries.BaseEntry.TheVariants.{Reseed as Res
 use Rattle.key_names.specs.declared.entries.CpuEntry.{CpuEntry}
 use Rattle.key_names.specs.declared.entries.CpuEntry.TheVariants.{Dump, Prepare as Prepared, Online as Onlined, Int}
 use Rattle.key_names.specs.declared.events.Event.{Event}
-use Rattle.key_names.specs.declared.events.Event.TheVariants.{At, On, Hw, Device, Write, Add, Credit, Bits, Irq, Input}
+use Rattle.key_names.specs.declared.events.Event.TheVariants.{Device, Write, Add, Credit, Bits, Irq, Input}
 use Rattle.key_names.specs.declared.events.Event.TheVariants.{Read, Vread, Kread, Dread, Uread, Int8, Int16, Int32}
-use Rattle.key_names.specs.declared.events.Event.TheVariants.{Int64, Reseed, Tick, Drop, Fork, Inside, Prepare, Online}
-use Rattle.key_names.specs.declared.events.Event.TheVariants.{Vmfork, State}
+use Rattle.key_names.specs.declared.events.Event.TheVariants.{Int64, Reseed, Tick, Fork, Inside, Prepare, Online}
+use Rattle.key_names.specs.declared.events.Event.TheVariants.{Vmfork}
 use Rattle.key_names.specs.FastPool.{fast_after, dump_bytes, dump_bits}
 use Rattle.key_names.specs.Book.{Book, Visit, lists_of, entries_of, list_at, cpu_list}
 use Rattle.key_names.specs.Samples.{LawfulSamples, visits_of, IsDump, fast_before}
@@ -261,11 +261,6 @@ module _ (book book' : Book) (who : Who) (samples : LawfulSamples book) (samples
 
   -- an event by itself gives each of its visits the entry
   pub told_event : (set : Setting) (event : Event) → Tell (Form set event) (Form set event)
-  told_event set (At moment) = told_nothing book book' who
-  told_event set (On cpu) = told_nothing book book' who
-  told_event set (Hw bytes) = told_nothing book book' who
-  told_event set Drop = told_nothing book book' who
-  told_event set (State number) = told_nothing book book' who
   told_event set (Write text) = told_pool_only book book' who (Mix text 0)
   told_event set (Device word text) = told_pool_only book book' who (device_entry word text)
   told_event set Bits = told_pool_only book book' who ReadBits
@@ -294,6 +289,7 @@ module _ (book book' : Book) (who : Who) (samples : LawfulSamples book) (samples
   told_event set (Irq v1 v2) = told_irq set v1 v2
   told_event set (Vread len flags) = λ ds ds' f f' same. absurd f
   told_event set (Inside point act) = λ ds ds' f f' same. absurd f
+  told_event set _ = told_nothing book book' who
 
   pub told_end : Tell EndForm EndForm
   told_end = told_base_only book book' who End

@@ -75,6 +75,54 @@ taken_read cpus caller state s (Refill from ∷ es) zero cpu place lawful is = c
 taken_read cpus caller state s (Serve pos len ∷ es) zero cpu place lawful is = cc
 taken_read cpus caller state s (Wipe ∷ es) zero cpu place lawful is = cc
 
+-- the uses of a holder
+abbrev pub uses_of : Lists → KeyHolder → List Use
+uses_of lists base_key = base_uses lists
+uses_of lists (cpu_key c) = cpu_uses lists c
+uses_of lists (state_key caller state) = state_uses lists caller state
+
+-- whose use a byte of the lists is in
+pub used_by : (lists : Lists) (k : KeyName) (q : ℕ) → IsUsed (uses lists) k q →
+    (h : KeyHolder) × IsUsed (uses_of lists h) k q
+used_by lists k q h = elim (IsUsed-append_cases (base_uses lists ++ uses_below (length lists.cpus) (cpu_uses lists))
+    (uses_below (length lists.callers) (caller_uses lists)) k q h) [
+      | inl l ↦ elim (IsUsed-append_cases (base_uses lists) (uses_below (length lists.cpus) (cpu_uses lists)) k q l) [
+        | inl a ↦ (base_key, a)
+        | inr b ↦ (let m = used_below (cpu_uses lists) (length lists.cpus) k q b in (cpu_key m.0, m.1))
+      ]
+      | inr r ↦ (let m = used_below (caller_uses lists) (length lists.callers) k q r in
+          let n = used_below (state_uses lists m.0) (length (list_at lists.callers m.0)) k q m.1 in
+          (state_key m.0 n.0, n.1))
+    ]
+
+-- whose key a batch was filled with
+abbrev pub owner : BatchHolder → KeyHolder
+owner (cpu_batch c width) = cpu_key c
+owner (state_batch caller state) = state_key caller state
+
+-- a byte of a span that has a name
+pub named_byte : (o : Option KeyName) (from len : ℕ) (span : Span) (k : KeyName) (q : ℕ) →
+    named_span o from len ≡ Some span → HoldsByte span k q → UsesByte o from len k q
+named_byte None from len span k q is h = cc
+named_byte (Some key) from len span k q is h =
+    let e : record { key = key; from = from; len = len } ≡ span =
+    ap (λ o. option_map_or (λ (x : Span). x) o span) is in
+    let P : Span → Type 0 = λ x. HoldsByte x k q in
+    let b : HoldsByte (record { key = key; from = from; len = len }) k q = subst P (sym e) h in
+    record { key_is = ap Some b.same_key; above = b.from; below = b.below }
+
+-- an unserved byte of a CPU's batch
+pub fill_byte : (fills : ℕ → Option Fill) (width : ℕ) (span : Span) (k : KeyName) (q : ℕ) →
+    fill_rest width (fills width) ≡ Some span → HoldsByte span k q → (b : InBatch fills k q) × (b.width ≡ width)
+fill_byte fills width span k q is h = go (fills width) refl is
+  where
+    go : (o : Option Fill) → fills width ≡ o → fill_rest width o ≡ Some span →
+        (b : InBatch fills k q) × (b.width ≡ width)
+    go None at is = cc
+    go (Some fill) at is =
+        let m = named_byte fill.key (32 + width * fill.count) (96 - width * fill.count) span k q is h in
+        (record { width = width; fill = fill; is = at; key_is = m.key_is; unserved = m.above }, refl)
+
 module _ (lists : Lists) (lanes : ForwardLawful lists) (states : LawfulStates lists) where
   -- a read of 32 bytes is not long, so the CPU uses no key that a state takes
   cpu_state_apart : (c caller state : ℕ) (k : KeyName) → Own lists (cpu_key c) k →
@@ -137,14 +185,8 @@ module _ (lists : Lists) (lanes : ForwardLawful lists) (states : LawfulStates li
       ap (λ (x : StatePlace). x.place) (states.one_taker a b read p q))
       (states.states caller state)
 
-  -- the uses of a holder
-  abbrev pub uses_of : KeyHolder → List Use
-  uses_of base_key = base_uses lists
-  uses_of (cpu_key c) = cpu_uses lists c
-  uses_of (state_key caller state) = state_uses lists caller state
-
   -- at the start of a list only later names may be used
-  pub own_uses : (h : KeyHolder) → Part (Own lists h) (uses_of h)
+  pub own_uses : (h : KeyHolder) → Part (Own lists h) (uses_of lists h)
   own_uses base_key = record {
     disjoint = base_walk.disjoint;
     within = λ k q h. elim (base_walk.within k q h) [ inl e ↦ cc | inr l ↦ l ];
@@ -204,19 +246,6 @@ module _ (lists : Lists) (lanes : ForwardLawful lists) (states : LawfulStates li
             cpu_state_apart n.number m.number (m.own).number k n.own (m.own).own)
       ])
 
-  -- whose use a byte of the book is in
-  used_by : (k : KeyName) (q : ℕ) → IsUsed (uses lists) k q → (h : KeyHolder) × IsUsed (uses_of h) k q
-  used_by k q h = elim (IsUsed-append_cases (base_uses lists ++ uses_below (length lists.cpus) (cpu_uses lists))
-      (uses_below (length lists.callers) (caller_uses lists)) k q h) [
-        | inl l ↦ elim (IsUsed-append_cases (base_uses lists) (uses_below (length lists.cpus) (cpu_uses lists)) k q l) [
-          | inl a ↦ (base_key, a)
-          | inr b ↦ (let m = used_below (cpu_uses lists) (length lists.cpus) k q b in (cpu_key m.0, m.1))
-        ]
-        | inr r ↦ (let m = used_below (caller_uses lists) (length lists.callers) k q r in
-            let n = used_below (state_uses lists m.0) (length (list_at lists.callers m.0)) k q m.1 in
-            (state_key m.0 n.0, n.1))
-      ]
-
   -- what a holder held in the end, and what its entries replaced
   record HeldOk (h : KeyHolder) : Type 0 where
     live : (k : KeyName) → live_key lists h ≡ Some k → Own lists h k
@@ -245,35 +274,6 @@ module _ (lists : Lists) (lanes : ForwardLawful lists) (states : LawfulStates li
       let same : a ≡ b = own_once a b k ((held_ok a).live k live) ((held_ok b).replaced k replaced) in
       let P : KeyHolder → Type 0 = λ h. live_key lists h ≡ Some k in (held_ok b).gone k replaced (subst P same live)
 
-  -- whose key a batch was filled with
-  abbrev owner : BatchHolder → KeyHolder
-  owner (cpu_batch c width) = cpu_key c
-  owner (state_batch caller state) = state_key caller state
-
-  named_byte : (o : Option KeyName) (from len : ℕ) (span : Span) (k : KeyName) (q : ℕ) →
-      named_span o from len ≡ Some span →
-      HoldsByte span k q → UsesByte o from len k q
-  named_byte None from len span k q is h = cc
-  named_byte (Some key) from len span k q is h =
-      let e : record { key = key; from = from; len = len } ≡ span =
-      ap (λ o. option_map_or (λ (x : Span). x) o span) is in
-      let P : Span → Type 0 = λ x. HoldsByte x k q in
-      let b : HoldsByte (record { key = key; from = from; len = len }) k q = subst P (sym e) h in
-      record { key_is = ap Some b.same_key; above = b.from; below = b.below }
-
-  -- a live byte of a CPU's batch
-  cpu_rest : (c : ℕ) (fills : ℕ → Option Fill) (width : ℕ) (span : Span) (k : KeyName) (q : ℕ) →
-      fill_rest width (fills width) ≡ Some span →
-      HoldsByte span k q → (b : InBatch fills k q) × (b.width ≡ width)
-  cpu_rest c fills width span k q is h = go (fills width) refl is
-    where
-      go : (o : Option Fill) → fills width ≡ o → fill_rest width o ≡ Some span →
-          (b : InBatch fills k q) × (b.width ≡ width)
-      go None at is = cc
-      go (Some fill) at is =
-          let m = named_byte fill.key (32 + width * fill.count) (96 - width * fill.count) span k q is h in
-          (record { width = width; fill = fill; is = at; key_is = m.key_is; unserved = m.above }, refl)
-
   -- a live byte of a state's batch
   state_byte : (caller state : ℕ) (s : NamedState) (span : Span) (k : KeyName) (q : ℕ) → state_rest s ≡ Some span →
       HoldsByte span k q →
@@ -285,12 +285,12 @@ module _ (lists : Lists) (lanes : ForwardLawful lists) (states : LawfulStates li
   -- a live byte is of the holder's own names, and not used by it
   record RestOk (a : BatchHolder) (k : KeyName) (q : ℕ) : Type 0 where
     own : Own lists (owner a) k
-    unused : IsUsed (uses_of (owner a)) k q → ⊥
+    unused : IsUsed (uses_of lists (owner a)) k q → ⊥
 
   rest_ok : (a : BatchHolder) (span : Span) (k : KeyName) (q : ℕ) → live_rest lists a ≡ Some span →
       HoldsByte span k q → RestOk a k q
   rest_ok (cpu_batch c width) span k q is h =
-      let b = cpu_rest c (cpu_end lists c).fills width span k q is h in
+      let b = fill_byte (cpu_end lists c).fills width span k q is h in
       record {
         own = elim ((cpu_walk c).before k q (inr (inl b.0)))
             [ inl e ↦ cc | inr (inl b') ↦ (let e = b'.is in cc) | inr (inr l) ↦ l ];
@@ -309,9 +309,9 @@ module _ (lists : Lists) (lanes : ForwardLawful lists) (states : LawfulStates li
       IsUsed (uses lists) k q → ⊥
   rest_unused a span k q is h used =
       let ok : RestOk a k q = rest_ok a span k q is h in
-      let by = used_by k q used in
+      let by = used_by lists k q used in
       let same : by.0 ≡ owner a = own_once by.0 (owner a) k ((own_uses by.0).within k q by.1) ok.own in
-      let P : KeyHolder → Type 0 = λ x. IsUsed (uses_of x) k q in ok.unused (subst P same by.1)
+      let P : KeyHolder → Type 0 = λ x. IsUsed (uses_of lists x) k q in ok.unused (subst P same by.1)
 
   same_batch : (a b : BatchHolder) (x y : Span) (k : KeyName) (q : ℕ) → owner a ≡ owner b →
       live_rest lists a ≡ Some x → live_rest lists b ≡ Some y →
@@ -319,8 +319,8 @@ module _ (lists : Lists) (lanes : ForwardLawful lists) (states : LawfulStates li
   same_batch (cpu_batch c v) (cpu_batch d w) x y k q same is at h g =
       let e : c ≡ d = cc in
       let P : ℕ → Type 0 = λ i. live_rest lists (cpu_batch i v) ≡ Some x in
-      let m = cpu_rest d (cpu_end lists d).fills v x k q (subst P e is) h in
-      let n = cpu_rest d (cpu_end lists d).fills w y k q at g in
+      let m = fill_byte (cpu_end lists d).fills v x k q (subst P e is) h in
+      let n = fill_byte (cpu_end lists d).fills w y k q at g in
       let widths : (m.0).width ≡ (n.0).width = (cpu_walk d).holds.fills_apart (m.0).width (n.0).width k
       (record { fill = (m.0).fill; is = (m.0).is; key_is = (m.0).key_is })
       (record { fill = (n.0).fill; is = (n.0).is; key_is = (n.0).key_is }) in

@@ -14,7 +14,7 @@ use Rattle.key_names.specs.declared.entries.BaseEntry.{BaseEntry}
 use Rattle.key_names.specs.declared.entries.CpuEntry.{CpuEntry}
 use Rattle.key_names.specs.declared.entries.VEntry.{VEntry}
 use Rattle.key_names.specs.declared.events.Event.{Event}
-use Rattle.key_names.specs.declared.events.Event.TheVariants.{At, On, Hw, Device, Write, Add, Credit, Bits, Irq, Input, Read, Vread, Kread, Dread, Uread, Int8, Int16, Int32, Int64, Reseed, Tick, Drop, Fork, Inside, Prepare, Online, Vmfork, State}
+use Rattle.key_names.specs.declared.events.Event.TheVariants.{Bits, Read, Kread, Dread, Uread, Int8, Int16, Int32, Int64}
 use Rattle.key_names.specs.declared.events.InsideAct.{InsideAct}
 use Rattle.key_names.specs.declared.events.InsideAct.TheVariants.{Wipe as WipeAct, Vread as VreadAct, Reseed as ReseedAct}
 use Rattle.key_names.specs.Answers.{deed_bytes, served_bytes, shown_of, bits_read}
@@ -170,25 +170,6 @@ module _ (lists : Lists) (named : VisitsServeNamed lists) where
   shown_cases : (event : Event) (deeds : List Deed) →
       (bytes_in (shown_of event deeds) ≡ []) ⊎ (shown_of event deeds ≡ bytes_or_none (served_bytes deeds))
   shown_cases Bits deeds = inl (bits_none deeds)
-  shown_cases (At moment) deeds = inl refl
-  shown_cases (On cpu) deeds = inl refl
-  shown_cases (Hw bytes) deeds = inl refl
-  shown_cases (Device word text) deeds = inl refl
-  shown_cases (Write text) deeds = inl refl
-  shown_cases (Add text bits) deeds = inl refl
-  shown_cases (Credit bits) deeds = inl refl
-  shown_cases (Irq v1 v2) deeds = inl refl
-  shown_cases (Input word kind code value) deeds = inl refl
-  shown_cases (Vread n flags) deeds = inl refl
-  shown_cases Reseed deeds = inl refl
-  shown_cases Tick deeds = inl refl
-  shown_cases Drop deeds = inl refl
-  shown_cases (Fork child) deeds = inl refl
-  shown_cases (Inside point act) deeds = inl refl
-  shown_cases (Prepare cpu) deeds = inl refl
-  shown_cases (Online cpu) deeds = inl refl
-  shown_cases (Vmfork word text) deeds = inl refl
-  shown_cases (State number) deeds = inl refl
   shown_cases (Read n flags) deeds = inr refl
   shown_cases (Kread n) deeds = inr refl
   shown_cases (Dread n flag) deeds = inr refl
@@ -197,6 +178,7 @@ module _ (lists : Lists) (named : VisitsServeNamed lists) where
   shown_cases Int16 deeds = inr refl
   shown_cases Int32 deeds = inr refl
   shown_cases Int64 deeds = inr refl
+  shown_cases _ deeds = inl refl
 
   -- a line of an event by itself
   pub alone_prints : (own : StateEntries) (event : Event) (line : SeenLine) (m : CallMeaning) →

@@ -73,7 +73,7 @@ holder (at_state caller state place) = state_key caller state
 
 module _ (lists : Lists) (lanes : ForwardLawful lists) (states : LawfulStates lists) where
   of_holder : (o : Origin) (k : KeyName) (q : ℕ) → IsUsed (origin_uses lists o) k q →
-      IsUsed (uses_of lists lanes states (holder o)) k q
+      IsUsed (uses_of lists (holder o)) k q
   of_holder (at_lane PoolLane place) k q h = absurd h
   of_holder (at_lane BaseLane place) k q h = place_used base_uses_at base_step base_start lists.base place k q h
   of_holder (at_lane (CpuLane c) place) k q h =

@@ -1,4 +1,4 @@
-use Rattle.std.proofs.Common.{◌≡◌, ◌+◌, ◌<◌, length, map, refl, sym, ◌∙◌, arith}
+use Rattle.std.proofs.Common.{◌≡◌, ◌+◌, length, map, refl, sym, ◌∙◌, arith}
 use Rattle.std.proofs.lemmas.List.{length-map}
 use Rattle.line_orders.specs.Seen.{seen_bare}
 use Rattle.line_orders.proofs.LineFits.{fits_long, fits_more, fits_last}
@@ -19,7 +19,7 @@ returns-then-not-is_line c =
     c.index-events-number.result c.index-lines-number.result c.loop-number-test.true (omega arith)
     c.index-events-number.is c.index-lines-number.is in (
       (λ h. cc),
-      (λ fit. c.if-not-is_line.ensures.1 (rw c.word_of.ensures (more.0 (c.loop-number.invariant.0 fit)).0)),
+      (λ fit. c.if-not-is_line.ensures.1 (rw c.word.ensures (more.0 (c.loop-number.invariant.0 fit)).0)),
     )
 
 pub loop-number-preserved : goal.loop-number-preserved
@@ -29,7 +29,7 @@ loop-number-preserved c =
     c.index-events-number.is c.index-lines-number.is in (
       (λ fit. (more.0 (c.loop-number.invariant.0 fit)).1),
       (λ rest. c.loop-number.invariant.1
-          (more.1 (rw (← c.word_of.ensures) (c.if-not-is_line.ensures.0 refl), rest))),
+          (more.1 (rw (← c.word.ensures) (c.if-not-is_line.ensures.0 refl), rest))),
     )
 
 pub returns : goal.returns

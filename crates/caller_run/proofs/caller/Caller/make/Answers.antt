@@ -24,7 +24,7 @@ returns g c inside =
       gone = λ begun events rest kids gone.
           subst (λ l. HasAdvanced begun events rest c.go_on.new.self l (waiting_in log) kids)
           (sym (c.tell.ensures.lines
-          ∙ (λ i. log.lines.lines ++ line_of call.self.set (c.word_of.ensures i) call.served c.call-said.result
+          ∙ (λ i. log.lines.lines ++ line_of call.self.set (c.word.ensures i) call.served c.call-said.result
           call.trace ∷ [])))
           (gone_call c.requires.kind c.call-said.ensures c.go_on.ensures gone);
     }

@@ -20,7 +20,7 @@ pub each_of : {X : Type 0} (P : X → Type 0) (xs : List X) → ((x : X) → IsI
 each_of P [] each = tt
 each_of P (x ∷ xs) each = (each x (inl refl), each_of P xs (λ y here. each y (inr here)))
 
-in_append : {X : Type 0} (x : X) (xs ys : List X) → IsIn x (xs ++ ys) → IsIn x xs ⊎ IsIn x ys
+pub in_append : {X : Type 0} (x : X) (xs ys : List X) → IsIn x (xs ++ ys) → IsIn x xs ⊎ IsIn x ys
 in_append x [] ys here = inr here
 in_append x (y ∷ xs) ys (inl same) = inl (inl same)
 in_append x (y ∷ xs) ys (inr rest) = elim (in_append x xs ys rest) [ inl left ↦ inl (inr left) | inr right ↦ inr right ]
@@ -164,7 +164,7 @@ number_from c n (event ∷ events) (l ∷ lines) line fit (inr rest) =
     let up = number_from c (suc n) events lines line fit.1 rest in
     (up.0, let le = up.1 in omega arith)
 
-same_line : (c n : ℕ) (events : List Event) (lines : List SeenLine) (a b : SeenLine) → LinesFit c n events lines →
+pub same_line : (c n : ℕ) (events : List Event) (lines : List SeenLine) (a b : SeenLine) → LinesFit c n events lines →
     IsIn a lines → IsIn b lines → a.event ≡ b.event → a ≡ b
 same_line c n [] [] a b fit here there same = absurd here
 same_line c n [] (l ∷ []) a b fit (inl x) (inl y) same = sym x ∙ y

@@ -1,6 +1,6 @@
 -- Where the samples of each line stand, those of the book are lawful.
 use Rattle.std.proofs.Common.{◌≡◌, ℕ, ◌<◌, inl, inr, List, [], ◌∷◌, refl, sym, ap, ◌∙◌, subst, arith, Some}
-use Rattle.std.specs.Prelude.{slice_get, take}
+use Rattle.std.specs.Prelude.{slice_get}
 use Rattle.std.specs.List.{AllByRecursion}
 use Rattle.key_names.specs.declared.names.LaneId.{LaneId}
 use Rattle.key_names.specs.declared.names.Who.{Who}
@@ -10,16 +10,14 @@ use Rattle.key_names.specs.declared.entries.CpuEntry.{CpuEntry}
 use Rattle.key_names.specs.declared.entries.CpuEntry.TheVariants.{Irq, Dump}
 use Rattle.key_names.specs.Book.{Book, Lists, Visit, lists_of}
 use Rattle.key_names.specs.Deeds.{Deed, PoolVisit, CpuVisit, at_pool, at_cpu, deeds_of, pool_visit, cpu_visit}
-use Rattle.key_names.specs.FastPool.{FastPool, fast_after, dump_bytes, dump_bits}
+use Rattle.key_names.specs.FastPool.{FastPool, dump_bytes, dump_bits}
 use Rattle.key_names.specs.LineSamples.{EntryIsQuiet, IsQuiet, Dumps, IsMix, IsCrossing, SamplesStand}
 use Rattle.key_names.specs.Samples.{SameEvent, fast_before, MakesDue, IsDump, DueAt, DumpAt, MixAt, visits_of, LawfulSamples}
 use Rattle.key_names.specs.SeenLine.{SeenLine}
 use Rattle.key_names.specs.IsTranscript.{all_marks, lane_marks, PlacesStand, VisitsAre}
 use Rattle.key_names.proofs.History.SortedVisits.{IsIn}
-use Rattle.key_names.proofs.Unique.UniqueEvents.{entries_at}
-use Rattle.line_forms.specs.LaneFacts.{facts_of}
-use Rattle.told_entries.proofs.Lines.{each_in, Among, Apart}
-use Rattle.told_entries.proofs.LineVisits.{InLine, Behind, cpu_in_line, pool_in_line, cpu_behind, pool_behind}
+use Rattle.key_names.proofs.Samples.Lines.{each_in, Among, Apart}
+use Rattle.key_names.proofs.Samples.LineVisits.{InLine, Behind, cpu_in_line, pool_in_line, cpu_behind, pool_behind}
 
 -- what excludes what
 
@@ -110,18 +108,14 @@ abbrev bits_or : PoolEntry → ℕ
 bits_or (Mix text bits) = bits
 bits_or _ = 0
 
--- a CPU's fast pool before a place, read from its entries alone
-pub fast_is : (book : Book) (c place : ℕ) →
-    fast_before (visits_of book c) place ≡ (facts_of (lists_of book)).fast c place
-fast_is book c place = ap (λ es. fast_after (take place es)) (entries_at book.cpus c)
-
-module _ (t : List (List SeenLine)) (book : Book) (apart : Apart t) (visits : VisitsAre book (all_marks t))
+-- `fast` tells each CPU's fast pool before a visit
+module _ (t : List (List SeenLine)) (book : Book) (fast : ℕ → ℕ → FastPool)
+    (fast_is : (c place : ℕ) (v : Visit CpuEntry) → slice_get (visits_of book c) place ≡ Some v →
+    fast_before (visits_of book c) place ≡ fast c place)
+    (apart : Apart t) (visits : VisitsAre book (all_marks t))
     (places : (lane : LaneId) → PlacesStand (lane_marks lane (all_marks t))) where
   abbrev lists : Lists
   lists = lists_of book
-
-  abbrev fast : ℕ → ℕ → FastPool
-  fast = (facts_of lists).fast
 
   abbrev InSome : Who → Deed → Type 0
   InSome who deed = InLine t book visits who deed
@@ -159,7 +153,7 @@ module _ (t : List (List SeenLine)) (book : Book) (apart : Apart t) (visits : Vi
         is = b.at;
         event = (b.by ∙ sym by, b.event ∙ event);
         due = subst (λ (e : CpuEntry). MakesDue (fast_before (visits_of book s.cpu) s.place) e) (sym b.is)
-            (subst (λ (f : FastPool). MakesDue f s.entry) (sym (fast_is book s.cpu s.place)) due);
+            (subst (λ (f : FastPool). MakesDue f s.entry) (sym (fast_is s.cpu s.place b.visit b.at)) due);
       }
 
   pub dump_at : (line : SeenLine) (s : CpuVisit) (who : Who) → Among line t → IsIn (at_cpu s) (deeds line) →
@@ -194,7 +188,7 @@ module _ (t : List (List SeenLine)) (book : Book) (apart : Apart t) (visits : Vi
   due_in line c i who among event by a = (
     own_line line a.visit.who who (at_cpu (cpu_visit lists c i a.visit.entry)) among event by a.event
         (cpu_line c i a.visit a.is),
-    subst (λ (f : FastPool). MakesDue f a.visit.entry) (fast_is book c i) a.due,
+    subst (λ (f : FastPool). MakesDue f a.visit.entry) (fast_is c i a.visit a.is) a.due,
   )
 
   pub dump_in_line : (line : SeenLine) (c k : ℕ) (who : Who) → Among line t → line.event ≡ who.event →
@@ -256,7 +250,7 @@ module _ (t : List (List SeenLine)) (book : Book) (apart : Apart t) (visits : Vi
         let f : InSome a.visit.who (at_cpu (cpu_visit lists c i a.visit.entry)) = cpu_line c i a.visit a.is in
         let s : CpuVisit = cpu_visit lists c i a.visit.entry in
         let due : MakesDue (fast c i) a.visit.entry =
-        subst (λ (f : FastPool). MakesDue f a.visit.entry) (fast_is book c i) a.due in
+        subst (λ (f : FastPool). MakesDue f a.visit.entry) (fast_is c i a.visit a.is) a.due in
         let d : Dumps fast Crosses (deeds f.line) =
         was_due fast (deeds f.line) (stands f.line f.among) s f.deed_there due in
         let same : d.sample ≡ s = is_the_sample fast (deeds f.line) d s f.deed_there due in
@@ -278,13 +272,13 @@ module _ (t : List (List SeenLine)) (book : Book) (apart : Apart t) (visits : Vi
         sym o.at ∙ ap (λ (v : CpuVisit). v.place) same
 
     -- what the fast pool held at the dump
-    dumped : (c k : ℕ) (who : Who) (o : OfDump c k who) →
+    dumped : (c k : ℕ) (who : Who) (o : OfDump c k who) → DumpAt (visits_of book c) k who →
         fast o.dumps.dump.cpu o.dumps.dump.place ≡ fast_before (visits_of book c) k
-    dumped c k who o = (λ i. fast (o.on i) (o.at i)) ∙ sym (fast_is book c k)
+    dumped c k who o a = (λ i. fast (o.on i) (o.at i)) ∙ sym (fast_is c k a.visit a.is)
 
-    mixed : (c k : ℕ) (who : Who) (o : OfDump c k who) → o.dumps.mix.entry
+    mixed : (c k : ℕ) (who : Who) (o : OfDump c k who) → DumpAt (visits_of book c) k who → o.dumps.mix.entry
         ≡ Mix (dump_bytes (fast_before (visits_of book c) k)) (dump_bits (fast_before (visits_of book c) k))
-    mixed c k who o = o.dumps.mixes ∙ ap (λ (f : FastPool). Mix (dump_bytes f) (dump_bits f)) (dumped c k who o)
+    mixed c k who o a = o.dumps.mixes ∙ ap (λ (f : FastPool). Mix (dump_bytes f) (dump_bits f)) (dumped c k who o a)
 
     dump_mixed : (c k : ℕ) (who : Who) → DumpAt (visits_of book c) k who →
         (p : ℕ) × MixAt book.pool p who (dump_bytes (fast_before (visits_of book c) k))
@@ -295,7 +289,7 @@ module _ (t : List (List SeenLine)) (book : Book) (apart : Apart t) (visits : Vi
           d.mix.place,
           mix_at o.line d.mix who (dump_bytes (fast_before (visits_of book c) k))
               (dump_bits (fast_before (visits_of book c) k)) o.among (mix_in fast (deeds o.line) d) o.event o.by
-              (mixed c k who o),
+              (mixed c k who o a),
         )
 
     mix_dumped : (c k p : ℕ) (who : Who) (text : List ℕ) (bits : ℕ) → DumpAt (visits_of book c) k who →
@@ -311,7 +305,7 @@ module _ (t : List (List SeenLine)) (book : Book) (apart : Apart t) (visits : Vi
         is_the_mix fast (deeds o.line) o.dumps s here (subst IsMix (sym b.mixes) tt) in
         let f : FastPool = fast_before (visits_of book c) k in
         let is : Mix text bits ≡ Mix (dump_bytes f) (dump_bits f) =
-        sym b.mixes ∙ sym (ap (λ (v : PoolVisit). v.entry) same) ∙ mixed c k who o in
+        sym b.mixes ∙ sym (ap (λ (v : PoolVisit). v.entry) same) ∙ mixed c k who o a in
         (ap text_or is, ap bits_or is)
 
     pub samples_lawful : LawfulSamples book
