@@ -1,62 +1,82 @@
 -- What draws one after another make of the words that they took.
-use Rattle.std.proofs.Common.{◌≡◌, ◌≢◌, ◌<◌, ◌+◌, ◌-◌, lit<, ℕ, suc, List, [], ◌∷◌, ◌++◌, length, refl, ap, sym, ◌∙◌, arith, append_assoc, append-nil, map, Some, None, true, false, cond, nat_eq, ⊎_elim, length-append}
+use Rattle.std.proofs.Common.{◌≡◌, ◌≢◌, ◌<◌, ◌+◌, ◌-◌, lit<, ℕ, suc, List, [], ◌∷◌, ◌++◌, length, refl, ap, sym, ◌∙◌, arith, append_assoc, append-nil, map, option_map, Option, Some, None, true, false, cond, nat_eq, ⊎_elim, length-append}
 use Rattle.std.specs.List.{AllByRecursion}
 use Rattle.std.proofs.lemmas.Bool.{ne_eqb, cases_eq}
 use Rattle.std.proofs.lemmas.List.{map-append}
 use Rattle.draw_below.specs.Draws.{accepts, value_of, Draws, IsRejected, Spends, Takes}
-use Rattle.draw_below.specs.TableDraws.{draws_in}
+use Rattle.draw_below.specs.TableDraws.{draws_in, spent_before}
 use Rattle.draw_below.proofs.Chains.{takes_append}
 
 taken_word : (c n tried r : ℕ) (rest : List ℕ) → accepts c r ≡ true →
-    draws_in c (suc n) tried (r ∷ rest) ≡ Some (value_of c r) ∷ draws_in c n 0 rest
+    draws_in c (suc n) tried (r ∷ rest) ≡ option_map (λ draws. Some (value_of c r) ∷ draws) (draws_in c n 0 rest)
 unfolding draws_in
 taken_word c n tried r rest takes =
-    ap (λ b. cond b (Some (value_of c r) ∷ draws_in c n 0 rest)
-    (cond (nat_eq tried 127) (None ∷ []) (draws_in c (suc n) (suc tried) rest))) takes
+    ap (λ b. cond b (option_map (λ draws. Some (value_of c r) ∷ draws) (draws_in c n 0 rest))
+    (cond (nat_eq tried 127) (spent_before rest) (draws_in c (suc n) (suc tried) rest))) takes
 
 passed_word : (c n tried r : ℕ) (rest : List ℕ) → accepts c r ≡ false → tried ≢ 127 →
     draws_in c (suc n) tried (r ∷ rest) ≡ draws_in c (suc n) (suc tried) rest
 unfolding draws_in
 passed_word c n tried r rest off early =
-    ap (λ b. cond b (Some (value_of c r) ∷ draws_in c n 0 rest)
-    (cond (nat_eq tried 127) (None ∷ []) (draws_in c (suc n) (suc tried) rest))) off
-    ∙ ap (λ b. cond b (None ∷ []) (draws_in c (suc n) (suc tried) rest)) (ne_eqb tried 127 early)
+    ap (λ b. cond b (option_map (λ draws. Some (value_of c r) ∷ draws) (draws_in c n 0 rest))
+    (cond (nat_eq tried 127) (spent_before rest) (draws_in c (suc n) (suc tried) rest))) off
+    ∙ ap (λ b. cond b (spent_before rest) (draws_in c (suc n) (suc tried) rest)) (ne_eqb tried 127 early)
 
-last_word : (c n r : ℕ) (rest : List ℕ) → accepts c r ≡ false → draws_in c (suc n) 127 (r ∷ rest) ≡ None ∷ []
+none_left : (rest : List ℕ) → length rest ≡ 0 → spent_before rest ≡ Some (None ∷ [])
+none_left [] none = refl
+none_left (r ∷ rs) none = absurd (omega arith)
+
+last_word : (c n r : ℕ) (rest : List ℕ) → accepts c r ≡ false → length rest ≡ 0 →
+    draws_in c (suc n) 127 (r ∷ rest) ≡ Some (None ∷ [])
 unfolding draws_in
-last_word c n r rest off =
-    ap (λ b. cond b (Some (value_of c r) ∷ draws_in c n 0 rest)
-    (cond (nat_eq 127 127) (None ∷ []) (draws_in c (suc n) 128 rest))) off
+last_word c n r rest off none =
+    ap (λ b. cond b (option_map (λ draws. Some (value_of c r) ∷ draws) (draws_in c n 0 rest))
+    (cond (nat_eq 127 127) (spent_before rest) (draws_in c (suc n) 128 rest))) off
+    ∙ none_left rest none
 
 one_draw : (c n tried : ℕ) (rejected : List ℕ) (r : ℕ) (rest : List ℕ) → tried + length rejected < 128 →
     AllByRecursion (IsRejected c) rejected → accepts c r ≡ true →
-    draws_in c (suc n) tried ((rejected ++ r ∷ []) ++ rest) ≡ Some (value_of c r) ∷ draws_in c n 0 rest
+    draws_in c (suc n) tried ((rejected ++ r ∷ []) ++ rest)
+    ≡ option_map (λ draws. Some (value_of c r) ∷ draws) (draws_in c n 0 rest)
 one_draw c n tried [] r rest few off takes = taken_word c n tried r rest takes
 one_draw c n tried (x ∷ xs) r rest few off takes =
     passed_word c n tried x ((xs ++ r ∷ []) ++ rest) off.0 (omega arith)
     ∙ one_draw c n (suc tried) xs r rest (omega arith) off.1 takes
 
 spent_draw : (c n tried : ℕ) (rejected : List ℕ) → tried < 128 → tried + length rejected ≡ 128 →
-    AllByRecursion (IsRejected c) rejected → draws_in c (suc n) tried rejected ≡ None ∷ []
+    AllByRecursion (IsRejected c) rejected → draws_in c (suc n) tried rejected ≡ Some (None ∷ [])
 spent_draw c n tried [] low all off = absurd (omega arith)
 spent_draw c n tried (x ∷ xs) low all off =
-    ⊎_elim (λ e. ap (λ t. draws_in c (suc n) t (x ∷ xs)) e ∙ last_word c n x xs off.0)
+    ⊎_elim (λ e. ap (λ t. draws_in c (suc n) t (x ∷ xs)) e ∙ last_word c n x xs off.0 (omega arith))
     (λ early. passed_word c n tried x xs off.0 early ∙ spent_draw c n (suc tried) xs (omega arith) (omega arith) off.1)
     (cases_eq tried 127)
 
-no_draw : (c : ℕ) (words : List ℕ) → draws_in c 0 0 words ≡ []
+no_draw : (c : ℕ) → draws_in c 0 0 [] ≡ Some []
 unfolding draws_in
-no_draw c [] = refl
-no_draw c (r ∷ rs) = refl
+no_draw c = refl
 
-no_word : (c n : ℕ) → draws_in c n 0 [] ≡ []
-unfolding draws_in
-no_word c n = refl
+-- behind these answers
+pub behind : List ℕ → Option (List (Option ℕ)) → Option (List (Option ℕ))
+behind answers draws = option_map (λ more. map Some answers ++ more) draws
+
+behind_none : (draws : Option (List (Option ℕ))) → behind [] draws ≡ draws
+unfolding behind
+behind_none None = refl
+behind_none (Some draws) = refl
+
+behind_one_more : (answers : List ℕ) (answer : ℕ) (draws : Option (List (Option ℕ))) →
+    behind answers (option_map (λ more. Some answer ∷ more) draws) ≡ behind (answers ++ answer ∷ []) draws
+unfolding behind
+behind_one_more answers answer None = refl
+behind_one_more answers answer (Some draws) =
+    ap Some
+    (sym (append_assoc (map Some answers) (Some answer ∷ []) draws)
+    ∙ ap (λ l. l ++ draws) (sym (map-append Some answers (answer ∷ []))))
 
 -- m draws made these answers of these words, whatever comes behind them
 abbrev pub Answered : ℕ → ℕ → List ℕ → List ℕ → Type 0
 Answered c m words answers =
-    (n : ℕ) (rest : List ℕ) → draws_in c (m + n) 0 (words ++ rest) ≡ map Some answers ++ draws_in c n 0 rest
+    (n : ℕ) (rest : List ℕ) → draws_in c (m + n) 0 (words ++ rest) ≡ behind answers (draws_in c n 0 rest)
 
 -- what a source has given when m draws were answered
 abbrev pub IsAnswered : {W : Type 0} → (W → ℕ → W → Type 0) → ℕ → W → W → ℕ → List ℕ → Type 0
@@ -64,7 +84,12 @@ IsAnswered gives c w u m answers =
     (words : List ℕ) × Takes gives w words u × (length answers ≡ m) × Answered c m words answers
 
 pub none_answered : {W : Type 0} (gives : W → ℕ → W → Type 0) (c : ℕ) (w : W) → IsAnswered gives c w w 0 []
-none_answered gives c w = ([], refl, refl, λ n rest. ap (λ k. draws_in c k 0 rest) (omega arith))
+none_answered gives c w = (
+  [],
+  refl,
+  refl,
+  λ n rest. ap (λ k. draws_in c k 0 rest) (omega arith) ∙ sym (behind_none (draws_in c n 0 rest)),
+)
 
 pub one_answered : {W : Type 0} (gives : W → ℕ → W → Type 0) (c : ℕ) (w u v : W) (m : ℕ) (answers : List ℕ)
     (rejected : List ℕ) (answer : ℕ) (more : List ℕ) → IsAnswered gives c w u m answers →
@@ -79,36 +104,36 @@ one_answered gives c w u v m answers rejected answer more had draw is =
           ap (λ k. draws_in c k 0 ((words ++ here) ++ rest)) (omega arith)
           ∙ ap (λ l. draws_in c (m + suc n) 0 l) (append_assoc words here rest)
           ∙ had.3 (suc n) (here ++ rest)
-          ∙ ap (λ l. map Some answers ++ l)
+          ∙ ap (behind answers)
           (one_draw c n 0 rejected draw.word rest (let few = draw.few in omega arith) draw.rejects draw.accepted
-          ∙ ap (λ a. Some a ∷ draws_in c n 0 rest) (sym draw.answers))
-          ∙ sym (append_assoc (map Some answers) (Some answer ∷ []) (draws_in c n 0 rest))
-          ∙ ap (λ l. l ++ draws_in c n 0 rest)
-          (sym (map-append Some answers (answer ∷ [])) ∙ ap (map Some) (sym is)),
+          ∙ ap (λ a. option_map (λ draws. Some a ∷ draws) (draws_in c n 0 rest)) (sym draw.answers))
+          ∙ behind_one_more answers answer (draws_in c n 0 rest)
+          ∙ ap (λ l. behind l (draws_in c n 0 rest)) (sym is),
     )
 
 -- all draws were answered
 pub all_answered : {W : Type 0} (gives : W → ℕ → W → Type 0) (c : ℕ) (w u : W) (m count : ℕ) (answers : List ℕ) →
     m ≡ count → IsAnswered gives c w u m answers →
-    (taken : List ℕ) × Takes gives w taken u × (map Some answers ++ [] ≡ draws_in c count 0 taken)
+    (taken : List ℕ) × Takes gives w taken u × (draws_in c count 0 taken ≡ Some (map Some answers ++ []))
+unfolding behind
 all_answered gives c w u m count answers all had = (
   had.0,
   had.1,
-  ap (λ l. map Some answers ++ l) (sym (no_word c 0)) ∙ sym (had.3 0 [])
-      ∙ ap (λ l. draws_in c (m + 0) 0 l) (append-nil had.0)
-      ∙ ap (λ k. draws_in c k 0 had.0) (let e : m + 0 ≡ count = omega arith in e),
+  ap (λ k. draws_in c k 0 had.0) (let e : count ≡ m + 0 = omega arith in e)
+      ∙ ap (λ l. draws_in c (m + 0) 0 l) (sym (append-nil had.0)) ∙ had.3 0 [] ∙ ap (behind answers) (no_draw c),
 )
 
 -- the draw behind the answers was spent
 pub then_spent : {W : Type 0} (gives : W → ℕ → W → Type 0) (c : ℕ) (w u v : W) (m count : ℕ) (answers : List ℕ)
     (rejected : List ℕ) → m < count → IsAnswered gives c w u m answers → Spends gives c u rejected v →
-    (taken : List ℕ) × Takes gives w taken v × (map Some answers ++ None ∷ [] ≡ draws_in c count 0 taken)
+    (taken : List ℕ) × Takes gives w taken v × (draws_in c count 0 taken ≡ Some (map Some answers ++ None ∷ []))
+unfolding behind
 then_spent gives c w u v m count answers rejected low had spent =
     let left : ℕ = count - suc m in (
       had.0 ++ rejected,
       takes_append gives w had.0 u rejected v had.1 spent.takes,
-      ap (λ l. map Some answers ++ l)
-          (sym (spent_draw c left 0 rejected (lit< tt) (let n = spent.all in omega arith) spent.rejects))
-          ∙ sym (had.3 (suc left) rejected)
-          ∙ ap (λ k. draws_in c k 0 (had.0 ++ rejected)) (let e : m + suc left ≡ count = omega arith in e),
+      ap (λ k. draws_in c k 0 (had.0 ++ rejected)) (let e : count ≡ m + suc left = omega arith in e)
+          ∙ had.3 (suc left) rejected
+          ∙ ap (behind answers)
+          (spent_draw c left 0 rejected (lit< tt) (let n = spent.all in omega arith) spent.rejects),
     )

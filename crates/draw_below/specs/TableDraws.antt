@@ -1,5 +1,5 @@
 -- Draws of one caller on a new table, behind its first sample.
-use Rattle.std.specs.Prelude.{◌≡◌, ◌==◌, ◌++◌, ℕ, zero, suc, List, [], ◌∷◌, Option, Some, None, if◌then◌else◌, map, replicate}
+use Rattle.std.specs.Prelude.{◌≡◌, ◌==◌, ◌++◌, ℕ, zero, suc, List, [], ◌∷◌, Option, Some, None, if◌then◌else◌, map, option_map, replicate}
 use Rattle.std.specs.List.{flat_map, range_with_len}
 use Rattle.std.specs.Int.{from_le_bytes, w32}
 use Rattle.key_names.specs.declared.names.Step.{Step}
@@ -15,14 +15,20 @@ use Rattle.rng_core.specs.Makes.{IsOutcomeOf, setting_of}
 use Rattle.draw_below.specs.Draws.{accepts, value_of}
 use Rattle.draw_below.specs.declared.table_draws.Drawn.{Drawn}
 
+-- a draw that is spent is the last, and no word is left
+abbrev pub spent_before : List ℕ → Option (List (Option ℕ))
+spent_before [] = Some (None ∷ [])
+spent_before (r ∷ rs) = None
+
 -- what n draws below c make of these words, of which the first `tried` words of the first draw were rejected already:
--- each draw its answer, or none where it was spent, which is then the last
-unfoldable pub draws_in : ℕ → ℕ → ℕ → List ℕ → List (Option ℕ)
-draws_in c n tried [] = []
-draws_in c zero tried (r ∷ rs) = []
+-- each draw its answer, or none where it was spent, which is then the last; nothing where the words are too few for so
+-- many draws, or one is left over
+unfoldable pub draws_in : ℕ → ℕ → ℕ → List ℕ → Option (List (Option ℕ))
+draws_in c n tried [] = if n == 0 then Some [] else None
+draws_in c zero tried (r ∷ rs) = None
 draws_in c (suc n) tried (r ∷ rs) =
-    if accepts c r then Some (value_of c r) ∷ draws_in c n 0 rs
-    else (if tried == 127 then None ∷ [] else draws_in c (suc n) (suc tried) rs)
+    if accepts c r then option_map (λ draws. Some (value_of c r) ∷ draws) (draws_in c n 0 rs)
+    else (if tried == 127 then spent_before rs else draws_in c (suc n) (suc tried) rs)
 
 -- how the draws ended
 abbrev pub ends_of : Drawn → List (Option ℕ)
@@ -64,8 +70,8 @@ pub record AreTableWords (words : List ℕ) : Type 0 where
   pub last : ℕ
   pub in_order : Climbs 0 (map (λ by. by.mark.stamp) (marks_of (added ∷ reads))) last
 
--- the draws are what n draws below c make of such words
+-- the draws are what n draws below c make of such words, all of them
 pub record AreTableDraws (c n : ℕ) (draws : List (Option ℕ)) : Type 0 where
   pub words : List ℕ
   pub table : AreTableWords words
-  pub drawn : draws ≡ draws_in c n 0 words
+  pub drawn : draws_in c n 0 words ≡ Some draws

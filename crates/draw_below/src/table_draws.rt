@@ -1,5 +1,5 @@
 //! Draws below one bound, one after another, and those of a caller on a new table.
-ghost use Rattle.std.specs.Prelude.{◌≡◌, ◌^◌, ◌<◌, ◌≤◌, ℕ, [], List, IfOk};
+ghost use Rattle.std.specs.Prelude.{◌≡◌, ◌^◌, ◌<◌, ◌≤◌, ℕ, [], List, Some, IfOk};
 ghost use Rattle.std.specs.List.{range_with_len};
 ghost use Rattle.key_names.specs.declared.events.Event.TheVariants.{Add};
 ghost use Rattle.key_names.specs.declared.events.Answer.TheVariants.{Ok as Done};
@@ -46,7 +46,7 @@ pub struct Drawn {
 pub fn draw_each<W: Words, R: Wait>(rt: &R, words: &mut W, c: u32, count: u32) -> Drawn
     requires { count ≤ 1000 }
     ensures { (taken : List ℕ) × Takes W.gives words.old taken words.new
-        × (ends_of result ≡ draws_in c count 0 taken) }
+        × (draws_in c count 0 taken ≡ Some (ends_of result)) }
 {
     let mut answers = ArrayVec::new();
     let mut rejected = Rejected::empty();
@@ -73,7 +73,7 @@ fn draw_from<R: Wait>(rt: &R, words: &mut LaneWords<'_>, c: u32, count: u32) -> 
     ensures source { SameSource words.old words.new }
     ensures drawn { (taken : List ℕ)
         × Takes (ReadsWord words.old.set) (view words.old.pass.now) taken (view words.new.pass.now)
-        × (ends_of result ≡ draws_in c count 0 taken) }
+        × (draws_in c count 0 taken ≡ Some (ends_of result)) }
 {
     draw_each(rt, words, c, count)
 }
@@ -91,7 +91,7 @@ fn draw_by_pass<R: Wait>(
     requires count { count ≤ 1000 }
     ensures has { HoldsLanes lanes.now set.caller [] pass.new }
     ensures drawn { (taken : List ℕ) × Takes (ReadsWord set) (view pass.old) taken (view pass.new)
-        × (ends_of result ≡ draws_in c count 0 taken) }
+        × (draws_in c count 0 taken ≡ Some (ends_of result)) }
 {
     let mut words = LaneWords::over(lanes, pass, set);
     draw_from(rt, &mut words, c, count)
