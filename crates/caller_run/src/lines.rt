@@ -49,6 +49,7 @@ pub(crate) fn word_of(event: &Event) -> Word
 
 impl Caller {
     // A line of the event that the caller is at.
+    #[inline(always)]
     fn line<'a>(
         &self,
         word: Word,
