@@ -12,6 +12,7 @@ use transcript_text::{CallerLines, LineView, Shown};
 
 impl Caller {
     // A line of the event that the caller is at.
+    #[inline(always)]
     fn line<'a>(
         &self,
         word: Word,

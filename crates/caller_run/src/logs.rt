@@ -6,7 +6,7 @@ ghost use Rattle.rng_core.specs.Acts.{wants};
 
 use event_script::reads::bytes_read;
 use key_names::trace::MOST_STEPS;
-use key_names::{Event, InsideAct};
+use key_names::{Event, InsideAct, Trace};
 use rng_core::Bound;
 use std::alloc::{AllocError, Global};
 use transcript_text::CallerLines;
@@ -14,11 +14,13 @@ use transcript_text::CallerLines;
 /// How many acts wait for a `vread` at most.
 const MOST_ACTS: usize = 8;
 
-/// A caller's lines, and the acts that wait for its next `vread`.
+/// A caller's lines, the acts that wait for its next `vread`, and the steps of its last call.
 #[derive(Drop)]
 pub(crate) struct Log {
     pub(crate) lines: CallerLines,
     pub(crate) acts: Vec<Bound>,
+    // One for all events, since a new one is cleared byte by byte.
+    pub(crate) trace: Trace,
 }
 
 /// How many bytes the line of an event shows at most.
@@ -102,6 +104,7 @@ impl Log {
         Ok(Log {
             lines: CallerLines::with_room(alloc, lines, steps, all_shown(events) as usize)?,
             acts: Vec::with_capacity(alloc, MOST_ACTS)?,
+            trace: Trace::empty(),
         })
     }
 }

@@ -42,7 +42,11 @@ impl Sheet {
             served: _,
             inside: _,
         } = self;
-        let Log { lines, acts: _ } = log;
+        let Log {
+            lines,
+            acts: _,
+            trace: _,
+        } = log;
         lines
     }
 }

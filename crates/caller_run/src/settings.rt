@@ -10,19 +10,17 @@ use key_names::Event;
 use rng_core::Setting;
 
 // The setting behind an event.
-fn set_by(set: &Setting, event: &Event) -> Setting
-    ensures setting { setting_of result ≡ setting_after (setting_of set.entry.now) event.now }
-    ensures caller { result.caller ≡ set.entry.now.caller }
-    ensures event { result.event ≡ set.entry.now.event }
+#[inline(always)]
+fn set_by(set: &mut Setting, event: &Event)
+    ensures setting { setting_of set.new ≡ setting_after (setting_of set.old) event.now }
+    ensures caller { set.new.caller ≡ set.old.caller }
+    ensures event { set.new.event ≡ set.old.event }
 {
     match event {
-        Event::At { moment } => Setting {
-            now: *moment,
-            ..*set
-        },
-        Event::On { cpu } => Setting { cpu: *cpu, ..*set },
-        Event::Hw { bytes } => Setting { hw: *bytes, ..*set },
-        _ => *set,
+        Event::At { moment } => set.now = *moment,
+        Event::On { cpu } => set.cpu = *cpu,
+        Event::Hw { bytes } => set.hw = *bytes,
+        _ => {}
     }
 }
 
@@ -36,7 +34,7 @@ impl Caller {
         ensures event { self.new.set.event ≡ self.old.set.event + 1 }
         ensures pass { self.new.pass ≡ self.old.pass }
     {
-        self.set = set_by(&self.set, event);
+        set_by(&mut self.set, event);
         self.set.event += 1;
         self.states.go_on(event);
     }

@@ -76,7 +76,7 @@ impl Caller {
         ensures { MadeEvent shared.now.lanes.now (length served.old) (length inside.old) event.now self.old log.old
             self.new log.new }
     {
-        let mut trace = Trace::empty();
+        log.trace.clear();
         let mut into = ReadInto {
             flags: flags_of(event),
             served: &mut served[..most_shown(event) as usize],
@@ -85,12 +85,12 @@ impl Caller {
         let said = self.vread(
             shared.rt,
             shared.lanes,
-            &mut trace,
+            &mut log.trace,
             &mut log.acts,
             &mut into,
         );
         self.tell_acts(&mut log.lines, &log.acts, into.inside);
-        self.tell(&mut log.lines, Word::Vread, said, &trace, into.served);
+        self.tell(&mut log.lines, Word::Vread, said, &log.trace, into.served);
         log.acts.clear();
         self.go_on(event);
     }

@@ -1,7 +1,7 @@
 //! The event that a line says.
 
-ghost use Rattle.std.specs.Prelude.{◌<◌, ◌≤◌, ◌^◌, ◌≡◌, MatchResult, false};
-ghost use Rattle.event_script.specs.ByteWords.{has_bytes};
+ghost use Rattle.std.specs.Prelude.{ℕ, ◌<◌, ◌≤◌, ◌^◌, ◌≡◌, List, MatchResult, false, true};
+ghost use Rattle.event_script.specs.ByteWords.{has_bytes, stands_alone};
 ghost use Rattle.event_script.specs.Views.{Gives, Tells, fields_of};
 ghost use Rattle.key_names.specs.Texts.ScriptFaults.{binary, bytes, event_of, hardware_words, input_of};
 ghost use Rattle.key_names.specs.Texts.ScriptFaults.{number, number_in, plain, since, unary};
@@ -24,6 +24,24 @@ fn plain(event: Event, rest: Option<&[u8]>) -> Result<Event, FaultKind>
 {
     none(rest)?;
     Ok(event)
+}
+
+/// The event of a word that stands alone.
+fn alone(word: Word) -> Event
+    requires { stands_alone word ≡ true }
+    ensures { (version cpus : ℕ) (fields : List (List ℕ)) → event_of version cpus word fields ≡ plain result fields }
+{
+    match word {
+        Word::Bits => Event::Bits,
+        Word::Int8 => Event::Int8,
+        Word::Int16 => Event::Int16,
+        Word::Int32 => Event::Int32,
+        Word::Int64 => Event::Int64,
+        Word::Reseed => Event::Reseed,
+        Word::Tick => Event::Tick,
+        Word::Drop => Event::Drop,
+        _ => unreachable!(),
+    }
 }
 
 fn at(rest: Option<&[u8]>) -> Result<Event, FaultKind>
@@ -222,7 +240,6 @@ fn event_without_bytes(
         Word::At => at(rest),
         Word::On => on(cpus, rest),
         Word::Credit => credit(rest),
-        Word::Bits => plain(Event::Bits, rest),
         Word::Irq => irq(rest),
         Word::Input => input(rest),
         Word::Read => read(rest),
@@ -230,19 +247,13 @@ fn event_without_bytes(
         Word::Kread => kread(rest),
         Word::Dread => dread(rest),
         Word::Uread => uread(rest),
-        Word::Int8 => plain(Event::Int8, rest),
-        Word::Int16 => plain(Event::Int16, rest),
-        Word::Int32 => plain(Event::Int32, rest),
-        Word::Int64 => plain(Event::Int64, rest),
-        Word::Reseed => plain(Event::Reseed, rest),
-        Word::Tick => plain(Event::Tick, rest),
-        Word::Drop => plain(Event::Drop, rest),
         Word::Fork => fork(rest),
         Word::Inside => inside(rest),
         Word::Prepare => prepare(version, cpus, rest),
         Word::Online => online(version, cpus, rest),
         Word::State => state(version, rest),
-        _ => Err(FaultKind::UnknownWord),
+        Word::End => Err(FaultKind::UnknownWord),
+        _ => plain(alone(word), rest),
     }
 }
 

@@ -4,6 +4,7 @@ pub mod Cutting
 pub mod FirstFaults
 pub mod GroupedLines
 pub mod HexPieces
+pub mod LastDigits
 pub mod Keeping
 pub mod LineTexts
 pub mod NameTexts

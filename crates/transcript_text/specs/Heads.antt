@@ -1,5 +1,5 @@
 -- A line up to its data.
-use Rattle.std.specs.Prelude.{ℕ, List, ◌++◌, codes, decimal}
+use Rattle.std.specs.Prelude.{ℕ, ◌+◌, ◌/◌, ◌%◌, List, [], ◌∷◌, ◌++◌, codes, decimal}
 use Rattle.key_names.specs.declared.events.Answer.{Answer}
 use Rattle.key_names.specs.declared.events.Word.{Word}
 use Rattle.key_names.specs.declared.names.Step.{Step}
@@ -11,3 +11,7 @@ unfoldable pub head_text : ℕ → ℕ → Word → Answer → List Step → Lis
 head_text caller event word answer steps =
     decimal caller ++ codes "." ++ decimal event ++ codes " " ++ word_text word ++ codes " "
     ++ answer_text answer ++ codes " " ++ steps_text steps ++ codes " "
+
+-- the four last digits of a number
+abbrev pub four_digits : ℕ → List ℕ
+four_digits n = (48 + n / 1000) ∷ (48 + n / 100 % 10) ∷ (48 + n / 10 % 10) ∷ (48 + n % 10) ∷ []

@@ -60,6 +60,7 @@ fn keep_bytes(kept: &mut Vec<u8>, shown: &[u8]) -> Data
 }
 
 // Keeps what a line shows, and gives the line's data.
+#[inline(always)]
 fn keep_shown(kept: &mut Vec<u8>, shown: Shown<'_>) -> Data
     requires room { vec_len kept.old + length (bytes_of shown) ≤ vec_capacity kept.old }
     requires short { length (bytes_of shown) < 2 ^ 32 }
@@ -75,7 +76,8 @@ fn keep_shown(kept: &mut Vec<u8>, shown: Shown<'_>) -> Data
     }
 }
 
-// Keeps more steps where there is room, and says where they stand.
+// Keeps more steps where there is room, and says where they stand. They are few, so each is pushed by itself.
+#[inline(always)]
 fn keep_steps(kept: &mut Vec<Step>, steps: &[Step]) -> StepSpan
     requires room { vec_len kept.old + length steps.now ≤ vec_capacity kept.old }
     requires few { length steps.now ≤ 20 }
@@ -85,7 +87,9 @@ fn keep_steps(kept: &mut Vec<Step>, steps: &[Step]) -> StepSpan
     ensures len { vec_len kept.new ≡ vec_len kept.old + length steps.now }
 {
     let start = kept.len() as u64;
-    let _fits = kept.extend_from_slice(steps);
+    for step in steps {
+        kept.push_reserved(*step);
+    }
     StepSpan {
         start,
         len: steps.len() as u32,
@@ -133,6 +137,7 @@ impl CallerLines {
     }
 
     // Keeps the steps and the bytes of a line, and gives the line that names them.
+    #[inline(always)]
     fn keep(&mut self, line: LineView<'_>) -> Line
         requires step_room { length line.steps.now ≤ self.old.step_room }
         requires byte_room { length (bytes_of line.shown) ≤ self.old.byte_room }
@@ -157,6 +162,7 @@ impl CallerLines {
     }
 
     /// One more line. It takes no memory.
+    #[inline(always)]
     pub fn push(&mut self, line: LineView<'_>)
         requires line_room { 0 < self.old.line_room }
         requires step_room { length line.steps.now ≤ self.old.step_room }

@@ -76,9 +76,9 @@ pub(crate) fn append_head(piece: &mut Piece, line: LineView<'_>)
     piece.push(b'.');
     piece.append_number(line.event as u64);
     piece.push(b' ');
-    piece.append(line.word.text());
+    piece.append_word(line.word.text());
     piece.push(b' ');
-    piece.append(answer_name(line.answer));
+    piece.append_word(answer_name(line.answer));
     piece.push(b' ');
     append_steps(piece, line.steps);
     piece.push(b' ');

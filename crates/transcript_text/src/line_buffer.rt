@@ -1,6 +1,7 @@
 //! A piece of text that is put in one go.
 ghost use Rattle.std.specs.Prelude.{◌≡◌, ◌+◌, ◌*◌, ◌<◌, ◌≤◌, ◌∷◌, ◌++◌, [], length, decimal, slice_index};
 ghost use Rattle.hex.specs.Hex.{encode_lower, lower_digits};
+ghost use Rattle.transcript_text.specs.Heads.{four_digits};
 
 use itoa::Buffer;
 use std::marker::Model;
@@ -55,6 +56,7 @@ impl Piece {
         MOST_BYTES - self.len
     }
 
+    #[inline(always)]
     pub(crate) fn push(&mut self, byte: u8)
         requires { length self.old < 4096 }
         ensures { self.new ≡ self.old ++ byte ∷ [] }
@@ -63,6 +65,7 @@ impl Piece {
         self.len += 1;
     }
 
+    #[inline(always)]
     pub(crate) fn append(&mut self, text: &[u8])
         requires { length self.old + length text.now ≤ 4096 }
         ensures { self.new ≡ self.old ++ text.now }
@@ -72,18 +75,67 @@ impl Piece {
         self.len = end;
     }
 
+    // The four last digits of a number.
+    #[inline(always)]
+    fn append_four(&mut self, number: u32)
+        requires small { number < 10000 }
+        requires room { length self.old + 4 ≤ 4096 }
+        ensures { self.new ≡ self.old ++ four_digits number }
+    {
+        self.append(&[
+            b'0' + (number / 1000) as u8,
+            b'0' + (number / 100 % 10) as u8,
+            b'0' + (number / 10 % 10) as u8,
+            b'0' + (number % 10) as u8,
+        ]);
+    }
+
+    #[inline(always)]
+    fn append_below_100(&mut self, number: u32)
+        requires small { number < 100 }
+        requires room { length self.old + 2 ≤ 4096 }
+        ensures text { self.new ≡ self.old ++ decimal number }
+        ensures short { length (decimal number) ≤ 2 }
+    {
+        if number < 10 {
+            self.push(b'0' + number as u8);
+            return;
+        }
+        self.append(&[b'0' + (number / 10) as u8, b'0' + (number % 10) as u8]);
+    }
+
     pub(crate) fn append_number(&mut self, number: u64)
         requires { length self.old + 20 ≤ 4096 }
         ensures text { self.new ≡ self.old ++ decimal number }
         ensures short { length (decimal number) ≤ 20 }
     {
-        // Many numbers of a short line have one digit.
-        if number < 10 {
-            self.push(b'0' + number as u8);
+        // Numbers of one or two digits, and of five or six, are most of a transcript.
+        if number < 100 {
+            self.append_below_100(number as u32);
+            return;
+        }
+        if number >= 10_000 && number < 1_000_000 {
+            self.append_below_100((number / 10_000) as u32);
+            self.append_four((number % 10_000) as u32);
             return;
         }
         let mut digits = Buffer::new();
         self.append(digits.format(number).as_bytes());
+    }
+
+    /// A word of a few bytes, copied without a call.
+    #[inline(always)]
+    pub(crate) fn append_word(&mut self, text: &[u8])
+        requires { length self.old + length text.now ≤ 4096 }
+        ensures { self.new ≡ self.old ++ text.now }
+    {
+        match text {
+            [a, b] => self.append(&[*a, *b]),
+            [a, b, c] => self.append(&[*a, *b, *c]),
+            [a, b, c, d] => self.append(&[*a, *b, *c, *d]),
+            [a, b, c, d, e] => self.append(&[*a, *b, *c, *d, *e]),
+            _ => self.append(text),
+        }
     }
 
     /// The bytes in hex.

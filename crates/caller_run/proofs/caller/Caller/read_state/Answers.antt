@@ -59,7 +59,7 @@ put_back back items n long =
 -- what the caller did for its event
 has_read : (g : _) (c : After-go_on g) → HasRead c.args.shared.now.lanes.now c.args.event.now c.args.self.now
     c.vread-said.new.self c.go_on.new.self
-    c.args.log.now.lines c.tell.new.lines c.args.log.now.acts.items c.clear.new.self.items
+    c.args.log.now.lines c.tell.new.lines c.args.log.now.acts.items c.clear-2.new.self.items
 has_read g c =
     let acts = c.args.log.now.acts in let after = c.vread-said.new in let left = c.deref-2.result.now in
     let len = c.requires.is.0 in let flags = c.flags_of.result in let is = c.requires.is.2 in
@@ -109,14 +109,14 @@ has_read g c =
       step_room = (let a = c.tell.ensures.step_room in let few = c.tell.ensures.few_steps in
           let b = c.tell_acts.ensures.step_room in let many = ap length left_is in omega arith);
       byte_room = (let a = c.tell.ensures.byte_room in let b = c.tell_acts.ensures.byte_room in omega arith);
-      none = c.clear.ensures.items;
+      none = c.clear-2.ensures.items;
     }
 
 pub returns : goal.returns
 returns g c = record {
   can = λ rest can. record {
     goes = can_read (has_read g c) can.goes;
-    act_room = (let e : vec_capacity c.clear.new.self ≡ vec_capacity c.args.log.now.acts = search rules in
+    act_room = (let e : vec_capacity c.clear-2.new.self ≡ vec_capacity c.args.log.now.acts = search rules in
         let b = can.act_room in omega arith);
   };
   gone = gone_read (has_read g c);
