@@ -18,7 +18,7 @@ ghost use Rattle.caller_answers.specs.Writes.{Write, Written};
 ghost use Rattle.caller_answers.specs.CallSays.{VStates, first_states, IsCallSaid, CallsSaid};
 
 use crate::events::{alone_said, end_stands, unused};
-use crate::met::{met_in, seen_in};
+use crate::met::{Room, put_met, put_seen};
 use crate::said::{Said, Shows};
 use crate::states::States;
 use crate::vreads::{acts_said, inside_of, put_said};
@@ -31,7 +31,7 @@ use std::alloc::{AllocError, Global};
 
 // An event by itself; whether its steps are a form of it.
 fn alone_call(
-    alloc: Global,
+    room: &mut Room,
     lists: &Lists,
     set: &Setting,
     states: &mut States,
@@ -43,7 +43,7 @@ fn alone_call(
     ensures { IfOk result (IsCallSaid lists.now set.now (alone event.now (seen_bare line.entry)) states.old states.new
         said.old.items said.new.items) }
 {
-    let Some(one) = alone_said(alloc, lists, set, event, line.steps)? else {
+    let Some(one) = alone_said(room, lists, set, event, line.steps)? else {
         return Ok(false);
     };
     states.turn(event);
@@ -53,7 +53,7 @@ fn alone_call(
 
 // A `vread` of so many bytes with these flags; whether its steps, and those of the acts inside it, are those of one.
 fn vread_call(
-    alloc: Global,
+    room: &mut Room,
     lists: &Lists,
     set: &Setting,
     states: &mut States,
@@ -67,12 +67,12 @@ fn vread_call(
         (vread_call asked.0 asked.1 (seen_bare line.entry) (map seen_act acts.now)) states.old states.new
         said.old.items said.new.items) }
 {
-    let met = met_in(alloc, lists, line.steps)?;
-    let seen = seen_in(alloc, set.cpu(), &met)?;
-    let Some(course) = states.follow(asked.0, asked.1, inside_of(acts), &seen) else {
+    put_met(&mut room.met, lists, line.steps)?;
+    put_seen(&mut room.seen, set.cpu(), &room.met)?;
+    let Some(course) = states.follow(asked.0, asked.1, inside_of(acts), &room.seen) else {
         return Ok(false);
     };
-    if !acts_said(alloc, lists, set, course.reached, acts, said)? {
+    if !acts_said(room, lists, set, course.reached, acts, said)? {
         return Ok(false);
     }
     put_said(
@@ -100,7 +100,7 @@ fn unbound_call(bound: &ActLine<'_>, said: &mut Vec<Said>) -> Result<bool, Alloc
 
 // A caller's last line.
 fn ending_call(
-    alloc: Global,
+    room: &mut Room,
     lists: &Lists,
     set: &Setting,
     line: BareLine<'_>,
@@ -109,7 +109,7 @@ fn ending_call(
     ensures { IfOk result (λ stands. (s : VStates) → IsCallSaid lists.now set.now (ending (seen_bare line.entry)) s s
         said.old.items said.new.items stands) }
 {
-    if !end_stands(alloc, lists, set, line.steps)? {
+    if !end_stands(room, lists, set, line.steps)? {
         return Ok(false);
     }
     put_said(
@@ -125,7 +125,7 @@ fn ending_call(
 
 // One call; whether its steps are those of one.
 fn call_said(
-    alloc: Global,
+    room: &mut Room,
     lists: &Lists,
     set: &Setting,
     states: &mut States,
@@ -137,15 +137,15 @@ fn call_said(
         said.old.items said.new.items) }
 {
     match call {
-        Called::Alone { event, line } => alone_call(alloc, lists, set, states, event, *line, said),
+        Called::Alone { event, line } => alone_call(room, lists, set, states, event, *line, said),
         Called::Vread {
             len,
             flags,
             line,
             acts,
-        } => vread_call(alloc, lists, set, states, (*len, *flags), *line, acts, said),
+        } => vread_call(room, lists, set, states, (*len, *flags), *line, acts, said),
         Called::Unbound(bound) => unbound_call(bound, said),
-        Called::Ending(line) => ending_call(alloc, lists, set, *line, said),
+        Called::Ending(line) => ending_call(room, lists, set, *line, said),
     }
 }
 
@@ -165,9 +165,10 @@ fn calls_said(
         × Written writes [] said.items)) }
 {
     let mut states = States::new(alloc)?;
+    let mut room = Room::new(alloc);
     let mut said = Vec::new(alloc);
     for (call, set) in calls.iter().zip(settings) {
-        if !call_said(alloc, lists, set, &mut states, call, &mut said)? {
+        if !call_said(&mut room, lists, set, &mut states, call, &mut said)? {
             return Ok(None);
         }
     }

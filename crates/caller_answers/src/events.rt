@@ -6,14 +6,14 @@ ghost use Rattle.caller_answers.specs.EventSays.{recipe_met, last_recipe, found_
 ghost use Rattle.caller_answers.specs.EventSays.{reseed_says, tick_says, event_says, bits_shown, event_shows, act_says};
 ghost use Rattle.caller_answers.specs.EventSays.{unused, IsAloneSaid, IsActSaid, EndStands};
 
-use crate::met::{Met, kinds_met, met_in};
+use crate::met::{Met, Room, put_kinds, put_met};
 use crate::said::{Said, Shows};
 use input_pool::Crossing;
 use key_names::{Answer, BaseEntry, CpuEntry, Event, InsideAct, Step, Taken, flags};
 use line_forms::rows::{is_act_row, is_end, is_row};
 use line_forms::setting::Setting;
 use list_replay::{KeptBase, KeptCpu, Lists};
-use std::alloc::{AllocError, Global};
+use std::alloc::AllocError;
 use vread_course::served::Served;
 
 // What the first visit of the pool crossed.
@@ -195,7 +195,7 @@ fn event_cpu(event: &Event, set: &Setting) -> u32
 ///
 /// `AllocError` where there is no memory to look at the steps.
 pub fn alone_said(
-    alloc: Global,
+    room: &mut Room,
     lists: &Lists,
     set: &Setting,
     event: &Event,
@@ -203,14 +203,14 @@ pub fn alone_said(
 ) -> Result<Option<Said>, AllocError>
     ensures { IfOk result (λ said. IsAloneSaid lists.now set.now event.now steps.now said) }
 {
-    let met = met_in(alloc, lists, steps)?;
-    let kinds = kinds_met(alloc, event_cpu(event, set), &met)?;
-    if !is_row(event, first_crossing(&met), &kinds) {
+    put_met(&mut room.met, lists, steps)?;
+    put_kinds(&mut room.kinds, event_cpu(event, set), &room.met)?;
+    if !is_row(event, first_crossing(&room.met), &room.kinds) {
         return Ok(None);
     }
     Ok(Some(Said {
-        answer: event_says(event, &met),
-        shows: event_shows(event, &met),
+        answer: event_says(event, &room.met),
+        shows: event_shows(event, &room.met),
     }))
 }
 
@@ -249,7 +249,7 @@ pub fn unused() -> Said
 ///
 /// `AllocError` where there is no memory to look at the steps.
 pub fn act_said(
-    alloc: Global,
+    room: &mut Room,
     lists: &Lists,
     set: &Setting,
     reached: bool,
@@ -265,12 +265,12 @@ pub fn act_said(
             None
         });
     }
-    let met = met_in(alloc, lists, steps)?;
-    let kinds = kinds_met(alloc, set.cpu(), &met)?;
-    if !is_act_row(act, &kinds) {
+    put_met(&mut room.met, lists, steps)?;
+    put_kinds(&mut room.kinds, set.cpu(), &room.met)?;
+    if !is_act_row(act, &room.kinds) {
         return Ok(None);
     }
-    Ok(Some(act_says(act, &met)))
+    Ok(Some(act_says(act, &room.met)))
 }
 
 /// Whether the steps of a caller's last line are a form of it.
@@ -279,14 +279,14 @@ pub fn act_said(
 ///
 /// `AllocError` where there is no memory to look at the steps.
 pub fn end_stands(
-    alloc: Global,
+    room: &mut Room,
     lists: &Lists,
     set: &Setting,
     steps: &[Step],
 ) -> Result<bool, AllocError>
     ensures { IfOk result (λ stands. IsTrue stands ↔ EndStands lists.now set.now steps.now) }
 {
-    let met = met_in(alloc, lists, steps)?;
-    let kinds = kinds_met(alloc, set.cpu(), &met)?;
-    Ok(is_end(&kinds))
+    put_met(&mut room.met, lists, steps)?;
+    put_kinds(&mut room.kinds, set.cpu(), &room.met)?;
+    Ok(is_end(&room.kinds))
 }

@@ -1,7 +1,8 @@
 //! What is kept of the steps of a line, and what is seen of them.
-ghost use Rattle.std.specs.Prelude.{◌≡◌, IfOk, slice_get, unwrap_or};
+ghost use Rattle.std.specs.Prelude.{◌≡◌, ℕ, List, [], OnOk, slice_get, unwrap_or};
 ghost use Rattle.key_names.specs.KeyInUse.{zero_key};
 ghost use Rattle.line_forms.specs.Kinds.{is_resume};
+ghost use Rattle.vread_course.specs.Seen.{seen_kind};
 ghost use Rattle.caller_answers.specs.Met.{pool_met, base_met, lane_met, met_at, met_in, base_seen, cpu_seen, seen_of};
 ghost use Rattle.caller_answers.specs.Met.{seen_in, kind_met, kinds_met};
 
@@ -67,19 +68,42 @@ fn met_at(lists: &Lists, step: Step) -> Met
     }
 }
 
-/// The steps of a line with what is kept of them.
+/// Room for the steps of a line: what is kept of them, what is seen of them, and their kinds. Each line uses it anew.
+#[derive(Drop)]
+pub struct Room {
+    pub met: Vec<Met>,
+    pub seen: Vec<Seen>,
+    pub kinds: Vec<Kind>,
+}
+
+impl Room {
+    /// Room in which nothing is.
+    pub fn new(alloc: Global) -> Room
+        ensures met { result.met.items ≡ [] }
+        ensures seen { result.seen.items ≡ [] }
+        ensures kinds { result.kinds.items ≡ [] }
+    {
+        Room {
+            met: Vec::new(alloc),
+            seen: Vec::new(alloc),
+            kinds: Vec::new(alloc),
+        }
+    }
+}
+
+/// The steps of a line with what is kept of them, in the place of those of another.
 ///
 /// # Errors
 ///
 /// `AllocError` where there is no memory for them.
-pub fn met_in(alloc: Global, lists: &Lists, steps: &[Step]) -> Result<Vec<Met>, AllocError>
-    ensures { IfOk result (λ met. met.items ≡ met_in lists.now steps.now) }
+pub fn put_met(met: &mut Vec<Met>, lists: &Lists, steps: &[Step]) -> Result<(), AllocError>
+    ensures { OnOk result (met.new.items ≡ met_in lists.now steps.now) }
 {
-    let mut met = Vec::with_capacity(alloc, steps.len())?;
+    met.clear();
     for step in steps {
         met.push(met_at(lists, *step))?;
     }
-    Ok(met)
+    Ok(())
 }
 
 fn base_seen(kept: &KeptBase) -> Seen
@@ -105,32 +129,55 @@ fn seen_of(cpu: u32, met: &Met) -> Seen
     }
 }
 
-/// What is seen of the steps of a line that is on this CPU.
+/// What is seen of the steps of a line that is on this CPU, in the place of what was seen of another.
 ///
 /// # Errors
 ///
 /// `AllocError` where there is no memory for it.
-pub fn seen_in(alloc: Global, cpu: u32, met: &[Met]) -> Result<Vec<Seen>, AllocError>
-    ensures { IfOk result (λ seen. seen.items ≡ seen_in cpu met.now) }
+pub fn put_seen(seen: &mut Vec<Seen>, cpu: u32, met: &[Met]) -> Result<(), AllocError>
+    ensures { OnOk result (seen.new.items ≡ seen_in cpu met.now) }
 {
-    let mut seen = Vec::with_capacity(alloc, met.len())?;
+    seen.clear();
     for one in met {
         seen.push(seen_of(cpu, one))?;
     }
-    Ok(seen)
+    Ok(())
 }
 
-/// The kinds of the steps of a line that is on this CPU.
+fn base_kind(entry: BaseEntry) -> Kind
+    ensures { (key : List ℕ) → result ≡ seen_kind (base_seen (is_resume entry) key) }
+{
+    match entry {
+        BaseEntry::Resume => Kind::Resumed,
+        _ => Kind::Base,
+    }
+}
+
+// The kind of a step. No key is copied for it.
+fn kind_met(cpu: u32, met: &Met) -> Kind
+    ensures { result ≡ kind_met cpu met.now }
+{
+    match met {
+        Met::Looked(0) => Kind::Unready,
+        Met::Looked(_) => Kind::Ready,
+        Met::InPool(_) => Kind::Pool,
+        Met::InBase(kept) => base_kind(kept.entry),
+        Met::InCpu(on, _) if *on == cpu => Kind::Cpu,
+        Met::InCpu(..) | Met::Nothing => Kind::OtherCpu,
+    }
+}
+
+/// The kinds of the steps of a line that is on this CPU, in the place of those of another.
 ///
 /// # Errors
 ///
 /// `AllocError` where there is no memory for them.
-pub fn kinds_met(alloc: Global, cpu: u32, met: &[Met]) -> Result<Vec<Kind>, AllocError>
-    ensures { IfOk result (λ kinds. kinds.items ≡ kinds_met cpu met.now) }
+pub fn put_kinds(kinds: &mut Vec<Kind>, cpu: u32, met: &[Met]) -> Result<(), AllocError>
+    ensures { OnOk result (kinds.new.items ≡ kinds_met cpu met.now) }
 {
-    let mut kinds = Vec::with_capacity(alloc, met.len())?;
+    kinds.clear();
     for one in met {
-        kinds.push(seen_of(cpu, one).kind())?;
+        kinds.push(kind_met(cpu, one))?;
     }
-    Ok(kinds)
+    Ok(())
 }

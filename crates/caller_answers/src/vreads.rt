@@ -7,11 +7,12 @@ ghost use Rattle.caller_answers.specs.Writes.{IsPut, Written};
 ghost use Rattle.caller_answers.specs.CallSays.{ActDone, act_write};
 
 use crate::events::{act_said, unused};
+use crate::met::Room;
 use crate::said::Said;
 use line_forms::setting::Setting;
 use line_orders::called::ActLine;
 use list_replay::Lists;
-use std::alloc::{AllocError, Global};
+use std::alloc::AllocError;
 use vread_course::inside::{Inside, Reached};
 
 /// Puts what is said of an event at its number.
@@ -23,6 +24,10 @@ pub fn put_said(said: &mut Vec<Said>, event: u32, one: Said) -> Result<(), Alloc
     ensures { IfOk result (λ _. IsPut event one said.old.items said.new.items) }
 {
     let event = event as usize;
+    if event == said.len() {
+        said.push(one)?;
+        return Ok(());
+    }
     while said.len() <= event {
         said.push(unused())?;
     }
@@ -48,7 +53,7 @@ pub fn inside_of(acts: &[ActLine<'_>]) -> Inside
 ///
 /// `AllocError` where there is no memory for it.
 pub fn acts_said(
-    alloc: Global,
+    room: &mut Room,
     lists: &Lists,
     set: &Setting,
     reached: Reached,
@@ -62,7 +67,7 @@ pub fn acts_said(
 {
     for bound in acts {
         let done = reached.includes(bound.point);
-        match act_said(alloc, lists, set, done, bound.act, bound.line.steps)? {
+        match act_said(room, lists, set, done, bound.act, bound.line.steps)? {
             Some(one) => put_said(said, bound.line.event, one)?,
             None => return Ok(false),
         }

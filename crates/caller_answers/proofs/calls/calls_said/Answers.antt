@@ -11,7 +11,8 @@ use Rattle.caller_answers.proofs.calls.calls_said.Goals as goal
 pub call_said-requires : goal.call_said-requires
 call_said-requires c =
     let first : c.into_iter-call-iterator.result.a.rest.now ≡ c.args.calls.now = cc in
-    let second : c.into_iter-call-iterator.result.b.rest.now ≡ c.args.settings.now = cc in
+    let second : c.into_iter-call-iterator.result.b.rest.now ≡ c.args.settings.now =
+    rw c.into_iter-call-iterator.ensures.into_iter_gives c.zip-call-items.ensures.second.0 in
     let turn = zip_turn c.args.calls.now c.args.settings.now c.loop-call.yielded c.into_iter-call-iterator.result
     c.loop-call.call-iterator c.next.new.self c.next.result first second c.loop-call.yielded_by
     (c.in-Some.call, c.in-Some.set) c.in-Some.is c.next.ensures.steps in
@@ -21,7 +22,8 @@ call_said-requires c =
 pub returns-then-not-branch : goal.returns-then-not-branch
 returns-then-not-branch c = λ t writes said.
     let first : c.into_iter-call-iterator.result.a.rest.now ≡ c.args.calls.now = cc in
-    let second : c.into_iter-call-iterator.result.b.rest.now ≡ c.args.settings.now = cc in
+    let second : c.into_iter-call-iterator.result.b.rest.now ≡ c.args.settings.now =
+    rw c.into_iter-call-iterator.ensures.into_iter_gives c.zip-call-items.ensures.second.0 in
     let turn = zip_turn c.args.calls.now c.args.settings.now c.loop-call.yielded c.into_iter-call-iterator.result
     c.loop-call.call-iterator c.next.new.self c.next.result first second c.loop-call.yielded_by
     (c.in-Some.call, c.in-Some.set) c.in-Some.is c.next.ensures.steps in
@@ -38,7 +40,8 @@ returns-then-not-branch c = λ t writes said.
 pub loop-call-preserved : goal.loop-call-preserved
 loop-call-preserved c =
     let first : c.into_iter-call-iterator.result.a.rest.now ≡ c.args.calls.now = cc in
-    let second : c.into_iter-call-iterator.result.b.rest.now ≡ c.args.settings.now = cc in
+    let second : c.into_iter-call-iterator.result.b.rest.now ≡ c.args.settings.now =
+    rw c.into_iter-call-iterator.ensures.into_iter_gives c.zip-call-items.ensures.second.0 in
     let turn = zip_turn c.args.calls.now c.args.settings.now c.loop-call.yielded c.into_iter-call-iterator.result
     c.loop-call.call-iterator c.next.new.self c.next.result first second c.loop-call.yielded_by
     (c.in-Some.call, c.in-Some.set) c.in-Some.is c.next.ensures.steps in
@@ -65,7 +68,8 @@ loop-call-preserved c =
 pub returns : goal.returns
 returns c =
     let first : c.into_iter-call-iterator.result.a.rest.now ≡ c.args.calls.now = cc in
-    let second : c.into_iter-call-iterator.result.b.rest.now ≡ c.args.settings.now = cc in
+    let second : c.into_iter-call-iterator.result.b.rest.now ≡ c.args.settings.now =
+    rw c.into_iter-call-iterator.ensures.into_iter_gives c.zip-call-items.ensures.second.0 in
     let end = zip_end c.args.calls.now c.args.settings.now c.loop-call.yielded c.into_iter-call-iterator.result
     c.loop-call.call-iterator c.next.new.self c.next.result first second c.loop-call.yielded_by c.in-None.is
     c.next.ensures.steps in

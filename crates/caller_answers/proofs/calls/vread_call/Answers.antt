@@ -7,18 +7,18 @@ use Rattle.caller_answers.proofs.calls.vread_call.Goals as goal
 
 pub returns-in_default : goal.returns-in_default
 returns-in_default c = λ t writes said.
-    let seen_is = c.deref-2.ensures.value ∙ c.in_ok-seen.ensures
+    let seen_is = c.deref-2.ensures.value ∙ c.in_ok-put_seen.ensures
     ∙ ap (λ x. seen_in x c.deref.result.now) c.cpu.ensures
-    ∙ ap (seen_in c.args.set.now.cpu) (c.deref.ensures.value ∙ c.in_ok-met.ensures) in
+    ∙ ap (seen_in c.args.set.now.cpu) (c.deref.ensures.value ∙ c.in_ok-put_met.ensures) in
     not_followed c.args.lists.now c.args.set.now c.args.asked.0 c.args.asked.1 (seen_bare c.args.line)
     (map seen_act c.args.acts.now) c.args.states.now c.inside_of.result c.deref-2.result.now c.inside_of.ensures seen_is
     c.in_default.ensures t writes said
 
 pub returns-then-not-branch : goal.returns-then-not-branch
 returns-then-not-branch c = λ t writes said.
-    let seen_is = c.deref-2.ensures.value ∙ c.in_ok-seen.ensures
+    let seen_is = c.deref-2.ensures.value ∙ c.in_ok-put_seen.ensures
     ∙ ap (λ x. seen_in x c.deref.result.now) c.cpu.ensures
-    ∙ ap (seen_in c.args.set.now.cpu) (c.deref.ensures.value ∙ c.in_ok-met.ensures) in
+    ∙ ap (seen_in c.args.set.now.cpu) (c.deref.ensures.value ∙ c.in_ok-put_met.ensures) in
     let f = c.in-Some.ensures in
     let undone = at_false c.in_ok-acts_said.field-0 _ _ c.if-not-branch.true c.in_ok-acts_said.ensures in
     acts_undone c.args.lists.now c.args.set.now c.args.asked.0 c.args.asked.1 (seen_bare c.args.line)
@@ -27,9 +27,9 @@ returns-then-not-branch c = λ t writes said.
 
 pub returns : goal.returns
 returns c =
-    let seen_is = c.deref-2.ensures.value ∙ c.in_ok-seen.ensures
+    let seen_is = c.deref-2.ensures.value ∙ c.in_ok-put_seen.ensures
     ∙ ap (λ x. seen_in x c.deref.result.now) c.cpu.ensures
-    ∙ ap (seen_in c.args.set.now.cpu) (c.deref.ensures.value ∙ c.in_ok-met.ensures) in
+    ∙ ap (seen_in c.args.set.now.cpu) (c.deref.ensures.value ∙ c.in_ok-put_met.ensures) in
     let f = c.in-Some.ensures in
     let done = at_true c.in_ok-acts_said.field-0 _ _ c.if-not-branch.false c.in_ok-acts_said.ensures in
     vread_done c.args.lists.now c.args.set.now c.args.asked.0 c.args.asked.1 (seen_bare c.args.line)

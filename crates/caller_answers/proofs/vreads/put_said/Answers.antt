@@ -5,7 +5,7 @@ use Rattle.caller_answers.proofs.vreads.put_said.Goals as goal
 
 pub loop-said-preserved : goal.loop-said-preserved
 loop-said-preserved c = λ k x is.
-    rw c.in_ok-push.ensures.items (found_in_front c.loop-said.said.items _ k x (c.loop-said.invariant k x is))
+    rw c.in_ok-push-2.ensures.items (found_in_front c.loop-said.said.items _ k x (c.loop-said.invariant k x is))
 
 pub returns : goal.returns
 returns c = record {
