@@ -123,12 +123,12 @@ impl Caller {
     /// # Errors
     ///
     /// `AllocError` where there is no memory for them.
-    pub fn into_lists(self, alloc: Global) -> Result<Vec<Vec<StateEntry>>, AllocError>
-        ensures { IfOk result (λ lists. lists_in lists.items ≡ map (λ l. l.entries) self.left) }
+    pub fn lists(&self, alloc: Global) -> Result<Vec<Vec<StateEntry>>, AllocError>
+        ensures { IfOk result (λ lists. lists_in lists.items ≡ map (λ l. l.entries) self.now.left) }
     {
-        let mut lists = Vec::new(alloc);
-        for state in self.states {
-            lists.push(state.into_entries())?;
+        let mut lists = Vec::with_capacity(alloc, STATES)?;
+        for state in &self.states {
+            lists.push(state.list(alloc)?)?;
         }
         Ok(lists)
     }

@@ -145,10 +145,14 @@ impl Leaving {
     }
 
     /// The list.
-    pub fn into_entries(self) -> Vec<StateEntry>
-        ensures { entries_in result.items ≡ self.entries }
+    ///
+    /// # Errors
+    ///
+    /// `AllocError` where there is no memory for it.
+    pub fn list(&self, alloc: Global) -> Result<Vec<StateEntry>, AllocError>
+        ensures { IfOk result (λ list. entries_in list.items ≡ self.now.entries) }
     {
-        self.entries
+        Vec::from_slice(alloc, &self.entries)
     }
 
     /// A call begins: the caller's last stamp before it and behind it, and the number of its event.

@@ -46,7 +46,7 @@ fn caller_lists(
     for call in calls {
         caller.call(call)?;
     }
-    caller.into_lists(alloc)
+    caller.lists(alloc)
 }
 
 // Those of all callers.
