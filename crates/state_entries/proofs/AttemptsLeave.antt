@@ -1,5 +1,5 @@
 -- An attempt leaves the entries that the steps behind it tell.
-use Rattle.std.proofs.Common.{◌≡◌, ℕ, Bool, true, false, Option, Some, List, [], ◌∷◌, ◌++◌, refl, sym, subst, ap, ◌∙◌, append_assoc, append-nil}
+use Rattle.std.proofs.Common.{◌≡◌, ℕ, Bool, true, false, Option, Some, List, ◌∷◌, ◌++◌, refl, sym, subst, ap, ◌∙◌, append_assoc, append-nil}
 use Rattle.std.specs.Prelude.{◌==◌, MatchBool, if◌then◌else◌}
 use Rattle.key_names.specs.declared.names.Step.{Step}
 use Rattle.key_names.specs.declared.names.Step.TheVariants.{Look}
@@ -9,17 +9,17 @@ use Rattle.key_names.specs.Book.{Lists}
 use Rattle.key_names.specs.Calls.{Setting, BoundAct}
 use Rattle.key_names.specs.Deeds.{Deed, looked, deeds_of}
 use Rattle.key_names.specs.VgetrandomState.{VgetrandomState, state_left}
-use Rattle.key_names.specs.BatchCopy.{state_after_copy, copy_entries, block_after_copy}
-use Rattle.key_names.specs.Vgetrandom.{CpuPlace, SystemAnswer, read, HostStep, publishes, system_call, at_point, Attempt, holds, outdated, attempt_behind, wipe_entry, rekey_entry, AtPoint, FromServe, Keyed, AfterKeyRead, FromWritten, FromStart, IsAttempt}
-use Rattle.key_names.specs.VreadSteps.{PointReached, points_of, published_by, Shows}
+use Rattle.key_names.specs.BatchCopy.{state_after_copy, copy_entries}
+use Rattle.key_names.specs.Vgetrandom.{CpuPlace, SystemAnswer, HostStep, publishes, system_call, at_point, Attempt, holds, outdated, attempt_behind, wipe_entry, rekey_entry, AtPoint, FromServe, Keyed, AfterKeyRead, FromWritten, FromStart, IsAttempt}
+use Rattle.key_names.specs.VreadSteps.{points_of, published_by, Shows}
 use Rattle.key_names.proofs.Vgetrandom.Attempts.{copy_attempt}
 use Rattle.key_names.proofs.Unique.UniqueAttempts.{AllReady, ready_at}
-use Rattle.vread_course.proofs.AttemptShapes.{reached, Copied, copied as copy_shape}
+use Rattle.vread_course.proofs.AttemptShapes.{reached, copied as copy_shape}
 use Rattle.vread_course.proofs.CallPoints.{attempt_points}
-use Rattle.state_entries.specs.Outline.{IsOutline, outlined}
-use Rattle.state_entries.specs.Left.{Left, Behind, wipes_at, met, copied, keyed, key_in_front, or_key, with_key, looked_again, from_serve, from_written, from_start, attempted}
+use Rattle.state_entries.specs.Outline.{IsOutline}
+use Rattle.state_entries.specs.Left.{Left, Behind, wipes_at, met, copied, keyed, with_key, from_serve, from_written, from_start, attempted}
 use Rattle.state_entries.proofs.Outlines.{generation_test, same_entries, same_block, copy_outline, met_outline, met_entries}
-use Rattle.state_entries.proofs.KeySteps.{FirstStep, first_step, KeyTold, key_told}
+use Rattle.state_entries.proofs.KeySteps.{FirstStep, first_step, key_told}
 
 -- an attempt gives what is left behind it, of a state that was left these entries before
 pub record Gives (before : List VEntry) (rest : List Step) (a : Attempt) (b : Behind) : Type 0 where

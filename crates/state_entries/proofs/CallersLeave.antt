@@ -1,12 +1,11 @@
 -- A caller's calls leave the lists of whatever they mean.
-use Rattle.std.proofs.Common.{◌≡◌, ℕ, zero, suc, ◌+◌, ◌<◌, ◌≤◌, ◌⊎◌, inl, inr, Bool, true, false, List, [], ◌∷◌, ◌++◌, map, refl, sym, subst, ap, ◌∙◌, append_assoc, append-nil, arith, Some, length, replicate}
+use Rattle.std.proofs.Common.{◌≡◌, ℕ, zero, suc, ◌+◌, ◌<◌, ◌≤◌, Bool, true, false, List, [], ◌∷◌, ◌++◌, map, refl, sym, subst, ap, ◌∙◌, append_assoc, append-nil, arith, length, replicate}
 use Rattle.std.specs.Prelude.{◌==◌, if◌then◌else◌, slice_get, slice_set, unwrap_or, nat_lt}
 use Rattle.std.proofs.lemmas.Bool.Decides.{nat_tests}
 use Rattle.std.proofs.lemmas.Option.{slice_get_past}
 use Rattle.std.specs.List.{fold, range_with_len}
 use Rattle.std.proofs.lemmas.Bool.{eqb-true, eq-eqb}
 use Rattle.key_names.specs.declared.entries.VEntry.{VEntry}
-use Rattle.key_names.specs.declared.entries.VEntry.TheVariants.{Wipe}
 use Rattle.key_names.specs.declared.events.Event.{Event}
 use Rattle.key_names.specs.declared.events.Event.TheVariants.{Drop, State}
 use Rattle.key_names.specs.Book.{Lists}
@@ -18,9 +17,9 @@ use Rattle.key_names.specs.Meaning.{CallerState, caller_start, CallMeaning, curr
 use Rattle.key_names.specs.IsTranscript.{CallsMean, EachOfCall, EachLine, entries_of_state, CallerMeans, EachCaller, state_lists}
 use Rattle.key_names.proofs.Transcripts.TranscriptStates.{state_at, set_here, set_other, length_set}
 use Rattle.state_entries.specs.Outline.{wiped_outline, IsBetweenCalls}
-use Rattle.state_entries.specs.Left.{Left, nothing_left, wiped, vread_left}
+use Rattle.state_entries.specs.Left.{Left, nothing_left, wiped}
 use Rattle.state_entries.specs.Callers.{States, first_states, current_left, with_left, states_after, states_after_event, lists_left}
-use Rattle.state_entries.specs.Laws.{Leaves, CallsLeave, AreStateLists}
+use Rattle.state_entries.specs.Laws.{CallsLeave}
 use Rattle.state_entries.proofs.VreadsLeave.{vread_leaves}
 
 -- what was left of the state of a number
@@ -135,11 +134,12 @@ current_stands s c st = go (nat_lt s.current 16) refl
     go : (b : Bool) → nat_lt s.current 16 ≡ b → IsBetweenCalls (current_left s).outline (current_state c)
     go true e =
         let below : s.current < 16 = grind (arith, nat_tests) in
-        stands_as refl (ap (λ i. unwrap_or (slice_get c.states i) wiped_state) (sym st.current))
-        (st.each s.current below)
+        let P : ℕ → Type 0 = λ k. IsBetweenCalls (current_left s).outline (state_at c k) in
+        subst P st.current (st.each s.current below)
     go false e =
         let above : 16 ≤ s.current = grind (arith, nat_tests) in
-        stands_as (ap (λ o. unwrap_or o nothing_left) (slice_get_past s.left s.current (omega (arith, st.count))))
+        stands_as {l = current_left s} {l' = nothing_left} {x = current_state c} {x' = wiped_state}
+        (ap (λ o. unwrap_or o nothing_left) (slice_get_past s.left s.current (omega (arith, st.count))))
         (ap (λ o. unwrap_or o wiped_state)
         (slice_get_past c.states c.current (omega (arith, st.states, st.current)))) wiped_stands
 
@@ -240,7 +240,8 @@ calls_leave lists setting calls ms means =
     let all = calls_go lists first_states (caller_start setting) calls ms (at_start setting) means.follows means.deeds in
     listed (fold states_after first_states calls).left 0 16 (λ k. entries_of_state k ms) all.count
     (λ k below. all.entries k below
-    ∙ ap (λ (l : Left). l.entries ++ entries_of_state k ms) (replicated 16 k))
+    ∙ ap (λ (l : Left). l.entries ++ entries_of_state k ms) (replicated 16 k)
+    ∙ (let same : k ≡ 0 + k = omega arith in ap (λ j. entries_of_state j ms) same))
 
 pub all_leave : (lists : Lists) (settings : ℕ → Setting) (c : ℕ) (callers : List (List Call))
     (ms : List (List CallMeaning)) →

@@ -1,5 +1,5 @@
 -- The steps of a system call that read a key: the key is told by its visit of a CPU.
-use Rattle.std.proofs.Common.{◌≡◌, ℕ, ◌≤◌, ◌⊎◌, inl, inr, Bool, true, false, Option, Some, None, List, [], ◌∷◌, ◌++◌, refl, sym, subst, ap, ◌∙◌, arith}
+use Rattle.std.proofs.Common.{◌≡◌, ℕ, ◌≤◌, ◌⊎◌, inl, inr, Bool, true, false, Option, Some, None, List, [], ◌∷◌, ◌++◌, refl, subst, ap, ◌∙◌, arith}
 use Rattle.std.specs.Prelude.{◌==◌, ◌&&◌, MatchBool, slice_get}
 use Rattle.std.specs.List.{AllByRecursion}
 use Rattle.std.proofs.lemmas.Bool.{eqb-true}
@@ -15,9 +15,9 @@ use Rattle.key_names.specs.Answers.{was_interrupted, served_bytes}
 use Rattle.key_names.specs.Book.{Lists, cpu_list}
 use Rattle.key_names.specs.Calls.{Setting}
 use Rattle.key_names.specs.Deeds.{Deed, looked, at_pool, at_base, at_cpu, nothing_there, BaseVisit, CpuVisit, deed_or, deed_at, deeds_of, pool_visit, base_visit, cpu_visit}
-use Rattle.key_names.specs.Forms.{SysForm, ReadForm, CpuReadForm, Waited, WaitedInVain}
+use Rattle.key_names.specs.Forms.{SysForm, ReadForm, Waited, WaitedInVain}
 use Rattle.key_names.specs.Vgetrandom.{SystemAnswer, read}
-use Rattle.key_names.specs.VreadSteps.{answer_behind, answer_with, errno_of, last_place, looks_of, NeverFall}
+use Rattle.key_names.specs.VreadSteps.{answer_behind, answer_with, errno_of, last_place, NeverFall}
 use Rattle.key_names.proofs.Transcripts.KeyVisits.{answers_done}
 use Rattle.key_names.proofs.Unique.UniqueAttempts.{AllReady, ready_at}
 use Rattle.state_entries.specs.declared.leaving.KeyRead.{KeyRead}

@@ -2,4 +2,5 @@ pub mod Outlines
 pub mod KeySteps
 pub mod AttemptsLeave
 pub mod VreadsLeave
+pub mod CallerSteps
 pub mod CallersLeave

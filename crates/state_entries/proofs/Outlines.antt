@@ -1,15 +1,15 @@
 -- An outline goes through a copy, a wipe and a new key as its state does, and tells the same entries.
-use Rattle.std.proofs.Common.{◌≡◌, ℕ, zero, suc, ◌+◌, ◌-◌, Bool, true, false, List, [], ◌∷◌, ◌++◌, refl, sym, ap, ◌∙◌, append_assoc, append-nil, arith}
-use Rattle.std.specs.Prelude.{◌==◌, ◌%◌, nat_le, if◌then◌else◌}
+use Rattle.std.proofs.Common.{◌≡◌, ℕ, zero, suc, ◌+◌, ◌-◌, ◌<◌, Bool, true, false, [], ◌++◌, refl, sym, ap, ◌∙◌, append_assoc, append-nil, arith}
+use Rattle.std.specs.Prelude.{◌==◌, ◌/◌, ◌%◌, nat_le, if◌then◌else◌}
 use Rattle.std.proofs.lemmas.Bool.{eqb-true, eq-eqb}
-use Rattle.key_names.specs.declared.entries.VEntry.{VEntry}
+use Rattle.std.proofs.lemmas.Bool.Decides.{nat_tests}
 use Rattle.key_names.specs.VgetrandomState.{VgetrandomState, state_left}
-use Rattle.key_names.specs.BatchCopy.{has_left, whole_blocks, new_batch_bytes, state_of_same_batch, state_of_new_batch, state_after_copy, block_after_copy, copy_entries}
+use Rattle.key_names.specs.BatchCopy.{has_left, whole_blocks, new_batch_bytes, state_of_same_batch, state_of_new_batch, state_after_copy, block_after_copy, serve_entry, refill_entries, copy_entries}
 use Rattle.key_names.specs.Vgetrandom.{wipe_entry}
 use Rattle.key_names.specs.VreadSteps.{published_by}
 use Rattle.state_entries.specs.declared.outline.Outline.{Outline}
 use Rattle.state_entries.specs.Outline.{IsOutline, outlined}
-use Rattle.state_entries.specs.Left.{Left, met, copied}
+use Rattle.state_entries.specs.Left.{Left, left_more, with_served, met, refilled, copied}
 
 -- ---- the generation
 
@@ -82,6 +82,28 @@ copy_outline l s c n is = record {
   served = pos_after (has_left s n) s (outlined l.outline) c n is.served
       ∙ ap (λ b. (copy_if b (outlined l.outline) c n).pos) (sym (same_left l.outline s n is));
 }
+
+-- a copy of more than is left of the batch
+pub copied_beyond : (n c : ℕ) (l : Left) → has_left (outlined l.outline) n ≡ false → copied n c l
+    ≡ refilled c ((n - (96 - l.outline.served)) / 64) ((n - (96 - l.outline.served)) % 64)
+    (left_more (serve_entry l.outline.served (96 - l.outline.served)) l)
+copied_beyond n c l beyond =
+    let o = outlined l.outline in
+    let front = serve_entry l.outline.served (96 - l.outline.served) in
+    let behind = refill_entries c (whole_blocks o n) (new_batch_bytes o n) in
+    ap (λ b. with_served (copy_if b o c n).pos
+    (left_more (if b then serve_entry l.outline.served n else front ++ behind) l)) beyond
+    ∙ ap (λ es. with_served (new_batch_bytes o n) (record l { entries = es }))
+    (sym (append_assoc l.entries front behind))
+
+pub refilled_is : (n c served left whole last : ℕ) (l m new : Left) → served ≡ l.outline.served → left ≡ 96 - served →
+    left < n → m ≡ left_more (serve_entry served left) l → whole ≡ (n - left) / 64 → last ≡ (n - left) % 64 →
+    new ≡ refilled c whole last m → new ≡ copied n c l
+refilled_is n c served left whole last l m new is left_is more m_is whole_is last_is new_is =
+    let beyond : has_left (outlined l.outline) n ≡ false =
+    (let low : 96 - l.outline.served < n = omega (arith, is, left_is, more) in
+    let t : nat_le n (96 - l.outline.served) ≡ false = grind (arith, nat_tests) in t) in
+    rw (new_is, m_is, whole_is, last_is, left_is, is) (sym (copied_beyond n c l beyond))
 
 -- ---- a wipe
 

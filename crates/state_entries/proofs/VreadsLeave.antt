@@ -3,7 +3,6 @@ use Rattle.std.proofs.Common.{◌≡◌, ℕ, zero, suc, ◌≤◌, Bool, true, 
 use Rattle.std.specs.Prelude.{◌==◌, ◌&&◌, ◌||◌, not, MatchBool, if◌then◌else◌}
 use Rattle.key_names.specs.declared.names.Step.{Step}
 use Rattle.key_names.specs.declared.names.Step.TheVariants.{Look}
-use Rattle.key_names.specs.declared.entries.VEntry.{VEntry}
 use Rattle.key_names.specs.Book.{Lists}
 use Rattle.key_names.specs.Calls.{Setting, BoundAct}
 use Rattle.key_names.specs.Deeds.{Deed, looked, deeds_of}
@@ -11,13 +10,13 @@ use Rattle.key_names.specs.Flags.{is_bad}
 use Rattle.key_names.specs.Forms.{Looked}
 use Rattle.key_names.specs.VgetrandomState.{VgetrandomState}
 use Rattle.key_names.specs.BatchCopy.{has_left, whole_blocks, new_batch_bytes, state_of_same_batch, state_of_new_batch, state_after_copy, serves_locally}
-use Rattle.key_names.specs.Vgetrandom.{HostStep, publishes, AttemptEnd, holds, outdated, Attempt, Outcome, outcome_behind, BySystem, ByBatch, ByNothing, AfterAttempt, AfterBoth, SecondAttempt, FirstAttempt, FromPublished, FromLook, IsCall}
+use Rattle.key_names.specs.Vgetrandom.{HostStep, publishes, AttemptEnd, holds, outdated, Attempt, Outcome, outcome_behind, BySystem, ByNothing, AfterAttempt, AfterBoth, SecondAttempt, FirstAttempt, FromPublished, FromLook}
 use Rattle.key_names.specs.VreadSteps.{PointReached, points_of, published_by, Shows, WipesStand, looks_of, NeverFall}
-use Rattle.key_names.specs.Meaning.{CallMeaning, current_state, with_state, ByLocalCopy, ByVgetrandom, tries_local, LocalOrCall, VreadMeans}
+use Rattle.key_names.specs.Meaning.{CallMeaning, current_state, ByLocalCopy, ByVgetrandom, LocalOrCall, VreadMeans}
 use Rattle.key_names.proofs.Unique.UniqueAttempts.{AllReady}
 use Rattle.vread_course.proofs.CallPoints.{attempt_points, first_as_told, second_not_wiped}
 use Rattle.state_entries.specs.Outline.{IsOutline, IsBetweenCalls, outlined}
-use Rattle.state_entries.specs.Left.{Left, Behind, copied, attempted, tried_again, tried_twice, copies_alone, from_look, first_look, vread_left}
+use Rattle.state_entries.specs.Left.{Left, Behind, copied, attempted, tried_twice, copies_alone, first_look, vread_left}
 use Rattle.state_entries.specs.Laws.{Leaves, VreadLeaves}
 use Rattle.state_entries.proofs.Outlines.{same_test, sym_test, generation_test, same_entries, same_left, copy_outline}
 use Rattle.state_entries.proofs.KeySteps.{FirstStep, first_step, all_ready}

@@ -389,6 +389,25 @@ impl Leaving {
         self.try_twice(acts, len, steps)
     }
 
+    // The cases of a `vread`.
+    fn follow(
+        &mut self,
+        len: u32,
+        flags: u32,
+        acts: &[ActLine<'_>],
+        steps: &[Step],
+    ) -> Result<(), AllocError>
+        ensures { OnOk result (self.new ≡ vread_left len flags (map seen_act acts.now) self.old steps.now) }
+    {
+        if flags::are_bad(flags) || len == 0 {
+            return Ok(());
+        }
+        match steps {
+            [Step::Look(found), rest @ ..] => self.look(acts, len, *found, rest),
+            _ => Ok(()),
+        }
+    }
+
     /// Goes through a `vread` of `len` bytes with these flags and acts, by the steps of its line. Where these are not the
     /// steps of one, what then stands in the list is not said.
     ///
@@ -407,12 +426,7 @@ impl Leaving {
             deeds_of lists steps.now ≡ m.own.deeds → IsBetweenCalls self.old.outline (current_state m.before) →
             OnOk result (Leaves m self.old self.new) }
     {
-        if flags::are_bad(flags) || len == 0 {
-            return Ok(());
-        }
-        match steps {
-            [Step::Look(found), rest @ ..] => self.look(acts, len, *found, rest),
-            _ => Ok(()),
-        }
+        self.follow(len, flags, acts, steps)?;
+        Ok(())
     }
 }

@@ -1,5 +1,4 @@
-use Rattle.std.proofs.Common.{◌≡◌, ◌++◌, List, map, drop}
-use Rattle.key_names.specs.declared.entries.VEntry.{VEntry}
+use Rattle.std.proofs.Common.{◌≡◌, ◌++◌, map, drop}
 use Rattle.state_entries.specs.Entries.{lists_in}
 use Rattle.state_entries.specs.Left.{Left}
 use Rattle.state_entries.proofs.caller.Caller.lists.Given as goal
