@@ -1,0 +1,6 @@
+pub mod Outlines
+pub mod KeySteps
+pub mod AttemptsLeave
+pub mod VreadsLeave
+pub mod CallerSteps
+pub mod CallersLeave
