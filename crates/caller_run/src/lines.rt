@@ -1,5 +1,5 @@
 //! The lines that tell of a caller's events.
-ghost use Rattle.std.specs.Prelude.{◌+◌, ◌<◌, ◌≤◌, ◌^◌, ◌∷◌, ◌++◌, [], length};
+ghost use Rattle.std.specs.Prelude.{◌≡◌, ◌+◌, ◌<◌, ◌≤◌, ◌^◌, ◌∷◌, ◌++◌, [], length};
 ghost use Rattle.std.specs.List.{AllByRecursion};
 ghost use Rattle.key_names.specs.Texts.TranscriptGrammar.{StepFits};
 ghost use Rattle.transcript_text.specs.Views.{bytes_of, seen, seen_shown};
