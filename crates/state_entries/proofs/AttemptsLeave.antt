@@ -152,7 +152,8 @@ module _ (lists : Lists) (set : Setting) (more : List HostStep) where
             gives = λ acts l wipes is.
                 let l1 = met (wipes_at acts 1) l in
                 let is1 = met_outline (wipes_at acts 1) st.wiped l s wipes.start is in
-                gives_at l.entries k.rest a _ _ _ (st.attempt_is ∙ ap (attempt_behind (wipe_entry st.wiped)) cp.attempt_is)
+                gives_at l.entries k.rest a _ _ _
+                (st.attempt_is ∙ ap (attempt_behind (wipe_entry st.wiped)) cp.attempt_is)
                 (looks acts l
                 ∙ ap (λ b. if b then from_serve acts n c l1 f.rest
                 else from_written acts n c (record l1 { outline = record l1.outline { found = g } }) f.rest)

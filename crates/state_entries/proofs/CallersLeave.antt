@@ -237,7 +237,8 @@ listed (x ∷ xs) from (suc n) f len each =
 
 pub calls_leave : CallsLeave
 calls_leave lists setting calls ms means =
-    let all = calls_go lists first_states (caller_start setting) calls ms (at_start setting) means.follows means.deeds in
+    let all = calls_go lists first_states (caller_start setting) calls ms (at_start setting) means.follows
+    means.deeds in
     listed (fold states_after first_states calls).left 0 16 (λ k. entries_of_state k ms) all.count
     (λ k below. all.entries k below
     ∙ ap (λ (l : Left). l.entries ++ entries_of_state k ms) (replicated 16 k)

@@ -2,5 +2,4 @@ pub mod Outlines
 pub mod KeySteps
 pub mod AttemptsLeave
 pub mod VreadsLeave
-pub mod CallerSteps
 pub mod CallersLeave

@@ -13,15 +13,13 @@ use Rattle.state_entries.specs.Left.{Left, left_more, with_served, met, refilled
 
 -- ---- the generation
 
-published_above : (g : ℕ) → published_by (suc g) ≡ suc (suc g)
-published_above g = refl
-
 published_once : (f g : ℕ) → published_by f ≡ published_by g → f ≡ g
 published_once zero zero e = refl
 published_once zero (suc g) e = absurd (omega arith)
 published_once (suc f) zero e = absurd (omega arith)
 published_once (suc f) (suc g) e = omega arith
 
+-- two looks found one generation exactly where they are one
 pub same_test : (f g : ℕ) → (published_by f == published_by g) ≡ (f == g)
 same_test f g = go (published_by f == published_by g) (f == g) refl refl
   where
@@ -96,6 +94,7 @@ copied_beyond n c l beyond =
     ∙ ap (λ es. with_served (new_batch_bytes o n) (record l { entries = es }))
     (sym (append_assoc l.entries front behind))
 
+-- the same, of a state whose front was served and which was refilled then
 pub refilled_is : (n c served left whole last : ℕ) (l m new : Left) → served ≡ l.outline.served → left ≡ 96 - served →
     left < n → m ≡ left_more (serve_entry served left) l → whole ≡ (n - left) / 64 → last ≡ (n - left) % 64 →
     new ≡ refilled c whole last m → new ≡ copied n c l

@@ -278,19 +278,20 @@ module _ (lists : Lists) (n flags : ℕ) (acts : List BoundAct) (steps : List St
     stands = h.stands;
   }
 
+  -- a call on the current state, by whether its flags are bad
+  abbrev CallBy : ByVgetrandom n flags acts m → Bool → Type 0
+  CallBy v bad = MatchBool bad (BySystem n flags s v.steps v.outcome) (FromLook n flags s v.steps v.outcome)
+
   by_call : ByVgetrandom n flags acts m → (bad none : Bool) → is_bad flags ≡ bad → (n == 0) ≡ none →
       (bad ≡ false → none ≡ false → Called) →
       Leaves m l (if bad || none then l else first_look acts n l steps)
   by_call v true none p q alone =
-      let P : Bool → Type 0 = λ b. MatchBool b (BySystem n flags s v.steps v.outcome) (FromLook n flags s v.steps v.outcome) in
-      of_call v l (system_leaves lists m.before.setting n flags s l v.steps v.outcome (subst P p v.is_call) is)
+      of_call v l (system_leaves lists m.before.setting n flags s l v.steps v.outcome (subst (CallBy v) p v.is_call) is)
   by_call v false true p q alone =
-      let P : Bool → Type 0 = λ b. MatchBool b (BySystem n flags s v.steps v.outcome) (FromLook n flags s v.steps v.outcome) in
-      of_call v l (empty_leaves lists m.before.setting n flags s l v.steps v.outcome (subst P p v.is_call) is q)
+      of_call v l (empty_leaves lists m.before.setting n flags s l v.steps v.outcome (subst (CallBy v) p v.is_call) is q)
   by_call v false false p q alone =
-      let P : Bool → Type 0 = λ b. MatchBool b (BySystem n flags s v.steps v.outcome) (FromLook n flags s v.steps v.outcome) in
       of_call v _ (look_leaves lists m.before.setting n flags acts s l m.own.deeds steps v.steps v.outcome
-      (subst P p v.is_call) v.shows deeds looks v.wipes is q (alone refl refl))
+      (subst (CallBy v) p v.is_call) v.shows deeds looks v.wipes is q (alone refl refl))
 
   by_copy : (g : ℕ) (rest : List Deed) → ByLocalCopy n rest m → Leaves m l (copied n 0 l)
   by_copy g rest c = record {
@@ -337,7 +338,8 @@ module _ (lists : Lists) (n flags : ℕ) (acts : List BoundAct) (steps : List St
       go true true c ea eb ec x =
           let h = sym ea ∙ local_is g no_acts ∙ ap (λ b. not b && copies_alone acts n g l) eb in absurd cc
       go true false false ea eb ec x =
-          let h = sym ea ∙ local_is g no_acts ∙ ap (λ b. not (g == 0) && b) ec ∙ ap (λ b. not b && false) eb in absurd cc
+          let h = sym ea ∙ local_is g no_acts ∙ ap (λ b. not (g == 0) && b) ec ∙ ap (λ b. not b && false) eb in
+          absurd cc
       go false b c ea eb ec x =
           let called : Called = λ g' rest' e' some. (
           let same : g' ≡ g = same_look g' g rest' here.0 (sym e' ∙ here.1) in
@@ -346,13 +348,14 @@ module _ (lists : Lists) (n flags : ℕ) (acts : List BoundAct) (steps : List St
           sym (ap (λ b. not b && copies_alone acts n g l) one) ∙ sym (local_is g no_acts) ∙ ea in
           ap (λ x. copies_alone acts n x l) same ∙ none
           ) in
-          let h = by_call x false false p q (λ bad none. called) in h
+          by_call x false false p q (λ bad none. called)
 
   pub by_ways : VreadMeans n flags acts m → Leaves m l (vread_left n flags acts l steps)
   by_ways v = go (length acts == 0) (n == 0) (is_bad flags) refl refl refl v.ways
     where
       go : (a z b : Bool) → (length acts == 0) ≡ a → (n == 0) ≡ z → is_bad flags ≡ b →
-          MatchBool (a && (not z && not b)) (Looked (LocalOrCall n flags acts m) m.own.deeds) (ByVgetrandom n flags acts m) →
+          MatchBool (a && (not z && not b)) (Looked (LocalOrCall n flags acts m) m.own.deeds)
+          (ByVgetrandom n flags acts m) →
           Leaves m l (if b || z then l else first_look acts n l steps)
       go true false false ea ez eb x = by_look x ea eb ez
       go true false true ea ez eb x = by_call x true false eb ez (λ bad none. absurd cc)
