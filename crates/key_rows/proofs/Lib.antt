@@ -1,0 +1,9 @@
+-- What stands in proofs/.
+mod Stands
+mod Along
+mod Below
+mod Tells
+mod Cuts
+mod Marks
+mod Groups
+mod HeldIsLive

@@ -1,0 +1,115 @@
+//! The lists of a book up to a stamp.
+ghost use Rattle.std.specs.Prelude.{◌≡◌, IfOk, List, map, slice_get};
+ghost use Rattle.key_names.specs.declared.entries.BaseEntry.{BaseEntry as BookBase};
+ghost use Rattle.key_names.specs.declared.entries.CpuEntry.{CpuEntry as BookCpu};
+ghost use Rattle.key_names.specs.Book.{Book, Visit, entries_of};
+ghost use Rattle.key_uses.specs.KeptEntries.{base_entries, cpu_entries};
+ghost use Rattle.key_uses.specs.Moments.{visits_to};
+ghost use Rattle.key_rows.specs.Told.{cpu_lists};
+ghost use Rattle.key_rows.specs.Cut.{is_by, lane_moments, stamps_of, visit_stamps, KeepsVisits};
+
+use crate::moments::{Moment, Moments};
+use list_replay::{KeptBase, KeptCpu, Lists};
+use std::alloc::{AllocError, Global};
+
+// Whether the visit at a place was made at this stamp or before.
+fn is_by(moments: &[Moment], place: usize, stamp: u64) -> bool
+    ensures { result ≡ is_by stamp (slice_get moments.now place) }
+{
+    match moments.get(place) {
+        Some(moment) => moment.stamp <= stamp,
+        None => false,
+    }
+}
+
+// The moments of a CPU's visits.
+fn cpu_moments(moments: &Moments, cpu: usize) -> &[Moment]
+    ensures { result.now ≡ lane_moments (slice_get moments.now.cpus.items cpu) }
+{
+    match moments.cpus.get(cpu) {
+        Some(lane) => lane,
+        None => &[],
+    }
+}
+
+// The visits of the base up to a stamp.
+fn base_to(
+    alloc: Global,
+    stamp: u64,
+    base: &[KeptBase],
+    moments: &[Moment],
+) -> Result<Vec<KeptBase>, AllocError>
+    ensures { (visits : List (Visit BookBase)) → base_entries base.now ≡ entries_of visits →
+        stamps_of moments.now ≡ visit_stamps visits →
+        IfOk result (λ cut. base_entries cut.items ≡ entries_of (visits_to stamp visits)) }
+{
+    let mut cut = Vec::new(alloc);
+    for (place, kept) in base.iter().enumerate() {
+        if is_by(moments, place, stamp) {
+            cut.push(*kept)?;
+        }
+    }
+    Ok(cut)
+}
+
+// The visits of a CPU up to a stamp.
+fn cpu_to(
+    alloc: Global,
+    stamp: u64,
+    lane: &[KeptCpu],
+    moments: &[Moment],
+) -> Result<Vec<KeptCpu>, AllocError>
+    ensures { (visits : List (Visit BookCpu)) → cpu_entries lane.now ≡ entries_of visits →
+        stamps_of moments.now ≡ visit_stamps visits →
+        IfOk result (λ cut. cpu_entries cut.items ≡ entries_of (visits_to stamp visits)) }
+{
+    let mut cut = Vec::new(alloc);
+    for (place, kept) in lane.iter().enumerate() {
+        if is_by(moments, place, stamp) {
+            cut.push(*kept)?;
+        }
+    }
+    Ok(cut)
+}
+
+// The visits of all CPUs up to a stamp.
+fn cpus_to(
+    alloc: Global,
+    stamp: u64,
+    kept: &Lists,
+    moments: &Moments,
+) -> Result<Vec<Vec<KeptCpu>>, AllocError>
+    ensures { (book : Book) → KeepsVisits book kept.now moments.now →
+        IfOk result (λ cut. cpu_lists cut.items ≡ map entries_of (map (visits_to stamp) book.cpus)) }
+{
+    let mut cpus = Vec::new(alloc);
+    for (cpu, lane) in kept.cpus.iter().enumerate() {
+        cpus.push(cpu_to(alloc, stamp, lane, cpu_moments(moments, cpu))?)?;
+    }
+    Ok(cpus)
+}
+
+/// What is kept of a book's base and CPUs up to a stamp; nothing is kept of its pool, which holds no key.
+///
+/// # Errors
+///
+/// `AllocError` where there is no memory for it.
+pub fn kept_to(
+    alloc: Global,
+    stamp: u64,
+    kept: &Lists,
+    moments: &Moments,
+) -> Result<Lists, AllocError>
+    ensures base { (book : Book) → KeepsVisits book kept.now moments.now →
+        IfOk result (λ cut. base_entries cut.base.items ≡ entries_of (visits_to stamp book.base)) }
+    ensures cpus { (book : Book) → KeepsVisits book kept.now moments.now →
+        IfOk result (λ cut. cpu_lists cut.cpus.items ≡ map entries_of (map (visits_to stamp) book.cpus)) }
+{
+    let base = base_to(alloc, stamp, &kept.base, &moments.base)?;
+    let cpus = cpus_to(alloc, stamp, kept, moments)?;
+    Ok(Lists {
+        pool: Vec::new(alloc),
+        base,
+        cpus,
+    })
+}
