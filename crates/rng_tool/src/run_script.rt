@@ -46,16 +46,19 @@ fn run_script<R: Threads + Wait + Sync, K: Sink, G: Gate>(
 fn answer<R: Threads + Wait + Sync, K: Sink, G: Gate>(
     rt: &R,
     alloc: Global,
-    input: &[u8],
+    input: Vec<u8>,
     sink: &mut K,
     gate: &G,
 ) -> Status
-    ensures ends { WritesEnds (CallsFor input.now) result (K.held sink.old) (K.held sink.new) }
+    ensures ends { WritesEnds (CallsFor input.items) result (K.held sink.old) (K.held sink.new) }
     ensures cut { result ≡ Status.WriteFault → Rose (K.faults sink.old) (K.faults sink.new) }
     ensures silent { result ≡ Status.NoMemory → sink.new ≡ sink.old }
     ensures never_falls { K.faults sink.old ≤ K.faults sink.new }
 {
-    match read(alloc, input) {
+    let found = read(alloc, &input);
+    // A run needs the script and no more of its text, which may be long.
+    drop(input);
+    match found {
         Ok(script) => run_script(rt, alloc, &script, sink, gate),
         Err(ScriptError::Fault(fault)) => put_answer(Status::Refused, &refusal_line(fault), sink),
         Err(ScriptError::NoMemory) => Status::NoMemory,
@@ -81,5 +84,5 @@ pub(crate) fn run_input<R: Threads + Wait + Sync, S: Source, K: Sink, G: Gate>(
         Err(ReadError::Fault) => return Status::ReadFault,
         Err(ReadError::NoMemory) => return Status::NoMemory,
     };
-    answer(rt, alloc, &input, sink, gate)
+    answer(rt, alloc, input, sink, gate)
 }
