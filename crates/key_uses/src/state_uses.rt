@@ -25,17 +25,22 @@ pub struct StateOf {
 
 /// The keys of a vgetrandom state and of its batch.
 #[derive(Clone, Copy)]
-pub(crate) struct StateKeys {
-    pub(crate) key: Option<KeyName>,
+pub struct StateKeys {
+    pub key: Option<KeyName>,
     /// How many refills there were.
-    pub(crate) refills: u64,
-    pub(crate) batch_key: Option<KeyName>,
+    pub refills: u64,
+    pub batch_key: Option<KeyName>,
     /// The block at which the batch begins.
-    pub(crate) batch_from: u64,
+    pub batch_from: u64,
 }
 
-// The first byte of a block, and `more` bytes behind it. No run asks for so much that it has no number.
-fn byte_of(block: u64, more: u64) -> Result<u64, AllocError>
+/// The byte of a key's keystream that stands `more` bytes behind the first of a block. No run asks for so much that it
+/// has no number.
+///
+/// # Errors
+///
+/// `AllocError` where it has none.
+pub fn byte_of(block: u64, more: u64) -> Result<u64, AllocError>
     ensures { IfOk result (λ byte. byte ≡ 64 * block + more) }
 {
     let Some(byte) = BLOCK_BYTES.checked_mul(block) else {
@@ -48,8 +53,8 @@ fn byte_of(block: u64, more: u64) -> Result<u64, AllocError>
 }
 
 impl StateKeys {
-    // Before its first entry a state has no key.
-    fn start() -> StateKeys
+    /// Before its first entry a state has no key.
+    pub fn start() -> StateKeys
         ensures { StateStands state_start 0 result }
     {
         StateKeys {
@@ -96,8 +101,12 @@ impl StateKeys {
         Ok(())
     }
 
-    // The keys after the entry at a place.
-    fn step(&mut self, of: StateOf, entry: VEntry) -> Result<(), AllocError>
+    /// The keys after an entry.
+    ///
+    /// # Errors
+    ///
+    /// `AllocError` where there are more refills than any memory has room for.
+    pub fn step(&mut self, of: StateOf, entry: VEntry) -> Result<(), AllocError>
         ensures { (s : NamedState) (place : ℕ) → StateStands s place self.old →
             OnOk result (StateStands (state_step of.caller of.state s entry) (place + 1) self.new) }
     {

@@ -1,0 +1,38 @@
+-- Going along a list: what one entry more tells.
+use Rattle.std.proofs.Common.{◌≡◌, ◌≤◌, ◌+◌, ℕ, List, [], ◌∷◌, ◌++◌, length, take, Some, refl, sym, ap, ◌∙◌, append_assoc, append-nil, arith}
+use Rattle.std.specs.Prelude.{slice_get}
+use Rattle.std.specs.List.{fold}
+use Rattle.std.proofs.lemmas.List.{take_all}
+use Rattle.list_replay.proofs.Loops.{take_at}
+use Rattle.key_rows.specs.Lives.{told_from}
+
+module _ {S E T : Type 0} (tells : S → E → List T) (step : S → E → S) where
+  told_behind : (s : S) (es fs : List E) →
+      told_from tells step s (es ++ fs) ≡ told_from tells step s es ++ told_from tells step (fold step s es) fs
+  told_behind s [] fs = refl
+  told_behind s (e ∷ es) fs =
+      ap (λ ts. tells s e ++ ts) (told_behind (step s e) es fs)
+      ∙ sym (append_assoc (tells s e) (told_from tells step (step s e) es)
+      (told_from tells step (fold step (step s e) es) fs))
+
+  module _ (start : S) (entries : List E) where
+    -- what the entries before a place tell was added
+    abbrev pub IsTold : ℕ → List T → List T → Type 0
+    IsTold place old now = now ≡ old ++ told_from tells step start (take place entries)
+
+    pub told_more : (place : ℕ) (e : E) (old now new : List T) → slice_get entries place ≡ Some e →
+        IsTold place old now → new ≡ now ++ tells (fold step start (take place entries)) e → IsTold (place + 1) old new
+    told_more place e old now new is h more =
+        more
+        ∙ ap (λ ts. ts ++ tells (fold step start (take place entries)) e) h
+        ∙ append_assoc old (told_from tells step start (take place entries))
+        (tells (fold step start (take place entries)) e)
+        ∙ ap (λ ts. old ++ ts) (sym (ap (told_from tells step start) (take_at entries place e is)
+        ∙ told_behind start (take place entries) (e ∷ [])
+        ∙ ap (λ ts. told_from tells step start (take place entries) ++ ts)
+        (append-nil (tells (fold step start (take place entries)) e))))
+
+    pub told_all : (place : ℕ) (old now : List T) → length entries ≤ place → IsTold place old now →
+        now ≡ old ++ told_from tells step start entries
+    told_all place old now all h =
+        h ∙ ap (λ es. old ++ told_from tells step start es) (take_all place entries all)

@@ -1,0 +1,5 @@
+-- What stands in proofs/.
+mod Stands
+mod Along
+mod Below
+mod Tells

@@ -1,0 +1,33 @@
+use Rattle.std.proofs.Common.{ℕ, refl, sym, subst, length, arith}
+use Rattle.std.proofs.lemmas.List.{length-map}
+use Rattle.std.specs.List.{fold}
+use Rattle.std.specs.Prelude.{take}
+use Rattle.key_names.specs.CpuList.{CpuState, cpu_start, cpu_step}
+use Rattle.list_replay.proofs.Loops.{found}
+use Rattle.list_replay.specs.declared.kept.KeptCpu.{KeptCpu}
+use Rattle.key_uses.proofs.UsesMore.{entry_at}
+use Rattle.key_uses.specs.Fills.{CpuStands}
+use Rattle.key_uses.specs.KeptEntries.{cpu_entries}
+use Rattle.key_rows.proofs.Stands.{stands_more, stands_all}
+use Rattle.key_rows.proofs.batches.cpu_end.Goals as goal
+
+pub loop-place-preserved : goal.loop-place-preserved
+loop-place-preserved c = λ base.
+    let es = cpu_entries c.args.lane.now in
+    let place : ℕ = c.loop-place.place in
+    let step = cpu_step base c.args.cpu in
+    let s : CpuState = fold step cpu_start (take place es) in
+    stands_more step cpu_start CpuStands es place _ c.step.new.self
+    (entry_at (λ (k : KeptCpu). k.entry) c.args.lane.now place _
+    (found c.args.lane.now c.args.lane.now place _ refl c.loop-place-test.true))
+    (c.in_ok-step.ensures s base (c.loop-place.invariant base))
+
+pub returns : goal.returns
+returns c = λ base.
+    let es = cpu_entries c.args.lane.now in
+    let step = cpu_step base c.args.cpu in
+    let s : CpuState = fold step cpu_start es in
+    let h : CpuStands s c.loop-place.place c.loop-place.keys =
+    stands_all step cpu_start CpuStands es c.loop-place.place c.loop-place.keys
+    (rw length-map c.loop-place-test.false) (c.loop-place.invariant base) in
+    subst (λ n. CpuStands s n c.loop-place.keys) (sym h.place_is) h

@@ -1,0 +1,27 @@
+use Rattle.std.proofs.Common.{ℕ, refl, sym, subst}
+use Rattle.std.specs.List.{fold}
+use Rattle.std.specs.Prelude.{take}
+use Rattle.key_names.specs.StateList.{NamedState, state_start, state_step}
+use Rattle.list_replay.proofs.Loops.{found}
+use Rattle.key_rows.specs.Rests.{BatchStands}
+use Rattle.key_rows.proofs.Stands.{stands_more, stands_all}
+use Rattle.key_rows.proofs.batches.state_end.Goals as goal
+
+pub loop-entry-preserved : goal.loop-entry-preserved
+loop-entry-preserved c =
+    let es = c.args.entries.now in
+    let place : ℕ = c.loop-entry.entry-index in
+    let step = state_step c.args.of.caller c.args.of.state in
+    let s : NamedState = fold step state_start (take place es) in
+    stands_more step state_start BatchStands es place _ c.step.new.self
+    (found es es place _ refl c.loop-entry-test.true)
+    (c.in_ok-step.ensures s place c.loop-entry.invariant)
+
+pub returns : goal.returns
+returns c =
+    let step = state_step c.args.of.caller c.args.of.state in
+    let s : NamedState = fold step state_start c.args.entries.now in
+    let h : BatchStands s c.loop-entry.entry-index c.loop-entry.batch =
+    stands_all step state_start BatchStands c.args.entries.now c.loop-entry.entry-index c.loop-entry.batch
+    c.loop-entry-test.false c.loop-entry.invariant in
+    subst (λ n. BatchStands s n c.loop-entry.batch) (sym h.keys.place_is) h

@@ -1,0 +1,25 @@
+use Rattle.std.specs.Prelude.{ℕ, List}
+use Rattle.key_names.specs.declared.entries.BaseEntry.{BaseEntry}
+use Rattle.key_names.specs.declared.entries.CpuEntry.{CpuEntry}
+use Rattle.key_names.specs.CpuList.{cpu_start, cpu_step}
+use Rattle.key_uses.specs.declared.cpu_uses.CpuKeys.{CpuKeys}
+use Rattle.key_uses.specs.Fills.{CpuStands}
+use Rattle.key_uses.specs.KeptEntries.{cpu_entries}
+use Rattle.key_rows.specs.declared.lives.Lives.{Lives}
+use Rattle.key_rows.specs.Lives.{cpu_births_at, cpu_endings_at}
+use Rattle.key_rows.specs.Rests.{cpu_given_up_at}
+use Rattle.key_rows.proofs.Along.{IsTold}
+use Rattle.key_rows.proofs.Stands.{StandsAt}
+use Rattle.key_rows.proofs.lives.Lives.cpu.Given as goal
+
+-- what the entries before a place tell is added, and key and fills are those before it
+pub record CpuSoFar (base : List BaseEntry) (c : ℕ) (es : List CpuEntry) (place : ℕ) (old now : Lives) (keys : CpuKeys) :
+    Type 0 where
+  pub births : IsTold (cpu_births_at c) (cpu_step base c) cpu_start es place old.births.items now.births.items
+  pub endings : IsTold (cpu_endings_at c) (cpu_step base c) cpu_start es place old.endings.items now.endings.items
+  pub given_up : IsTold (cpu_given_up_at c) (cpu_step base c) cpu_start es place old.given_up.items now.given_up.items
+  pub stands : StandsAt (cpu_step base c) cpu_start CpuStands es place keys
+
+abbrev pub invariant-loop-place : goal.invariant-loop-place
+invariant-loop-place l = (base : List BaseEntry) →
+    CpuSoFar base l.cpu (cpu_entries l.lane) l.place l.initial.self l.self l.keys

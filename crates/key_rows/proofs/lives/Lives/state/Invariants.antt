@@ -1,0 +1,24 @@
+use Rattle.std.specs.Prelude.{ℕ, List}
+use Rattle.key_names.specs.declared.entries.VEntry.{VEntry}
+use Rattle.key_names.specs.StateList.{state_start, state_step}
+use Rattle.key_uses.specs.declared.state_uses.StateOf.{StateOf}
+use Rattle.key_rows.specs.declared.batches.StateBatch.{StateBatch}
+use Rattle.key_rows.specs.declared.lives.Lives.{Lives}
+use Rattle.key_rows.specs.Lives.{state_births_at, state_endings_at}
+use Rattle.key_rows.specs.Rests.{BatchStands, state_given_up_at}
+use Rattle.key_rows.proofs.Along.{IsTold}
+use Rattle.key_rows.proofs.Stands.{StandsAt}
+use Rattle.key_rows.proofs.lives.Lives.state.Given as goal
+
+-- what the entries before a place tell is added, and keys and batch are those before it
+pub record StateSoFar (of : StateOf) (es : List VEntry) (place : ℕ) (old now : Lives) (batch : StateBatch) : Type 0 where
+  pub births : IsTold (state_births_at of) (state_step of.caller of.state) state_start es place
+      old.births.items now.births.items
+  pub endings : IsTold (state_endings_at of) (state_step of.caller of.state) state_start es place
+      old.endings.items now.endings.items
+  pub given_up : IsTold (state_given_up_at of) (state_step of.caller of.state) state_start es place
+      old.given_up.items now.given_up.items
+  pub stands : StandsAt (state_step of.caller of.state) state_start BatchStands es place batch
+
+abbrev pub invariant-loop-place : goal.invariant-loop-place
+invariant-loop-place l = StateSoFar l.of l.entries l.place l.initial.self l.self l.batch

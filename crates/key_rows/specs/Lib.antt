@@ -1,0 +1,8 @@
+-- What stands in specs/.
+pub mod Lives
+pub mod Rests
+pub mod Held
+pub mod Told
+pub mod Cut
+pub mod Rows
+pub mod Ranks

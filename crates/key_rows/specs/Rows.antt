@@ -1,0 +1,67 @@
+-- The row of a key: what holds it, which entry made it and which ended it, and what became of its bytes.
+use Rattle.std.specs.Prelude.{ℕ, ◌≡◌, Bool, true, false, ◌&&◌, ◌==◌, Option, Some, None, List, ◌++◌, map, filter}
+use Rattle.std.specs.Prelude.{slice_get, option_map, IsPermutation}
+use Rattle.std.specs.List.Sorted.{IsNonDecreasingBy}
+use Rattle.key_names.specs.declared.names.LaneId.{LaneId}
+use Rattle.key_names.specs.declared.names.LaneId.TheVariants.{Pool as PoolLane, Base as BaseLane, Cpu as CpuLane}
+use Rattle.key_names.specs.declared.names.KeyName.{KeyName}
+use Rattle.key_names.specs.declared.names.KeyName.TheVariants.{Root, Base, Cpu, Call, Vdso}
+use Rattle.key_names.specs.IsTranscript.{is_same_lane}
+use Rattle.key_uses.specs.declared.used.Used.{Used}
+use Rattle.key_uses.specs.declared.used.Origin.{Origin}
+use Rattle.key_uses.specs.declared.used.Purpose.{Purpose}
+use Rattle.key_uses.specs.declared.used.Purpose.TheVariants.{Kept, Served}
+use Rattle.key_rows.specs.declared.lives.Birth.{Birth}
+use Rattle.key_rows.specs.declared.lives.Ending.{Ending}
+use Rattle.key_rows.specs.declared.lives.GivenUp.{GivenUp}
+use Rattle.key_rows.specs.declared.held.HeldRest.{HeldRest}
+use Rattle.key_rows.specs.declared.told.Told.{Told}
+use Rattle.key_rows.specs.declared.rows.Fate.{Fate}
+use Rattle.key_rows.specs.declared.rows.Fate.TheVariants.{Became, Served as ServedAt, GivenUp as GivenUpAt, Held}
+use Rattle.key_rows.specs.declared.rows.Piece.{Piece}
+use Rattle.key_rows.specs.declared.rows.Row.{Row}
+
+abbrev pub is_same_name : KeyName → KeyName → Bool
+is_same_name (Root p) (Root q) = p == q
+is_same_name (Base i) (Base j) = i == j
+is_same_name (Cpu c i) (Cpu d j) = c == d && i == j
+is_same_name (Call lane i) (Call other j) = is_same_lane lane other && i == j
+is_same_name (Vdso c s n) (Vdso d t m) = c == d && s == t && n == m
+is_same_name _ _ = false
+
+-- what became of the bytes of a use
+abbrev pub fate_of : Origin → Purpose → Fate
+fate_of by (Kept name) = Became name
+fate_of by Served = ServedAt by
+
+abbrev pub used_piece : Used → Piece
+used_piece used = record { span = used.span; fate = fate_of used.by used.purpose }
+
+abbrev pub given_up_piece : GivenUp → Piece
+given_up_piece rest = record { span = rest.span; fate = GivenUpAt rest.by }
+
+abbrev pub held_piece : HeldRest → Piece
+held_piece rest = record { span = rest.span; fate = Held }
+
+-- the uses of all keys, the rests that were given up, and those that are held
+abbrev pub all_pieces : Told → List Piece
+all_pieces told = map used_piece told.uses.items ++ map given_up_piece told.lives.given_up.items
+    ++ map held_piece told.held.rests.items
+
+abbrev pub pieces_of : KeyName → List Piece → List Piece
+pieces_of key pieces = filter (λ piece. is_same_name piece.span.key key) pieces
+
+abbrev pub endings_of : KeyName → List Ending → List Ending
+endings_of key endings = filter (λ ending. is_same_name ending.key key) endings
+
+abbrev pub birth_of : Row → Birth
+birth_of row = record { key = row.key; holder = row.holder; by = row.made }
+
+-- a row says what is told of its key
+pub record IsRow (told : Told) (row : Row) : Type 0 where
+  -- the entry that ended the key, if one did
+  pub ended : row.ended ≡ option_map (λ ending. ending.by) (slice_get (endings_of row.key told.lives.endings.items) 0)
+  -- its uses and rests, each once
+  pub pieces : IsPermutation (pieces_of row.key (all_pieces told)) row.pieces.items
+  -- in the order of their first bytes
+  pub ordered : IsNonDecreasingBy (λ piece. piece.span.from) row.pieces.items

@@ -1,0 +1,152 @@
+//! What is left of batches.
+ghost use Rattle.std.specs.Prelude.{ℕ, List, ◌≡◌, ◌+◌, ◌*◌, Option, IfOk, OnOk};
+ghost use Rattle.key_names.specs.declared.entries.BaseEntry.{BaseEntry as BookBase};
+ghost use Rattle.key_names.specs.Batches.{Fill as BookFill};
+ghost use Rattle.key_names.specs.BaseList.{base_after};
+ghost use Rattle.key_names.specs.CpuList.{cpu_after};
+ghost use Rattle.key_names.specs.StateList.{NamedState, state_start, state_step, state_after};
+ghost use Rattle.key_names.specs.LiveMaterial.{fill_rest, named_span, state_rest};
+ghost use Rattle.key_uses.specs.Fills.{fill_of, CpuStands};
+ghost use Rattle.key_uses.specs.KeptEntries.{base_entries, cpu_entries};
+ghost use Rattle.key_rows.specs.Rests.{BatchStands};
+
+use key_names::{KeyName, Span, VEntry};
+use key_uses::base_uses;
+use key_uses::cpu_uses::{CpuKeys, Fill};
+use key_uses::state_uses::{StateKeys, StateOf, byte_of};
+use list_replay::{KeptBase, KeptCpu};
+use std::alloc::AllocError;
+
+/// The bytes of a batch.
+const BATCH_BYTES: u64 = 96;
+
+/// The first byte of a CPU's batch in the keystream of its key.
+const BATCH_START: u64 = 32;
+
+/// The keys of a vgetrandom state, and the first byte of its batch that was not served.
+#[derive(Clone, Copy)]
+pub struct StateBatch {
+    pub keys: StateKeys,
+    pub pos: u64,
+}
+
+fn named_span(key: Option<KeyName>, from: u64, len: u64) -> Option<Span>
+    ensures { result ≡ named_span key from len }
+{
+    match key {
+        Some(key) => Some(Span { key, from, len }),
+        None => None,
+    }
+}
+
+/// The rest of a CPU's batch. No memory has room for so many integers that their bytes have no number.
+///
+/// # Errors
+///
+/// `AllocError` where they have none.
+pub fn fill_rest(width: u64, fill: Option<Fill>) -> Result<Option<Span>, AllocError>
+    ensures { (book : Option BookFill) → fill ≡ fill_of book →
+        IfOk result (λ span. span ≡ fill_rest width book) }
+{
+    let Some(Fill { key, count }) = fill else {
+        return Ok(None);
+    };
+    let Some(served) = width.checked_mul(count) else {
+        return Err(AllocError);
+    };
+    let Some(from) = served.checked_add(BATCH_START) else {
+        return Err(AllocError);
+    };
+    Ok(named_span(key, from, BATCH_BYTES.saturating_sub(served)))
+}
+
+impl StateBatch {
+    /// Before its first entry a state has no key and no batch.
+    pub fn start() -> StateBatch
+        ensures { BatchStands state_start 0 result }
+    {
+        StateBatch {
+            keys: StateKeys::start(),
+            pos: 0,
+        }
+    }
+
+    /// Keys and batch after an entry.
+    ///
+    /// # Errors
+    ///
+    /// `AllocError` where there are more refills than any memory has room for.
+    pub fn step(&mut self, of: StateOf, entry: VEntry) -> Result<(), AllocError>
+        ensures { (s : NamedState) (place : ℕ) → BatchStands s place self.old →
+            OnOk result (BatchStands (state_step of.caller of.state s entry) (place + 1) self.new) }
+    {
+        self.keys.step(of, entry)?;
+        match entry {
+            VEntry::Rekey { .. } => self.pos = BATCH_BYTES,
+            VEntry::Refill { .. } | VEntry::Wipe => self.pos = 0,
+            VEntry::Serve { pos, len } => self.pos = u64::from(pos) + u64::from(len),
+            VEntry::Blocks { .. } => {}
+        }
+        Ok(())
+    }
+
+    /// The rest of the batch.
+    ///
+    /// # Errors
+    ///
+    /// `AllocError` where its first byte has no number.
+    pub fn rest(&self) -> Result<Option<Span>, AllocError>
+        ensures { (s : NamedState) (place : ℕ) → BatchStands s place self.now →
+            IfOk result (λ span. span ≡ state_rest s) }
+    {
+        let from = byte_of(self.keys.batch_from, self.pos)?;
+        Ok(named_span(
+            self.keys.batch_key,
+            from,
+            BATCH_BYTES.saturating_sub(self.pos),
+        ))
+    }
+}
+
+/// The base's key behind its entries.
+pub fn base_end(base: &[KeptBase]) -> Option<KeyName>
+    ensures { result ≡ (base_after (base_entries base.now)).key }
+{
+    let mut key = None;
+    for (place, kept) in base.iter().enumerate() {
+        key = base_uses::key_after(place as u64, kept.entry, key);
+    }
+    key
+}
+
+/// The key and the fills of a CPU behind its entries.
+///
+/// # Errors
+///
+/// `AllocError` where there are more integers than any memory has room for.
+pub fn cpu_end(cpu: u32, lane: &[KeptCpu]) -> Result<CpuKeys, AllocError>
+    ensures { (base : List BookBase) → let s = cpu_after base cpu (cpu_entries lane.now) in
+        IfOk result (λ keys. CpuStands s s.place keys) }
+{
+    let mut keys = CpuKeys::start();
+    for (place, kept) in lane.iter().enumerate() {
+        keys.step(cpu, place as u64, kept.entry)?;
+    }
+    Ok(keys)
+}
+
+/// Keys and batch of a vgetrandom state behind its entries.
+///
+/// # Errors
+///
+/// `AllocError` where there are more refills than any memory has room for.
+pub fn state_end(of: StateOf, entries: &[VEntry]) -> Result<StateBatch, AllocError>
+    ensures { let s = state_after of.caller of.state entries.now in
+        IfOk result (λ batch. BatchStands s s.place batch) }
+{
+    let mut batch = StateBatch::start();
+    for entry in entries {
+        batch.step(of, *entry)?;
+    }
+    Ok(batch)
+}

@@ -1,0 +1,80 @@
+//! The lists of a book up to a stamp.
+ghost use Rattle.std.specs.Prelude.{◌≡◌, IfOk, List, map};
+ghost use Rattle.key_names.specs.declared.entries.BaseEntry.{BaseEntry as BookBase};
+ghost use Rattle.key_names.specs.declared.entries.CpuEntry.{CpuEntry as BookCpu};
+ghost use Rattle.key_names.specs.Book.{Book, Visit, entries_of};
+ghost use Rattle.key_uses.specs.KeptEntries.{base_entries, cpu_entries};
+ghost use Rattle.key_uses.specs.Moments.{visits_to};
+ghost use Rattle.key_rows.specs.Told.{cpu_lists};
+ghost use Rattle.key_rows.specs.Cut.{stamps_of, visit_stamps, KeepsVisits};
+
+use crate::moments::{Moment, Moments};
+use list_replay::{KeptBase, KeptCpu, Lists};
+use std::alloc::{AllocError, Global};
+
+// The visits of the base up to a stamp.
+fn base_to(
+    alloc: Global,
+    stamp: u64,
+    base: &[KeptBase],
+    moments: &[Moment],
+) -> Result<Vec<KeptBase>, AllocError>
+    ensures { (visits : List (Visit BookBase)) → base_entries base.now ≡ entries_of visits →
+        stamps_of moments.now ≡ visit_stamps visits →
+        IfOk result (λ cut. base_entries cut.items ≡ entries_of (visits_to stamp visits)) }
+{
+    let mut cut = Vec::new(alloc);
+    for (kept, moment) in base.iter().zip(moments) {
+        if moment.stamp <= stamp {
+            cut.push(*kept)?;
+        }
+    }
+    Ok(cut)
+}
+
+// The visits of a CPU up to a stamp.
+fn cpu_to(
+    alloc: Global,
+    stamp: u64,
+    lane: &[KeptCpu],
+    moments: &[Moment],
+) -> Result<Vec<KeptCpu>, AllocError>
+    ensures { (visits : List (Visit BookCpu)) → cpu_entries lane.now ≡ entries_of visits →
+        stamps_of moments.now ≡ visit_stamps visits →
+        IfOk result (λ cut. cpu_entries cut.items ≡ entries_of (visits_to stamp visits)) }
+{
+    let mut cut = Vec::new(alloc);
+    for (kept, moment) in lane.iter().zip(moments) {
+        if moment.stamp <= stamp {
+            cut.push(*kept)?;
+        }
+    }
+    Ok(cut)
+}
+
+/// What is kept of a book's base and CPUs up to a stamp; nothing is kept of its pool, which holds no key.
+///
+/// # Errors
+///
+/// `AllocError` where there is no memory for it.
+pub fn kept_to(
+    alloc: Global,
+    stamp: u64,
+    kept: &Lists,
+    moments: &Moments,
+) -> Result<Lists, AllocError>
+    ensures base { (book : Book) → KeepsVisits book kept.now moments.now →
+        IfOk result (λ cut. base_entries cut.base.items ≡ entries_of (visits_to stamp book.base)) }
+    ensures cpus { (book : Book) → KeepsVisits book kept.now moments.now →
+        IfOk result (λ cut. cpu_lists cut.cpus.items ≡ map entries_of (map (visits_to stamp) book.cpus)) }
+{
+    let mut cpus = Vec::new(alloc);
+    for (lane, lane_moments) in kept.cpus.iter().zip(&moments.cpus) {
+        cpus.push(cpu_to(alloc, stamp, lane, lane_moments)?)?;
+    }
+    Ok(Lists {
+        pool: Vec::new(alloc),
+        base: base_to(alloc, stamp, &kept.base, &moments.base)?,
+        cpus,
+    })
+}

@@ -1,0 +1,157 @@
+-- What a vread leaves of a state by the steps of its line: the same cases as the code has. Where the steps are not those
+-- of a vread, what they show until then.
+use Rattle.std.specs.Prelude.{ℕ, ◌+◌, ◌==◌, ◌&&◌, ◌||◌, Bool, true, Option, None, Some, List, [], ◌∷◌, ◌++◌, length}
+use Rattle.std.specs.Prelude.{if◌then◌else◌}
+use Rattle.std.specs.List.{list_any}
+use Rattle.key_names.specs.declared.entries.VEntry.{VEntry}
+use Rattle.key_names.specs.declared.entries.VEntry.TheVariants.{Rekey, Wipe}
+use Rattle.key_names.specs.declared.names.LaneId.{LaneId}
+use Rattle.key_names.specs.declared.names.LaneId.TheVariants.{Pool as PoolLane, Base as BaseLane, Cpu as CpuLane}
+use Rattle.key_names.specs.declared.names.Step.{Step}
+use Rattle.key_names.specs.declared.names.Step.TheVariants.{Look, Visit as Marked}
+use Rattle.key_names.specs.Flags.{is_bad}
+use Rattle.key_names.specs.Calls.{BoundAct}
+use Rattle.key_names.specs.VreadSteps.{is_wipe}
+use Rattle.key_names.specs.BatchCopy.{has_left, copy_entries, refill_entries, state_after_copy, block_after_copy}
+use Rattle.state_entries.specs.declared.leaving.KeyRead.{KeyRead}
+use Rattle.state_entries.specs.declared.outline.Outline.{Outline}
+use Rattle.state_entries.specs.Outline.{wiped_outline, outlined}
+
+-- a state's outline, and the entries that it was left
+pub record Left : Type 0 where
+  pub outline : Outline
+  pub entries : List VEntry
+
+abbrev pub nothing_left : Left
+nothing_left = record { outline = wiped_outline; entries = [] }
+
+abbrev pub left_more : List VEntry → Left → Left
+left_more entries l = record l { entries = l.entries ++ entries }
+
+abbrev pub pushed : VEntry → Left → Left
+pushed entry l = left_more (entry ∷ []) l
+
+abbrev pub wiped : Left → Left
+wiped l = record { outline = wiped_outline; entries = l.entries ++ Wipe ∷ [] }
+
+-- a point with a wipe or without one
+abbrev pub met : Bool → Left → Left
+met wipes l = if wipes then wiped l else l
+
+abbrev pub wipes_at : List BoundAct → ℕ → Bool
+wipes_at acts point = list_any (λ bound. bound.point == point && is_wipe bound.act) acts
+
+-- so many bytes of the batch were served
+abbrev pub with_served : ℕ → Left → Left
+with_served served l = record l { outline = record l.outline { served = served } }
+
+abbrev pub refilled : ℕ → ℕ → ℕ → Left → Left
+refilled c m r l = with_served r (left_more (refill_entries c m r) l)
+
+-- a copy of n bytes, c being the key's next block
+abbrev pub copied : ℕ → ℕ → Left → Left
+copied n c l =
+    with_served (state_after_copy (outlined l.outline) c n).pos (left_more (copy_entries (outlined l.outline) c n) l)
+
+-- ---- a new key
+
+abbrev pub key_at : LaneId → ℕ → ℕ → Option KeyRead
+key_at PoolLane place stamp = None
+key_at BaseLane place stamp = None
+key_at (CpuLane c) place stamp = Some (record { cpu = c; place = place; stamp = stamp })
+
+-- the read of a CPU that a step is
+abbrev pub key_read : Step → Option KeyRead
+key_read (Look g) = None
+key_read (Marked mark) = key_at mark.lane mark.place mark.stamp
+
+pub record KeyAndRest : Type 0 where
+  pub key : KeyRead
+  pub rest : List Step
+
+abbrev pub or_key : Option KeyRead → List Step → Option KeyAndRest → Option KeyAndRest
+or_key (Some key) rest other = Some (record { key = key; rest = rest })
+or_key None rest other = other
+
+abbrev pub second_key : List Step → Option KeyAndRest
+second_key [] = None
+second_key (step ∷ rest) = or_key (key_read step) rest None
+
+-- the key that a system call in front read, and the steps behind it
+abbrev pub key_in_front : List Step → Option KeyAndRest
+key_in_front (Look a ∷ Look b ∷ step ∷ rest) = or_key (key_read step) rest (second_key rest)
+key_in_front _ = None
+
+abbrev pub keyed : KeyRead → Left → Left
+keyed key l = pushed (Rekey key.cpu key.place) (with_served 96 l)
+
+-- ---- an attempt
+
+-- what an attempt came to, the steps behind it, and what it left
+pub record Behind : Type 0 where
+  pub next_block : ℕ
+  pub holds : Bool
+  pub rest : List Step
+  pub left : Left
+
+-- the steps end too early
+abbrev pub cut_short : ℕ → Left → Behind
+cut_short c l = record { next_block = c; holds = true; rest = []; left = l }
+
+abbrev pub looked_again : List BoundAct → ℕ → ℕ → Left → ℕ → List Step → Behind
+looked_again acts n c l found rest =
+    let end = met (wipes_at acts 4) (copied n c l) in record {
+      next_block = block_after_copy (outlined l.outline) c n;
+      holds = end.outline.found == found;
+      rest = rest;
+      left = end;
+    }
+
+-- from Serve on
+abbrev pub from_serve : List BoundAct → ℕ → ℕ → Left → List Step → Behind
+from_serve acts n c l (Look found ∷ rest) = looked_again acts n c (met (wipes_at acts 3) l) found rest
+from_serve acts n c l _ = cut_short c l
+
+abbrev pub with_key : List BoundAct → ℕ → ℕ → Left → Option KeyAndRest → Behind
+with_key acts n c l None = cut_short c l
+with_key acts n c l (Some k) = from_serve acts n c (keyed k.key l) k.rest
+
+-- from Written on
+abbrev pub from_written : List BoundAct → ℕ → ℕ → Left → List Step → Behind
+from_written acts n c l steps = with_key acts n c (met (wipes_at acts 2) l) (key_in_front steps)
+
+-- from Start on, behind a look that found this generation
+abbrev pub from_start : List BoundAct → ℕ → ℕ → ℕ → Left → List Step → Behind
+from_start acts n c found l steps =
+    if l.outline.found == found then from_serve acts n c l steps
+    else from_written acts n c (record l { outline = record l.outline { found = found } }) steps
+
+-- an attempt to copy n bytes, c being the key's next block
+abbrev pub attempted : List BoundAct → ℕ → ℕ → Left → List Step → Behind
+attempted acts n c l (Look found ∷ rest) = from_start acts n c found (met (wipes_at acts 1) l) rest
+attempted acts n c l _ = cut_short c l
+
+-- ---- a vread
+
+abbrev pub tried_again : ℕ → Behind → Left
+tried_again n b = if b.holds then b.left else (attempted [] n b.next_block b.left b.rest).left
+
+abbrev pub tried_twice : List BoundAct → ℕ → Left → List Step → Left
+tried_twice acts n l steps = tried_again n (attempted acts n 0 l steps)
+
+-- whether a copy is made with no call around it
+abbrev pub copies_alone : List BoundAct → ℕ → ℕ → Left → Bool
+copies_alone acts n found l = length acts == 0 && (l.outline.found == found && has_left (outlined l.outline) n)
+
+-- behind the first look
+abbrev pub from_look : List BoundAct → ℕ → ℕ → Left → List Step → Left
+from_look acts n found l rest =
+    if found == 0 then l else (if copies_alone acts n found l then copied n 0 l else tried_twice acts n l rest)
+
+abbrev pub first_look : List BoundAct → ℕ → Left → List Step → Left
+first_look acts n l (Look found ∷ rest) = from_look acts n found l rest
+first_look acts n l _ = l
+
+-- a vread of n bytes with these flags and acts
+abbrev pub vread_left : ℕ → ℕ → List BoundAct → Left → List Step → Left
+vread_left n flags acts l steps = if is_bad flags || n == 0 then l else first_look acts n l steps

@@ -1,0 +1,5 @@
+pub mod Outline
+pub mod Entries
+pub mod Left
+pub mod Callers
+pub mod Laws

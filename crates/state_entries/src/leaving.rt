@@ -1,0 +1,414 @@
+//! A vgetrandom state while its caller's calls are gone through: its outline, and the entries that it was left so far.
+ghost use Rattle.std.specs.Prelude.{◌≡◌, ◌+◌, ◌^◌, ◌≤◌, None, Some, IfOk, OnOk, MatchOption, map};
+ghost use Rattle.line_orders.specs.Called.{seen_act};
+ghost use Rattle.state_entries.specs.Left.{wipes_at, key_read, second_key, key_in_front};
+
+use crate::entry::StateEntry;
+use crate::outline::Outline;
+use crate::stamps::{before_wipe, behind_point};
+use key_names::{InsideAct, LaneId, Step, VEntry, flags};
+use line_orders::called::ActLine;
+use std::alloc::{AllocError, Global};
+use std::marker::Model;
+
+/// The bytes of a batch.
+const BATCH_BYTES: u8 = 96;
+
+/// The bytes of a block of keystream.
+const BLOCK_BYTES: u32 = 64;
+
+/// The points of an attempt: before its look, behind its generation, and before and behind its copy.
+const START: u8 = 1;
+
+const WRITTEN: u8 = 2;
+
+const SERVE: u8 = 3;
+
+const END: u8 = 4;
+
+/// A visit of a CPU that reads a key.
+#[derive(Clone, Copy)]
+pub struct KeyRead {
+    pub cpu: u32,
+    pub place: u64,
+    pub stamp: u64,
+}
+
+/// What an attempt came to: the key's next block, whether the generation that was published in the end is the state's,
+/// and the steps behind its own.
+#[derive(Clone, Copy)]
+pub struct Tried<'a> {
+    pub next_block: u64,
+    pub holds: bool,
+    pub rest: &'a [Step],
+}
+
+// Whether an act at the point of this number wipes.
+fn wipes(acts: &[ActLine<'_>], point: u8) -> bool
+    ensures { result ≡ wipes_at (map seen_act acts.now) point }
+{
+    for bound in acts {
+        if bound.point == point && matches!(bound.act, InsideAct::Wipe) {
+            return true;
+        }
+    }
+    false
+}
+
+fn key_read(step: Step) -> Option<KeyRead>
+    ensures { result ≡ key_read step }
+{
+    match step {
+        Step::Look(_) => None,
+        Step::Visit(mark) => match mark.lane {
+            LaneId::Pool | LaneId::Base => None,
+            LaneId::Cpu(cpu) => Some(KeyRead {
+                cpu,
+                place: mark.place,
+                stamp: mark.stamp,
+            }),
+        },
+    }
+}
+
+// The key that a system call of 32 bytes in front read, and the steps behind it.
+fn key_in_front(steps: &[Step]) -> Option<(KeyRead, &[Step])>
+    ensures { MatchOption result (key_in_front steps.now ≡ None)
+        (λ r. key_in_front steps.now ≡ Some (record { key = r.0; rest = r.1.now })) }
+{
+    match steps {
+        [Step::Look(_), Step::Look(_), first, rest @ ..] => match key_read(*first) {
+            Some(key) => Some((key, rest)),
+            None => second_key(rest),
+        },
+        _ => None,
+    }
+}
+
+// The same where the base was visited before.
+fn second_key(steps: &[Step]) -> Option<(KeyRead, &[Step])>
+    ensures { MatchOption result (second_key steps.now ≡ None)
+        (λ r. second_key steps.now ≡ Some (record { key = r.0; rest = r.1.now })) }
+{
+    match steps {
+        [] => None,
+        [second, rest @ ..] => match key_read(*second) {
+            Some(key) => Some((key, rest)),
+            None => None,
+        },
+    }
+}
+
+/// A vgetrandom state: its outline, its list so far, and the call on it that is gone through.
+#[derive(Drop)]
+pub struct Leaving {
+    outline: Outline,
+    entries: Vec<StateEntry>,
+    stamp: u64,
+    done: u64,
+    event: u32,
+}
+
+impl Model for Leaving {
+    ghost use Rattle.state_entries.specs.Entries.{entries_in};
+    ghost use Rattle.state_entries.specs.Left.{Left};
+
+    ghost Value = { Left };
+
+    ghost view = { λ s. record { outline = s.outline; entries = entries_in s.entries.items } };
+}
+
+impl Leaving {
+    ghost use Rattle.std.specs.Prelude.{◌≡◌, ◌+◌, ◌^◌, ◌<◌, ◌≤◌, ℕ, IfOk, OnOk, map};
+    ghost use Rattle.key_names.specs.BatchCopy.{serve_entry, blocks_entry, block_after_copy};
+    ghost use Rattle.key_names.specs.Book.{Lists};
+    ghost use Rattle.key_names.specs.Deeds.{deeds_of};
+    ghost use Rattle.key_names.specs.Meaning.{CallMeaning, current_state, VreadMeans};
+    ghost use Rattle.line_orders.specs.Called.{seen_act};
+    ghost use Rattle.state_entries.specs.Entries.{entries_in};
+    ghost use Rattle.state_entries.specs.Laws.{Leaves};
+    ghost use Rattle.state_entries.specs.Outline.{IsBetweenCalls, outlined};
+    ghost use Rattle.state_entries.specs.Left.{Left, nothing_left, left_more, pushed, wiped, met, wipes_at, refilled, copied};
+    ghost use Rattle.state_entries.specs.Left.{keyed, from_serve, from_written, attempted, tried_twice, from_look, vread_left};
+
+    /// A state that no call was made on yet.
+    pub fn new(alloc: Global) -> Leaving
+        ensures { result ≡ nothing_left }
+    {
+        Leaving {
+            outline: Outline::wiped(),
+            entries: Vec::new(alloc),
+            stamp: 0,
+            done: 0,
+            event: 0,
+        }
+    }
+
+    /// The list.
+    pub fn into_entries(self) -> Vec<StateEntry>
+        ensures { entries_in result.items ≡ self.entries }
+    {
+        self.entries
+    }
+
+    /// A call begins: the caller's last stamp before it and behind it, and the number of its event.
+    pub fn begin(&mut self, stamp: u64, done: u64, event: u32)
+        ensures { self.new ≡ self.old }
+    {
+        self.stamp = stamp;
+        self.done = done;
+        self.event = event;
+    }
+
+    fn push(&mut self, entry: VEntry) -> Result<(), AllocError>
+        ensures { OnOk result (self.new ≡ pushed entry self.old) }
+    {
+        self.entries.push(StateEntry {
+            entry,
+            stamp: self.stamp,
+            done: self.done,
+            event: self.event,
+        })?;
+        Ok(())
+    }
+
+    /// The state's memory becomes zeros.
+    ///
+    /// # Errors
+    ///
+    /// `AllocError` where there is no memory for its entry.
+    pub fn wipe(&mut self) -> Result<(), AllocError>
+        ensures { OnOk result (self.new ≡ wiped self.old) }
+    {
+        self.push(VEntry::Wipe)?;
+        self.outline = Outline::wiped();
+        Ok(())
+    }
+
+    // The acts of a point happen.
+    fn meet(&mut self, acts: &[ActLine<'_>], point: u8) -> Result<(), AllocError>
+        ensures { OnOk result (self.new ≡ met (wipes_at (map seen_act acts.now) point) self.old) }
+    {
+        if wipes(acts, point) {
+            self.stamp = before_wipe(self.stamp, acts, point);
+            self.wipe()?;
+        }
+        self.stamp = behind_point(self.stamp, acts, point);
+        Ok(())
+    }
+
+    fn serve(&mut self, pos: u8, len: u8) -> Result<(), AllocError>
+        ensures { OnOk result (self.new ≡ left_more (serve_entry pos len) self.old) }
+    {
+        if len > 0 {
+            self.push(VEntry::Serve { pos, len })?;
+        }
+        Ok(())
+    }
+
+    fn serve_blocks(&mut self, from: u64, count: u64) -> Result<(), AllocError>
+        ensures { OnOk result (self.new ≡ left_more (blocks_entry from count) self.old) }
+    {
+        if count > 0 {
+            self.push(VEntry::Blocks { from, count })?;
+        }
+        Ok(())
+    }
+
+    // Whole blocks of the key from this one on are served, and a new batch begins of which so many bytes are.
+    fn refill(&mut self, from: u64, whole: u64, last: u8) -> Result<(), AllocError>
+        requires { from + whole < 2 ^ 64 }
+        ensures { OnOk result (self.new ≡ refilled from whole last self.old) }
+    {
+        self.serve_blocks(from, whole)?;
+        self.push(VEntry::Refill { from: from + whole })?;
+        self.serve(0, last)?;
+        self.outline.served = last;
+        Ok(())
+    }
+
+    // Copies `len` bytes, `block` being the key's next block. Answers the next block behind the copy.
+    fn copy(&mut self, block: u64, len: u32) -> Result<u64, AllocError>
+        requires near { block ≤ 2 ^ 32 }
+        ensures next { IfOk result (λ next. next ≡ block_after_copy (outlined self.old.outline) block len) }
+        ensures near { IfOk result (λ next. next ≤ block + 2 ^ 26 + 2) }
+        ensures left { OnOk result (self.new ≡ copied len block self.old) }
+    {
+        let served = self.outline.served;
+        let left = BATCH_BYTES.saturating_sub(served);
+        if len <= u32::from(left) {
+            self.serve(served, len as u8)?;
+            self.outline.served = served + len as u8;
+            return Ok(block);
+        }
+        self.serve(served, left)?;
+        let beyond = len - u32::from(left);
+        let whole = u64::from(beyond / BLOCK_BYTES);
+        self.refill(block, whole, (beyond % BLOCK_BYTES) as u8)?;
+        Ok(block + whole + 2)
+    }
+
+    // From Serve on; the steps are as short as what they show.
+    fn from_serve<'a>(
+        &mut self,
+        acts: &[ActLine<'_>],
+        len: u32,
+        block: u64,
+        steps: &'a [Step],
+    ) -> Result<Tried<'a>, AllocError>
+        requires near { block ≤ 2 ^ 32 }
+        ensures tries { IfOk result (λ t. from_serve (map seen_act acts.now) len block self.old steps.now
+            ≡ record { next_block = t.next_block; holds = t.holds; rest = t.rest.now; left = self.new }) }
+        ensures near { IfOk result (λ t. t.next_block ≤ block + 2 ^ 26 + 2) }
+    {
+        match steps {
+            [Step::Look(found), rest @ ..] => {
+                self.meet(acts, SERVE)?;
+                let next_block = self.copy(block, len)?;
+                self.meet(acts, END)?;
+                Ok(Tried {
+                    next_block,
+                    holds: self.outline.found == *found,
+                    rest,
+                })
+            }
+            _ => Ok(Tried {
+                next_block: block,
+                holds: true,
+                rest: &[],
+            }),
+        }
+    }
+
+    fn take_key(&mut self, key: KeyRead) -> Result<(), AllocError>
+        ensures { OnOk result (self.new ≡ keyed key self.old) }
+    {
+        self.stamp = key.stamp;
+        self.outline.served = BATCH_BYTES;
+        self.push(VEntry::Rekey {
+            cpu: key.cpu,
+            cpu_place: key.place,
+        })
+    }
+
+    // From Written on.
+    fn from_written<'a>(
+        &mut self,
+        acts: &[ActLine<'_>],
+        len: u32,
+        block: u64,
+        steps: &'a [Step],
+    ) -> Result<Tried<'a>, AllocError>
+        requires near { block ≤ 2 ^ 32 }
+        ensures tries { IfOk result (λ t. from_written (map seen_act acts.now) len block self.old steps.now
+            ≡ record { next_block = t.next_block; holds = t.holds; rest = t.rest.now; left = self.new }) }
+        ensures near { IfOk result (λ t. t.next_block ≤ block + 2 ^ 26 + 2) }
+    {
+        self.meet(acts, WRITTEN)?;
+        match key_in_front(steps) {
+            Some((key, rest)) => {
+                self.take_key(key)?;
+                self.from_serve(acts, len, block, rest)
+            }
+            None => Ok(Tried {
+                next_block: block,
+                holds: true,
+                rest: &[],
+            }),
+        }
+    }
+
+    // An attempt to copy `len` bytes, `block` being the key's next block.
+    fn attempt<'a>(
+        &mut self,
+        acts: &[ActLine<'_>],
+        len: u32,
+        block: u64,
+        steps: &'a [Step],
+    ) -> Result<Tried<'a>, AllocError>
+        requires near { block ≤ 2 ^ 32 }
+        ensures tries { IfOk result (λ t. attempted (map seen_act acts.now) len block self.old steps.now
+            ≡ record { next_block = t.next_block; holds = t.holds; rest = t.rest.now; left = self.new }) }
+        ensures near { IfOk result (λ t. t.next_block ≤ block + 2 ^ 26 + 2) }
+    {
+        match steps {
+            [Step::Look(found), rest @ ..] => {
+                self.meet(acts, START)?;
+                if self.outline.found == *found {
+                    return self.from_serve(acts, len, block, rest);
+                }
+                self.outline.found = *found;
+                self.from_written(acts, len, block, rest)
+            }
+            _ => Ok(Tried {
+                next_block: block,
+                holds: true,
+                rest: &[],
+            }),
+        }
+    }
+
+    // An attempt, and a second one without acts where the first did not hold.
+    fn try_twice(
+        &mut self,
+        acts: &[ActLine<'_>],
+        len: u32,
+        steps: &[Step],
+    ) -> Result<(), AllocError>
+        ensures { OnOk result (self.new ≡ tried_twice (map seen_act acts.now) len self.old steps.now) }
+    {
+        let tried = self.attempt(acts, len, 0, steps)?;
+        if !tried.holds {
+            self.attempt(&[], len, tried.next_block, tried.rest)?;
+        }
+        Ok(())
+    }
+
+    // Behind the look of a `vread` that wants bytes and has good flags.
+    fn look(
+        &mut self,
+        acts: &[ActLine<'_>],
+        len: u32,
+        found: u64,
+        steps: &[Step],
+    ) -> Result<(), AllocError>
+        ensures { OnOk result (self.new ≡ from_look (map seen_act acts.now) len found self.old steps.now) }
+    {
+        if found == 0 {
+            return Ok(());
+        }
+        let left = BATCH_BYTES.saturating_sub(self.outline.served);
+        if acts.is_empty() && self.outline.found == found && len <= u32::from(left) {
+            self.copy(0, len)?;
+            return Ok(());
+        }
+        self.try_twice(acts, len, steps)
+    }
+
+    /// Goes through a `vread` of `len` bytes with these flags and acts, by the steps of its line. Where these are not the
+    /// steps of one, what then stands in the list is not said.
+    ///
+    /// # Errors
+    ///
+    /// `AllocError` where there is no memory for its entries.
+    pub fn vread(
+        &mut self,
+        len: u32,
+        flags: u32,
+        acts: &[ActLine<'_>],
+        steps: &[Step],
+    ) -> Result<(), AllocError>
+        ensures cases { OnOk result (self.new ≡ vread_left len flags (map seen_act acts.now) self.old steps.now) }
+        ensures meant { (lists : Lists) (m : CallMeaning) → VreadMeans len flags (map seen_act acts.now) m →
+            deeds_of lists steps.now ≡ m.own.deeds → IsBetweenCalls self.old.outline (current_state m.before) →
+            OnOk result (Leaves m self.old self.new) }
+    {
+        if flags::are_bad(flags) || len == 0 {
+            return Ok(());
+        }
+        match steps {
+            [Step::Look(found), rest @ ..] => self.look(acts, len, *found, rest),
+            _ => Ok(()),
+        }
+    }
+}
