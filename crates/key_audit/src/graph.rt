@@ -53,6 +53,10 @@ impl<'a> Graph<'a> {
         Ok(Graph { rows, by_name })
     }
 
+    pub(crate) fn rows(&self) -> &'a [Row] {
+        self.rows
+    }
+
     /// The number of the row of a key.
     pub(crate) fn find(&self, key: KeyName) -> Option<usize> {
         let rank = rank(key);

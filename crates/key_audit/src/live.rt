@@ -7,7 +7,7 @@ use crate::moments::moments_of;
 use crate::text::{Text, moment_at};
 use key_names::Span;
 use key_rows::cut::kept_to;
-use key_rows::held::{BatchHolder, Held, HeldRest};
+use key_rows::held::{BatchHolder, Held, HeldKey, HeldRest};
 use key_rows::lives::Holder;
 use key_rows::moments::{Line, Moments};
 use key_rows::rows::{Fate, Piece, Row};
@@ -35,12 +35,20 @@ fn held_at(
     Ok(told.held)
 }
 
-fn none_of(alloc: Global, count: usize) -> Result<Vec<bool>, AllocError> {
-    let mut marks = Vec::with_capacity(alloc, count)?;
-    for _ in 0..count {
-        marks.push(false)?;
+// Whether the key of each row is held.
+fn held_rows(alloc: Global, graph: &Graph<'_>, keys: &[HeldKey]) -> Result<Vec<bool>, AllocError> {
+    let mut is_held = Vec::with_capacity(alloc, graph.rows().len())?;
+    for _ in graph.rows() {
+        is_held.push(false)?;
     }
-    Ok(marks)
+    for one in keys {
+        if let Some(number) = graph.find(one.key) {
+            if let Some(mark) = is_held.get_mut(number) {
+                *mark = true;
+            }
+        }
+    }
+    Ok(is_held)
 }
 
 // A row with no pieces but the keys that its bytes became.
@@ -82,6 +90,7 @@ fn is_in_rest(rests: &[HeldRest], piece: &Piece) -> bool {
 }
 
 /// What can be computed from what is held.
+#[derive(Clone, Copy)]
 struct Reach<'a> {
     moments: &'a Moments,
     rows: &'a [Row],
@@ -140,6 +149,38 @@ fn put_lines(text: &mut Text, all: &[Reached]) -> Result<(), AllocError> {
     Ok(())
 }
 
+fn put_held(
+    text: &mut Text,
+    moments: &Moments,
+    graph: &Graph<'_>,
+    held: &Held,
+) -> Result<(), AllocError> {
+    for one in &held.keys {
+        if let Some(row) = graph.find(one.key).and_then(|number| graph.rows().get(number)) {
+            put_key(text, "held ", moments, row)?;
+        }
+    }
+    for rest in &held.rests {
+        put_rest(text, rest)?;
+    }
+    Ok(())
+}
+
+fn put_next(
+    text: &mut Text,
+    moments: &Moments,
+    rows: &[Row],
+    is_held: &[bool],
+    known: &[bool],
+) -> Result<(), AllocError> {
+    for (number, row) in rows.iter().enumerate() {
+        if known.get(number) == Some(&true) && is_held.get(number) == Some(&false) {
+            put_key(text, "next ", moments, row)?;
+        }
+    }
+    Ok(())
+}
+
 /// What is held behind a stamp and what can be computed from it.
 ///
 /// # Errors
@@ -150,29 +191,12 @@ pub(crate) fn live_text(alloc: Global, stamp: u64, book: &KeptBook) -> Result<Ve
     let rows = rows_of(alloc, book, &moments)?;
     let held = held_at(alloc, stamp, book, &moments)?;
     let graph = Graph::of(alloc, &rows)?;
-    let mut text = Text::new(alloc);
-    let mut is_held = none_of(alloc, rows.len())?;
-    for one in &held.keys {
-        if let Some(number) = graph.find(one.key) {
-            if let Some(mark) = is_held.get_mut(number) {
-                *mark = true;
-            }
-            if let Some(row) = rows.get(number) {
-                put_key(&mut text, "held ", &moments, row)?;
-            }
-        }
-    }
-    for rest in &held.rests {
-        put_rest(&mut text, rest)?;
-    }
+    let is_held = held_rows(alloc, &graph, &held.keys)?;
     let mut known = Vec::from_slice(alloc, &is_held)?;
     graph.mark_behind(&mut known);
-    for (number, row) in rows.iter().enumerate() {
-        let is_new = known.get(number) == Some(&true) && is_held.get(number) == Some(&false);
-        if is_new {
-            put_key(&mut text, "next ", &moments, row)?;
-        }
-    }
+    let mut text = Text::new(alloc);
+    put_held(&mut text, &moments, &graph, &held)?;
+    put_next(&mut text, &moments, &rows, &is_held, &known)?;
     let reach = Reach {
         moments: &moments,
         rows: &rows,

@@ -21,13 +21,15 @@ fn moment_by(of: &MarkOf) -> Moment {
 fn push(moments: &mut Moments, of: &MarkOf) -> Result<(), AllocError> {
     let moment = moment_by(of);
     match of.mark.lane {
-        LaneId::Pool => moments.pool.push(moment),
-        LaneId::Base => moments.base.push(moment),
-        LaneId::Cpu(cpu) => match moments.cpus.get_mut(cpu as usize) {
-            Some(lane) => lane.push(moment),
-            None => Ok(()),
-        },
+        LaneId::Pool => moments.pool.push(moment)?,
+        LaneId::Base => moments.base.push(moment)?,
+        LaneId::Cpu(cpu) => {
+            if let Some(lane) = moments.cpus.get_mut(cpu as usize) {
+                lane.push(moment)?;
+            }
+        }
     }
+    Ok(())
 }
 
 fn list_moments(
