@@ -1,3 +1,3 @@
 pub mod Books
 pub mod Ends
-pub mod Entries
+pub mod KeptEntries
