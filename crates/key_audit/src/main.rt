@@ -15,6 +15,8 @@ mod keys;
 mod line;
 mod live;
 mod moments;
+#[cfg(test)]
+mod tests;
 mod text;
 
 use crate::ask::USAGE;
