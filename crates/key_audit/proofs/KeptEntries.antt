@@ -39,5 +39,5 @@ has_entries kept lists callers keeps states = record {
       (λ c ks es there is.
       let lane = keeps.cpus.each c ks es there is in
       same_entries (λ (k : KeptCpu). k.entry) ks es lane.count (λ i k e at e_is. (lane.each i k e at e_is).entry));
-  callers = states;
+  states = states;
 }

@@ -1,3 +1,4 @@
 pub mod Books
 pub mod Ends
 pub mod KeptEntries
+pub mod WordTexts

@@ -9,7 +9,7 @@ use Rattle.transcript_check.specs.Judged.{FailsFirst, IsSound}
 use Rattle.key_rows.specs.declared.moments.Moments.{Moments}
 use Rattle.key_rows.specs.declared.rows.Row.{Row}
 use Rattle.key_rows.specs.declared.told.Told.{Told}
-use Rattle.key_rows.specs.Rows.{IsRow, birth_of}
+use Rattle.key_rows.specs.Rows.{IsRow, all_pieces, birth_of}
 use Rattle.key_rows.specs.Told.{book_tells, tells_of}
 use Rattle.tool_ends.specs.Pairs.{FailsAsText, IsPair, no_line, pair_fault, refusal_line}
 use Rattle.tool_ends.specs.Reads.{ReadsEnds}
@@ -26,7 +26,7 @@ pub record AreRows (book : Book) (rows : List Row) : Type 0 where
   pub told : Told
   pub tells : tells_of told ≡ book_tells (lists_of book)
   pub each : IsPermutation told.lives.births.items (map birth_of rows)
-  pub say : All (IsRow told) rows
+  pub say : All (IsRow (all_pieces told) told.lives.endings.items) rows
 
 -- the text of the rows
 pub record TellsKeys (book : Book) (output : List ℕ) : Type 0 where

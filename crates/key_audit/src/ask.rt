@@ -1,7 +1,8 @@
 //! What the words of a command line ask for.
-ghost use Rattle.std.specs.Prelude.{◌≡◌, ◌≤◌, ◌<◌, ◌^◌, ◌∷◌, [], ℕ, Some, IfSome};
-ghost use Rattle.key_rows.specs.declared.moments.Line.{Line as LineName};
-ghost use Rattle.key_audit.specs.Commands.{AskTexts, Asks, line_name};
+ghost use Rattle.std.specs.Prelude.{◌≡◌, ◌∷◌, ◌++◌, [], true, Some, IfSome, MatchOption};
+ghost use Rattle.transcript_text.specs.Reading.{lacks, Reads};
+ghost use Rattle.key_audit.specs.Commands.{AskTexts, Asks, LineFits};
+ghost use Rattle.key_audit.specs.Texts.{line_text};
 
 use event_script::numbers::number_up_to;
 use key_rows::moments::Line;
@@ -21,20 +22,28 @@ pub(crate) enum Ask {
     Line(Line),
 }
 
-/// The line that a word names, as `0.4`.
-fn line_of(word: &str) -> Option<Line>
-    ensures found { IfSome result (λ line. word.now ≡ line_name line) }
-    ensures only { (line : LineName) → line.caller < 2 ^ 32 → line.event < 2 ^ 32 → word.now ≡ line_name line
-        → result ≡ Some line }
+/// What stands before the first dot of a text, and what stands behind it.
+fn halves(text: &[u8]) -> Option<(&[u8], &[u8])>
+    ensures { MatchOption result (lacks 46 text.now ≡ true)
+        (λ both. (text.now ≡ both.0.now ++ 46 ∷ both.1.now) × (lacks 46 both.0.now ≡ true)) }
 {
-    let bytes = word.as_bytes();
-    let Some(dot) = memchr(b'.', bytes) else {
+    match memchr(b'.', text) {
+        Some(place) => Some((&text[..place], &text[place + 1..])),
+        None => None,
+    }
+}
+
+/// The line that a text names, as `0.4`.
+fn line_of(text: &[u8]) -> Option<Line>
+    ensures { Reads line_text LineFits text.now result }
+{
+    let Some((caller, event)) = halves(text) else {
         return None;
     };
-    let Some(caller) = number_up_to(u64::from(u32::MAX), &bytes[..dot]) else {
+    let Some(caller) = number_up_to(u64::from(u32::MAX), caller) else {
         return None;
     };
-    let Some(event) = number_up_to(u64::from(u32::MAX), &bytes[dot + 1..]) else {
+    let Some(event) = number_up_to(u64::from(u32::MAX), event) else {
         return None;
     };
     Some(Line {
@@ -55,7 +64,7 @@ fn ask_by(word: &str, with: &str) -> Option<Ask>
         };
     }
     if word == "line" {
-        return match line_of(with) {
+        return match line_of(with.as_bytes()) {
             Some(line) => Some(Ask::Line(line)),
             None => None,
         };
