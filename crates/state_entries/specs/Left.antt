@@ -1,6 +1,6 @@
--- What a vread leaves of a state by the steps of its line: the same cases as the code has. Where the steps are not those
--- of a vread, what they show until then.
-use Rattle.std.specs.Prelude.{ℕ, ◌+◌, ◌==◌, ◌&&◌, ◌||◌, Bool, true, Option, None, Some, List, [], ◌∷◌, ◌++◌, length}
+-- What a vread leaves of a state by the steps of its line: the same cases as the code has. Where the steps are not
+-- those of a vread, what they show until then.
+use Rattle.std.specs.Prelude.{ℕ, ◌==◌, ◌&&◌, ◌||◌, Bool, true, Option, None, Some, List, [], ◌∷◌, ◌++◌, length}
 use Rattle.std.specs.Prelude.{if◌then◌else◌}
 use Rattle.std.specs.List.{list_any}
 use Rattle.key_names.specs.declared.entries.VEntry.{VEntry}

@@ -1,5 +1,5 @@
 -- The outline of a vgetrandom state.
-use Rattle.std.specs.Prelude.{ℕ, ◌≡◌, false, []}
+use Rattle.std.specs.Prelude.{◌≡◌, false, []}
 use Rattle.key_names.specs.VgetrandomState.{VgetrandomState}
 use Rattle.key_names.specs.VreadSteps.{published_by}
 use Rattle.state_entries.specs.declared.outline.Outline.{Outline}

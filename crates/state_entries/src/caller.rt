@@ -1,10 +1,4 @@
 //! The vgetrandom states of a caller while its calls are gone through.
-ghost use Rattle.std.specs.Prelude.{◌≡◌, IfOk, OnOk, map};
-ghost use Rattle.std.specs.List.{fold};
-ghost use Rattle.line_orders.specs.Called.{seen_act, seen_call};
-ghost use Rattle.state_entries.specs.Callers.{States, first_states, states_after, states_after_event, lists_left};
-ghost use Rattle.state_entries.specs.Entries.{lists_in};
-
 use crate::entry::StateEntry;
 use crate::leaving::Leaving;
 use crate::stamps::{behind_acts, latest};
@@ -34,11 +28,11 @@ impl Model for Caller {
 }
 
 impl Caller {
-    ghost use Rattle.std.specs.Prelude.{◌≡◌, ◌++◌, ◌∷◌, [], IfOk, OnOk, map};
+    ghost use Rattle.std.specs.Prelude.{◌≡◌, IfOk, OnOk, map};
     ghost use Rattle.line_orders.specs.Called.{seen_act, seen_call};
-    ghost use Rattle.line_orders.specs.Seen.{seen_bare};
-    ghost use Rattle.key_names.specs.Calls.{alone, vread_call};
-    ghost use Rattle.state_entries.specs.Callers.{States, first_states, states_after, states_after_event};
+    ghost use Rattle.state_entries.specs.Callers.{States, first_states, current_left, with_left};
+    ghost use Rattle.state_entries.specs.Callers.{states_after, states_after_event};
+    ghost use Rattle.state_entries.specs.Left.{wiped, vread_left};
     ghost use Rattle.state_entries.specs.Entries.{lists_in};
 
     /// A caller that made no call yet, whose last visit, if its parent made one before the fork, has this stamp.
@@ -60,21 +54,28 @@ impl Caller {
         })
     }
 
+    // The current state is wiped by the event of this number.
+    fn wipe(&mut self, event: u32) -> Result<(), AllocError>
+        ensures { OnOk result (self.new ≡ with_left self.old (wiped (current_left self.old))) }
+    {
+        if self.current >= self.states.len() {
+            return Ok(());
+        }
+        let state = &mut self.states[self.current];
+        state.begin(self.stamp, self.stamp, event);
+        state.wipe()?;
+        Ok(())
+    }
+
     fn event(&mut self, event: &Event, line: BareLine<'_>) -> Result<(), AllocError>
         ensures { OnOk result (self.new ≡ states_after_event self.old event.now) }
     {
+        self.stamp = latest(self.stamp, line.steps);
         match event {
-            Event::Drop => {
-                if self.current < self.states.len() {
-                    let state = &mut self.states[self.current];
-                    state.begin(self.stamp, self.stamp, line.event);
-                    state.wipe()?;
-                }
-            }
+            Event::Drop => self.wipe(line.event)?,
             Event::State { number } => self.current = *number as usize,
             _ => {}
         }
-        self.stamp = latest(self.stamp, line.steps);
         Ok(())
     }
 
@@ -85,15 +86,16 @@ impl Caller {
         line: BareLine<'_>,
         acts: &[ActLine<'_>],
     ) -> Result<(), AllocError>
-        ensures { OnOk result (self.new ≡ states_after self.old
-            (vread_call len flags (seen_bare line.entry) (map seen_act acts.now))) }
+        ensures { OnOk result (self.new ≡ with_left self.old
+            (vread_left len flags (map seen_act acts.now) (current_left self.old) line.entry.steps.now)) }
     {
-        let done = behind_acts(latest(self.stamp, line.steps), acts);
-        if self.current < self.states.len() {
-            let state = &mut self.states[self.current];
-            state.begin(self.stamp, done, line.event);
-            state.vread(len, flags, acts, line.steps)?;
+        if self.current >= self.states.len() {
+            return Ok(());
         }
+        let done = behind_acts(latest(self.stamp, line.steps), acts);
+        let state = &mut self.states[self.current];
+        state.begin(self.stamp, done, line.event);
+        state.vread(len, flags, acts, line.steps)?;
         self.stamp = done;
         Ok(())
     }
@@ -123,12 +125,12 @@ impl Caller {
     /// # Errors
     ///
     /// `AllocError` where there is no memory for them.
-    pub fn into_lists(self, alloc: Global) -> Result<Vec<Vec<StateEntry>>, AllocError>
-        ensures { IfOk result (λ lists. lists_in lists.items ≡ map (λ l. l.entries) self.left) }
+    pub fn lists(&self, alloc: Global) -> Result<Vec<Vec<StateEntry>>, AllocError>
+        ensures { IfOk result (λ lists. lists_in lists.items ≡ map (λ l. l.entries) self.now.left) }
     {
-        let mut lists = Vec::new(alloc);
-        for state in self.states {
-            lists.push(state.into_entries())?;
+        let mut lists = Vec::with_capacity(alloc, STATES)?;
+        for state in &self.states {
+            lists.push(state.list(alloc)?)?;
         }
         Ok(lists)
     }

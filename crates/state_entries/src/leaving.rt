@@ -1,5 +1,5 @@
 //! A vgetrandom state while its caller's calls are gone through: its outline, and the entries that it was left so far.
-ghost use Rattle.std.specs.Prelude.{◌≡◌, ◌+◌, ◌^◌, ◌≤◌, None, Some, IfOk, OnOk, MatchOption, map};
+ghost use Rattle.std.specs.Prelude.{◌≡◌, None, Some, [], true, MatchOption, map};
 ghost use Rattle.line_orders.specs.Called.{seen_act};
 ghost use Rattle.state_entries.specs.Left.{wipes_at, key_read, second_key, key_in_front};
 
@@ -41,6 +41,21 @@ pub struct Tried<'a> {
     pub next_block: u64,
     pub holds: bool,
     pub rest: &'a [Step],
+}
+
+impl<'a> Tried<'a> {
+    // The steps end before the attempt does: nothing follows.
+    fn cut_short(block: u64) -> Tried<'a>
+        ensures next { result.next_block ≡ block }
+        ensures holds { result.holds ≡ true }
+        ensures rest { result.rest.now ≡ [] }
+    {
+        Tried {
+            next_block: block,
+            holds: true,
+            rest: &[],
+        }
+    }
 }
 
 // Whether an act at the point of this number wipes.
@@ -128,8 +143,9 @@ impl Leaving {
     ghost use Rattle.state_entries.specs.Entries.{entries_in};
     ghost use Rattle.state_entries.specs.Laws.{Leaves};
     ghost use Rattle.state_entries.specs.Outline.{IsBetweenCalls, outlined};
-    ghost use Rattle.state_entries.specs.Left.{Left, nothing_left, left_more, pushed, wiped, met, wipes_at, refilled, copied};
-    ghost use Rattle.state_entries.specs.Left.{keyed, from_serve, from_written, attempted, tried_twice, from_look, vread_left};
+    ghost use Rattle.state_entries.specs.Left.{Left, nothing_left, left_more, pushed, wiped, met, wipes_at, refilled};
+    ghost use Rattle.state_entries.specs.Left.{copied, keyed, from_serve, from_written, attempted, tried_twice};
+    ghost use Rattle.state_entries.specs.Left.{from_look, vread_left};
 
     /// A state that no call was made on yet.
     pub fn new(alloc: Global) -> Leaving
@@ -145,10 +161,14 @@ impl Leaving {
     }
 
     /// The list.
-    pub fn into_entries(self) -> Vec<StateEntry>
-        ensures { entries_in result.items ≡ self.entries }
+    ///
+    /// # Errors
+    ///
+    /// `AllocError` where there is no memory for it.
+    pub fn list(&self, alloc: Global) -> Result<Vec<StateEntry>, AllocError>
+        ensures { IfOk result (λ list. entries_in list.items ≡ self.now.entries) }
     {
-        self.entries
+        Vec::from_slice(alloc, &self.entries)
     }
 
     /// A call begins: the caller's last stamp before it and behind it, and the number of its event.
@@ -248,7 +268,7 @@ impl Leaving {
         Ok(block + whole + 2)
     }
 
-    // From Serve on; the steps are as short as what they show.
+    // From Serve on.
     fn from_serve<'a>(
         &mut self,
         acts: &[ActLine<'_>],
@@ -272,11 +292,7 @@ impl Leaving {
                     rest,
                 })
             }
-            _ => Ok(Tried {
-                next_block: block,
-                holds: true,
-                rest: &[],
-            }),
+            _ => Ok(Tried::cut_short(block)),
         }
     }
 
@@ -310,11 +326,7 @@ impl Leaving {
                 self.take_key(key)?;
                 self.from_serve(acts, len, block, rest)
             }
-            None => Ok(Tried {
-                next_block: block,
-                holds: true,
-                rest: &[],
-            }),
+            None => Ok(Tried::cut_short(block)),
         }
     }
 
@@ -340,11 +352,7 @@ impl Leaving {
                 self.outline.found = *found;
                 self.from_written(acts, len, block, rest)
             }
-            _ => Ok(Tried {
-                next_block: block,
-                holds: true,
-                rest: &[],
-            }),
+            _ => Ok(Tried::cut_short(block)),
         }
     }
 
@@ -385,8 +393,27 @@ impl Leaving {
         self.try_twice(acts, len, steps)
     }
 
-    /// Goes through a `vread` of `len` bytes with these flags and acts, by the steps of its line. Where these are not the
-    /// steps of one, what then stands in the list is not said.
+    // The cases of a `vread`.
+    fn follow(
+        &mut self,
+        len: u32,
+        flags: u32,
+        acts: &[ActLine<'_>],
+        steps: &[Step],
+    ) -> Result<(), AllocError>
+        ensures { OnOk result (self.new ≡ vread_left len flags (map seen_act acts.now) self.old steps.now) }
+    {
+        if flags::are_bad(flags) || len == 0 {
+            return Ok(());
+        }
+        match steps {
+            [Step::Look(found), rest @ ..] => self.look(acts, len, *found, rest),
+            _ => Ok(()),
+        }
+    }
+
+    /// Goes through a `vread` of `len` bytes with these flags and acts, by the steps of its line. Where these are not
+    /// the steps of one, what then stands in the list is not said.
     ///
     /// # Errors
     ///
@@ -403,12 +430,7 @@ impl Leaving {
             deeds_of lists steps.now ≡ m.own.deeds → IsBetweenCalls self.old.outline (current_state m.before) →
             OnOk result (Leaves m self.old self.new) }
     {
-        if flags::are_bad(flags) || len == 0 {
-            return Ok(());
-        }
-        match steps {
-            [Step::Look(found), rest @ ..] => self.look(acts, len, *found, rest),
-            _ => Ok(()),
-        }
+        self.follow(len, flags, acts, steps)?;
+        Ok(())
     }
 }

@@ -10,12 +10,16 @@ use crate::entry::StateEntry;
 use crate::stamps::latest;
 use line_orders::begin::Parts;
 use line_orders::called::Called;
-use line_orders::order::{Orders, front_of};
+use line_orders::order::Orders;
 use std::alloc::{AllocError, Global};
 
 // The stamp of the last visit that stands before a caller's own, where those before the callers in front are known.
-fn start_stamp(starts: &[u64], orders: &Orders, caller: u32) -> u64 {
-    let Some(fork) = front_of(&orders.forks, caller) else {
+fn start_stamp(starts: &[u64], orders: &Orders, caller: usize) -> u64 {
+    let Some(fork) = orders
+        .forks
+        .iter()
+        .find(|fork| fork.child as usize == caller)
+    else {
         return 0;
     };
     let before = starts.get(fork.parent as usize).copied().unwrap_or(0);
@@ -29,7 +33,7 @@ fn start_stamp(starts: &[u64], orders: &Orders, caller: u32) -> u64 {
 fn start_stamps(alloc: Global, orders: &Orders) -> Result<Vec<u64>, AllocError> {
     let mut starts = Vec::new(alloc);
     for caller in 0..orders.own.len() {
-        starts.push(start_stamp(&starts, orders, caller as u32))?;
+        starts.push(start_stamp(&starts, orders, caller))?;
     }
     Ok(starts)
 }
@@ -46,7 +50,7 @@ fn caller_lists(
     for call in calls {
         caller.call(call)?;
     }
-    caller.into_lists(alloc)
+    caller.lists(alloc)
 }
 
 // Those of all callers.
@@ -77,5 +81,6 @@ pub fn state_lists(
     ensures { IfOk result (λ lists. AreStateLists (seen_calls parts.now.calls.items) (all_lists_in lists.items)) }
 {
     let starts = start_stamps(alloc, &parts.orders)?;
-    all_lists(alloc, &starts, &parts.calls)
+    let lists = all_lists(alloc, &starts, &parts.calls)?;
+    Ok(lists)
 }

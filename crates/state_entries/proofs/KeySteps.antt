@@ -1,0 +1,172 @@
+-- The steps of a system call that read a key: the key is told by its visit of a CPU.
+use Rattle.std.proofs.Common.{◌≡◌, ℕ, ◌≤◌, ◌⊎◌, inl, inr, Bool, true, false, Option, Some, None, List, [], ◌∷◌, ◌++◌, refl, subst, ap, ◌∙◌, arith}
+use Rattle.std.specs.Prelude.{◌==◌, ◌&&◌, MatchBool, slice_get}
+use Rattle.std.specs.List.{AllByRecursion}
+use Rattle.std.proofs.lemmas.Bool.{eqb-true}
+use Rattle.key_names.specs.declared.names.LaneId.{LaneId}
+use Rattle.key_names.specs.declared.names.LaneId.TheVariants.{Pool as PoolLane, Base as BaseLane, Cpu as CpuLane}
+use Rattle.key_names.specs.declared.names.Step.{Step}
+use Rattle.key_names.specs.declared.names.Step.TheVariants.{Look, Visit as Marked}
+use Rattle.key_names.specs.declared.entries.PoolEntry.{PoolEntry}
+use Rattle.key_names.specs.declared.entries.BaseEntry.{BaseEntry}
+use Rattle.key_names.specs.declared.entries.CpuEntry.{CpuEntry}
+use Rattle.key_names.specs.declared.entries.Taken.TheVariants.{User}
+use Rattle.key_names.specs.Answers.{was_interrupted, served_bytes}
+use Rattle.key_names.specs.Book.{Lists, cpu_list}
+use Rattle.key_names.specs.Calls.{Setting}
+use Rattle.key_names.specs.Deeds.{Deed, looked, at_pool, at_base, at_cpu, nothing_there, BaseVisit, CpuVisit, deed_or, deed_at, deeds_of, pool_visit, base_visit, cpu_visit}
+use Rattle.key_names.specs.Forms.{SysForm, ReadForm, Waited, WaitedInVain}
+use Rattle.key_names.specs.Vgetrandom.{SystemAnswer, read}
+use Rattle.key_names.specs.VreadSteps.{answer_behind, answer_with, errno_of, last_place, NeverFall}
+use Rattle.key_names.proofs.Transcripts.KeyVisits.{answers_done}
+use Rattle.key_names.proofs.Unique.UniqueAttempts.{AllReady, ready_at}
+use Rattle.state_entries.specs.declared.leaving.KeyRead.{KeyRead}
+use Rattle.state_entries.specs.Left.{key_read, second_key, key_in_front, or_key}
+
+-- no look is below the first
+pub all_ready : (g : ℕ) (gs : List ℕ) → 1 ≤ g → NeverFall (g ∷ gs) → AllByRecursion (λ g. 1 ≤ g) gs
+all_ready g [] some fall = tt
+all_ready g (next ∷ gs) some fall =
+    let le : g ≤ next = fall.0 in let more : 1 ≤ next = omega arith in (more, all_ready next gs more fall.1)
+
+module _ (lists : Lists) where
+  -- ---- the step behind which this stands
+
+  -- what a step tells of a key's read
+  abbrev Tells : Deed → Step → Type 0
+  Tells (looked g) step = step ≡ Look g
+  Tells (at_pool v) step = key_read step ≡ None
+  Tells (at_base v) step = key_read step ≡ None
+  Tells (at_cpu v) step =
+      (stamp : ℕ) × (key_read step ≡ Some (record { cpu = v.cpu; place = v.place; stamp = stamp }))
+  Tells nothing_there step = Unit {0}
+
+  pool_tells : (step : Step) (place : ℕ) (o : Option PoolEntry) → key_read step ≡ None →
+      Tells (deed_or (λ e. at_pool (pool_visit lists place e)) o) step
+  pool_tells step place None none = tt
+  pool_tells step place (Some e) none = none
+
+  base_tells : (step : Step) (place : ℕ) (o : Option BaseEntry) → key_read step ≡ None →
+      Tells (deed_or (λ e. at_base (base_visit lists place e)) o) step
+  base_tells step place None none = tt
+  base_tells step place (Some e) none = none
+
+  cpu_tells : (step : Step) (c place stamp : ℕ) (o : Option CpuEntry) →
+      key_read step ≡ Some (record { cpu = c; place = place; stamp = stamp }) →
+      Tells (deed_or (λ e. at_cpu (cpu_visit lists c place e)) o) step
+  cpu_tells step c place stamp None is = tt
+  cpu_tells step c place stamp (Some e) is = (stamp, is)
+
+  lane_tells : (step : Step) (lane : LaneId) (place stamp : ℕ) →
+      step ≡ Marked (record { lane = lane; place = place; stamp = stamp }) → Tells (deed_at lists lane place) step
+  lane_tells step PoolLane place stamp is = pool_tells step place (slice_get lists.pool place) (ap key_read is)
+  lane_tells step BaseLane place stamp is = base_tells step place (slice_get lists.base place) (ap key_read is)
+  lane_tells step (CpuLane c) place stamp is =
+      cpu_tells step c place stamp (slice_get (cpu_list lists c) place) (ap key_read is)
+
+  pub record FirstStep (d : Deed) (ds : List Deed) (steps : List Step) : Type 0 where
+    pub step : Step
+    pub rest : List Step
+    pub steps_are : steps ≡ step ∷ rest
+    pub tells : Tells d step
+    pub behind : deeds_of lists rest ≡ ds
+
+  pub first_step : (d : Deed) (ds : List Deed) (steps : List Step) → deeds_of lists steps ≡ d ∷ ds →
+      FirstStep d ds steps
+  first_step d ds [] e = absurd cc
+  first_step d ds (Look g ∷ rest) e =
+      let p : looked g ≡ d = cc in let P : Deed → Type 0 = λ x. Tells x (Look g) in record {
+        step = Look g;
+        rest = rest;
+        steps_are = refl;
+        tells = subst P p refl;
+        behind = cc;
+      }
+  first_step d ds (Marked mark ∷ rest) e =
+      let p : deed_at lists mark.lane mark.place ≡ d = cc in
+      let P : Deed → Type 0 = λ x. Tells x (Marked mark) in record {
+        step = Marked mark;
+        rest = rest;
+        steps_are = refl;
+        tells = subst P p (lane_tells (Marked mark) mark.lane mark.place mark.stamp refl);
+        behind = cc;
+      }
+
+  -- ---- a key's call
+
+  -- the key, and the steps behind the call
+  pub record KeyTold (steps : List Step) (more : List Deed) (answer : SystemAnswer) : Type 0 where
+    pub key : KeyRead
+    pub rest : List Step
+    pub told : key_in_front steps ≡ Some (record { key = key; rest = rest })
+    pub behind : deeds_of lists rest ≡ more
+    pub bytes : List ℕ
+    pub answer_is : answer ≡ read bytes (Some (record { cpu = key.cpu; place = key.place }))
+    pub ready : AllReady more
+
+  module _ (steps : List Step) (call more : List Deed) (answer : SystemAnswer)
+      (deeds : deeds_of lists steps ≡ call ++ more) (answers : answer ≡ answer_behind 0 call) where
+    -- it ends with its visit of the CPU
+    answer_at : (ds : List Deed) → call ≡ ds → was_interrupted ds ≡ false →
+        answer ≡ read (served_bytes ds) (last_place ds)
+    answer_at ds is calm =
+        answers ∙ ap (answer_behind 0) is ∙ ap (λ a. answer_with (errno_of a) ds) (answers_done ds calm)
+
+    plain_key : (g h : ℕ) (v : CpuVisit) → call ≡ looked g ∷ looked h ∷ at_cpu v ∷ [] → AllReady (call ++ more) →
+        KeyTold steps more answer
+    plain_key g h v is ready =
+        let a = first_step (looked g) (looked h ∷ at_cpu v ∷ more) steps (deeds ∙ ap (λ x. x ++ more) is) in
+        let b = first_step (looked h) (at_cpu v ∷ more) a.rest a.behind in
+        let k = first_step (at_cpu v) more b.rest b.behind in
+        let r = ready_at (ap (λ x. x ++ more) is) ready in record {
+          key = record { cpu = v.cpu; place = v.place; stamp = k.tells.0 };
+          rest = k.rest;
+          told = ap key_in_front (a.steps_are ∙ ap (λ x. x ∷ a.rest) a.tells ∙ ap (λ x. Look g ∷ x)
+              (b.steps_are ∙ ap (λ x. x ∷ b.rest) b.tells ∙ ap (λ x. Look h ∷ x) k.steps_are))
+              ∙ ap (λ o. or_key o k.rest (second_key k.rest)) k.tells.1;
+          behind = k.behind;
+          bytes = served_bytes (looked g ∷ looked h ∷ at_cpu v ∷ []);
+          answer_is = answer_at (looked g ∷ looked h ∷ at_cpu v ∷ []) is refl;
+          ready = r.1.1;
+        }
+
+    refilled_key : (g h : ℕ) (u : BaseVisit) (v : CpuVisit) →
+        call ≡ looked g ∷ looked h ∷ at_base u ∷ at_cpu v ∷ [] → AllReady (call ++ more) → KeyTold steps more answer
+    refilled_key g h u v is ready =
+        let a = first_step (looked g) (looked h ∷ at_base u ∷ at_cpu v ∷ more) steps (deeds ∙ ap (λ x. x ++ more) is) in
+        let b = first_step (looked h) (at_base u ∷ at_cpu v ∷ more) a.rest a.behind in
+        let d = first_step (at_base u) (at_cpu v ∷ more) b.rest b.behind in
+        let k = first_step (at_cpu v) more d.rest d.behind in
+        let r = ready_at (ap (λ x. x ++ more) is) ready in record {
+          key = record { cpu = v.cpu; place = v.place; stamp = k.tells.0 };
+          rest = k.rest;
+          told = ap key_in_front (a.steps_are ∙ ap (λ x. x ∷ a.rest) a.tells ∙ ap (λ x. Look g ∷ x)
+              (b.steps_are ∙ ap (λ x. x ∷ b.rest) b.tells ∙ ap (λ x. Look h ∷ x) d.steps_are))
+              ∙ ap (λ o. or_key o d.rest (second_key d.rest)) d.tells
+              ∙ ap second_key k.steps_are ∙ ap (λ o. or_key o k.rest None) k.tells.1;
+          behind = k.behind;
+          bytes = served_bytes (looked g ∷ looked h ∷ at_base u ∷ at_cpu v ∷ []);
+          answer_is = answer_at (looked g ∷ looked h ∷ at_base u ∷ at_cpu v ∷ []) is refl;
+          ready = r.1.1;
+        }
+
+    not_zero : (g : ℕ) → 1 ≤ g → (g == 0) ≡ false
+    not_zero g some = go (g == 0) refl
+      where
+        go : (b : Bool) → (g == 0) ≡ b → (g == 0) ≡ false
+        go true is = let zero_is : g ≡ 0 = eqb-true g 0 is in absurd (omega arith)
+        go false is = is
+
+    pub key_told : (set : Setting) → SysForm set 32 0 call → AllReady (call ++ more) → KeyTold steps more answer
+    key_told set form ready =
+        let r : AllReady (looked form.0 ∷ (form.1 ++ more)) = ready_at (ap (λ ds. ds ++ more) form.2) ready in
+        let P : Bool → Type 0 = λ b. MatchBool (b && true) (WaitedInVain form.1 ⊎ Waited set 32 form.1)
+        (ReadForm set (User 32) form.0 form.1) in
+        go (subst P (not_zero form.0 r.0) form.3) r.0
+      where
+        go : ReadForm set (User 32) form.0 form.1 → 1 ≤ form.0 → KeyTold steps more answer
+        go (inl draw) some = let none : form.0 ≡ 0 = draw.0 in absurd (omega arith)
+        go (inr (inl f)) some =
+            plain_key form.0 f.look f.cpu (form.2 ∙ ap (λ ds. looked form.0 ∷ ds) f.deeds_are) ready
+        go (inr (inr f)) some =
+            refilled_key form.0 f.look f.base f.cpu (form.2 ∙ ap (λ ds. looked form.0 ∷ ds) f.deeds_are) ready
