@@ -1,10 +1,22 @@
 -- Going along a list: what one entry more tells.
-use Rattle.std.proofs.Common.{◌≡◌, ◌≤◌, ◌+◌, ℕ, List, [], ◌∷◌, ◌++◌, length, take, Some, refl, sym, ap, ◌∙◌, append_assoc, append-nil, arith}
-use Rattle.std.specs.Prelude.{slice_get}
+use Rattle.std.proofs.Common.{◌≡◌, ◌≤◌, ◌<◌, ◌+◌, ℕ, List, [], ◌∷◌, ◌++◌, length, take, get_or, Some, refl, sym, ap, ◌∙◌, append_assoc, append-nil}
+use Rattle.std.specs.Prelude.{map, slice_get}
 use Rattle.std.specs.List.{fold}
-use Rattle.std.proofs.lemmas.List.{take_all}
+use Rattle.std.proofs.lemmas.List.{map-append, take_all, take_more}
 use Rattle.list_replay.proofs.Loops.{take_at}
 use Rattle.key_rows.specs.Lives.{told_from}
+
+-- what was added behind a list that had stayed
+pub after_same : {T : Type 0} (old mid new add : List T) → mid ≡ old → new ≡ mid ++ add → new ≡ old ++ add
+after_same old mid new add stayed added = added ∙ ap (λ ts. ts ++ add) stayed
+
+-- one more thing behind what was made of the first of a list
+pub map_more : {A B : Type 0} (f : A → B) (xs : List A) (i : ℕ) (d : A) (old now new : List B) → i < length xs →
+    now ≡ old ++ map f (take i xs) → new ≡ now ++ f (get_or xs i d) ∷ [] → new ≡ old ++ map f (take (i + 1) xs)
+map_more f xs i d old now new below h more =
+    more ∙ ap (λ bs. bs ++ f (get_or xs i d) ∷ []) h
+    ∙ append_assoc old (map f (take i xs)) (f (get_or xs i d) ∷ [])
+    ∙ ap (λ bs. old ++ bs) (sym (ap (map f) (take_more xs i d below) ∙ map-append f (take i xs) (get_or xs i d ∷ [])))
 
 module _ {S E T : Type 0} (tells : S → E → List T) (step : S → E → S) where
   told_behind : (s : S) (es fs : List E) →
@@ -36,3 +48,10 @@ module _ {S E T : Type 0} (tells : S → E → List T) (step : S → E → S) wh
         now ≡ old ++ told_from tells step start entries
     told_all place old now all h =
         h ∙ ap (λ es. old ++ told_from tells step start es) (take_all place entries all)
+
+    -- the same where what was before had stayed for a while
+    pub told_after : (place : ℕ) (e : E) (old now mid new : List T) → slice_get entries place ≡ Some e →
+        IsTold place old now → mid ≡ now → new ≡ mid ++ tells (fold step start (take place entries)) e →
+        IsTold (place + 1) old new
+    told_after place e old now mid new is h stayed more = told_more place e old now new is h
+        (after_same now mid new (tells (fold step start (take place entries)) e) stayed more)

@@ -1,20 +1,21 @@
 -- What is told for each number below a count.
-use Rattle.std.proofs.Common.{◌≡◌, ◌+◌, ℕ, zero, suc, List, [], ◌∷◌, ◌++◌, refl, sym, ap, ◌∙◌, append_assoc, append-nil, arith}
-use Rattle.std.specs.Prelude.{Option, Some, slice_get, map}
+use Rattle.std.proofs.Common.{◌≡◌, ◌+◌, ℕ, zero, suc, List, [], ◌∷◌, ◌++◌, sym, ap, ◌∙◌, append_assoc, append-nil, arith}
+use Rattle.std.specs.Prelude.{Some, slice_get, map}
 use Rattle.std.specs.List.{flat_map, range_with_len}
 use Rattle.std.proofs.lemmas.List.Concat.{flat_map-append}
 use Rattle.key_names.specs.Book.{list_at}
 use Rattle.key_rows.specs.Rests.{widths}
 use Rattle.key_rows.specs.Told.{told_below}
 
-range_more : (a n j : ℕ) → a + n ≡ j → range_with_len a (n + 1) ≡ range_with_len a n ++ j ∷ []
+range_more : (a n j : ℕ) → a + n ≡ j → range_with_len a (suc n) ≡ range_with_len a n ++ j ∷ []
 range_more a zero j e = ap (λ x. x ∷ []) (omega (arith, e))
 range_more a (suc n) j e = ap (λ xs. a ∷ xs) (range_more (a + 1) n j (omega (arith, e)))
 
 pub below_more : {T : Type 0} (tells : ℕ → List T) (n : ℕ) →
     told_below (n + 1) tells ≡ told_below n tells ++ tells n
 below_more tells n =
-    ap (flat_map tells) (range_more 0 n n (omega arith))
+    ap (λ m. told_below m tells) (let next : n + 1 ≡ suc n = omega arith in next)
+    ∙ ap (flat_map tells) (range_more 0 n n (omega arith))
     ∙ flat_map-append tells (range_with_len 0 n) (n ∷ [])
     ∙ ap (λ ts. told_below n tells ++ ts) (append-nil (tells n))
 

@@ -3,3 +3,7 @@ mod Stands
 mod Along
 mod Below
 mod Tells
+mod Cuts
+mod Marks
+mod Groups
+mod HeldIsLive

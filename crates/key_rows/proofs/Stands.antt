@@ -1,8 +1,9 @@
 -- What stands for a list's state before a place.
-use Rattle.std.proofs.Common.{◌≡◌, ◌≤◌, ◌+◌, ℕ, List, length, take, Some, refl, sym, ap, subst, ◌∙◌, arith}
-use Rattle.std.specs.Prelude.{Option, slice_get}
+use Rattle.std.proofs.Common.{◌≡◌, ◌≤◌, ◌+◌, ℕ, List, length, take, Some, sym, ap, subst, ◌∙◌, arith}
+use Rattle.std.specs.Prelude.{Option, map, slice_get, option_map}
 use Rattle.std.specs.List.{fold}
 use Rattle.std.proofs.lemmas.List.{take_all}
+use Rattle.std.proofs.lemmas.Option.{slice_get-map}
 use Rattle.list_replay.proofs.Loops.{fold_at}
 use Rattle.key_names.specs.declared.names.KeyName.{KeyName}
 use Rattle.key_names.specs.declared.entries.BaseEntry.{BaseEntry}
@@ -32,3 +33,8 @@ base_after_entry s e place key key' h after = record {
   place_is = (let is : s.place ≡ place = h.place_is in omega arith);
   key_is = ap (λ n. base_key_after n e s.key) h.place_is ∙ ap (base_key_after place e) h.key_is ∙ sym after;
 }
+
+-- the entry of what is kept at a place
+pub entry_at : {T E : Type 0} (entry : T → E) (kept : List T) (i : ℕ) (k : T) → slice_get kept i ≡ Some k →
+    slice_get (map entry kept) i ≡ Some (entry k)
+entry_at entry kept i k is = slice_get-map entry kept i ∙ ap (option_map entry) is

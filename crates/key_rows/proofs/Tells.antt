@@ -1,12 +1,6 @@
 -- What is told, part by part.
-use Rattle.std.proofs.Common.{◌≡◌, ◌+◌, ℕ, List, ◌++◌, refl, sym, ap, ◌∙◌, append_assoc, append-nil, arith}
-use Rattle.key_names.specs.Uses.{Use}
-use Rattle.key_rows.specs.declared.lives.Birth.{Birth}
-use Rattle.key_rows.specs.declared.lives.Ending.{Ending}
-use Rattle.key_rows.specs.declared.lives.GivenUp.{GivenUp}
-use Rattle.key_rows.specs.declared.held.HeldKey.{HeldKey}
-use Rattle.key_rows.specs.declared.held.HeldRest.{HeldRest}
-use Rattle.key_rows.specs.Told.{Tells, joined, nothing, told_below, all_below}
+use Rattle.std.proofs.Common.{◌≡◌, ◌+◌, ℕ, sym, ap, ◌∙◌, append_assoc, append-nil}
+use Rattle.key_rows.specs.Told.{Tells, joined, nothing, all_below}
 use Rattle.key_rows.proofs.Below.{below_more}
 
 -- two tell the same where each part does

@@ -1,20 +1,27 @@
 -- The lists of a book up to a stamp.
-use Rattle.std.specs.Prelude.{ℕ, ◌≡◌, List, map}
+use Rattle.std.specs.Prelude.{ℕ, ◌≡◌, Bool, false, Option, Some, None, List, [], map, nat_le}
 use Rattle.std.specs.Global.{Vec}
-use Rattle.key_names.specs.declared.entries.BaseEntry.{BaseEntry}
-use Rattle.key_names.specs.declared.entries.CpuEntry.{CpuEntry}
-use Rattle.key_names.specs.Book.{Visit, entries_of}
-use Rattle.key_uses.specs.KeptEntries.{base_entries, cpu_entries}
-use Rattle.list_replay.specs.declared.kept.KeptBase.{KeptBase}
-use Rattle.list_replay.specs.declared.kept.KeptCpu.{KeptCpu}
+use Rattle.key_names.specs.Book.{Book, Visit, entries_of}
+use Rattle.key_uses.specs.KeptEntries.{base_entries}
 use Rattle.list_replay.specs.declared.kept.Lists.{Lists as KeptLists}
 use Rattle.key_rows.specs.declared.moments.Moment.{Moment}
 use Rattle.key_rows.specs.declared.moments.Moments.{Moments}
-use Rattle.key_names.specs.Book.{Book}
 use Rattle.key_rows.specs.Told.{cpu_lists}
 
 abbrev pub stamps_of : List Moment → List ℕ
 stamps_of moments = map (λ m. m.stamp) moments
+
+abbrev pub moment_lists : List (Vec Moment) → List (List Moment)
+moment_lists cpus = map (λ lane. lane.items) cpus
+
+abbrev pub lane_moments : Option (Vec Moment) → List Moment
+lane_moments None = []
+lane_moments (Some lane) = lane.items
+
+-- whether a moment is of this stamp or before
+abbrev pub is_by : ℕ → Option Moment → Bool
+is_by stamp None = false
+is_by stamp (Some moment) = nat_le moment.stamp stamp
 
 abbrev pub visit_stamps : {E : Type 0} → List (Visit E) → List ℕ
 visit_stamps visits = map (λ v. v.stamp) visits
@@ -24,4 +31,4 @@ pub record KeepsVisits (book : Book) (kept : KeptLists) (moments : Moments) : Ty
   pub base : base_entries kept.base.items ≡ entries_of book.base
   pub base_stamps : stamps_of moments.base.items ≡ visit_stamps book.base
   pub cpus : cpu_lists kept.cpus.items ≡ map entries_of book.cpus
-  pub cpu_stamps : map (λ lane. stamps_of lane.items) moments.cpus.items ≡ map visit_stamps book.cpus
+  pub cpu_stamps : map stamps_of (moment_lists moments.cpus.items) ≡ map visit_stamps book.cpus

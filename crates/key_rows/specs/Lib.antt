@@ -3,6 +3,7 @@ pub mod Lives
 pub mod Rests
 pub mod Held
 pub mod Told
+pub mod HeldIsLive
 pub mod Cut
 pub mod Rows
 pub mod Ranks

@@ -21,7 +21,8 @@ use Rattle.key_uses.specs.declared.state_uses.StateOf.{StateOf}
 use Rattle.key_uses.specs.declared.used.Origin.{Origin}
 use Rattle.key_uses.specs.declared.used.Origin.TheVariants.{Lane, State}
 use Rattle.key_rows.specs.declared.lives.Holder.{Holder}
-use Rattle.key_rows.specs.declared.lives.Holder.TheVariants.{Base as InBase, Cpu as InCpu, State as InState, Read as InRead}
+use Rattle.key_rows.specs.declared.lives.Holder.TheVariants.{Base as InBase, Cpu as InCpu, State as InState}
+use Rattle.key_rows.specs.declared.lives.Holder.TheVariants.{Read as InRead}
 use Rattle.key_rows.specs.declared.lives.Birth.{Birth}
 use Rattle.key_rows.specs.declared.lives.Ending.{Ending}
 

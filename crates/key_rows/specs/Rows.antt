@@ -1,12 +1,10 @@
 -- The row of a key: what holds it, which entry made it and which ended it, and what became of its bytes.
-use Rattle.std.specs.Prelude.{ℕ, ◌≡◌, Bool, true, false, ◌&&◌, ◌==◌, Option, Some, None, List, ◌++◌, map, filter}
+use Rattle.std.specs.Prelude.{ℕ, ◌≡◌, Bool, ◌&&◌, ◌==◌, List, ◌++◌, map, filter}
 use Rattle.std.specs.Prelude.{slice_get, option_map, IsPermutation}
 use Rattle.std.specs.List.Sorted.{IsNonDecreasingBy}
-use Rattle.key_names.specs.declared.names.LaneId.{LaneId}
 use Rattle.key_names.specs.declared.names.LaneId.TheVariants.{Pool as PoolLane, Base as BaseLane, Cpu as CpuLane}
 use Rattle.key_names.specs.declared.names.KeyName.{KeyName}
 use Rattle.key_names.specs.declared.names.KeyName.TheVariants.{Root, Base, Cpu, Call, Vdso}
-use Rattle.key_names.specs.IsTranscript.{is_same_lane}
 use Rattle.key_uses.specs.declared.used.Used.{Used}
 use Rattle.key_uses.specs.declared.used.Origin.{Origin}
 use Rattle.key_uses.specs.declared.used.Purpose.{Purpose}
@@ -21,13 +19,22 @@ use Rattle.key_rows.specs.declared.rows.Fate.TheVariants.{Became, Served as Serv
 use Rattle.key_rows.specs.declared.rows.Piece.{Piece}
 use Rattle.key_rows.specs.declared.rows.Row.{Row}
 
+-- the kind of a name, and its numbers
+abbrev pub rank_of : KeyName → ℕ × ℕ × ℕ × ℕ
+rank_of (Root p) = (0, p, 0, 0)
+rank_of (Base i) = (1, i, 0, 0)
+rank_of (Cpu c i) = (2, c, i, 0)
+rank_of (Call PoolLane i) = (3, i, 0, 0)
+rank_of (Call BaseLane i) = (4, i, 0, 0)
+rank_of (Call (CpuLane c) i) = (5, c, i, 0)
+rank_of (Vdso caller state n) = (6, caller, state, n)
+
+-- names are the same where their kinds and their numbers are
+abbrev pub is_same_rank : ℕ × ℕ × ℕ × ℕ → ℕ × ℕ × ℕ × ℕ → Bool
+is_same_rank a b = ((a.0 == b.0 && a.1 == b.1) && a.2 == b.2) && a.3 == b.3
+
 abbrev pub is_same_name : KeyName → KeyName → Bool
-is_same_name (Root p) (Root q) = p == q
-is_same_name (Base i) (Base j) = i == j
-is_same_name (Cpu c i) (Cpu d j) = c == d && i == j
-is_same_name (Call lane i) (Call other j) = is_same_lane lane other && i == j
-is_same_name (Vdso c s n) (Vdso d t m) = c == d && s == t && n == m
-is_same_name _ _ = false
+is_same_name a b = is_same_rank (rank_of a) (rank_of b)
 
 -- what became of the bytes of a use
 abbrev pub fate_of : Origin → Purpose → Fate
@@ -57,11 +64,11 @@ endings_of key endings = filter (λ ending. is_same_name ending.key key) endings
 abbrev pub birth_of : Row → Birth
 birth_of row = record { key = row.key; holder = row.holder; by = row.made }
 
--- a row says what is told of its key
-pub record IsRow (told : Told) (row : Row) : Type 0 where
+-- a row says what became of its key, given the pieces and the endings of all keys
+pub record IsRow (pieces : List Piece) (endings : List Ending) (row : Row) : Type 0 where
   -- the entry that ended the key, if one did
-  pub ended : row.ended ≡ option_map (λ ending. ending.by) (slice_get (endings_of row.key told.lives.endings.items) 0)
+  pub ended_by : row.ended ≡ option_map (λ ending. ending.by) (slice_get (endings_of row.key endings) 0)
   -- its uses and rests, each once
-  pub pieces : IsPermutation (pieces_of row.key (all_pieces told)) row.pieces.items
+  pub all_of : IsPermutation (pieces_of row.key pieces) row.pieces.items
   -- in the order of their first bytes
   pub ordered : IsNonDecreasingBy (λ piece. piece.span.from) row.pieces.items

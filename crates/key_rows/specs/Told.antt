@@ -1,7 +1,7 @@
 -- What the lists of a book tell of its keys.
-use Rattle.std.specs.Prelude.{ℕ, ◌≡◌, List, [], ◌++◌, length, map}
+use Rattle.std.specs.Prelude.{ℕ, ◌≡◌, Bool, List, [], ◌++◌, length, map}
 use Rattle.std.specs.Global.{Vec}
-use Rattle.std.specs.List.{flat_map, range_with_len}
+use Rattle.std.specs.List.{list_any, flat_map, range_with_len}
 use Rattle.key_names.specs.declared.entries.CpuEntry.{CpuEntry}
 use Rattle.key_names.specs.declared.entries.VEntry.{VEntry}
 use Rattle.key_names.specs.BaseList.{base_start, base_step}
@@ -9,7 +9,7 @@ use Rattle.key_names.specs.CpuList.{cpu_start, cpu_step}
 use Rattle.key_names.specs.StateList.{state_start, state_step}
 use Rattle.key_names.specs.Book.{Lists, list_at, cpu_list, state_list}
 use Rattle.key_names.specs.LiveMaterial.{cpu_end, state_end, state_rest, live_key, base_key, cpu_key, state_key}
-use Rattle.key_names.specs.Uses.{Use, base_uses, cpu_uses, state_uses}
+use Rattle.key_names.specs.Uses.{Use, rekeys_place, base_uses, cpu_uses, state_uses}
 use Rattle.list_replay.specs.declared.kept.KeptCpu.{KeptCpu}
 use Rattle.list_replay.specs.declared.kept.Lists.{Lists as KeptLists}
 use Rattle.key_uses.specs.declared.state_uses.StateOf.{StateOf}
@@ -35,11 +35,16 @@ cpu_lists cpus = map (λ lane. cpu_entries lane.items) cpus
 abbrev pub caller_lists : List (Vec (Vec VEntry)) → List (List (List VEntry))
 caller_lists callers = map (λ states. map (λ es. es.items) states.items) callers
 
+-- whether a state's entry takes the read at place k of a CPU
+abbrev pub takes_read : ℕ → List (Vec (Vec VEntry)) → ℕ → Bool
+takes_read cpu callers k =
+    list_any (λ states. list_any (λ es. list_any (rekeys_place cpu k) es.items) states.items) callers
+
 -- lists have the entries that are kept of the lanes, and these of the vgetrandom states
 pub record HasEntries (lists : Lists) (kept : KeptLists) (callers : List (Vec (Vec VEntry))) : Type 0 where
   pub base : base_entries kept.base.items ≡ lists.base
   pub cpus : cpu_lists kept.cpus.items ≡ lists.cpus
-  pub callers : caller_lists callers ≡ lists.callers
+  pub states : caller_lists callers ≡ lists.callers
 
 -- what entries tell: the keys that they make and erase, the rests that they give up, what is held behind them, and
 -- what they put to use

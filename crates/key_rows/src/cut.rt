@@ -1,16 +1,36 @@
 //! The lists of a book up to a stamp.
-ghost use Rattle.std.specs.Prelude.{◌≡◌, IfOk, List, map};
+ghost use Rattle.std.specs.Prelude.{◌≡◌, IfOk, List, map, slice_get};
 ghost use Rattle.key_names.specs.declared.entries.BaseEntry.{BaseEntry as BookBase};
 ghost use Rattle.key_names.specs.declared.entries.CpuEntry.{CpuEntry as BookCpu};
 ghost use Rattle.key_names.specs.Book.{Book, Visit, entries_of};
 ghost use Rattle.key_uses.specs.KeptEntries.{base_entries, cpu_entries};
 ghost use Rattle.key_uses.specs.Moments.{visits_to};
 ghost use Rattle.key_rows.specs.Told.{cpu_lists};
-ghost use Rattle.key_rows.specs.Cut.{stamps_of, visit_stamps, KeepsVisits};
+ghost use Rattle.key_rows.specs.Cut.{is_by, lane_moments, stamps_of, visit_stamps, KeepsVisits};
 
 use crate::moments::{Moment, Moments};
 use list_replay::{KeptBase, KeptCpu, Lists};
 use std::alloc::{AllocError, Global};
+
+// Whether the visit at a place was made at this stamp or before.
+fn is_by(moments: &[Moment], place: usize, stamp: u64) -> bool
+    ensures { result ≡ is_by stamp (slice_get moments.now place) }
+{
+    match moments.get(place) {
+        Some(moment) => moment.stamp <= stamp,
+        None => false,
+    }
+}
+
+// The moments of a CPU's visits.
+fn cpu_moments(moments: &Moments, cpu: usize) -> &[Moment]
+    ensures { result.now ≡ lane_moments (slice_get moments.now.cpus.items cpu) }
+{
+    match moments.cpus.get(cpu) {
+        Some(lane) => lane,
+        None => &[],
+    }
+}
 
 // The visits of the base up to a stamp.
 fn base_to(
@@ -24,8 +44,8 @@ fn base_to(
         IfOk result (λ cut. base_entries cut.items ≡ entries_of (visits_to stamp visits)) }
 {
     let mut cut = Vec::new(alloc);
-    for (kept, moment) in base.iter().zip(moments) {
-        if moment.stamp <= stamp {
+    for (place, kept) in base.iter().enumerate() {
+        if is_by(moments, place, stamp) {
             cut.push(*kept)?;
         }
     }
@@ -44,12 +64,29 @@ fn cpu_to(
         IfOk result (λ cut. cpu_entries cut.items ≡ entries_of (visits_to stamp visits)) }
 {
     let mut cut = Vec::new(alloc);
-    for (kept, moment) in lane.iter().zip(moments) {
-        if moment.stamp <= stamp {
+    for (place, kept) in lane.iter().enumerate() {
+        if is_by(moments, place, stamp) {
             cut.push(*kept)?;
         }
     }
     Ok(cut)
+}
+
+// The visits of all CPUs up to a stamp.
+fn cpus_to(
+    alloc: Global,
+    stamp: u64,
+    kept: &Lists,
+    moments: &Moments,
+) -> Result<Vec<Vec<KeptCpu>>, AllocError>
+    ensures { (book : Book) → KeepsVisits book kept.now moments.now →
+        IfOk result (λ cut. cpu_lists cut.items ≡ map entries_of (map (visits_to stamp) book.cpus)) }
+{
+    let mut cpus = Vec::new(alloc);
+    for (cpu, lane) in kept.cpus.iter().enumerate() {
+        cpus.push(cpu_to(alloc, stamp, lane, cpu_moments(moments, cpu))?)?;
+    }
+    Ok(cpus)
 }
 
 /// What is kept of a book's base and CPUs up to a stamp; nothing is kept of its pool, which holds no key.
@@ -68,13 +105,11 @@ pub fn kept_to(
     ensures cpus { (book : Book) → KeepsVisits book kept.now moments.now →
         IfOk result (λ cut. cpu_lists cut.cpus.items ≡ map entries_of (map (visits_to stamp) book.cpus)) }
 {
-    let mut cpus = Vec::new(alloc);
-    for (lane, lane_moments) in kept.cpus.iter().zip(&moments.cpus) {
-        cpus.push(cpu_to(alloc, stamp, lane, lane_moments)?)?;
-    }
+    let base = base_to(alloc, stamp, &kept.base, &moments.base)?;
+    let cpus = cpus_to(alloc, stamp, kept, moments)?;
     Ok(Lists {
         pool: Vec::new(alloc),
-        base: base_to(alloc, stamp, &kept.base, &moments.base)?,
+        base,
         cpus,
     })
 }

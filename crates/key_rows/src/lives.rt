@@ -1,5 +1,5 @@
 //! Where each key begins and where it is erased, and which rests of batches are given up.
-ghost use Rattle.std.specs.Prelude.{◌≡◌, ◌++◌, ◌∷◌, [], List, Option, Some, OnOk};
+ghost use Rattle.std.specs.Prelude.{ℕ, ◌≡◌, ◌++◌, ◌∷◌, [], List, Option, Some, OnOk};
 ghost use Rattle.key_names.specs.declared.entries.BaseEntry.{BaseEntry as BookBase};
 ghost use Rattle.key_names.specs.Batches.{Fill as BookFill};
 ghost use Rattle.key_names.specs.BaseList.{BaseState, base_start, base_step};

@@ -1,14 +1,17 @@
 //! A row for each key: what holds it, when it was made and erased, and what became of its bytes.
-ghost use Rattle.std.specs.Prelude.{◌≡◌, IfOk, All, map, option_map, slice_get, IsPermutation};
+ghost use Rattle.std.specs.Prelude.{◌≡◌, ◌++◌, IfOk, OnOk, All, map, option_map, slice_get, IsPermutation};
 ghost use Rattle.std.specs.List.Sorted.{IsNonDecreasingBy};
-ghost use Rattle.key_rows.specs.Rows.{all_pieces, pieces_of, endings_of, birth_of, IsRow};
-ghost use Rattle.key_rows.specs.Ranks.{lane_rank, rank_of, PiecesByKey, EndingsByKey};
+ghost use Rattle.key_names.specs.declared.names.KeyName.{KeyName as BookName};
+ghost use Rattle.key_rows.specs.Rows.{rank_of, used_piece, given_up_piece, held_piece, all_pieces};
+ghost use Rattle.key_rows.specs.Rows.{pieces_of, endings_of, birth_of, IsRow};
+ghost use Rattle.key_rows.specs.Ranks.{PiecesByKey, EndingsByKey};
 
-use crate::lives::{Birth, Ending, Holder};
+use crate::held::HeldRest;
+use crate::lives::{Birth, Ending, GivenUp, Holder};
 use crate::moments::Moments;
 use crate::told::Told;
 use key_names::{KeyName, LaneId, Span};
-use key_uses::used::{Origin, Purpose};
+use key_uses::used::{Origin, Purpose, Used};
 use std::alloc::{AllocError, Global};
 
 /// What became of bytes of a key.
@@ -44,48 +47,64 @@ pub struct Row {
     pub pieces: Vec<Piece>,
 }
 
-// The uses and the rests of all keys.
-fn all_pieces(alloc: Global, told: &Told) -> Result<Vec<Piece>, AllocError>
-    ensures { IfOk result (λ pieces. pieces.items ≡ all_pieces told.now) }
+fn used_piece(used: Used) -> Piece
+    ensures { result ≡ used_piece used }
 {
-    let mut pieces = Vec::new(alloc);
-    for used in &told.uses {
-        let fate = match used.purpose {
-            Purpose::Kept(name) => Fate::Became(name),
-            Purpose::Served => Fate::Served(used.by),
-        };
-        pieces.push(Piece {
-            span: used.span,
-            fate,
-        })?;
+    let fate = match used.purpose {
+        Purpose::Kept(name) => Fate::Became(name),
+        Purpose::Served => Fate::Served(used.by),
+    };
+    Piece {
+        span: used.span,
+        fate,
     }
-    for rest in &told.lives.given_up {
+}
+
+fn push_used(pieces: &mut Vec<Piece>, uses: &[Used]) -> Result<(), AllocError>
+    ensures { OnOk result (pieces.new.items ≡ pieces.old.items ++ map used_piece uses.now) }
+{
+    for used in uses {
+        pieces.push(used_piece(*used))?;
+    }
+    Ok(())
+}
+
+fn push_given_up(pieces: &mut Vec<Piece>, rests: &[GivenUp]) -> Result<(), AllocError>
+    ensures { OnOk result (pieces.new.items ≡ pieces.old.items ++ map given_up_piece rests.now) }
+{
+    for rest in rests {
         pieces.push(Piece {
             span: rest.span,
             fate: Fate::GivenUp(rest.by),
         })?;
     }
-    for rest in &told.held.rests {
+    Ok(())
+}
+
+fn push_held(pieces: &mut Vec<Piece>, rests: &[HeldRest]) -> Result<(), AllocError>
+    ensures { OnOk result (pieces.new.items ≡ pieces.old.items ++ map held_piece rests.now) }
+{
+    for rest in rests {
         pieces.push(Piece {
             span: rest.span,
             fate: Fate::Held,
         })?;
     }
+    Ok(())
+}
+
+// The uses and the rests of all keys.
+fn all_pieces(alloc: Global, told: &Told) -> Result<Vec<Piece>, AllocError>
+    ensures { IfOk result (λ pieces. pieces.items ≡ all_pieces told.now) }
+{
+    let mut pieces = Vec::new(alloc);
+    push_used(&mut pieces, &told.uses)?;
+    push_given_up(&mut pieces, &told.lives.given_up)?;
+    push_held(&mut pieces, &told.held.rests)?;
     Ok(pieces)
 }
 
-// Where a lane stands among all lanes: the pool, the base, and then the CPUs.
-fn lane_rank(lane: LaneId) -> u64
-    ensures { result ≡ lane_rank lane }
-{
-    match lane {
-        LaneId::Pool => 0,
-        LaneId::Base => 1,
-        LaneId::Cpu(cpu) => 2 + u64::from(cpu),
-    }
-}
-
-// Where a name stands among all names.
+// Where a name stands among all names: by its kind, and then by its numbers.
 fn rank_of(key: KeyName) -> (u64, u64, u64, u64)
     ensures { result ≡ rank_of key }
 {
@@ -93,37 +112,118 @@ fn rank_of(key: KeyName) -> (u64, u64, u64, u64)
         KeyName::Root(place) => (0, place, 0, 0),
         KeyName::Base(place) => (1, place, 0, 0),
         KeyName::Cpu(cpu, place) => (2, u64::from(cpu), place, 0),
-        KeyName::Call(lane, place) => (3, lane_rank(lane), place, 0),
-        KeyName::Vdso(caller, state, number) => (4, u64::from(caller), u64::from(state), number),
+        KeyName::Call(LaneId::Pool, place) => (3, place, 0, 0),
+        KeyName::Call(LaneId::Base, place) => (4, place, 0, 0),
+        KeyName::Call(LaneId::Cpu(cpu), place) => (5, u64::from(cpu), place, 0),
+        KeyName::Vdso(caller, state, number) => (6, u64::from(caller), u64::from(state), number),
     }
 }
 
-// The uses and the rests of a key, by the first byte, where those of all keys stand in the order of their names.
-fn pieces_of(alloc: Global, all: &[Piece], key: KeyName) -> Result<Vec<Piece>, AllocError>
+// The pieces of a key among those of all keys, which stand in the order of their names.
+fn pieces_of(all: &[Piece], key: KeyName) -> &[Piece]
+    requires { PiecesByKey all.now }
+    ensures { result.now ≡ pieces_of key all.now }
+{
+    let rank = rank_of(key);
+    let first = all.partition_point(|piece| rank_of(piece.span.key).cmp(&rank).is_lt());
+    let behind = &all[first..];
+    let count = behind.partition_point(|piece| rank_of(piece.span.key).cmp(&rank).is_le());
+    &behind[..count]
+}
+
+// The endings of a key, in the same way.
+fn endings_of(all: &[Ending], key: KeyName) -> &[Ending]
+    requires { EndingsByKey all.now }
+    ensures { result.now ≡ endings_of key all.now }
+{
+    let rank = rank_of(key);
+    let first = all.partition_point(|ending| rank_of(ending.key).cmp(&rank).is_lt());
+    let behind = &all[first..];
+    let count = behind.partition_point(|ending| rank_of(ending.key).cmp(&rank).is_le());
+    &behind[..count]
+}
+
+// The pieces of a key, by the first byte.
+fn row_pieces(alloc: Global, all: &[Piece], key: KeyName) -> Result<Vec<Piece>, AllocError>
     requires { PiecesByKey all.now }
     ensures all { IfOk result (λ pieces. IsPermutation (pieces_of key all.now) pieces.items) }
     ensures ordered { IfOk result (λ pieces. IsNonDecreasingBy (λ piece. piece.span.from) pieces.items) }
 {
-    let rank = rank_of(key);
-    let first = all.partition_point(|piece| rank_of(piece.span.key) < rank);
-    let behind = &all[first..];
-    let count = behind.partition_point(|piece| rank_of(piece.span.key) <= rank);
-    let mut pieces = Vec::from_slice(alloc, &behind[..count])?;
+    let mut pieces = Vec::from_slice(alloc, pieces_of(all, key))?;
     pieces.sort_by_key(|piece| piece.span.from)?;
     Ok(pieces)
 }
 
-// The entry that ended a key, where the endings of all keys stand in the order of their names.
+// The entry that ended a key, if one did.
 fn ended_by(all: &[Ending], key: KeyName) -> Option<Origin>
     requires { EndingsByKey all.now }
     ensures { result ≡ option_map (λ ending. ending.by) (slice_get (endings_of key all.now) 0) }
 {
-    let rank = rank_of(key);
-    let first = all.partition_point(|ending| rank_of(ending.key) < rank);
-    match all.get(first) {
-        Some(ending) if ending.key == key => Some(ending.by),
-        _ => None,
+    match endings_of(all, key).first() {
+        Some(ending) => Some(ending.by),
+        None => None,
     }
+}
+
+// The row of a key that is made.
+fn row_of(
+    alloc: Global,
+    birth: &Birth,
+    pieces: &[Piece],
+    endings: &[Ending],
+) -> Result<Row, AllocError>
+    requires pieces { PiecesByKey pieces.now }
+    requires endings { EndingsByKey endings.now }
+    ensures birth { IfOk result (λ row. birth_of row ≡ birth.now) }
+    ensures row { IfOk result (λ row. IsRow pieces.now endings.now row) }
+{
+    Ok(Row {
+        key: birth.key,
+        holder: birth.holder,
+        made: birth.by,
+        ended: ended_by(endings, birth.key),
+        pieces: row_pieces(alloc, pieces, birth.key)?,
+    })
+}
+
+// The uses and the rests of all keys, in the order of the keys' names.
+fn sorted_pieces(alloc: Global, told: &Told) -> Result<Vec<Piece>, AllocError>
+    ensures sorted { IfOk result (λ pieces. PiecesByKey pieces.items) }
+    ensures same { (key : BookName) → IfOk result (λ pieces. pieces_of key pieces.items
+        ≡ pieces_of key (all_pieces told.now)) }
+{
+    let mut pieces = all_pieces(alloc, told)?;
+    pieces.sort_by_key(|piece| rank_of(piece.span.key))?;
+    Ok(pieces)
+}
+
+// Endings in the order of the keys' names.
+fn sorted_endings(alloc: Global, all: &[Ending]) -> Result<Vec<Ending>, AllocError>
+    ensures sorted { IfOk result (λ endings. EndingsByKey endings.items) }
+    ensures same { (key : BookName) → IfOk result (λ endings. endings_of key endings.items ≡ endings_of key all.now) }
+{
+    let mut endings = Vec::from_slice(alloc, all)?;
+    endings.sort_by_key(|ending| rank_of(ending.key))?;
+    Ok(endings)
+}
+
+// The row of each birth.
+fn rows_of(
+    alloc: Global,
+    births: &[Birth],
+    pieces: &[Piece],
+    endings: &[Ending],
+) -> Result<Vec<Row>, AllocError>
+    requires pieces { PiecesByKey pieces.now }
+    requires endings { EndingsByKey endings.now }
+    ensures births { IfOk result (λ rows. map birth_of rows.items ≡ births.now) }
+    ensures rows { IfOk result (λ rows. All (IsRow pieces.now endings.now) rows.items) }
+{
+    let mut rows = Vec::new(alloc);
+    for birth in births {
+        rows.push(row_of(alloc, birth, pieces, endings)?)?;
+    }
+    Ok(rows)
 }
 
 /// The row of each key that is made, in the order in which they are told.
@@ -133,32 +233,30 @@ fn ended_by(all: &[Ending], key: KeyName) -> Option<Origin>
 /// `AllocError` where there is no memory for them.
 pub fn make_rows(alloc: Global, told: &Told) -> Result<Vec<Row>, AllocError>
     ensures births { IfOk result (λ rows. map birth_of rows.items ≡ told.now.lives.births.items) }
-    ensures rows { IfOk result (λ rows. All (IsRow told.now) rows.items) }
+    ensures rows { IfOk result (λ rows. All (IsRow (all_pieces told.now) told.now.lives.endings.items) rows.items) }
 {
-    let mut pieces = all_pieces(alloc, told)?;
-    pieces.sort_by_key(|piece| rank_of(piece.span.key))?;
-    let mut endings = Vec::from_slice(alloc, &told.lives.endings)?;
-    endings.sort_by_key(|ending| rank_of(ending.key))?;
-    let mut rows = Vec::with_capacity(alloc, told.lives.births.len())?;
-    for birth in &told.lives.births {
-        rows.push(Row {
-            key: birth.key,
-            holder: birth.holder,
-            made: birth.by,
-            ended: ended_by(&endings, birth.key),
-            pieces: pieces_of(alloc, &pieces, birth.key)?,
-        })?;
-    }
+    let pieces = sorted_pieces(alloc, told)?;
+    let endings = sorted_endings(alloc, &told.lives.endings)?;
+    let rows = rows_of(alloc, &told.lives.births, &pieces, &endings)?;
     Ok(rows)
 }
 
-// Where a row stands in the order in which keys were made: by stamp, then lanes before vgetrandom states. Of two keys of
-// one visit the one that the erasure kept comes first.
+// Where a lane stands among all lanes: the pool, the base, and then the CPUs.
+fn lane_number(lane: LaneId) -> u64 {
+    match lane {
+        LaneId::Pool => 0,
+        LaneId::Base => 1,
+        LaneId::Cpu(cpu) => 2 + u64::from(cpu),
+    }
+}
+
+// Where a row stands in the order in which keys were made: by stamp, then lanes before vgetrandom states. Of two keys
+// of one visit the one that the erasure kept comes first.
 fn made_rank(moments: &Moments, row: &Row) -> (u64, (u64, u64, u64), u64, bool) {
     let stamp = moments.at(row.made).map_or(0, |moment| moment.stamp);
     let is_second = matches!(row.key, KeyName::Call(..));
     match row.made {
-        Origin::Lane(lane, place) => (stamp, (0, lane_rank(lane), 0), place, is_second),
+        Origin::Lane(lane, place) => (stamp, (0, lane_number(lane), 0), place, is_second),
         Origin::State {
             caller,
             state,

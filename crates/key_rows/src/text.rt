@@ -178,8 +178,8 @@ fn put_entry(text: &mut Vec<u8>, at: Origin, moment: Moment) -> Result<(), Alloc
     put_line(text, moment.line)
 }
 
-/// Adds the line of a row; answers whether there is a moment for each entry that it names. Where there is none, a part of
-/// the line is added.
+/// Adds the line of a row; answers whether there is a moment for each entry that it names. Where there is none, a part
+/// of the line is added.
 ///
 /// # Errors
 ///

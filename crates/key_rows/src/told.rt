@@ -5,8 +5,9 @@ ghost use Rattle.key_names.specs.Book.{Lists as BookLists, cpu_list, list_at, st
 ghost use Rattle.key_names.specs.Uses.{rekeys_place};
 ghost use Rattle.key_uses.specs.Fills.{rekeys_of};
 ghost use Rattle.key_uses.specs.KeptEntries.{base_entries, cpu_entries};
-ghost use Rattle.key_rows.specs.Told.{cpu_lists, caller_lists, HasEntries, tells_of, nothing, joined};
-ghost use Rattle.key_rows.specs.Told.{base_tells, cpu_tells, state_tells, cpus_tell, caller_tells, callers_tell, book_tells};
+ghost use Rattle.key_rows.specs.Told.{cpu_lists, caller_lists, HasEntries, takes_read, tells_of, nothing, joined};
+ghost use Rattle.key_rows.specs.Told.{base_tells, cpu_tells, state_tells, cpus_tell, caller_tells, callers_tell};
+ghost use Rattle.key_rows.specs.Told.{book_tells};
 
 use crate::held::Held;
 use crate::lives::Lives;
@@ -26,24 +27,51 @@ pub struct Told {
     pub uses: Vec<Used>,
 }
 
-// The reads at places of a CPU that a state's entries take as its key are marked.
-fn mark_rekeys(places: &mut Vec<bool>, cpu: u32, entries: &[VEntry])
-    ensures marks { (k : ℕ) → k < length places.old.items → rekeys_of places.new.items k
-        ≡ (rekeys_of places.old.items k || list_any (rekeys_place cpu k) entries.now) }
-    ensures len { length places.new.items ≡ length places.old.items }
+// The place of a CPU is marked whose read an entry takes as its state's key.
+fn mark_rekey(places: &mut [bool], cpu: u32, entry: VEntry)
+    ensures marks { (k : ℕ) → k < length places.old → rekeys_of places.new k
+        ≡ (rekeys_of places.old k || rekeys_place cpu k entry) }
+    ensures len { length places.new ≡ length places.old }
+{
+    if let VEntry::Rekey {
+        cpu: taken,
+        cpu_place,
+    } = entry
+    {
+        let place = cpu_place as usize;
+        if taken == cpu && place < places.len() {
+            places[place] = true;
+        }
+    }
+}
+
+fn mark_rekeys(places: &mut [bool], cpu: u32, entries: &[VEntry])
+    ensures marks { (k : ℕ) → k < length places.old → rekeys_of places.new k
+        ≡ (rekeys_of places.old k || list_any (rekeys_place cpu k) entries.now) }
+    ensures len { length places.new ≡ length places.old }
 {
     for entry in entries {
-        if let VEntry::Rekey {
-            cpu: taken,
-            cpu_place,
-        } = *entry
-        {
-            if taken == cpu {
-                if let Some(place) = places.get_mut(cpu_place as usize) {
-                    *place = true;
-                }
-            }
-        }
+        mark_rekey(places, cpu, *entry);
+    }
+}
+
+fn mark_states(places: &mut [bool], cpu: u32, states: &[Vec<VEntry>])
+    ensures marks { (k : ℕ) → k < length places.old → rekeys_of places.new k
+        ≡ (rekeys_of places.old k || list_any (λ es. list_any (rekeys_place cpu k) es.items) states.now) }
+    ensures len { length places.new ≡ length places.old }
+{
+    for entries in states {
+        mark_rekeys(places, cpu, entries);
+    }
+}
+
+fn mark_callers(places: &mut [bool], cpu: u32, callers: &[Vec<Vec<VEntry>>])
+    ensures marks { (k : ℕ) → k < length places.old → rekeys_of places.new k ≡ (rekeys_of places.old k
+        || list_any (λ states. list_any (λ es. list_any (rekeys_place cpu k) es.items) states.items) callers.now) }
+    ensures len { length places.new ≡ length places.old }
+{
+    for states in callers {
+        mark_states(places, cpu, states);
     }
 }
 
@@ -54,19 +82,21 @@ fn rekeyed_places(
     count: usize,
     callers: &[Vec<Vec<VEntry>>],
 ) -> Result<Vec<bool>, AllocError>
-    ensures { (k : ℕ) → k < count → IfOk result (λ places. rekeys_of places.items k
-        ≡ list_any (λ states. list_any (λ es. list_any (rekeys_place cpu k) es) states) (caller_lists callers.now)) }
+    ensures { IfOk result (λ places. (k : ℕ) → k < count → rekeys_of places.items k ≡ takes_read cpu callers.now k) }
 {
-    let mut places = Vec::with_capacity(alloc, count)?;
-    for _ in 0..count {
-        places.push(false)?;
-    }
-    for states in callers {
-        for entries in states {
-            mark_rekeys(&mut places, cpu, entries);
-        }
-    }
+    let mut places = vec![in alloc; false; count]?;
+    mark_callers(&mut places, cpu, callers);
     Ok(places)
+}
+
+// The number of a CPU, of a caller or of a state. No memory has room for a list that has none.
+fn number_of(index: usize) -> Result<u32, AllocError>
+    ensures { IfOk result (λ number. number ≡ index) }
+{
+    if index > u32::MAX as usize {
+        return Err(AllocError);
+    }
+    Ok(index as u32)
 }
 
 impl Told {
@@ -85,8 +115,9 @@ impl Told {
             OnOk result (tells_of self.new ≡ joined (tells_of self.old) (base_tells lists)) }
     {
         self.lives.base(base)?;
-        self.held.base(base)?;
-        self.uses.extend_from_slice(&base_uses(alloc, base)?)
+        self.held.add_base(base)?;
+        self.uses.extend_from_slice(&base_uses(alloc, base)?)?;
+        Ok(())
     }
 
     fn cpu(
@@ -101,10 +132,11 @@ impl Told {
             OnOk result (tells_of self.new ≡ joined (tells_of self.old) (cpu_tells lists cpu)) }
     {
         self.lives.cpu(cpu, lane)?;
-        self.held.cpu(cpu, lane)?;
+        self.held.add_cpu(cpu, lane)?;
         let rekeyed = rekeyed_places(alloc, cpu, lane.len(), callers)?;
         self.uses
-            .extend_from_slice(&cpu_uses(alloc, cpu, lane, &rekeyed)?)
+            .extend_from_slice(&cpu_uses(alloc, cpu, lane, &rekeyed)?)?;
+        Ok(())
     }
 
     fn state(&mut self, alloc: Global, of: StateOf, entries: &[VEntry]) -> Result<(), AllocError>
@@ -112,9 +144,10 @@ impl Told {
             OnOk result (tells_of self.new ≡ joined (tells_of self.old) (state_tells lists of.caller of.state)) }
     {
         self.lives.state(of, entries)?;
-        self.held.state(of, entries)?;
+        self.held.add_state(of, entries)?;
         self.uses
-            .extend_from_slice(&state_uses(alloc, of, entries)?)
+            .extend_from_slice(&state_uses(alloc, of, entries)?)?;
+        Ok(())
     }
 
     fn cpus(
@@ -126,11 +159,9 @@ impl Told {
         ensures { (lists : BookLists) → cpu_lists cpus.now ≡ lists.cpus → caller_lists callers.now ≡ lists.callers →
             OnOk result (tells_of self.new ≡ joined (tells_of self.old) (cpus_tell lists)) }
     {
-        for (number, lane) in cpus.iter().enumerate() {
-            let Ok(cpu) = u32::try_from(number) else {
-                return Err(AllocError);
-            };
-            self.cpu(alloc, cpu, lane, callers)?;
+        for (index, lane) in cpus.iter().enumerate() {
+            let number = number_of(index)?;
+            self.cpu(alloc, number, lane, callers)?;
         }
         Ok(())
     }
@@ -144,11 +175,13 @@ impl Told {
         ensures { (lists : BookLists) → map (λ es. es.items) states.now ≡ list_at lists.callers caller →
             OnOk result (tells_of self.new ≡ joined (tells_of self.old) (caller_tells lists caller)) }
     {
-        for (number, entries) in states.iter().enumerate() {
-            let Ok(state) = u32::try_from(number) else {
-                return Err(AllocError);
+        for (index, entries) in states.iter().enumerate() {
+            let number = number_of(index)?;
+            let of = StateOf {
+                caller,
+                state: number,
             };
-            self.state(alloc, StateOf { caller, state }, entries)?;
+            self.state(alloc, of, entries)?;
         }
         Ok(())
     }
@@ -157,18 +190,16 @@ impl Told {
         ensures { (lists : BookLists) → caller_lists callers.now ≡ lists.callers →
             OnOk result (tells_of self.new ≡ joined (tells_of self.old) (callers_tell lists)) }
     {
-        for (number, states) in callers.iter().enumerate() {
-            let Ok(caller) = u32::try_from(number) else {
-                return Err(AllocError);
-            };
-            self.states(alloc, caller, states)?;
+        for (index, states) in callers.iter().enumerate() {
+            let number = number_of(index)?;
+            self.states(alloc, number, states)?;
         }
         Ok(())
     }
 }
 
-/// What a book tells of its keys: `kept` is what is kept of its lanes, and `callers` has the entries of each vgetrandom
-/// state of each caller.
+/// What a book tells of its keys: `kept` is what is kept of its lanes, and `callers` has the entries of each
+/// vgetrandom state of each caller.
 ///
 /// # Errors
 ///

@@ -1,14 +1,13 @@
-use Rattle.std.proofs.Common.{ℕ, refl, sym, subst, length, arith}
+use Rattle.std.proofs.Common.{ℕ, refl, sym, subst}
 use Rattle.std.proofs.lemmas.List.{length-map}
 use Rattle.std.specs.List.{fold}
 use Rattle.std.specs.Prelude.{take}
 use Rattle.key_names.specs.CpuList.{CpuState, cpu_start, cpu_step}
 use Rattle.list_replay.proofs.Loops.{found}
 use Rattle.list_replay.specs.declared.kept.KeptCpu.{KeptCpu}
-use Rattle.key_uses.proofs.UsesMore.{entry_at}
 use Rattle.key_uses.specs.Fills.{CpuStands}
 use Rattle.key_uses.specs.KeptEntries.{cpu_entries}
-use Rattle.key_rows.proofs.Stands.{stands_more, stands_all}
+use Rattle.key_rows.proofs.Stands.{entry_at, stands_more, stands_all}
 use Rattle.key_rows.proofs.batches.cpu_end.Goals as goal
 
 pub loop-place-preserved : goal.loop-place-preserved

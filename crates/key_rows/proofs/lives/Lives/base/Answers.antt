@@ -1,19 +1,18 @@
-use Rattle.std.proofs.Common.{◌≡◌, ℕ, refl, sym, ◌∙◌, append-nil, length}
+use Rattle.std.proofs.Common.{ℕ, refl, sym, ◌∙◌, append-nil}
 use Rattle.std.proofs.lemmas.List.{length-map}
 use Rattle.std.specs.List.{fold}
-use Rattle.std.specs.Prelude.{take, Some, slice_get}
+use Rattle.std.specs.Prelude.{take}
 use Rattle.key_names.specs.BaseList.{BaseState, base_start, base_step}
 use Rattle.list_replay.proofs.Loops.{found}
 use Rattle.list_replay.specs.declared.kept.KeptBase.{KeptBase}
-use Rattle.key_uses.proofs.UsesMore.{entry_at}
 use Rattle.key_uses.specs.KeptEntries.{base_entries}
 use Rattle.key_rows.specs.Lives.{base_births_at, base_endings_at}
 use Rattle.key_rows.proofs.Along.{told_more, told_all}
-use Rattle.key_rows.proofs.Stands.{stands_more, BaseStands, base_after_entry}
+use Rattle.key_rows.proofs.Stands.{entry_at, stands_more, BaseStands, base_after_entry}
 use Rattle.key_rows.proofs.lives.Lives.base.Goals as goal
 
-pub loop-place-initial : goal.loop-place-initial
-loop-place-initial c = record {
+pub loop-place-init : goal.loop-place-init
+loop-place-init c = record {
   births = sym (append-nil _);
   endings = sym (append-nil _);
   given_up = refl;

@@ -1,21 +1,20 @@
-use Rattle.std.proofs.Common.{◌≡◌, ℕ, refl, sym, ap, ◌∙◌, append-nil, ◌++◌}
+use Rattle.std.proofs.Common.{ℕ, refl, sym, ◌∙◌, append-nil}
 use Rattle.std.proofs.lemmas.List.{length-map}
 use Rattle.std.specs.List.{fold}
 use Rattle.std.specs.Prelude.{take}
 use Rattle.key_names.specs.CpuList.{CpuState, cpu_start, cpu_step}
 use Rattle.list_replay.proofs.Loops.{found}
 use Rattle.list_replay.specs.declared.kept.KeptCpu.{KeptCpu}
-use Rattle.key_uses.proofs.UsesMore.{entry_at}
 use Rattle.key_uses.specs.Fills.{CpuStands}
 use Rattle.key_uses.specs.KeptEntries.{cpu_entries}
 use Rattle.key_rows.specs.Lives.{cpu_births_at, cpu_endings_at}
 use Rattle.key_rows.specs.Rests.{cpu_given_up_at}
-use Rattle.key_rows.proofs.Along.{told_more, told_all}
-use Rattle.key_rows.proofs.Stands.{stands_more}
+use Rattle.key_rows.proofs.Along.{told_after, told_more, told_all}
+use Rattle.key_rows.proofs.Stands.{entry_at, stands_more}
 use Rattle.key_rows.proofs.lives.Lives.cpu.Goals as goal
 
-pub loop-place-initial : goal.loop-place-initial
-loop-place-initial c = λ base. record {
+pub loop-place-init : goal.loop-place-init
+loop-place-init c = λ base. record {
   births = sym (append-nil _);
   endings = sym (append-nil _);
   given_up = sym (append-nil _);
@@ -36,9 +35,8 @@ loop-place-preserved c = λ base.
           (c.cpu_gives_up.ensures.births ∙ c.in_ok-cpu_entry.ensures.births s h.stands.place_is);
       endings = told_more (cpu_endings_at c.args.cpu) step cpu_start es place _ _ _ _ is h.endings
           (c.cpu_gives_up.ensures.endings ∙ c.in_ok-cpu_entry.ensures.endings s h.stands.place_is (sym h.stands.key));
-      given_up = told_more (cpu_given_up_at c.args.cpu) step cpu_start es place _ _ _ _ is h.given_up
-          (c.in_ok-cpu_gives_up.ensures.given_up s h.stands
-          ∙ ap (λ ts. ts ++ cpu_given_up_at c.args.cpu s _) c.cpu_entry.ensures.given_up);
+      given_up = told_after (cpu_given_up_at c.args.cpu) step cpu_start es place _ _ _ _ _ is h.given_up
+          c.cpu_entry.ensures.given_up (c.in_ok-cpu_gives_up.ensures.given_up s h.stands);
       stands = stands_more step cpu_start CpuStands es place _ c.step.new.self is (c.in_ok-step.ensures s base h.stands);
     }
 

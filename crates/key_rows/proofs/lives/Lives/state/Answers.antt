@@ -1,4 +1,4 @@
-use Rattle.std.proofs.Common.{◌≡◌, ℕ, refl, sym, ◌∙◌, append-nil}
+use Rattle.std.proofs.Common.{ℕ, refl, sym, append-nil}
 use Rattle.std.specs.List.{fold}
 use Rattle.std.specs.Prelude.{take}
 use Rattle.key_names.specs.StateList.{NamedState, state_start, state_step}
@@ -9,8 +9,8 @@ use Rattle.key_rows.proofs.Along.{told_more, told_all}
 use Rattle.key_rows.proofs.Stands.{stands_more}
 use Rattle.key_rows.proofs.lives.Lives.state.Goals as goal
 
-pub loop-place-initial : goal.loop-place-initial
-loop-place-initial c = record {
+pub loop-place-init : goal.loop-place-init
+loop-place-init c = record {
   births = sym (append-nil _);
   endings = sym (append-nil _);
   given_up = sym (append-nil _);

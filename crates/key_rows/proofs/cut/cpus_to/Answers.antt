@@ -1,0 +1,32 @@
+use Rattle.std.proofs.Common.{◌≡◌, ◌+◌, ◌++◌, ◌∷◌, [], ℕ, suc, Some, List, sym, ap, take, ◌∙◌, arith}
+use Rattle.std.specs.Prelude.{map}
+use Rattle.std.specs.Global.{Vec}
+use Rattle.std.proofs.lemmas.List.{map-append}
+use Rattle.list_replay.proofs.Loops.{found}
+use Rattle.list_replay.specs.declared.kept.KeptCpu.{KeptCpu}
+use Rattle.key_names.specs.Book.{entries_of}
+use Rattle.key_uses.specs.KeptEntries.{cpu_entries}
+use Rattle.key_uses.specs.Moments.{visits_to}
+use Rattle.key_rows.specs.Told.{cpu_lists}
+use Rattle.key_rows.specs.Cut.{moment_lists}
+use Rattle.key_rows.proofs.Cuts.{moments_at, lane_more}
+use Rattle.key_rows.proofs.cut.cpus_to.Goals as goal
+
+pub loop-cpu-preserved : goal.loop-cpu-preserved
+loop-cpu-preserved c = λ book h.
+    let cpu : ℕ = c.loop-cpu.cpu in
+    let lanes = c.args.kept.now.cpus.items in
+    let given = c.deref-lane-items.result.now in
+    let same = c.deref-lane-items.ensures.value in
+    let cut : Vec KeptCpu = c.in_ok-cpu_to.field-0 in
+    ap cpu_lists c.in_ok-push.ensures.items
+    ∙ map-append (λ (lane : Vec KeptCpu). cpu_entries lane.items) c.loop-cpu.cpus.items (cut ∷ [])
+    ∙ ap (λ (ess : List _). ess ++ cpu_entries cut.items ∷ []) (c.loop-cpu.invariant book h)
+    ∙ sym (ap (λ n. map entries_of (map (visits_to c.args.stamp) (take n book.cpus)))
+    (let next : cpu + 1 ≡ suc cpu = omega arith in next)
+    ∙ lane_more c.args.stamp lanes (moment_lists c.args.moments.now.cpus.items) book.cpus cpu c.lane-item.result cut
+    c.cpu_moments.result.now h.cpus h.cpu_stamps
+    (found given lanes cpu c.lane-item.result same c.loop-cpu-test.true ∙ ap Some (sym c.lane-item.is))
+    (c.cpu_moments.ensures ∙ moments_at c.args.moments.now.cpus.items cpu)
+    (λ visits e. c.in_ok-cpu_to.ensures visits
+    (ap (λ (ks : List KeptCpu). cpu_entries ks) c.deref.ensures.value ∙ e)))

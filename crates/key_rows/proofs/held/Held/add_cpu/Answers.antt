@@ -1,0 +1,10 @@
+use Rattle.key_names.specs.CpuList.{CpuState, cpu_after}
+use Rattle.key_uses.specs.KeptEntries.{cpu_entries}
+use Rattle.key_rows.specs.Held.{held_fills}
+use Rattle.key_rows.proofs.Along.{after_same}
+use Rattle.key_rows.proofs.held.Held.add_cpu.Goals as goal
+
+pub returns-clause-rests : goal.returns-clause-rests
+returns-clause-rests c = λ base.
+    let s : CpuState = cpu_after base c.args.cpu (cpu_entries c.args.lane.now) in
+    after_same _ _ _ (held_fills c.args.cpu s.fills) c.key.ensures.rests (c.in_ok-fills.ensures.rests s.fills (c.in_ok-keys.ensures base).fills)

@@ -1,0 +1,29 @@
+use Rattle.std.proofs.Common.{sym, ap, ◌∙◌, append-nil, ◌++◌}
+use Rattle.std.proofs.lemmas.List.{map-append}
+use Rattle.key_names.specs.BaseList.{base_start, base_step, base_after}
+use Rattle.key_names.specs.Uses.{base_uses_at, uses_from}
+use Rattle.key_uses.specs.UsesSeen.{use_seen, uses_seen}
+use Rattle.key_rows.specs.declared.held.KeyHolder.TheVariants.{Base}
+use Rattle.key_rows.specs.Held.{held_key}
+use Rattle.key_rows.specs.Lives.{told_from, base_births_at, base_endings_at}
+use Rattle.key_rows.specs.Told.{tells_of, joined, base_tells}
+use Rattle.key_rows.proofs.Tells.{tells_same}
+use Rattle.key_rows.proofs.told.Told.base.Goals as goal
+
+pub returns : goal.returns
+returns c = λ lists e.
+    let old = tells_of c.args.self.now in
+    tells_same _ (joined old (base_tells lists)) (record {
+      births = c.in_ok-base.ensures.births
+          ∙ ap (λ es. old.births ++ told_from base_births_at base_step base_start es) e;
+      endings = c.in_ok-base.ensures.endings
+          ∙ ap (λ es. old.endings ++ told_from base_endings_at base_step base_start es) e;
+      given_up = c.base.ensures.given_up ∙ sym (append-nil old.given_up);
+      keys = c.in_ok-add_base.ensures.keys ∙ ap (λ es. old.keys ++ held_key Base (base_after es).key) e;
+      rests = c.add_base.ensures.rests ∙ sym (append-nil old.rests);
+      uses = ap uses_seen c.in_ok-extend_from_slice.ensures.items
+          ∙ map-append use_seen c.args.self.now.uses.items _
+          ∙ ap (λ us. old.uses ++ us) (ap uses_seen c.deref.ensures.value
+          ∙ c.in_ok-base_uses.ensures
+          ∙ ap (uses_from base_uses_at base_step base_start) e);
+    })
