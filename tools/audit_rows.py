@@ -1,5 +1,5 @@
 #!/usr/bin/env python3
-"""audit_rows.py < SCRIPT_AND_TRANSCRIPT > ROWS: the rows of a key audit.
+"""audit_rows.py [keys | live T | line C.E] < SCRIPT_AND_TRANSCRIPT: a key audit, as the program `key_audit` writes it.
 
 It shares nothing with the crates: it was written from docs/TRANSCRIPT.md, docs/DEFINITIONS.md and docs/AUDIT.md. The
 crates go along each lane's list; here all visits happen in the order of their stamps, and each key is a thing that
@@ -16,7 +16,7 @@ class Visit:
     def __init__(self, text, line):
         self.lane, rest = text.split(':')
         self.place, self.stamp = map(int, rest.split('@'))
-        self.line, self.role, self.key_call = line, None, False
+        self.line, self.role, self.key_call, self.done = line, None, False, self.stamp
 
     def __str__(self):
         return '%s:%d@%d' % (self.lane, self.place, self.stamp)
@@ -27,7 +27,7 @@ class Moment:
 
     def __init__(self, caller, state, place, stamp, line, what):
         self.caller, self.state, self.place, self.stamp = caller, state, place, stamp
-        self.line, self.what = line, what
+        self.line, self.what, self.done = line, what, stamp
 
     def __str__(self):
         return 'v%d.%d:%d@%d' % (self.caller, self.state, self.place, self.stamp)
@@ -37,10 +37,13 @@ class Key:
     def __init__(self, name, holder, made):
         self.name, self.holder, self.made, self.ended, self.uses = name, holder, made, None, []
 
-    def row(self):
+    def row(self, fates='=>!?'):
         end = '%s %s' % (self.ended, self.ended.line) if self.ended else 'held'
-        uses = [' %d+%d%s' % use for use in sorted(self.uses)]
+        uses = [' %d+%d%s' % use for use in sorted(self.uses) if use[2][0] in fates]
         return '%s %s %s %s %s%s' % (self.name, self.holder, self.made, self.made.line, end, ''.join(uses))
+
+    def became(self):
+        return [fate[1:] for _, _, fate in self.uses if fate[0] == '=']
 
 
 # ---- Reading ----------------------------------------------------------------------------------------------------
@@ -105,7 +108,7 @@ def base_role(word, fields, steps, at, before, behind):
 
 def cpu_role(word, fields, steps, at, behind):
     if word in ('irq', 'prepare', 'online'):
-        return (word,)
+        return ('dump',) if word == 'irq' and at else (word,)
     refill = steps[at - 1] if lane_of(steps[at - 1]) == 'b' else None
     if word in WIDTHS and steps[0] != 0:
         return ('int', refill, steps[at - 2 if refill else at - 1], WIDTHS[word])
@@ -160,7 +163,7 @@ class Course:
                     is_wiped = True
 
     def vread(self, line, length, flags, acts, steps):
-        state = self.states[self.current]
+        state, first = self.states[self.current], len(self.moments)
         rest = list(steps)
         if not (flags & ~7 or flags & 6 == 6) and rest[0] and length:
             look = rest.pop(0)
@@ -171,6 +174,8 @@ class Course:
         self.passed(steps)
         for act in acts:
             self.passed(act[2])
+        for moment in self.moments[first:]:
+            moment.done = self.stamp
 
     def attempts(self, line, length, acts, rest):
         state, block = self.states[self.current], 0
@@ -392,20 +397,172 @@ def rank(one):
     return (one.stamp, 0, number, 0, one.place)
 
 
-def rows(text):
+def happened(things):
+    """The keys behind some visits and entries."""
+    keys = Keys()
+    for one in things:
+        keys.happen(one)
+    return keys
+
+
+def run_of(text):
+    """The events of all callers, and all visits and entries in the order in which they happened."""
     events, steps = read(text)
     moments = tell_callers(events, steps)
     visits = [step for lines in steps for line in lines for step in line if not isinstance(step, int)]
-    keys = Keys()
     by_caller = sorted(enumerate(visits + moments), key=lambda of: rank(of[1])[:2] + of[:1])
-    for _, one in by_caller:
-        keys.happen(one)
+    return events, [one for _, one in by_caller]
+
+
+def in_order(keys):
+    second = lambda key: key.name.startswith('Call')
+    return sorted(keys.made, key=lambda key: (rank(key.made), second(key)))
+
+
+def rows(run):
+    keys = happened(run)
     for batch in list(keys.batches):
         keys.give_up(batch, None)
-    second = lambda key: key.name.startswith('Call')
-    return [key.row() for key in sorted(keys.made, key=lambda key: (rank(key.made), second(key)))]
+    return in_order(keys)
+
+
+# ---- What is asked -----------------------------------------------------------------------------------------------
+
+def keys(text):
+    return [key.row() for key in rows(run_of(text)[1])]
+
+
+def holder_rank(holder):
+    if holder[:3] == 'cpu':
+        return (1, int(holder[3:]))
+    return (2, *map(int, holder[5:].split('.'))) if holder != 'base' else (0,)
+
+
+def live(text, stamp):
+    """What is held behind a stamp, and what can be computed from it."""
+    run = run_of(text)[1]
+    before = happened(one for one in run if one.done <= stamp)
+    held = [before.held[holder].name for holder in sorted(before.held, key=holder_rank)]
+    rests = [((batch if isinstance(batch, str) else batch[0]), rest[0].name, rest[1], rest[2])
+             for batch, rest in sorted(before.batches.items(), key=batch_rank) if rest[0] and rest[2]]
+    made = rows(run)
+    named, known = {key.name: key for key in made}, set(held)
+    for key in made:
+        if key.name in known:
+            known.update(key.became())
+    yield from ('held ' + named[name].row('=') for name in held)
+    yield from ('rest %s %s %d+%d' % (name, holder, first, length) for holder, name, first, length in rests)
+    yield from ('next ' + key.row('=') for key in made if key.name in known and key.name not in held)
+    lines = {}
+    for key in made:
+        for first, length, fate in sorted(key.uses):
+            is_rest = any(name == key.name and start <= first < start + left for _, name, start, left in rests)
+            if fate[0] == '>' and (key.name in known or is_rest):
+                lines.setdefault(fate[1:], []).append('%d+%d<%s' % (first, length, key.name))
+    for line in sorted(lines, key=lambda line: tuple(map(int, line.split('.')))):
+        yield 'line %s %s' % (line, ' '.join(lines[line]))
+
+
+def batch_rank(item):
+    batch = item[0]
+    return (*holder_rank(batch), 0) if isinstance(batch, str) else (*holder_rank(batch[0]), batch[1])
+
+
+def line(text, wanted):
+    """The rows that the bytes of a line come from, and the extractions of their roots."""
+    events, run = run_of(text)
+    found, roots = set(), []
+    for key in reversed(rows(run)):
+        if any(fate == '>' + wanted for _, _, fate in key.uses) or found.intersection(key.became()):
+            found.add(key.name)
+            yield key.row()
+            if key.name.startswith('Root'):
+                roots.append(key)
+    bits = bits_before(events, run)
+    samples = [one for one in run if not isinstance(one, Moment) and one.lane == 'p' and one.role[0] == 'mix'
+               and event_of(events, one)[0] != 'bits']
+    for key in roots:
+        fed = sum(one.stamp < key.made.stamp for one in samples)
+        yield 'extraction %s %s %s samples %d bits %d' % (key.name, key.made, key.made.line, fed, bits[key.made])
+
+
+# ---- The pool's bits ---------------------------------------------------------------------------------------------
+
+def event_of(events, visit):
+    caller, number = map(int, visit.line.split('.'))
+    return (events[caller] + [['end']])[number]
+
+
+def moments_of(events):
+    """The time that each line is at. A child begins at that of its parent's fork."""
+    forks, times = parents_of(events, None), []
+    for caller, lines in enumerate(events):
+        parent = forks.get(caller)
+        now, told = times[parent[0]][parent[1]] if parent else 0, []
+        for fields in lines + [['end']]:
+            if fields[0] == 'at':
+                now = int(fields[1])
+            told.append(now)
+        times.append(told)
+    return times
+
+
+class Timer:
+    """What a sample of input credits, by the time that passed since those before it."""
+
+    def __init__(self):
+        self.last = self.first = self.second = self.value = 0
+
+    def bits(self, now):
+        first = now - self.last
+        second = first - self.first
+        third = second - self.second
+        self.last, self.first, self.second = now, first, second
+        return min(((min(abs(first), abs(second), abs(third)) >> 1) & 0xFFFFFFFF).bit_length(), 11)
+
+
+def bits_before(events, run):
+    """Of each visit of the pool how many bits it had before."""
+    times, timer, counts, dumped, bits, before = moments_of(events), Timer(), {}, {}, 0, {}
+    for one in run:
+        if isinstance(one, Moment) or one.role is None:
+            continue
+        if one.role[0] == 'irq':
+            counts[one.lane] = counts.get(one.lane, 0) + 1
+        elif one.role[0] == 'dump':
+            dumped[one.line] = min(max((counts[one.lane] & 0xFFFF) // 64, 1), 128)
+        if one.role[0] in ('dump', 'online'):
+            counts[one.lane] = 0
+        if one.lane == 'p':
+            before[one] = bits
+            caller, number = map(int, one.line.split('.'))
+            fields, now = event_of(events, one), times[caller][number]
+            if fields[0] == 'irq':
+                bits = min(bits + (dumped[one.line] if one.role[0] == 'mix' else 0), 256)
+            elif one.role[0] == 'mix':
+                bits = min(bits + credit_of(fields, now, timer, bits), 256)
+    return before
+
+
+def credit_of(fields, now, timer, bits):
+    """What a sample credits. Input that repeats the last value is no sample."""
+    if fields[0] in ('credit', 'add'):
+        return int(fields[-1])
+    if fields[0] != 'input' or int(fields[4]) == timer.value:
+        return 0
+    timer.value = int(fields[4])
+    return timer.bits(now) if bits < 256 else 0
+
+
+def main(words):
+    text = sys.stdin.read()
+    if words in ([], ['keys']):
+        return keys(text)
+    if len(words) == 2 and words[0] in ('live', 'line'):
+        return live(text, int(words[1])) if words[0] == 'live' else line(text, words[1])
+    sys.exit('usage: audit_rows.py [keys | live T | line C.E]')
 
 
 if __name__ == '__main__':
-    for row in rows(sys.stdin.read()):
+    for row in main(sys.argv[1:]):
         print(row)

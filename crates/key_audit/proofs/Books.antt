@@ -1,0 +1,99 @@
+-- What is kept of the parts of a transcript is kept of the book that its steps make.
+use Rattle.std.proofs.Common.{◌≡◌, ℕ, Some, None, List, map, sym, subst, ◌∙◌, inl, inr}
+use Rattle.std.specs.Prelude.{Option, Result, Ok, Err, IfOk, MatchOption, IsPermutation}
+use Rattle.std.specs.Global.{Vec}
+use Rattle.key_names.specs.Book.{Book, Lists, lists_of}
+use Rattle.key_names.specs.Calls.{Call}
+use Rattle.key_names.specs.IsTranscript.{CallerMeans, EachCaller, IsTranscriptBy, MadeBook, MarkBy, all_marks, script_calls}
+use Rattle.key_names.specs.IsTranscript.{start_setting}
+use Rattle.key_names.specs.Meaning.{CallMeaning}
+use Rattle.key_names.specs.SameSteps.{bare}
+use Rattle.key_names.specs.SeenLine.{SeenLine}
+use Rattle.key_names.specs.Texts.ScriptGrammar.{Script}
+use Rattle.key_names.proofs.Unique.BareLines.{bare_marks}
+use Rattle.key_names.proofs.Unique.BareMeanings.{steps_make_the_book}
+use Rattle.line_orders.specs.declared.begin.Parts.{Parts}
+use Rattle.line_orders.specs.Begun.{IsEarlyFault, PartsStand}
+use Rattle.line_orders.specs.Called.{seen_calls}
+use Rattle.line_orders.specs.Marks.{seen_mark}
+use Rattle.line_orders.proofs.BareStands.{same_bare}
+use Rattle.list_replay.specs.declared.kept.Lists.{Lists as KeptLists}
+use Rattle.list_replay.specs.Fills.{Fills}
+use Rattle.list_replay.specs.Kept.{Keeps}
+use Rattle.list_replay.specs.Lawful.{Lawful}
+use Rattle.list_replay.specs.Tables.{Tables}
+use Rattle.serial_replay.proofs.MadeBooks.{made_fills, made_lawful}
+use Rattle.state_entries.specs.declared.entry.StateEntry.{StateEntry}
+use Rattle.state_entries.specs.Entries.{all_lists_in}
+use Rattle.state_entries.specs.Laws.{AreStateLists}
+use Rattle.told_entries.specs.Gathered.{IsBookOf, IsGathered}
+use Rattle.key_audit.specs.declared.book.KeptBook.{KeptBook}
+use Rattle.key_audit.specs.Kept.{KeepsBook}
+
+-- where lines or marks do not stand no book is made
+pub not_begun : (script : Script) (t : List (List SeenLine)) (number : ℕ) → IsEarlyFault script t number →
+    MadeBook script t → ⊥
+not_begun script t number fault m = elim fault [
+  | inl lines ↦ lines.1 m.lines
+  | inr marks ↦ marks.1.1 m.marks
+]
+
+pub is_book : (script : Script) (t : List (List SeenLine)) (m : MadeBook script t) → IsBookOf script t m.book
+is_book script t m = record { cpus = m.forms.cpus; visits = m.forms.visits }
+
+module _ (script : Script) (t : List (List SeenLine)) (parts : Parts) (stand : PartsStand script t parts)
+    (told : Tables) (gathered : IsGathered script t told) (m : MadeBook script t) where
+  -- the lists of the book are as told and lawful
+  pub not_none : ((lists : Lists) → Fills told lists → Lawful told lists → ⊥) → ⊥
+  not_none none = none (lists_of m.book) (made_fills script t parts stand told gathered m)
+      (made_lawful script t parts stand told gathered m)
+
+  pub keeps_book : (lanes : KeptLists) → ((lists : Lists) → Fills told lists → Lawful told lists → Keeps lanes lists) →
+      (states : Vec (Vec (Vec StateEntry))) → AreStateLists (seen_calls parts.calls.items) (all_lists_in states.items) →
+      KeepsBook (record { lanes = lanes; states = states; marks = parts.marks }) t m.book
+  keeps_book lanes keeps states are = record {
+    lanes = keeps (lists_of m.book) (made_fills script t parts stand told gathered m)
+        (made_lawful script t parts stand told gathered m);
+    states = are (lists_of m.book) (start_setting (script_calls script t)) m.meanings
+        (subst (λ (calls : List (List Call)).
+        EachCaller (λ c calls ms. CallerMeans (lists_of m.book) (start_setting (script_calls script t) c) calls ms) 0 calls
+        m.meanings) (sym stand.calls) m.forms.callers) ∙ sym m.forms.states;
+    marks = stand.all_marks;
+    sorted = stand.sorted;
+  }
+
+-- ---- from bare lines to the lines themselves
+
+module _ (script : Script) (t : List (List SeenLine)) (book : Book) (ms : List (List CallMeaning))
+    (lawful : IsTranscriptBy script t book ms) where
+  bare_book : (other : MadeBook script (map (map bare) t)) × (other.book ≡ book) × (other.meanings ≡ ms)
+  bare_book = steps_make_the_book script t (map (map bare) t) (sym (same_bare t)) (record {
+    book = book;
+    meanings = ms;
+    lines = lawful.lines;
+    marks = lawful.marks;
+    forms = lawful.forms;
+  })
+
+  keeps_lines : (kept : KeptBook) → KeepsBook kept (map (map bare) t) bare_book.0.book → KeepsBook kept t book
+  keeps_lines kept keeps =
+      let of : KeepsBook kept (map (map bare) t) book = subst (KeepsBook kept (map (map bare) t)) bare_book.1 keeps in record {
+        lanes = of.lanes;
+        states = of.states;
+        marks = subst (λ (marks : List MarkBy). IsPermutation marks (map seen_mark kept.marks.items)) (bare_marks t) of.marks;
+        sorted = of.sorted;
+      }
+
+  some_keeps : (o : Option KeptBook) →
+      MatchOption o ⊥ (λ kept. KeepsBook kept (map (map bare) t) bare_book.0.book) →
+      MatchOption o ⊥ (λ kept. KeepsBook kept t book)
+  some_keeps None keeps = keeps
+  some_keeps (Some kept) keeps = keeps_lines kept keeps
+
+  -- what is kept of the book of the bare lines is kept of that of the lines
+  pub kept_of_bare : {E : Type 0} (r : Result (Option KeptBook) E) →
+      ((made : MadeBook script (map (map bare) t)) →
+      IfOk r (λ o. MatchOption o ⊥ (λ kept. KeepsBook kept (map (map bare) t) made.book))) →
+      IfOk r (λ o. MatchOption o ⊥ (λ kept. KeepsBook kept t book))
+  kept_of_bare (Ok o) each = some_keeps o (each bare_book.0)
+  kept_of_bare (Err e) each = tt

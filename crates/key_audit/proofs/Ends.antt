@@ -1,0 +1,33 @@
+-- What is told of a script and a transcript, as what their text calls for.
+use Rattle.std.proofs.Common.{ℕ, ◌≡◌, ◌<◌, List, length, sym, subst, ◌∙◌, inl, inr}
+use Rattle.key_names.specs.SeenLine.{SeenLine}
+use Rattle.key_names.specs.Texts.ScriptGrammar.{Script}
+use Rattle.tool_ends.specs.Pairs.{FailsAsText, IsPair}
+use Rattle.tool_ends.specs.declared.status.Status.{Status}
+use Rattle.tool_ends.specs.declared.status.Status.TheVariants.{Done, No, Usage, ReadFault, WriteFault, Refused, NoMemory}
+use Rattle.tool_ends.proofs.Inputs.{IsLimited}
+use Rattle.tool_ends.proofs.Pairs.{too_long}
+use Rattle.key_audit.specs.declared.ask.Ask.{Ask}
+use Rattle.key_audit.specs.Outcome.{Calls, ToldOf}
+
+-- what is told of a transcript is told of its text
+pub of_pair : (ask : Ask) (input : List ℕ) (script : Script) (t : List (List SeenLine)) → IsPair input script t →
+    (s : Status) (o : List ℕ) → ToldOf ask script t s o → Calls ask input s o
+of_pair ask input script t pair Done o told = record { script = script; t = t; pair = pair; told = told }
+of_pair ask input script t pair No o told = inl (record { script = script; t = t; pair = pair; told = told })
+of_pair ask input script t pair Refused o told = absurd told
+of_pair ask input script t pair Usage o told = absurd told
+of_pair ask input script t pair ReadFault o told = absurd told
+of_pair ask input script t pair WriteFault o told = absurd told
+of_pair ask input script t pair NoMemory o told = absurd told
+
+pub is_limited : (ask : Ask) → IsLimited 100663296 (Calls ask)
+is_limited ask = record {
+  done = λ input output of. of.pair.short;
+  no = λ input output of. elim of [ | inl pair ↦ pair.pair.short | inr text ↦ text.fails.short ];
+  refused = λ input all output long too of. record {
+    fault = of.fault;
+    first = too_long all too ∙ sym (too_long input long) ∙ of.first;
+    line = of.line;
+  };
+}

@@ -1,0 +1,43 @@
+-- The entries that are kept of a book's lanes are those of its lists.
+use Rattle.std.proofs.Common.{◌≡◌, ℕ, suc, Some, List, [], ◌∷◌, length, map, refl, ◌∙◌, arith}
+use Rattle.std.specs.Prelude.{slice_get}
+use Rattle.std.specs.Global.{Vec}
+use Rattle.key_names.specs.declared.entries.BaseEntry.{BaseEntry}
+use Rattle.key_names.specs.declared.entries.CpuEntry.{CpuEntry}
+use Rattle.key_names.specs.declared.entries.VEntry.{VEntry}
+use Rattle.key_names.specs.Book.{Lists}
+use Rattle.list_replay.specs.declared.kept.KeptBase.{KeptBase}
+use Rattle.list_replay.specs.declared.kept.KeptCpu.{KeptCpu}
+use Rattle.list_replay.specs.declared.kept.Lists.{Lists as KeptLists}
+use Rattle.list_replay.specs.Kept.{Keeps}
+use Rattle.key_uses.specs.KeptEntries.{cpu_entries}
+use Rattle.key_rows.specs.Told.{caller_lists, cpu_lists, HasEntries}
+
+-- lists of one length whose elements stand for each other
+same_entries : {K E : Type 0} (entry : K → E) (kept : List K) (list : List E) → length kept ≡ length list →
+    ((i : ℕ) (k : K) (e : E) → slice_get kept i ≡ Some k → slice_get list i ≡ Some e → entry k ≡ e) →
+    map entry kept ≡ list
+same_entries entry [] [] count each = refl
+same_entries entry [] (e ∷ es) count each = absurd (omega arith)
+same_entries entry (k ∷ ks) [] count each = absurd (omega arith)
+same_entries entry (k ∷ ks) (e ∷ es) count each =
+    let first : entry k ≡ e = each 0 k e refl refl in
+    let rest : map entry ks ≡ es = same_entries entry ks es (omega arith) (λ i l f there is. each (suc i) l f there is) in
+    λ i. first i ∷ rest i
+
+cpus_are : (cpus : List (Vec KeptCpu)) → cpu_lists cpus ≡ map cpu_entries (map (λ lane. lane.items) cpus)
+cpus_are [] = refl
+cpus_are (lane ∷ cpus) = λ i. cpu_entries lane.items ∷ cpus_are cpus i
+
+pub has_entries : (kept : KeptLists) (lists : Lists) (callers : List (Vec (Vec VEntry))) → Keeps kept lists →
+    caller_lists callers ≡ lists.callers → HasEntries lists kept callers
+has_entries kept lists callers keeps states = record {
+  base = same_entries (λ (k : KeptBase). k.entry) kept.base.items lists.base keeps.base.count
+      (λ i k e there is. (keeps.base.each i k e there is).entry);
+  cpus = cpus_are kept.cpus.items
+      ∙ same_entries cpu_entries (map (λ (lane : Vec KeptCpu). lane.items) kept.cpus.items) lists.cpus keeps.cpus.count
+      (λ c ks es there is.
+      let lane = keeps.cpus.each c ks es there is in
+      same_entries (λ (k : KeptCpu). k.entry) ks es lane.count (λ i k e at e_is. (lane.each i k e at e_is).entry));
+  states = states;
+}

@@ -1,0 +1,4 @@
+pub mod Books
+pub mod Ends
+pub mod KeptEntries
+pub mod WordTexts

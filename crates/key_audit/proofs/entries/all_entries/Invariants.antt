@@ -1,0 +1,8 @@
+use Rattle.std.proofs.Common.{◌≡◌, ◌++◌, drop}
+use Rattle.key_rows.specs.Told.{caller_lists}
+use Rattle.state_entries.specs.Entries.{all_lists_in}
+use Rattle.key_audit.proofs.entries.all_entries.Given as goal
+
+abbrev pub invariant-loop-lists : goal.invariant-loop-lists
+invariant-loop-lists l =
+    caller_lists l.entries.items ++ all_lists_in (drop l.lists-index l.callers) ≡ all_lists_in l.callers

@@ -1,0 +1,24 @@
+-- The forms of the command line.
+use Rattle.std.specs.Prelude.{ℕ, ◌≡◌, ◌<◌, ◌^◌, List, [], ◌∷◌, String, string_bytes, codes, map}
+use Rattle.std.specs.Fmt.{decimal}
+use Rattle.key_rows.specs.declared.moments.Line.{Line}
+use Rattle.key_audit.specs.Texts.{line_text}
+use Rattle.key_audit.specs.declared.ask.Ask.{Ask}
+use Rattle.key_audit.specs.declared.ask.Ask.TheVariants.{Keys, Live, Line as OneLine}
+
+-- the numbers of a line that a word can name
+abbrev pub LineFits : Line → Type 0
+LineFits line = (line.caller < 2 ^ 32) × (line.event < 2 ^ 32)
+
+-- the texts are those of a command
+abbrev pub AskTexts : List (List ℕ) → Ask → Type 0
+AskTexts texts Keys = texts ≡ codes "keys" ∷ []
+AskTexts texts (Live stamp) = (stamp < 2 ^ 64) × (texts ≡ codes "live" ∷ decimal stamp ∷ [])
+AskTexts texts (OneLine line) = LineFits line × (texts ≡ codes "line" ∷ line_text line ∷ [])
+
+abbrev pub Asks : {A : Type 0} → List (String A) → Ask → Type 0
+Asks words ask = AskTexts (map string_bytes words) ask
+
+-- the words are no form of the command line
+abbrev pub IsNoForm : {A : Type 0} → List (String A) → Type 0
+IsNoForm words = (ask : Ask) → Asks words ask → ⊥

@@ -1,0 +1,98 @@
+-- What the program promises for each way to end: a script, and a transcript behind it, and what is told of them.
+use Rattle.std.specs.Prelude.{ℕ, ◌≡◌, ◌⊎◌, ⊤, List, ◌++◌, Option, Some, map, All, IsPermutation}
+use Rattle.std.specs.List.{flat_map}
+use Rattle.key_names.specs.declared.faults.ScriptFault.{ScriptFault}
+use Rattle.key_names.specs.Book.{Book, Lists, lists_of}
+use Rattle.key_names.specs.SeenLine.{SeenLine}
+use Rattle.key_names.specs.Texts.ScriptGrammar.{Script}
+use Rattle.transcript_check.specs.Judged.{FailsFirst, IsSound}
+use Rattle.key_rows.specs.declared.moments.Moments.{Moments}
+use Rattle.key_rows.specs.declared.rows.Row.{Row}
+use Rattle.key_rows.specs.declared.told.Told.{Told}
+use Rattle.key_rows.specs.Rows.{IsRow, all_pieces, birth_of}
+use Rattle.key_rows.specs.Told.{book_tells, tells_of}
+use Rattle.tool_ends.specs.Pairs.{FailsAsText, IsPair, no_line, pair_fault, refusal_line}
+use Rattle.tool_ends.specs.Reads.{ReadsEnds}
+use Rattle.tool_ends.specs.declared.status.Status.{Status}
+use Rattle.tool_ends.specs.declared.status.Status.TheVariants.{Done, No, Usage, ReadFault, WriteFault, Refused, NoMemory}
+use Rattle.key_audit.specs.declared.ask.Ask.{Ask}
+use Rattle.key_audit.specs.declared.ask.Ask.TheVariants.{Keys, Live, Line}
+use Rattle.key_audit.specs.Texts.{rows_text}
+
+-- ---- what is told of a book
+
+-- a row for each key that the book's entries make, with all that the book tells of it
+pub record AreRows (book : Book) (rows : List Row) : Type 0 where
+  pub told : Told
+  pub tells : tells_of told ≡ book_tells (lists_of book)
+  pub each : IsPermutation told.lives.births.items (map birth_of rows)
+  pub say : All (IsRow (all_pieces told) told.lives.endings.items) rows
+
+-- the text of the rows
+pub record TellsKeys (book : Book) (output : List ℕ) : Type 0 where
+  pub moments : Moments
+  pub rows : List Row
+  pub are : AreRows book rows
+  pub text : output ≡ rows_text moments rows
+
+-- of what is held behind a stamp, and of where a line comes from, nothing is said yet
+abbrev pub Tells : Ask → Book → List ℕ → Type 0
+Tells Keys book output = TellsKeys book output
+Tells (Live stamp) book output = ⊤
+Tells (Line line) book output = ⊤
+
+-- ---- what is told of a transcript
+
+-- the transcript is lawful, and this is told of its book
+pub record TellsLawful (ask : Ask) (script : Script) (t : List (List SeenLine)) (output : List ℕ) : Type 0 where
+  pub sound : IsSound script t
+  pub tells : Tells ask sound.book output
+
+-- the number of the first clause that fails
+pub record TellsClause (script : Script) (t : List (List SeenLine)) (output : List ℕ) : Type 0 where
+  pub number : ℕ
+  pub fails : FailsFirst script t number
+  pub line : output ≡ no_line number
+
+abbrev pub ToldOf : Ask → Script → List (List SeenLine) → Status → List ℕ → Type 0
+ToldOf ask script t Done output = TellsLawful ask script t output
+ToldOf ask script t No output = TellsClause script t output
+ToldOf ask script t Refused output = ⊥
+ToldOf ask script t Usage output = ⊥
+ToldOf ask script t ReadFault output = ⊥
+ToldOf ask script t WriteFault output = ⊥
+ToldOf ask script t NoMemory output = ⊥
+
+-- ---- of an input
+
+-- a script with a transcript behind it, of which this is told with a status
+pub record OfPair (ask : Ask) (status : Status) (input output : List ℕ) : Type 0 where
+  pub script : Script
+  pub t : List (List SeenLine)
+  pub pair : IsPair input script t
+  pub told : ToldOf ask script t status output
+
+-- a script with a text behind it that fails a clause as such
+pub record OfText (input output : List ℕ) : Type 0 where
+  pub number : ℕ
+  pub fails : FailsAsText input number
+  pub line : output ≡ no_line number
+
+pub record OfFault (input output : List ℕ) : Type 0 where
+  pub fault : ScriptFault
+  pub first : pair_fault input ≡ Some fault
+  pub line : output ≡ refusal_line fault
+
+-- the output that an input calls for, and the status that says so
+abbrev pub Calls : Ask → List ℕ → Status → List ℕ → Type 0
+Calls ask input Done output = OfPair ask Done input output
+Calls ask input No output = OfPair ask No input output ⊎ OfText input output
+Calls ask input Refused output = OfFault input output
+Calls ask input Usage output = ⊥
+Calls ask input ReadFault output = ⊥
+Calls ask input WriteFault output = ⊥
+Calls ask input NoMemory output = ⊥
+
+-- how a command ends, what the source then has left and what the sink holds
+abbrev pub AuditEnds : Ask → Status → Option (List ℕ) → Option (List ℕ) → Option (List ℕ) → Option (List ℕ) → Type 0
+AuditEnds ask = ReadsEnds (Calls ask)

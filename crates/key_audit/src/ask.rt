@@ -1,0 +1,85 @@
+//! What the words of a command line ask for.
+ghost use Rattle.std.specs.Prelude.{◌≡◌, ◌∷◌, ◌++◌, [], true, Some, IfSome, MatchOption};
+ghost use Rattle.transcript_text.specs.Reading.{lacks, Reads};
+ghost use Rattle.key_audit.specs.Commands.{AskTexts, Asks, LineFits};
+ghost use Rattle.key_audit.specs.Texts.{line_text};
+
+use event_script::numbers::number_up_to;
+use key_rows::moments::Line;
+use memchr::memchr;
+
+/// The forms of the command line, as the line that answers any other words has them.
+pub(crate) const USAGE: &str = "usage: key_audit keys | key_audit live T | key_audit line C.E";
+
+/// What is asked of a script and a transcript.
+#[derive(Clone, Copy, Debug, PartialEq, Eq)]
+pub(crate) enum Ask {
+    /// `keys`
+    Keys,
+    /// `live T`
+    Live(u64),
+    /// `line C.E`
+    Line(Line),
+}
+
+/// What stands before the first dot of a text, and what stands behind it.
+fn halves(text: &[u8]) -> Option<(&[u8], &[u8])>
+    ensures { MatchOption result (lacks 46 text.now ≡ true)
+        (λ both. (text.now ≡ both.0.now ++ 46 ∷ both.1.now) × (lacks 46 both.0.now ≡ true)) }
+{
+    match memchr(b'.', text) {
+        Some(place) => Some((&text[..place], &text[place + 1..])),
+        None => None,
+    }
+}
+
+/// The line that a text names, as `0.4`.
+fn line_of(text: &[u8]) -> Option<Line>
+    ensures { Reads line_text LineFits text.now result }
+{
+    let Some((caller, event)) = halves(text) else {
+        return None;
+    };
+    let Some(caller) = number_up_to(u64::from(u32::MAX), caller) else {
+        return None;
+    };
+    let Some(event) = number_up_to(u64::from(u32::MAX), event) else {
+        return None;
+    };
+    Some(Line {
+        caller: caller as u32,
+        event: event as u32,
+    })
+}
+
+/// What two words ask for.
+fn ask_by(word: &str, with: &str) -> Option<Ask>
+    ensures found { IfSome result (AskTexts (word.now ∷ with.now ∷ [])) }
+    ensures only { (ask : Ask) → AskTexts (word.now ∷ with.now ∷ []) ask → result ≡ Some ask }
+{
+    if word == "live" {
+        return match number_up_to(u64::MAX, with.as_bytes()) {
+            Some(stamp) => Some(Ask::Live(stamp)),
+            None => None,
+        };
+    }
+    if word == "line" {
+        return match line_of(with.as_bytes()) {
+            Some(line) => Some(Ask::Line(line)),
+            None => None,
+        };
+    }
+    None
+}
+
+/// What the words ask for, if they are of one of the forms.
+pub(crate) fn ask_of(words: &[String]) -> Option<Ask>
+    ensures found { IfSome result (Asks words.now) }
+    ensures only { (ask : Ask) → Asks words.now ask → result ≡ Some ask }
+{
+    match words {
+        [word] if word.as_str() == "keys" => Some(Ask::Keys),
+        [word, with] => ask_by(word.as_str(), with.as_str()),
+        _ => None,
+    }
+}

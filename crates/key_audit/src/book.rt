@@ -1,0 +1,77 @@
+//! The book of a transcript's steps.
+ghost use Rattle.std.specs.Prelude.{◌≡◌, List, IfOk, IsSome, MatchOption};
+ghost use Rattle.key_names.specs.Book.{Book};
+ghost use Rattle.key_names.specs.IsTranscript.{IsTranscriptBy, MadeBook};
+ghost use Rattle.key_names.specs.Meaning.{CallMeaning};
+ghost use Rattle.key_names.specs.Texts.ScriptGrammar.{WellFormed};
+ghost use Rattle.line_orders.specs.Seen.{seen_callers};
+ghost use Rattle.key_audit.specs.Kept.{KeepsBook};
+
+use event_script::Script;
+use line_orders::bare::BareLine;
+use line_orders::begin::{Begun, begin};
+use line_orders::marks::MarkOf;
+use line_orders::seen::bare_callers;
+use line_orders::settings::all_settings;
+use list_replay::{Lists, replay_lists};
+use state_entries::{StateEntry, state_lists};
+use std::alloc::{AllocError, Global};
+use told_entries::gather::gather;
+use transcript_text::Transcript;
+
+/// What is kept of a transcript's book.
+#[derive(Drop)]
+pub struct KeptBook {
+    /// Of the visits of each lane.
+    pub lanes: Lists,
+    /// Of each caller, of each of its sixteen vgetrandom states, the entries.
+    pub states: Vec<Vec<Vec<StateEntry>>>,
+    /// The marks of all visits, lane after lane, those of one lane by their stamps.
+    pub marks: Vec<MarkOf>,
+}
+
+fn of_lines(
+    alloc: Global,
+    script: &Script,
+    lines: &[Vec<BareLine<'_>>],
+) -> Result<Option<KeptBook>, AllocError>
+    requires { WellFormed script.now }
+    ensures { (made : MadeBook script.now (seen_callers lines.now)) →
+        IfOk result (λ o. MatchOption o ⊥ (λ kept. KeepsBook kept (seen_callers lines.now) made.book)) }
+{
+    let parts = match begin(alloc, script, lines)? {
+        Begun::No(_) => return Ok(None),
+        Begun::Stands(parts) => parts,
+    };
+    let settings = all_settings(alloc, &parts.calls, &parts.orders.forks)?;
+    let Some(told) = gather(alloc, script, &parts, &settings)? else {
+        return Ok(None);
+    };
+    let Some(lanes) = replay_lists(alloc, &told)? else {
+        return Ok(None);
+    };
+    let states = state_lists(alloc, &parts)?;
+    Ok(Some(KeptBook {
+        lanes,
+        states,
+        marks: parts.marks,
+    }))
+}
+
+/// What is kept of the book of a transcript, where its lines and steps make one.
+///
+/// # Errors
+///
+/// `AllocError` where there is no memory for it.
+pub fn book_of(
+    alloc: Global,
+    script: &Script,
+    t: &Transcript,
+) -> Result<Option<KeptBook>, AllocError>
+    requires { WellFormed script.now }
+    ensures { (book : Book) (ms : List (List CallMeaning)) → IsTranscriptBy script.now t.now book ms →
+        IfOk result (λ o. MatchOption o ⊥ (λ kept. KeepsBook kept t.now book)) }
+{
+    let lines = bare_callers(alloc, t)?;
+    of_lines(alloc, script, &lines)
+}

@@ -1,0 +1,51 @@
+//! The command `keys`: the rows of a book.
+ghost use Rattle.std.specs.Prelude.{◌≡◌, List, IfOk};
+ghost use Rattle.key_names.specs.Book.{Book};
+ghost use Rattle.key_names.specs.SeenLine.{SeenLine};
+ghost use Rattle.key_audit.specs.Kept.{KeepsBook};
+ghost use Rattle.key_audit.specs.Outcome.{AreRows, TellsKeys};
+
+use crate::book::KeptBook;
+use crate::entries::all_entries;
+use crate::moments::moments_of;
+use crate::text::Text;
+use key_rows::moments::Moments;
+use key_rows::rows::{Row, make_rows, sort_rows};
+use key_rows::told::tell_book;
+use std::alloc::{AllocError, Global};
+
+/// The rows of a book in the order in which their keys were made.
+///
+/// # Errors
+///
+/// `AllocError` where there is no memory for them.
+pub(crate) fn rows_of(
+    alloc: Global,
+    book: &KeptBook,
+    moments: &Moments,
+) -> Result<Vec<Row>, AllocError>
+    ensures { (t : List (List SeenLine)) (of : Book) → KeepsBook book.now t of →
+        IfOk result (λ rows. AreRows of rows.items) }
+{
+    let entries = all_entries(alloc, &book.states)?;
+    let told = tell_book(alloc, &book.lanes, &entries)?;
+    let mut rows = make_rows(alloc, &told)?;
+    sort_rows(&mut rows, moments)?;
+    Ok(rows)
+}
+
+/// The text of all rows.
+///
+/// # Errors
+///
+/// `AllocError` where there is no memory for it.
+pub(crate) fn keys_text(alloc: Global, book: &KeptBook) -> Result<Vec<u8>, AllocError>
+    ensures { (t : List (List SeenLine)) (of : Book) → KeepsBook book.now t of →
+        IfOk result (λ text. TellsKeys of text.items) }
+{
+    let moments = moments_of(alloc, book)?;
+    let rows = rows_of(alloc, book, &moments)?;
+    let mut text = Text::new(alloc);
+    text.rows(&moments, &rows)?;
+    Ok(text.bytes)
+}

@@ -1,0 +1,77 @@
+//! `key_audit`: which keys a lawful transcript's run made, who held each, and what became of its bytes.
+//!
+//! [`audit`] carries the contract: for every input it says command by command what status and output mean. [`book`] has
+//! what it stands on, the book of a transcript. `main` adds the standard streams, the line on standard error and the exit
+//! code, which are tested.
+#![tactic(auto)]
+
+mod answer;
+mod ask;
+mod audit;
+mod book;
+mod entries;
+mod graph;
+mod keys;
+mod line;
+mod live;
+mod moments;
+#[cfg(test)]
+mod tests;
+mod text;
+
+use crate::ask::USAGE;
+use crate::audit::audit;
+use io_edges::{StdSink, StdSource};
+use std::io::{self, BufWriter};
+use std::env;
+use std::process::ExitCode;
+use tool_ends::Status;
+
+/// How many bytes of output are gathered to one write.
+const GATHERED: usize = 64 * 1024;
+
+/// The words behind the program's name, or how a run ends without them.
+fn words(rt: &HostRuntime) -> Result<Vec<String>, Status> {
+    let mut words = Vec::new(rt.alloc());
+    let args = match env::args(rt) {
+        Ok(args) => args,
+        Err(error) if error.kind() == io::ErrorKind::OutOfMemory => return Err(Status::NoMemory),
+        Err(_) => return Err(Status::Usage),
+    };
+    for word in args.skip(1) {
+        if words.push(word).is_err() {
+            return Err(Status::NoMemory);
+        }
+    }
+    Ok(words)
+}
+
+fn run(rt: &HostRuntime, words: &[String]) -> Status {
+    let Ok(output) = BufWriter::with_capacity(rt.alloc(), GATHERED, rt.stdout()) else {
+        return Status::NoMemory;
+    };
+    let mut source = StdSource::of(rt.stdin());
+    let mut sink = StdSink::of(output);
+    audit(rt.alloc(), words, &mut source, &mut sink)
+}
+
+/// Writes one line to standard error where a command ended otherwise than by its answer.
+fn tell<R: Eprint>(rt: &R, status: Status) {
+    let _told = match status {
+        Status::Done | Status::No => return,
+        Status::Usage => eprintln!(rt; "{USAGE}"),
+        Status::ReadFault => eprintln!(rt; "key_audit: standard input could not be read"),
+        Status::WriteFault => eprintln!(rt; "key_audit: standard output could not be written"),
+        Status::NoMemory => eprintln!(rt; "key_audit: there is not enough memory"),
+        Status::Refused => eprintln!(rt; "key_audit: the script has a fault, which standard output names"),
+    };
+}
+
+fn main(rt: HostRuntime) -> ExitCode {
+    let status = match words(&rt) {
+        Ok(words) => run(&rt, &words),
+        Err(status) => status,
+    };
+    tell(&rt, status);
+    ExitCode::from(status.code())
+}

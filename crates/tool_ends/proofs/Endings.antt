@@ -1,0 +1,146 @@
+-- What the flush at the end of the output makes of a command's end.
+use Rattle.std.proofs.Common.{ℕ, ◌≡◌, ◌≤◌, ◌⊎◌, List, Option, None, Some, ◌++◌, ap, sym, subst, ◌∙◌, inl, inr}
+use Rattle.std.specs.Prelude.{IfSome}
+use Rattle.std.specs.Io.KnownBytes.{Appends, Consumes, IsAtEnd, Keeps}
+use Rattle.std.proofs.KnownBytes.{Keeps-trans}
+use Rattle.std.proofs.lemmas.List.{append-nil}
+use Rattle.io_edges.specs.Faults.{Rose}
+use Rattle.io_edges.specs.Pieces.{AppendsPrefix}
+use Rattle.io_edges.proofs.Pieces.{AppendsPrefix-of_whole, rose_after, rose_before}
+use Rattle.tool_ends.specs.Ends.{AtOutputEnd, EndsWith, IsAnswered}
+use Rattle.tool_ends.specs.Reads.{ReadsEnds, SomeAnswer, WasAnswered}
+use Rattle.tool_ends.specs.declared.status.Status.{Status}
+use Rattle.tool_ends.specs.declared.status.Status.TheVariants.{Done, No, Usage, ReadFault, WriteFault, Refused, NoMemory}
+
+appends_kept : (a b c : Option (List ℕ)) (xs : List ℕ) → Appends a b xs → Keeps b c → Appends a c xs
+appends_kept None b c xs h k = tt
+appends_kept (Some x) None c xs h k = absurd h
+appends_kept (Some x) (Some y) None xs h k = absurd k
+appends_kept (Some x) (Some y) (Some z) xs h k = k ∙ h
+
+prefix_kept : (a b c : Option (List ℕ)) (xs : List ℕ) → AppendsPrefix a b xs → Keeps b c → AppendsPrefix a c xs
+prefix_kept a b c xs p k = (p.0, p.1, appends_kept a b c _ p.2 k)
+
+-- an answer that was put whole, and not handed on
+whole_cut : (a b c : Option (List ℕ)) (xs : List ℕ) → Appends a b xs → Keeps b c → AppendsPrefix a c xs
+whole_cut a b c xs h k = prefix_kept a b c xs (AppendsPrefix-of_whole a b xs h) k
+
+-- the sink failed in the command, or at the end of its output
+pub rose_at_end : (status : Status) (a b c : ℕ) → (status ≡ WriteFault → Rose a b) → a ≤ b
+    → (status ≡ WriteFault) ⊎ Rose b c → b ≤ c → Rose a c
+rose_at_end status a b c in_command up fault end = elim fault [
+  | inl is ↦ rose_after a b c (in_command is) end
+  | inr rose ↦ rose_before a b c up rose
+]
+
+module _ (Of : List ℕ → Type 0) (a b c : Option (List ℕ)) (k : Keeps b c) where
+  stays : (status : Status) → EndsWith Of status a b → EndsWith Of status a c
+  stays Done e = (e.0, e.1, appends_kept a b c e.0 e.2 k)
+  stays WriteFault e = (e.0, e.1, prefix_kept a b c e.0 e.2 k)
+  stays NoMemory e = Keeps-trans a b c e k
+  stays No e = e
+  stays Usage e = e
+  stays ReadFault e = e
+  stays Refused e = e
+
+  cut : (status : Status) → IsAnswered status → EndsWith Of status a b → EndsWith Of WriteFault a c
+  cut Done is e = (e.0, e.1, whole_cut a b c e.0 e.2 k)
+  cut WriteFault is e = absurd is
+  cut NoMemory is e = absurd is
+  cut No is e = absurd e
+  cut Usage is e = absurd is
+  cut ReadFault is e = absurd is
+  cut Refused is e = absurd e
+
+  -- a command that reads nothing
+  pub ends_after : (status result : Status) → AtOutputEnd status result → EndsWith Of status a b → EndsWith Of result a c
+  ends_after status result ended e = elim ended [
+    | inl same ↦ subst (λ s. EndsWith Of s a c) (sym same) (stays status e)
+    | inr faulty ↦ subst (λ s. EndsWith Of s a c) (sym faulty.1) (cut status faulty.0 e)
+  ]
+
+-- an input that was read to its end is all that was left
+all_read : (Is : List ℕ → List ℕ → Type 0) (left left_after : Option (List ℕ)) (input output : List ℕ)
+    → Consumes left left_after input → IsAtEnd left_after → Is input output → IfSome left (λ all. Is all output)
+all_read Is None after input output read end is = tt
+all_read Is (Some all) None input output read end is = absurd read
+all_read Is (Some all) (Some rest) input output read end is =
+    let same : all ≡ input = read ∙ ap (λ l. input ++ l) end ∙ append-nil input in
+    subst (λ text. Is text output) (sym same) is
+
+also_refused : (Of : List ℕ → Status → List ℕ → Type 0) (left : Option (List ℕ)) (output : List ℕ)
+    → IfSome left (λ all. Of all Refused output) → IfSome left (λ all. SomeAnswer (Of all) output)
+also_refused Of None output is = tt
+also_refused Of (Some all) output is = (Refused, tt, is)
+
+module _ (Of : List ℕ → Status → List ℕ → Type 0) (left left_after a b c : Option (List ℕ)) (k : Keeps b c) where
+  answer_stays : (Is : List ℕ → List ℕ → Type 0) → WasAnswered Is left left_after a b
+      → WasAnswered Is left left_after a c
+  answer_stays Is e = record {
+    input = e.input;
+    output = e.output;
+    read = e.read;
+    whole = e.whole;
+    is = e.is;
+    written = appends_kept a b c e.output e.written k;
+  }
+
+  read_stays : (status : Status) → ReadsEnds Of status left left_after a b → ReadsEnds Of status left left_after a c
+  read_stays Done e = answer_stays (λ input output. Of input Done output) e
+  read_stays No e = answer_stays (λ input output. Of input No output) e
+  read_stays Refused e = record {
+    input = e.input;
+    output = e.output;
+    read = e.read;
+    refusal = e.refusal;
+    of_all = e.of_all;
+    written = appends_kept a b c e.output e.written k;
+  }
+  read_stays WriteFault e = record {
+    input = e.input;
+    output = e.output;
+    read = e.read;
+    output_is = e.output_is;
+    of_all = e.of_all;
+    written = prefix_kept a b c e.output e.written k;
+  }
+  read_stays ReadFault e = Keeps-trans a b c e k
+  read_stays NoMemory e = Keeps-trans a b c e k
+  read_stays Usage e = e
+
+  answer_cut : (status : Status) → IsAnswered status → WasAnswered (λ input output. Of input status output) left left_after a b
+      → ReadsEnds Of WriteFault left left_after a c
+  answer_cut status is e = record {
+    input = e.input;
+    output = e.output;
+    read = e.read;
+    output_is = (status, is, e.is);
+    of_all = all_read (λ input output. SomeAnswer (Of input) output) left left_after e.input e.output e.read e.whole
+        (status, is, e.is);
+    written = whole_cut a b c e.output e.written k;
+  }
+
+  read_cut : (status : Status) → IsAnswered status → ReadsEnds Of status left left_after a b
+      → ReadsEnds Of WriteFault left left_after a c
+  read_cut Done is e = answer_cut Done is e
+  read_cut No is e = answer_cut No is e
+  read_cut Refused is e = record {
+    input = e.input;
+    output = e.output;
+    read = e.read;
+    output_is = (Refused, tt, e.refusal);
+    of_all = also_refused Of left e.output e.of_all;
+    written = whole_cut a b c e.output e.written k;
+  }
+  read_cut Usage is e = absurd is
+  read_cut ReadFault is e = absurd is
+  read_cut WriteFault is e = absurd is
+  read_cut NoMemory is e = absurd is
+
+  -- a command that reads its input
+  pub reads_end_after : (status result : Status) → AtOutputEnd status result → ReadsEnds Of status left left_after a b
+      → ReadsEnds Of result left left_after a c
+  reads_end_after status result ended e = elim ended [
+    | inl same ↦ subst (λ s. ReadsEnds Of s left left_after a c) (sym same) (read_stays status e)
+    | inr faulty ↦ subst (λ s. ReadsEnds Of s left left_after a c) (sym faulty.1) (read_cut status faulty.0 e)
+  ]

@@ -1,0 +1,4 @@
+pub mod Endings
+pub mod Inputs
+pub mod NumberWords
+pub mod Pairs

@@ -1,0 +1,74 @@
+-- A script's transcript has a line for each event and for each caller, and no more.
+use Rattle.std.proofs.Common.{◌≡◌, ◌<◌, ℕ, suc, ◌+◌, ◌≤◌, refl, List, [], ◌∷◌, length, ap, arith, inl, inr, true, ltb, Some}
+use Rattle.std.specs.List.{sum_by}
+use Rattle.std.proofs.lemmas.Bool.{lt-ltb}
+use Rattle.std.proofs.lemmas.List.Concat.{length-flat_map}
+use Rattle.std.proofs.lemmas.List.Sums.{sum_by-cons}
+use Rattle.key_names.specs.declared.events.Event.{Event}
+use Rattle.key_names.specs.declared.faults.FaultKind.TheVariants.{TooLong}
+use Rattle.key_names.specs.IsTranscript.{EachCaller, HasLines, LinesFit}
+use Rattle.key_names.specs.Texts.ScriptFaults.{front}
+use Rattle.key_names.specs.Texts.ScriptGrammar.{Script, IsScript, WellFormed}
+use Rattle.key_names.specs.SeenLine.{SeenLine}
+use Rattle.key_names.specs.Texts.TranscriptGrammar.{all_lines}
+use Rattle.tool_ends.specs.Pairs.{HasTooManyLines, IsNoPair, IsNoText, LacksLines, behind, pair_fault}
+use Rattle.tool_ends.specs.declared.pair.NoPair.{NoPair}
+use Rattle.tool_ends.specs.declared.pair.NoPair.TheVariants.{Refused, No, NoMemory}
+
+-- a caller has a line for each event, and its last one
+line_count : (c n : ℕ) (events : List Event) (lines : List SeenLine) → LinesFit c n events lines
+    → length lines ≡ length events + 1
+line_count c n [] [] fit = absurd fit
+line_count c n [] (line ∷ []) fit = refl
+line_count c n [] (line ∷ next ∷ lines) fit = absurd fit
+line_count c n (event ∷ events) [] fit = absurd fit
+line_count c n (event ∷ events) (line ∷ lines) fit = omega (arith, line_count c (suc n) events lines fit.1)
+
+abbrev Fit : ℕ → List (List Event) → List (List SeenLine) → Type 0
+Fit c callers t = EachCaller (λ k events lines. LinesFit k 0 events lines) c callers t
+
+-- there are as many lines as events, and one more for each caller
+lines_of_all : (c : ℕ) (callers : List (List Event)) (t : List (List SeenLine)) → Fit c callers t
+    → sum_by length t ≡ sum_by length callers + length callers
+lines_of_all c [] [] fit = refl
+lines_of_all c [] (lines ∷ t) fit = absurd fit
+lines_of_all c (events ∷ callers) [] fit = absurd fit
+lines_of_all c (events ∷ callers) (lines ∷ t) fit = omega (
+  arith,
+  sum_by-cons length lines t,
+  sum_by-cons length events callers,
+  line_count c 0 events lines fit.0,
+  lines_of_all (suc c) callers t fit.1,
+)
+
+pub few_lines : (script : Script) (t : List (List SeenLine)) → WellFormed script → HasLines script t
+    → sum_by length t ≤ 65600
+few_lines script t ok fit = omega (arith, ok.events, ok.callers.1, lines_of_all 0 script.callers t fit)
+
+-- more lines than any script's transcript has are not those of this script
+pub too_many : (script : Script) (text : List ℕ) → WellFormed script → HasTooManyLines text → LacksLines script text
+too_many script text ok many = record {
+  lines = many.lines;
+  is_text = many.is_text;
+  fails = λ has. absurd (omega (arith, many.many, few_lines script many.lines ok has,
+      length-flat_map (λ ls. ls) many.lines));
+}
+
+-- an input that is too long has its first fault at line 0
+pub too_long : (input : List ℕ) → 100663296 < length input → pair_fault input ≡ Some (record { line = 0; kind = TooLong })
+too_long input long = let is : ltb 100663296 (length input) ≡ true = lt-ltb _ _ long in rw is refl
+
+-- what keeps the text behind a script from being read keeps the input from it
+pub no_pair : (input : List ℕ) (script : Script) → length input ≤ 100663296 → IsScript script (front input) →
+    (why : NoPair) → IsNoText (behind input) why → IsNoPair input why
+no_pair input script short is (Refused fault) not = absurd not
+no_pair input script short is (No number) not = record {
+  short = short;
+  script = script;
+  is_script = is;
+  clause = elim not [
+    | inl none ↦ inl none
+    | inr many ↦ inr (many.0, too_many script (behind input) is.well_formed many.1)
+  ];
+}
+no_pair input script short is NoMemory not = tt

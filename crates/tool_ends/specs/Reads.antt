@@ -1,0 +1,82 @@
+-- How a command that reads its input ends, what the source then has left and what the sink holds.
+use Rattle.std.specs.Prelude.{ℕ, List, Option, IfSome}
+use Rattle.std.specs.Io.KnownBytes.{Appends, Consumes, IsAtEnd, Keeps}
+use Rattle.io_edges.specs.Pieces.{AppendsPrefix}
+use Rattle.tool_ends.specs.Ends.{IsAnswered}
+use Rattle.tool_ends.specs.declared.status.Status.{Status}
+use Rattle.tool_ends.specs.declared.status.Status.TheVariants.{Done, No, Usage, ReadFault, WriteFault, Refused, NoMemory}
+
+-- an output of some status that says an answer
+abbrev pub SomeAnswer : (Status → List ℕ → Type 0) → List ℕ → Type 0
+SomeAnswer Of output = (status : Status) × IsAnswered status × Of status output
+
+-- outputs of one kind, with the status Done
+abbrev pub OnlyDone : (List ℕ → Type 0) → Status → List ℕ → Type 0
+OnlyDone Is Done output = Is output
+OnlyDone Is No output = ⊥
+OnlyDone Is Usage output = ⊥
+OnlyDone Is ReadFault output = ⊥
+OnlyDone Is WriteFault output = ⊥
+OnlyDone Is Refused output = ⊥
+OnlyDone Is NoMemory output = ⊥
+
+-- ---- of what was read: Of says which outputs are right with a status
+
+abbrev pub WasWritten : (List ℕ → Type 0) → Option (List ℕ) → Option (List ℕ) → Type 0
+WasWritten Is held held_after = (output : List ℕ) × Is output × Appends held held_after output
+
+abbrev pub WritesEnds : (Status → List ℕ → Type 0) → Status → Option (List ℕ) → Option (List ℕ) → Type 0
+WritesEnds Of Done held held_after = WasWritten (Of Done) held held_after
+WritesEnds Of No held held_after = WasWritten (Of No) held held_after
+WritesEnds Of Refused held held_after = WasWritten (Of Refused) held held_after
+WritesEnds Of WriteFault held held_after =
+    (output : List ℕ) × SomeAnswer Of output × AppendsPrefix held held_after output
+WritesEnds Of NoMemory held held_after = Keeps held held_after
+WritesEnds Of Usage held held_after = ⊥
+WritesEnds Of ReadFault held held_after = ⊥
+
+-- ---- with the reading: Of says which outputs an input calls for
+
+-- the whole input was read, and an output of it was written
+pub record WasAnswered (Is : List ℕ → List ℕ → Type 0) (left left_after held held_after : Option (List ℕ))
+    : Type 0 where
+  pub input : List ℕ
+  pub output : List ℕ
+  pub read : Consumes left left_after input
+  pub whole : IsAtEnd left_after
+  pub is : Is input output
+  pub written : Appends held held_after output
+
+-- the refusal of what was read was written; it is also that of all that was left
+pub record WasRefused (Is : List ℕ → List ℕ → Type 0) (left left_after held held_after : Option (List ℕ))
+    : Type 0 where
+  pub input : List ℕ
+  pub output : List ℕ
+  pub read : Consumes left left_after input
+  pub refusal : Is input output
+  pub of_all : IfSome left (λ all. Is all output)
+  pub written : Appends held held_after output
+
+-- the sink failed, and holds a prefix of an output that what was read calls for; so does all that was left
+pub record WasCutShort (Is : List ℕ → List ℕ → Type 0) (left left_after held held_after : Option (List ℕ))
+    : Type 0 where
+  pub input : List ℕ
+  pub output : List ℕ
+  pub read : Consumes left left_after input
+  pub output_is : Is input output
+  pub of_all : IfSome left (λ all. Is all output)
+  pub written : AppendsPrefix held held_after output
+
+abbrev pub ReadsEnds : (List ℕ → Status → List ℕ → Type 0) → Status → Option (List ℕ) → Option (List ℕ)
+    → Option (List ℕ) → Option (List ℕ) → Type 0
+ReadsEnds Of Done left left_after held held_after =
+    WasAnswered (λ input output. Of input Done output) left left_after held held_after
+ReadsEnds Of No left left_after held held_after =
+    WasAnswered (λ input output. Of input No output) left left_after held held_after
+ReadsEnds Of Refused left left_after held held_after =
+    WasRefused (λ input output. Of input Refused output) left left_after held held_after
+ReadsEnds Of WriteFault left left_after held held_after =
+    WasCutShort (λ input output. SomeAnswer (Of input) output) left left_after held held_after
+ReadsEnds Of ReadFault left left_after held held_after = Keeps held held_after
+ReadsEnds Of NoMemory left left_after held held_after = Keeps held held_after
+ReadsEnds Of Usage left left_after held held_after = ⊥

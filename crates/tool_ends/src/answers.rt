@@ -1,0 +1,23 @@
+//! Answers, with the status that they say.
+ghost use Rattle.std.specs.Prelude.{◌≡◌, ◌≤◌};
+ghost use Rattle.io_edges.specs.Faults.{Rose};
+ghost use Rattle.tool_ends.specs.Ends.{IsAnswered};
+ghost use Rattle.tool_ends.specs.Reads.{WritesEnds};
+
+use crate::status::Status;
+use io_edges::{Failed, Sink, put_all};
+
+/// Writes a text that answers with this status.
+pub fn put_answer<K: Sink>(status: Status, text: &[u8], sink: &mut K) -> Status
+    requires { IsAnswered status }
+    ensures ends { WritesEnds (λ is output. (is ≡ status) × (output ≡ text.now)) result
+        (K.held sink.old) (K.held sink.new) }
+    ensures cut { result ≡ Status.WriteFault → Rose (K.faults sink.old) (K.faults sink.new) }
+    ensures silent { result ≡ Status.NoMemory → sink.new ≡ sink.old }
+    ensures never_falls { K.faults sink.old ≤ K.faults sink.new }
+{
+    match put_all(sink, text) {
+        Ok(()) => status,
+        Err(Failed) => Status::WriteFault,
+    }
+}

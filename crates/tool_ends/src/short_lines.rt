@@ -1,0 +1,45 @@
+//! The short lines that answer an input of which no more is said. They are made without memory.
+ghost use Rattle.std.specs.Prelude.{◌≡◌, ◌+◌, ◌≤◌, ◌++◌, decimal, length};
+ghost use Rattle.tool_ends.specs.Pairs.{no_line, refusal_line};
+
+use arrayvec::ArrayString;
+use itoa::Buffer;
+use key_names::ScriptFault;
+
+/// The most bytes of a short line.
+pub const MOST_BYTES: usize = 128;
+
+/// A line of at most 128 bytes.
+pub type ShortLine = ArrayString<MOST_BYTES>;
+
+/// Adds a text to a line, and a number in decimal behind it.
+pub fn add_number(line: &mut ShortLine, before: &str, number: u64)
+    requires { length line.old.bytes + length before.now + 20 ≤ 128 }
+    ensures text { line.new.bytes ≡ line.old.bytes ++ before.now ++ decimal number }
+    ensures short { length line.new.bytes ≤ length line.old.bytes + length before.now + 20 }
+{
+    let mut digits = Buffer::new();
+    line.push_str(before);
+    line.push_str(digits.format(number));
+}
+
+/// The line that tells an input's first fault.
+pub fn refusal_line(fault: ScriptFault) -> ShortLine
+    ensures { result.bytes ≡ refusal_line fault }
+{
+    let mut line = ArrayString::new();
+    add_number(&mut line, "refused ", u64::from(fault.line));
+    add_number(&mut line, " ", u64::from(fault.kind.number()));
+    line.push_str("\n");
+    line
+}
+
+/// The line that names the first clause that fails.
+pub fn no_line(number: u8) -> ShortLine
+    ensures { result.bytes ≡ no_line number }
+{
+    let mut line = ArrayString::new();
+    add_number(&mut line, "no ", u64::from(number));
+    line.push_str("\n");
+    line
+}

@@ -1,0 +1,39 @@
+//! How a program ends.
+ghost use Rattle.std.specs.Prelude.{◌≡◌};
+ghost use Rattle.tool_ends.specs.Ends.{code_of};
+
+/// How a program ended. The number of each is its exit code.
+#[derive(Clone, Copy, Debug, PartialEq, Eq)]
+pub enum Status {
+    /// The whole output was written.
+    Done,
+    /// A clause fails in a transcript, and the line that names it was written.
+    No,
+    /// The words are no form of the command line. Nothing was read or written.
+    Usage,
+    /// The source failed. Nothing was written.
+    ReadFault,
+    /// The sink failed. It holds a prefix of the output.
+    WriteFault,
+    /// The script was refused, and the line that says so was written.
+    Refused,
+    /// There was no memory. Nothing was written.
+    NoMemory,
+}
+
+impl Status {
+    /// The exit code, 0 to 6.
+    pub fn code(self) -> u8
+        ensures { result ≡ code_of self }
+    {
+        match self {
+            Status::Done => 0,
+            Status::No => 1,
+            Status::Usage => 2,
+            Status::ReadFault => 3,
+            Status::WriteFault => 4,
+            Status::Refused => 5,
+            Status::NoMemory => 6,
+        }
+    }
+}
