@@ -41,10 +41,11 @@ impl Caller {
         ensures { (inside : ℕ)
             → MadeEvent lanes.now (length served.old) inside event.now self.old log.old self.new log.new }
     {
-        log.trace.clear();
+        let trace = &mut *log.trace;
+        trace.clear();
         let served = &mut served[..most_shown(event) as usize];
-        let said = self.call(rt, lanes, &mut log.trace, served, event);
-        self.tell(&mut log.lines, event.word(), said, &log.trace, served);
+        let said = self.call(rt, lanes, trace, served, event);
+        self.tell(&mut log.lines, event.word(), said, trace, served);
         self.go_on(event);
     }
 

@@ -19,8 +19,8 @@ const MOST_ACTS: usize = 8;
 pub(crate) struct Log {
     pub(crate) lines: CallerLines,
     pub(crate) acts: Vec<Bound>,
-    // One for all events, since a new one is cleared byte by byte.
-    pub(crate) trace: Trace,
+    // One for all events, since a new one is cleared byte by byte; and apart, since a log is moved with each fork.
+    pub(crate) trace: Box<Trace>,
 }
 
 /// How many bytes the line of an event shows at most.
@@ -104,7 +104,7 @@ impl Log {
         Ok(Log {
             lines: CallerLines::with_room(alloc, lines, steps, all_shown(events) as usize)?,
             acts: Vec::with_capacity(alloc, MOST_ACTS)?,
-            trace: Trace::empty(),
+            trace: Box::new(alloc, Trace::empty())?,
         })
     }
 }

@@ -76,21 +76,16 @@ impl Caller {
         ensures { MadeEvent shared.now.lanes.now (length served.old) (length inside.old) event.now self.old log.old
             self.new log.new }
     {
-        log.trace.clear();
+        let trace = &mut *log.trace;
+        trace.clear();
         let mut into = ReadInto {
             flags: flags_of(event),
             served: &mut served[..most_shown(event) as usize],
             inside: &mut inside[..all_wanted(&log.acts)],
         };
-        let said = self.vread(
-            shared.rt,
-            shared.lanes,
-            &mut log.trace,
-            &mut log.acts,
-            &mut into,
-        );
+        let said = self.vread(shared.rt, shared.lanes, trace, &mut log.acts, &mut into);
         self.tell_acts(&mut log.lines, &log.acts, into.inside);
-        self.tell(&mut log.lines, Word::Vread, said, &log.trace, into.served);
+        self.tell(&mut log.lines, Word::Vread, said, trace, into.served);
         log.acts.clear();
         self.go_on(event);
     }
