@@ -1,5 +1,6 @@
 -- What is told of a script and a transcript, as what their text calls for.
 use Rattle.std.proofs.Common.{ℕ, ◌≡◌, ◌<◌, List, length, sym, subst, ◌∙◌, inl, inr}
+use Rattle.std.specs.Prelude.{⊤, Result, Ok, Err, IfOk}
 use Rattle.key_names.specs.SeenLine.{SeenLine}
 use Rattle.key_names.specs.Texts.ScriptGrammar.{Script}
 use Rattle.tool_ends.specs.Pairs.{FailsAsText, IsPair}
@@ -31,3 +32,8 @@ is_limited ask = record {
     line = of.line;
   };
 }
+
+-- of some outputs nothing is said
+pub any_ok : {A E : Type 0} (r : Result A E) → IfOk r (λ a. ⊤)
+any_ok (Ok a) = tt
+any_ok (Err e) = tt

@@ -13,7 +13,7 @@ use io_edges::{ReadError, Sink, Source, read_to_limit};
 use std::alloc::Global;
 use tool_ends::pair::{MOST_INPUT, NoPair, read_pair};
 use tool_ends::short_lines::{no_line, refusal_line};
-use tool_ends::{Status, end_output, put_answer};
+use tool_ends::{Status, end_output, put_answer, put_line};
 use transcript_check::check::{Verdict, check};
 use transcript_text::Transcript;
 
@@ -30,10 +30,7 @@ fn tell<K: Sink>(alloc: Global, ask: Ask, script: &Script, t: &Transcript, sink:
             Ok(text) => put_answer(Status::Done, &text, sink),
             Err(_) => Status::NoMemory,
         },
-        Ok(Verdict::No(number)) => {
-            let line = no_line(number);
-            put_answer(Status::No, line.as_str().as_bytes(), sink)
-        }
+        Ok(Verdict::No(number)) => put_line(Status::No, &no_line(number), sink),
         Err(_) => Status::NoMemory,
     }
 }
@@ -47,14 +44,8 @@ fn answer<K: Sink>(alloc: Global, ask: Ask, input: &[u8], sink: &mut K) -> Statu
 {
     match read_pair(alloc, input) {
         Ok((script, t)) => tell(alloc, ask, &script, &t, sink),
-        Err(NoPair::Refused(fault)) => {
-            let line = refusal_line(fault);
-            put_answer(Status::Refused, line.as_str().as_bytes(), sink)
-        }
-        Err(NoPair::No(number)) => {
-            let line = no_line(number);
-            put_answer(Status::No, line.as_str().as_bytes(), sink)
-        }
+        Err(NoPair::Refused(fault)) => put_line(Status::Refused, &refusal_line(fault), sink),
+        Err(NoPair::No(number)) => put_line(Status::No, &no_line(number), sink),
         Err(NoPair::NoMemory) => Status::NoMemory,
     }
 }

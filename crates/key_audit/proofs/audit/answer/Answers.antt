@@ -16,7 +16,7 @@ returns-in-Err-Refused-clause-ends g c =
     let first = rw c.in-Err-Refused.field-0-is at c.in-Err-Refused.ensures.not_read in
     wider _ Of (the_answer Of Refused c.refusal_line.result.bytes
     (record { fault = c.in-Err-Refused.fault; first = first; line = c.refusal_line.ensures })) _ _ _
-    c.put_answer.ensures.ends
+    c.put_line.ensures.ends
 
 pub returns-in-Err-No-clause-ends : goal.returns-in-Err-No-clause-ends
 returns-in-Err-No-clause-ends g c =
@@ -24,4 +24,4 @@ returns-in-Err-No-clause-ends g c =
     let fails = rw c.in-Err-No.field-0-is at c.in-Err-No.ensures.not_read in
     wider _ Of (the_answer Of No c.no_line.result.bytes
     (inr (record { number = c.in-Err-No.number; fails = fails; line = c.no_line.ensures }))) _ _ _
-    c.put_answer-in-Err-No.ensures.ends
+    c.put_line-in-Err-No.ensures.ends
