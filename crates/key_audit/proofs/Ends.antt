@@ -3,13 +3,15 @@ use Rattle.std.proofs.Common.{ℕ, ◌≡◌, ◌<◌, List, length, sym, subst,
 use Rattle.std.specs.Prelude.{⊤, Result, Ok, Err, IfOk}
 use Rattle.key_names.specs.SeenLine.{SeenLine}
 use Rattle.key_names.specs.Texts.ScriptGrammar.{Script}
-use Rattle.tool_ends.specs.Pairs.{FailsAsText, IsPair}
+use Rattle.tool_ends.specs.Pairs.{IsNoPair, IsPair}
+use Rattle.tool_ends.specs.declared.pair.NoPair.{NoPair}
+use Rattle.tool_ends.specs.declared.pair.NoPair.TheVariants.{Refused as FirstFault, No as Clause, NoMemory as Unread}
 use Rattle.tool_ends.specs.declared.status.Status.{Status}
 use Rattle.tool_ends.specs.declared.status.Status.TheVariants.{Done, No, Usage, ReadFault, WriteFault, Refused, NoMemory}
 use Rattle.tool_ends.proofs.Inputs.{IsLimited}
 use Rattle.tool_ends.proofs.Pairs.{too_long}
 use Rattle.key_audit.specs.declared.ask.Ask.{Ask}
-use Rattle.key_audit.specs.Outcome.{Calls, ToldOf}
+use Rattle.key_audit.specs.Outcome.{Calls, RefusalOf, ToldOf}
 
 -- what is told of a transcript is told of its text
 pub of_pair : (ask : Ask) (input : List ℕ) (script : Script) (t : List (List SeenLine)) → IsPair input script t →
@@ -21,6 +23,15 @@ of_pair ask input script t pair Usage o told = absurd told
 of_pair ask input script t pair ReadFault o told = absurd told
 of_pair ask input script t pair WriteFault o told = absurd told
 of_pair ask input script t pair NoMemory o told = absurd told
+
+-- what is said of an input that is not read is said of its text
+pub of_none : (ask : Ask) (input : List ℕ) (why : NoPair) → IsNoPair input why → (s : Status) (o : List ℕ) →
+    RefusalOf why s o → Calls ask input s o
+of_none ask input (FirstFault fault) is s o said =
+    subst (λ status. Calls ask input status o) (sym said.0) (record { fault = fault; first = is; line = said.1 })
+of_none ask input (Clause number) is s o said =
+    subst (λ status. Calls ask input status o) (sym said.0) (inr (record { number = number; fails = is; line = said.1 }))
+of_none ask input Unread is s o said = absurd said
 
 pub is_limited : (ask : Ask) → IsLimited 100663296 (Calls ask)
 is_limited ask = record {

@@ -112,7 +112,7 @@ line_none word with found is none only (OneLine l) asks =
 
 -- a test that was passed
 pub same_text : (text wanted : List ℕ) (b : Bool) → b ≡ bytes_eq text wanted → b ≡ true → text ≡ wanted
-same_text text wanted b test yes = (bytes_eq-Decides text wanted).0 (sym test ∙ yes)
+same_text text wanted b test passed = (bytes_eq-Decides text wanted).0 (sym test ∙ passed)
 
 -- a list of one word has just that word
 pub one : {A : Type 0} (words : List (String A)) (word : String A) → 1 ≤ length words → length words < 2 →
