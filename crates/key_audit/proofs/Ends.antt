@@ -1,14 +1,18 @@
 -- What is told of a script and a transcript, as what their text calls for.
 use Rattle.std.proofs.Common.{ℕ, ◌≡◌, ◌<◌, List, length, sym, subst, ◌∙◌, inl, inr}
+use Rattle.std.specs.Prelude.{⊤, Result, Ok, Err, IfOk}
+use Rattle.key_names.specs.declared.faults.ScriptFault.{ScriptFault}
 use Rattle.key_names.specs.SeenLine.{SeenLine}
 use Rattle.key_names.specs.Texts.ScriptGrammar.{Script}
-use Rattle.tool_ends.specs.Pairs.{FailsAsText, IsPair}
+use Rattle.tool_ends.specs.Pairs.{IsNoPair, IsPair, no_line, refusal_line}
+use Rattle.tool_ends.specs.declared.pair.NoPair.{NoPair}
+use Rattle.tool_ends.specs.declared.pair.NoPair.TheVariants.{Refused as FirstFault, No as Clause, NoMemory as Unread}
 use Rattle.tool_ends.specs.declared.status.Status.{Status}
 use Rattle.tool_ends.specs.declared.status.Status.TheVariants.{Done, No, Usage, ReadFault, WriteFault, Refused, NoMemory}
 use Rattle.tool_ends.proofs.Inputs.{IsLimited}
 use Rattle.tool_ends.proofs.Pairs.{too_long}
 use Rattle.key_audit.specs.declared.ask.Ask.{Ask}
-use Rattle.key_audit.specs.Outcome.{Calls, ToldOf}
+use Rattle.key_audit.specs.Outcome.{Calls, RefusalOf, ToldOf}
 
 -- what is told of a transcript is told of its text
 pub of_pair : (ask : Ask) (input : List ℕ) (script : Script) (t : List (List SeenLine)) → IsPair input script t →
@@ -21,6 +25,23 @@ of_pair ask input script t pair ReadFault o told = absurd told
 of_pair ask input script t pair WriteFault o told = absurd told
 of_pair ask input script t pair NoMemory o told = absurd told
 
+pub refused_by : (fault : ScriptFault) (line : List ℕ) → line ≡ refusal_line fault → (s : Status) (o : List ℕ) →
+    (s ≡ Refused) × (o ≡ line) → RefusalOf (FirstFault fault) s o
+refused_by fault line is s o said = (said.0, said.1 ∙ is)
+
+pub failed_by : (number : ℕ) (line : List ℕ) → line ≡ no_line number → (s : Status) (o : List ℕ) →
+    (s ≡ No) × (o ≡ line) → RefusalOf (Clause number) s o
+failed_by number line is s o said = (said.0, said.1 ∙ is)
+
+-- what is said of an input that is not read is said of its text
+pub of_none : (ask : Ask) (input : List ℕ) (why : NoPair) → IsNoPair input why → (s : Status) (o : List ℕ) →
+    RefusalOf why s o → Calls ask input s o
+of_none ask input (FirstFault fault) is s o said =
+    subst (λ status. Calls ask input status o) (sym said.0) (record { fault = fault; first = is; line = said.1 })
+of_none ask input (Clause number) is s o said =
+    subst (λ status. Calls ask input status o) (sym said.0) (inr (record { number = number; fails = is; line = said.1 }))
+of_none ask input Unread is s o said = absurd said
+
 pub is_limited : (ask : Ask) → IsLimited 100663296 (Calls ask)
 is_limited ask = record {
   done = λ input output of. of.pair.short;
@@ -31,3 +52,8 @@ is_limited ask = record {
     line = of.line;
   };
 }
+
+-- of some outputs nothing is said
+pub any_ok : {A E : Type 0} (r : Result A E) → IfOk r (λ a. ⊤)
+any_ok (Ok a) = tt
+any_ok (Err e) = tt

@@ -1,27 +1,28 @@
 -- What the words of a command line spell.
-use Rattle.std.proofs.Common.{◌≡◌, ℕ, ◌<◌, ◌≤◌, ◌^◌, ◌+◌, true, List, [], ◌∷◌, ◌++◌, Option, Some, None, append_assoc, sym, ap, ◌∙◌, arith}
-use Rattle.std.specs.Prelude.{codes, decimal}
+use Rattle.std.proofs.Common.{◌≡◌, ℕ, ◌<◌, ◌≤◌, ◌^◌, ◌+◌, true, List, [], ◌∷◌, ◌++◌, Option, Some, None, length, get_or, append_assoc, sym, ap, ◌∙◌, arith}
+use Rattle.std.specs.Prelude.{Bool, String, codes, decimal, map, slice_index_or, string_bytes}
+use Rattle.std.specs.Str.{bytes_eq}
+use Rattle.std.proofs.lemmas.Slice.Eq.{bytes_eq-Decides}
 use Rattle.key_names.specs.Texts.ScriptFaults.{number_below}
 use Rattle.key_names.proofs.Script.Numbers.{number_again, number_takes}
 use Rattle.key_rows.specs.declared.moments.Line.{Line}
-use Rattle.transcript_text.specs.declared.line.Numbers.{Numbers}
 use Rattle.transcript_text.specs.Reading.{lacks}
 use Rattle.transcript_text.proofs.LineTexts.{spells_numbers, uncut_numbers}
-use Rattle.key_audit.specs.Commands.{LineFits}
+use Rattle.key_audit.specs.declared.ask.Ask.{Ask}
+use Rattle.key_audit.specs.declared.ask.Ask.TheVariants.{Keys, Live, Line as OneLine}
+use Rattle.key_audit.specs.Commands.{AskTexts, LineFits}
 use Rattle.key_audit.specs.Texts.{line_text}
 
-numbers : Line → Numbers
-numbers line = record { caller = line.caller; event = line.event }
-
 pub not_cut : (text : List ℕ) → lacks 46 text ≡ true → (line : Line) → LineFits line → text ≡ line_text line → ⊥
-unfolding numbers
-not_cut text lack line fits e = uncut_numbers text lack (numbers line) (record { caller = fits.0; event = fits.1 }) e
+not_cut text lack line fits e =
+    uncut_numbers text lack (record { caller = line.caller; event = line.event })
+    (record { caller = fits.0; event = fits.1 }) e
 
 pub halves_are : (text caller event : List ℕ) → text ≡ caller ++ 46 ∷ event → lacks 46 caller ≡ true → (line : Line) →
     LineFits line → text ≡ line_text line → (caller ≡ decimal line.caller) × (event ≡ decimal line.event)
-unfolding numbers
 halves_are text caller event cut lack line fits e =
-    spells_numbers text caller event cut lack (numbers line) (record { caller = fits.0; event = fits.1 }) e
+    spells_numbers text caller event cut lack (record { caller = line.caller; event = line.event })
+    (record { caller = fits.0; event = fits.1 }) e
 
 -- a number that is not read is not spelt
 pub not_spelt : (text : List ℕ) (n : ℕ) → n < 4294967296 → None ≡ number_below 4294967296 text → text ≡ decimal n → ⊥
@@ -35,3 +36,87 @@ line_read text caller event c n cut first second =
     let a = (number_takes 4294967296 c caller (sym first)).1 in
     let b = (number_takes 4294967296 n event (sym second)).1 in
     cut ∙ (λ i. a i ++ 46 ∷ b i) ∙ sym (append_assoc (decimal c) (codes ".") (decimal n))
+
+same_number : (text : List ℕ) (c n : ℕ) → n < 4294967296 → Some c ≡ number_below 4294967296 text → text ≡ decimal n →
+    c ≡ n
+same_number text c n small read e =
+    let again : number_below 4294967296 text ≡ Some n = rw e (number_again 4294967296 n small (omega arith)) in cc
+
+pub same_line : (text caller event : List ℕ) (c n : ℕ) → text ≡ caller ++ 46 ∷ event → lacks 46 caller ≡ true →
+    Some c ≡ number_below 4294967296 caller → Some n ≡ number_below 4294967296 event → (line : Line) → LineFits line →
+    text ≡ line_text line → (let read : Line = record { caller = c; event = n } in Some read ≡ Some line)
+same_line text caller event c n cut lack first second line fits e =
+    let h = halves_are text caller event cut lack line fits e in
+    let a : c ≡ line.caller = same_number caller c line.caller fits.0 first h.0 in
+    let b : n ≡ line.event = same_number event n line.event fits.1 second h.1 in
+    let made : ℕ → ℕ → Line = λ x y. record { caller = x; event = y } in
+    λ i. Some (made (a i) (b i))
+
+-- ---- two words
+
+keys_are_one : (word with : List ℕ) → word ∷ with ∷ [] ≡ codes "keys" ∷ [] → ⊥
+keys_are_one word with e = let l = ap length e in absurd (omega (arith, l))
+
+second : (a b x y : List ℕ) → a ∷ b ∷ [] ≡ x ∷ y ∷ [] → (a ≡ x) × (b ≡ y)
+second a b x y e = (cc, cc)
+
+not_both : (word : List ℕ) → word ≡ codes "live" → word ≡ codes "line" → ⊥
+not_both word live line =
+    let third = ap (λ (xs : List ℕ). get_or xs 2 0) (sym live ∙ line) in absurd (omega (arith, third))
+
+pub live_only : (word with : List ℕ) (stamp : ℕ) → word ≡ codes "live" →
+    Some stamp ≡ number_below 18446744073709551616 with → (ask : Ask) → AskTexts (word ∷ with ∷ []) ask →
+    Some (Live stamp) ≡ Some ask
+live_only word with stamp is read Keys asks = absurd (keys_are_one word with asks)
+live_only word with stamp is read (Live n) asks =
+    let both = second word with (codes "live") (decimal n) asks.1 in
+    let again : number_below 18446744073709551616 with ≡ Some n =
+    rw both.1 (number_again 18446744073709551616 n asks.0 (omega arith)) in
+    let same : stamp ≡ n = cc in
+    ap (λ (k : ℕ). Some (Live k)) same
+live_only word with stamp is read (OneLine line) asks =
+    absurd (not_both word is (second word with (codes "line") (line_text line) asks.1).0)
+
+pub live_none : (word with : List ℕ) → word ≡ codes "live" → None ≡ number_below 18446744073709551616 with →
+    (ask : Ask) → AskTexts (word ∷ with ∷ []) ask → ⊥
+live_none word with is none Keys asks = keys_are_one word with asks
+live_none word with is none (Live n) asks =
+    let both = second word with (codes "live") (decimal n) asks.1 in
+    let again : number_below 18446744073709551616 with ≡ Some n =
+    rw both.1 (number_again 18446744073709551616 n asks.0 (omega arith)) in
+    absurd cc
+live_none word with is none (OneLine line) asks =
+    not_both word is (second word with (codes "line") (line_text line) asks.1).0
+
+pub line_only : (word with : List ℕ) (found : Option Line) (line : Line) → word ≡ codes "line" → found ≡ Some line →
+    ((l : Line) → LineFits l → with ≡ line_text l → found ≡ Some l) → (ask : Ask) → AskTexts (word ∷ with ∷ []) ask →
+    Some (OneLine line) ≡ Some ask
+line_only word with found line is read only Keys asks = absurd (keys_are_one word with asks)
+line_only word with found line is read only (Live n) asks =
+    absurd (not_both word (second word with (codes "live") (decimal n) asks.1).0 is)
+line_only word with found line is read only (OneLine l) asks =
+    let both = second word with (codes "line") (line_text l) asks.1 in
+    let again : found ≡ Some l = only l asks.0 both.1 in
+    let same : line ≡ l = cc in
+    ap (λ (k : Line). Some (OneLine k)) same
+
+pub line_none : (word with : List ℕ) (found : Option Line) → word ≡ codes "line" → found ≡ None →
+    ((l : Line) → LineFits l → with ≡ line_text l → found ≡ Some l) → (ask : Ask) → AskTexts (word ∷ with ∷ []) ask → ⊥
+line_none word with found is none only Keys asks = keys_are_one word with asks
+line_none word with found is none only (Live n) asks =
+    not_both word (second word with (codes "live") (decimal n) asks.1).0 is
+line_none word with found is none only (OneLine l) asks =
+    let both = second word with (codes "line") (line_text l) asks.1 in
+    let again : found ≡ Some l = only l asks.0 both.1 in
+    absurd cc
+
+-- a test that was passed
+pub same_text : (text wanted : List ℕ) (b : Bool) → b ≡ bytes_eq text wanted → b ≡ true → text ≡ wanted
+same_text text wanted b test passed = (bytes_eq-Decides text wanted).0 (sym test ∙ passed)
+
+-- a list of one word has just that word
+pub one : {A : Type 0} (words : List (String A)) (word : String A) → 1 ≤ length words → length words < 2 →
+    word ≡ slice_index_or words 0 word → map string_bytes words ≡ string_bytes word ∷ []
+one [] word some few is = absurd (omega arith)
+one (w ∷ []) word some few is = ap (λ v. string_bytes v ∷ []) (sym is)
+one (w ∷ v ∷ words) word some few is = absurd (omega arith)

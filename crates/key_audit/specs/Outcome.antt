@@ -13,6 +13,8 @@ use Rattle.key_rows.specs.Rows.{IsRow, all_pieces, birth_of}
 use Rattle.key_rows.specs.Told.{book_tells, tells_of}
 use Rattle.tool_ends.specs.Pairs.{FailsAsText, IsPair, no_line, pair_fault, refusal_line}
 use Rattle.tool_ends.specs.Reads.{ReadsEnds}
+use Rattle.tool_ends.specs.declared.pair.NoPair.{NoPair}
+use Rattle.tool_ends.specs.declared.pair.NoPair.TheVariants.{Refused as FirstFault, No as Clause, NoMemory as Unread}
 use Rattle.tool_ends.specs.declared.status.Status.{Status}
 use Rattle.tool_ends.specs.declared.status.Status.TheVariants.{Done, No, Usage, ReadFault, WriteFault, Refused, NoMemory}
 use Rattle.key_audit.specs.declared.ask.Ask.{Ask}
@@ -82,6 +84,12 @@ pub record OfFault (input output : List ℕ) : Type 0 where
   pub fault : ScriptFault
   pub first : pair_fault input ≡ Some fault
   pub line : output ≡ refusal_line fault
+
+-- what says why an input is not read
+abbrev pub RefusalOf : NoPair → Status → List ℕ → Type 0
+RefusalOf (FirstFault fault) status output = (status ≡ Refused) × (output ≡ refusal_line fault)
+RefusalOf (Clause number) status output = (status ≡ No) × (output ≡ no_line number)
+RefusalOf Unread status output = ⊥
 
 -- the output that an input calls for, and the status that says so
 abbrev pub Calls : Ask → List ℕ → Status → List ℕ → Type 0

@@ -1,6 +1,7 @@
 //! What the words of a command line ask for.
 ghost use Rattle.std.specs.Prelude.{◌≡◌, ◌∷◌, ◌++◌, [], true, Some, IfSome, MatchOption};
-ghost use Rattle.transcript_text.specs.Reading.{lacks, Reads};
+ghost use Rattle.key_rows.specs.declared.moments.Line.{Line as LineName};
+ghost use Rattle.transcript_text.specs.Reading.{lacks};
 ghost use Rattle.key_audit.specs.Commands.{AskTexts, Asks, LineFits};
 ghost use Rattle.key_audit.specs.Texts.{line_text};
 
@@ -10,6 +11,9 @@ use memchr::memchr;
 
 /// The forms of the command line, as the line that answers any other words has them.
 pub(crate) const USAGE: &str = "usage: key_audit keys | key_audit live T | key_audit line C.E";
+
+/// The most that a caller or an event is counted.
+const MOST_NUMBER: u64 = 4_294_967_295;
 
 /// What is asked of a script and a transcript.
 #[derive(Clone, Copy, Debug, PartialEq, Eq)]
@@ -35,15 +39,16 @@ fn halves(text: &[u8]) -> Option<(&[u8], &[u8])>
 
 /// The line that a text names, as `0.4`.
 fn line_of(text: &[u8]) -> Option<Line>
-    ensures { Reads line_text LineFits text.now result }
+    ensures found { IfSome result (λ line. LineFits line × (text.now ≡ line_text line)) }
+    ensures only { (line : LineName) → LineFits line → text.now ≡ line_text line → result ≡ Some line }
 {
     let Some((caller, event)) = halves(text) else {
         return None;
     };
-    let Some(caller) = number_up_to(u64::from(u32::MAX), caller) else {
+    let Some(caller) = number_up_to(MOST_NUMBER, caller) else {
         return None;
     };
-    let Some(event) = number_up_to(u64::from(u32::MAX), event) else {
+    let Some(event) = number_up_to(MOST_NUMBER, event) else {
         return None;
     };
     Some(Line {

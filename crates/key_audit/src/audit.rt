@@ -4,7 +4,7 @@ ghost use Rattle.io_edges.specs.Faults.{Rose};
 ghost use Rattle.key_names.specs.Texts.ScriptGrammar.{WellFormed};
 ghost use Rattle.tool_ends.specs.Reads.{WritesEnds};
 ghost use Rattle.key_audit.specs.Commands.{Asks, IsNoForm};
-ghost use Rattle.key_audit.specs.Outcome.{AuditEnds, Calls, ToldOf};
+ghost use Rattle.key_audit.specs.Outcome.{AuditEnds, Calls, RefusalOf, ToldOf};
 
 use crate::answer::answer_text;
 use crate::ask::{Ask, ask_of};
@@ -13,7 +13,7 @@ use io_edges::{ReadError, Sink, Source, read_to_limit};
 use std::alloc::Global;
 use tool_ends::pair::{MOST_INPUT, NoPair, read_pair};
 use tool_ends::short_lines::{no_line, refusal_line};
-use tool_ends::{Status, end_output, put_answer};
+use tool_ends::{Status, end_output, put_answer, put_line};
 use transcript_check::check::{Verdict, check};
 use transcript_text::Transcript;
 
@@ -30,11 +30,22 @@ fn tell<K: Sink>(alloc: Global, ask: Ask, script: &Script, t: &Transcript, sink:
             Ok(text) => put_answer(Status::Done, &text, sink),
             Err(_) => Status::NoMemory,
         },
-        Ok(Verdict::No(number)) => {
-            let line = no_line(number);
-            put_answer(Status::No, line.as_str().as_bytes(), sink)
-        }
+        Ok(Verdict::No(number)) => put_line(Status::No, &no_line(number), sink),
         Err(_) => Status::NoMemory,
+    }
+}
+
+// Answers an input that is no script with a transcript behind it.
+fn refuse<K: Sink>(why: NoPair, sink: &mut K) -> Status
+    ensures ends { WritesEnds (RefusalOf why) result (K.held sink.old) (K.held sink.new) }
+    ensures cut { result ≡ Status.WriteFault → Rose (K.faults sink.old) (K.faults sink.new) }
+    ensures silent { result ≡ Status.NoMemory → sink.new ≡ sink.old }
+    ensures never_falls { K.faults sink.old ≤ K.faults sink.new }
+{
+    match why {
+        NoPair::Refused(fault) => put_line(Status::Refused, &refusal_line(fault), sink),
+        NoPair::No(number) => put_line(Status::No, &no_line(number), sink),
+        NoPair::NoMemory => Status::NoMemory,
     }
 }
 
@@ -47,15 +58,7 @@ fn answer<K: Sink>(alloc: Global, ask: Ask, input: &[u8], sink: &mut K) -> Statu
 {
     match read_pair(alloc, input) {
         Ok((script, t)) => tell(alloc, ask, &script, &t, sink),
-        Err(NoPair::Refused(fault)) => {
-            let line = refusal_line(fault);
-            put_answer(Status::Refused, line.as_str().as_bytes(), sink)
-        }
-        Err(NoPair::No(number)) => {
-            let line = no_line(number);
-            put_answer(Status::No, line.as_str().as_bytes(), sink)
-        }
-        Err(NoPair::NoMemory) => Status::NoMemory,
+        Err(why) => refuse(why, sink),
     }
 }
 

@@ -4,6 +4,7 @@ ghost use Rattle.io_edges.specs.Faults.{Rose};
 ghost use Rattle.tool_ends.specs.Ends.{IsAnswered};
 ghost use Rattle.tool_ends.specs.Reads.{WritesEnds};
 
+use crate::short_lines::ShortLine;
 use crate::status::Status;
 use io_edges::{Failed, Sink, put_all};
 
@@ -20,4 +21,16 @@ pub fn put_answer<K: Sink>(status: Status, text: &[u8], sink: &mut K) -> Status
         Ok(()) => status,
         Err(Failed) => Status::WriteFault,
     }
+}
+
+/// Writes a short line that answers with this status.
+pub fn put_line<K: Sink>(status: Status, line: &ShortLine, sink: &mut K) -> Status
+    requires { IsAnswered status }
+    ensures ends { WritesEnds (λ is output. (is ≡ status) × (output ≡ line.now.bytes)) result
+        (K.held sink.old) (K.held sink.new) }
+    ensures cut { result ≡ Status.WriteFault → Rose (K.faults sink.old) (K.faults sink.new) }
+    ensures silent { result ≡ Status.NoMemory → sink.new ≡ sink.old }
+    ensures never_falls { K.faults sink.old ≤ K.faults sink.new }
+{
+    put_answer(status, line.as_str().as_bytes(), sink)
 }

@@ -1,7 +1,7 @@
 //! How a program of this repository ends: its statuses, what it has read and written at each, and the short lines that
 //! answer an input of which no more is said.
 //!
-//! [`pair::read_pair`] reads a script with a transcript behind it, or says why there is none. [`put_answer`] and
+//! [`pair::read_pair`] reads a script with a transcript behind it, or says why there is none. [`put_answer`], [`put_line`] and
 //! [`end_output`] write an answer and hand it on. `specs/Reads` says what a status promises of a source and a sink.
 //!
 //! It stands on `io_edges` for sources and sinks, and on `event_script` and `transcript_text` for what an input is.
@@ -14,6 +14,6 @@ pub mod pair;
 pub mod short_lines;
 mod status;
 
-pub use answers::put_answer;
+pub use answers::{put_answer, put_line};
 pub use ending::end_output;
 pub use status::Status;

@@ -1,21 +1,21 @@
+use Rattle.std.proofs.Common.{subst, sym}
 use Rattle.tool_ends.specs.declared.status.Status.TheVariants.{Done, No}
 use Rattle.tool_ends.proofs.Inputs.{the_answer, wider}
-use Rattle.key_audit.specs.Outcome.{ToldOf}
+use Rattle.key_audit.specs.Outcome.{Tells, ToldOf}
 use Rattle.key_audit.proofs.audit.tell.Goals as goal
 
-pub returns-in-Ok-Yes-clause-ends : goal.returns-in-Ok-Yes-clause-ends
-returns-in-Ok-Yes-clause-ends g c =
+pub returns-in-Ok-clause-ends : goal.returns-in-Ok-clause-ends
+returns-in-Ok-clause-ends g c =
     let sound = rw c.in-Ok-Yes.field-0-is at c.in-Ok-Yes.ensures.judged in
     let Of = ToldOf c.args.ask c.args.script.now c.args.t.now in
-    wider _ Of (the_answer Of Done c.in-Ok-text.text.items (record {
+    wider _ Of (the_answer Of Done c.deref.result.now (record {
       sound = sound;
-      tells = c.in-Ok-text.ensures sound;
+      tells = subst (Tells c.args.ask sound.book) (sym c.deref.ensures.value) (c.in-Ok.ensures sound);
     })) _ _ _ c.put_answer.ensures.ends
 
 pub returns-in-Ok-No-clause-ends : goal.returns-in-Ok-No-clause-ends
 returns-in-Ok-No-clause-ends g c =
     let fails = rw c.in-Ok-No.field-0-is at c.in-Ok-No.ensures.judged in
     let Of = ToldOf c.args.ask c.args.script.now c.args.t.now in
-    wider _ Of (the_answer Of No c.line.result.bytes
-    (record { number = c.in-Ok-No.number; fails = fails; line = c.no_line.ensures })) _ _ _
-    c.put_answer-in-Ok-No.ensures.ends
+    wider _ Of (the_answer Of No c.no_line.result.bytes
+    (record { number = c.in-Ok-No.number; fails = fails; line = c.no_line.ensures })) _ _ _ c.put_line.ensures.ends

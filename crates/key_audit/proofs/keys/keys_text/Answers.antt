@@ -1,3 +1,5 @@
+use Rattle.std.proofs.Common.{◌∙◌, ◌++◌}
+use Rattle.key_audit.specs.Texts.{rows_text}
 use Rattle.key_audit.proofs.keys.keys_text.Goals as goal
 
 pub returns : goal.returns
@@ -5,5 +7,6 @@ returns c t of keeps = record {
   moments = c.in_ok-moments.moments;
   rows = c.in_ok-rows.rows.items;
   are = c.in_ok-rows.ensures t of keeps;
-  text = c.in_ok-rows-2.ensures;
+  text = c.in_ok-rows-2.ensures
+      ∙ (λ i. c.new-text.ensures i ++ rows_text c.in_ok-moments.moments (c.deref.ensures.value i));
 }

@@ -1,15 +1,17 @@
-use Rattle.std.proofs.Common.{◌∙◌}
+use Rattle.std.proofs.Common.{◌∙◌, ap}
 use Rattle.std.proofs.lemmas.List.Sorted.{All-permutation, IsPermutation-map}
 use Rattle.key_names.specs.Book.{lists_of}
 use Rattle.key_rows.specs.Rows.{IsRow, all_pieces, birth_of}
+use Rattle.state_entries.specs.Entries.{all_lists_in}
 use Rattle.key_audit.proofs.KeptEntries.{has_entries}
 use Rattle.key_audit.proofs.keys.rows_of.Goals as goal
 
 pub returns : goal.returns
 returns c t of keeps = record {
   told = c.in_ok-told.told;
-  tells = c.in_ok-told.ensures (lists_of of)
-      (has_entries c.args.book.now.lanes (lists_of of) _ keeps.lanes (c.in_ok-entries.ensures ∙ keeps.states));
+  tells = c.in_ok-told.ensures (lists_of of) (rw c.deref-2.ensures.value
+      (has_entries c.args.book.now.lanes (lists_of of) c.in_ok-entries.entries.items keeps.lanes
+      (c.in_ok-entries.ensures ∙ ap all_lists_in c.deref.ensures.value ∙ keeps.states)));
   each = rw (← c.in_ok-rows.ensures.births)
       (IsPermutation-map birth_of c.in_ok-rows.rows.items c.sort_rows.new.rows.items c.sort_rows.ensures);
   say = All-permutation (IsRow (all_pieces c.in_ok-told.told) c.in_ok-told.told.lives.endings.items) _ _ c.sort_rows.ensures c.in_ok-rows.ensures.rows;
