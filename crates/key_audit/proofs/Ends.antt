@@ -45,7 +45,7 @@ of_none ask input Unread is s o said = absurd said
 pub is_limited : (ask : Ask) → IsLimited 100663296 (Calls ask)
 is_limited ask = record {
   done = λ input output of. of.pair.short;
-  no = λ input output of. elim of [ | inl pair ↦ pair.pair.short | inr text ↦ text.fails.short ];
+  no = λ input output of. elim of [ inl pair ↦ pair.pair.short | inr text ↦ text.fails.short ];
   refused = λ input all output long too of. record {
     fault = of.fault;
     first = too_long all too ∙ sym (too_long input long) ∙ of.first;

@@ -63,12 +63,7 @@ fn answer<K: Sink>(alloc: Global, ask: Ask, input: &[u8], sink: &mut K) -> Statu
 }
 
 // Tells what is asked of the script and the transcript that the source gives.
-fn audit_input<S: Source, K: Sink>(
-    alloc: Global,
-    ask: Ask,
-    source: &mut S,
-    sink: &mut K,
-) -> Status
+fn audit_input<S: Source, K: Sink>(alloc: Global, ask: Ask, source: &mut S, sink: &mut K) -> Status
     ensures ends { AuditEnds ask result (S.left source.old) (S.left source.new) (K.held sink.old) (K.held sink.new) }
     ensures silent { (result ≡ Status.ReadFault) ⊎ (result ≡ Status.NoMemory) → sink.new ≡ sink.old }
     ensures read_fault { result ≡ Status.ReadFault → Rose (S.faults source.old) (S.faults source.new) }

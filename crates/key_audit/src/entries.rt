@@ -18,10 +18,7 @@ fn list_entries(alloc: Global, list: &[StateEntry]) -> Result<Vec<VEntry>, Alloc
     Ok(entries)
 }
 
-fn caller_entries(
-    alloc: Global,
-    lists: &[Vec<StateEntry>],
-) -> Result<Vec<Vec<VEntry>>, AllocError>
+fn caller_entries(alloc: Global, lists: &[Vec<StateEntry>]) -> Result<Vec<Vec<VEntry>>, AllocError>
     ensures { IfOk result (λ entries. map (λ es. es.items) entries.items ≡ lists_in lists.now) }
 {
     let mut entries = Vec::with_capacity(alloc, lists.len())?;

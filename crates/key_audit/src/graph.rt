@@ -60,9 +60,14 @@ impl<'a> Graph<'a> {
     /// The number of the row of a key.
     pub(crate) fn find(&self, key: KeyName) -> Option<usize> {
         let rank = rank(key);
-        let first = self.by_name.partition_point(|number| rank_at(self.rows, *number) < rank);
+        let first = self
+            .by_name
+            .partition_point(|number| rank_at(self.rows, *number) < rank);
         let number = *self.by_name.get(first)?;
-        self.rows.get(number).filter(|row| row.key == key).map(|_| number)
+        self.rows
+            .get(number)
+            .filter(|row| row.key == key)
+            .map(|_| number)
     }
 
     // Marks the keys that the bytes of a row became.

@@ -24,7 +24,10 @@ fn is_sample(script: &Script, moment: &Moment) -> bool {
     if moment.line.caller >= script.callers() {
         return false;
     }
-    match script.events(moment.line.caller).get(moment.line.event as usize) {
+    match script
+        .events(moment.line.caller)
+        .get(moment.line.event as usize)
+    {
         Some(Event::Bits) | None => false,
         Some(_) => true,
     }
@@ -49,12 +52,19 @@ fn put_extraction(
     moments: &Moments,
     place: u64,
 ) -> Result<(), AllocError> {
-    let bits = book.lanes.pool.get(place as usize).map_or(0, |kept| kept.before);
+    let bits = book
+        .lanes
+        .pool
+        .get(place as usize)
+        .map_or(0, |kept| kept.before);
     text.word("extraction ")?;
     text.name(KeyName::Root(place))?;
     text.word(" ")?;
     text.entry(moments, Origin::Lane(LaneId::Pool, place))?;
-    text.number(" samples ", samples_before(script, book, moments, place as usize))?;
+    text.number(
+        " samples ",
+        samples_before(script, book, moments, place as usize),
+    )?;
     text.number(" bits ", u64::from(bits))?;
     text.word("\n")
 }

@@ -156,7 +156,10 @@ fn put_held(
     held: &Held,
 ) -> Result<(), AllocError> {
     for one in &held.keys {
-        if let Some(row) = graph.find(one.key).and_then(|number| graph.rows().get(number)) {
+        if let Some(row) = graph
+            .find(one.key)
+            .and_then(|number| graph.rows().get(number))
+        {
             put_key(text, "held ", moments, row)?;
         }
     }

@@ -22,8 +22,8 @@ mod text;
 use crate::ask::USAGE;
 use crate::audit::audit;
 use io_edges::{StdSink, StdSource};
-use std::io::{self, BufWriter};
 use std::env;
+use std::io::{self, BufWriter};
 use std::process::ExitCode;
 use tool_ends::Status;
 
@@ -63,7 +63,9 @@ fn tell<R: Eprint>(rt: &R, status: Status) {
         Status::ReadFault => eprintln!(rt; "key_audit: standard input could not be read"),
         Status::WriteFault => eprintln!(rt; "key_audit: standard output could not be written"),
         Status::NoMemory => eprintln!(rt; "key_audit: there is not enough memory"),
-        Status::Refused => eprintln!(rt; "key_audit: the script has a fault, which standard output names"),
+        Status::Refused => eprintln!(rt;
+            "key_audit: the script has a fault, which standard output names"
+        ),
     };
 }
 

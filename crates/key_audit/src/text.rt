@@ -24,9 +24,16 @@ pub(crate) fn moment_at(moments: &Moments, at: Origin) -> Moment
         Origin::Lane(LaneId::Pool, place) => moments.pool.get(place as usize),
         Origin::Lane(LaneId::Base, place) => moments.base.get(place as usize),
         Origin::Lane(LaneId::Cpu(cpu), place) => {
-            moments.cpus.get(cpu as usize).and_then(|lane| lane.get(place as usize))
+            moments
+                .cpus
+                .get(cpu as usize)
+                .and_then(|lane| lane.get(place as usize))
         }
-        Origin::State { caller, state, place } => moments
+        Origin::State {
+            caller,
+            state,
+            place,
+        } => moments
             .callers
             .get(caller as usize)
             .and_then(|states| states.get(state as usize))
@@ -136,7 +143,11 @@ impl Text {
                 self.number("c", u64::from(cpu))?;
                 self.number(":", place)
             }
-            Origin::State { caller, state, place } => {
+            Origin::State {
+                caller,
+                state,
+                place,
+            } => {
                 self.number("v", u64::from(caller))?;
                 self.number(".", u64::from(state))?;
                 self.number(":", place)

@@ -50,8 +50,12 @@ pub too_many : (script : Script) (text : List ℕ) → WellFormed script → Has
 too_many script text ok many = record {
   lines = many.lines;
   is_text = many.is_text;
-  fails = λ has. absurd (omega (arith, many.many, few_lines script many.lines ok has,
-      length-flat_map (λ ls. ls) many.lines));
+  fails = λ has. absurd (omega (
+    arith,
+    many.many,
+    few_lines script many.lines ok has,
+    length-flat_map (λ ls. ls) many.lines,
+  ));
 }
 
 -- an input that is too long has its first fault at line 0
