@@ -15,8 +15,6 @@ mod keys;
 mod line;
 mod live;
 mod moments;
-#[cfg(test)]
-mod tests;
 mod text;
 
 use crate::ask::USAGE;
