@@ -5,8 +5,8 @@
 //! definitions of `key_names` and of `specs/`: [`lives`] has where keys begin and end and which rests of batches are
 //! given up, and [`held`] the keys and the rests that are held behind the last entries. A [law](laws) says that what is
 //! told as held is what is live. [`cut`] has the lists up to a stamp, and [`rows`] puts a row together for each key.
-//! [`moments`] has when each entry was left and on which line, and [`text`] the line of a row; no clause speaks of these
-//! two. The crate stands on what `list_replay` keeps of the lanes' lists and on the uses that `key_uses` gives.
+//! [`moments`] has when each entry was left and on which line, of which no clause speaks. The crate stands on what
+//! `list_replay` keeps of the lanes' lists and on the uses that `key_uses` gives.
 #![tactic(auto)]
 
 pub mod batches;
@@ -16,5 +16,4 @@ pub mod laws;
 pub mod lives;
 pub mod moments;
 pub mod rows;
-pub mod text;
 pub mod told;
