@@ -76,7 +76,7 @@ fn draws_between(rt: HostRuntime) -> Result<(), Fail> {
     Ok(())
 }
 
-// The words of row 1, of which none is rejected.
+// The words of the second row of the table, of which none is rejected.
 #[test]
 fn a_shuffle(rt: HostRuntime) -> Result<(), Fail> {
     let alloc = rt.alloc();
