@@ -2,10 +2,10 @@
 use Rattle.std.specs.Prelude.{ℕ, ◌≡◌, ◌⊎◌, ◌==◌, ◌&&◌, not, Bool, true, false, List, [], ◌∷◌, MatchBool}
 use Rattle.key_names.specs.Flags.{is_bad, is_nonblock, is_insecure}
 use Rattle.key_names.specs.declared.events.Event.{Event}
-use Rattle.key_names.specs.declared.events.Event.TheVariants.{At, On, Hw, Device, Write, Add, Credit, Bits, Irq, Input}
+use Rattle.key_names.specs.declared.events.Event.TheVariants.{Device, Write, Add, Credit, Bits, Irq, Input}
 use Rattle.key_names.specs.declared.events.Event.TheVariants.{Read, Vread, Kread, Dread, Uread, Int8, Int16, Int32}
-use Rattle.key_names.specs.declared.events.Event.TheVariants.{Int64, Reseed, Tick, Drop, Fork, Inside, Prepare, Online}
-use Rattle.key_names.specs.declared.events.Event.TheVariants.{Vmfork, State}
+use Rattle.key_names.specs.declared.events.Event.TheVariants.{Int64, Reseed, Tick, Fork, Inside, Prepare, Online}
+use Rattle.key_names.specs.declared.events.Event.TheVariants.{Vmfork}
 use Rattle.key_names.specs.declared.events.InsideAct.{InsideAct}
 use Rattle.key_names.specs.declared.events.InsideAct.TheVariants.{Wipe as WipeAct, Vread as VreadAct}
 use Rattle.key_names.specs.declared.events.InsideAct.TheVariants.{Reseed as ReseedAct}
@@ -98,13 +98,9 @@ IsVmfork kinds = (kinds ≡ Pool ∷ Unready ∷ []) ⊎ (kinds ≡ Pool ∷ Rea
 abbrev pub IsEnd : List Kind → Type 0
 IsEnd kinds = kinds ≡ Base ∷ []
 
--- the rows of an event by itself, crossed being what the line's first visit of the pool crossed
+-- the rows of an event by itself, crossed being what the line's first visit of the pool crossed; a vread and the acts
+-- inside it have forms of their own, and what asks nothing of the core has no steps
 abbrev pub IsRow : Event → Crossed → List Kind → Type 0
-IsRow (At moment) crossed kinds = kinds ≡ []
-IsRow (On cpu) crossed kinds = kinds ≡ []
-IsRow (Hw bytes) crossed kinds = kinds ≡ []
-IsRow Drop crossed kinds = kinds ≡ []
-IsRow (State number) crossed kinds = kinds ≡ []
 IsRow (Write text) crossed kinds = kinds ≡ Pool ∷ []
 IsRow (Device word text) crossed kinds = kinds ≡ Pool ∷ []
 IsRow Bits crossed kinds = kinds ≡ Pool ∷ []
@@ -128,6 +124,7 @@ IsRow (Vmfork word text) crossed kinds = IsVmfork kinds
 IsRow (Irq v1 v2) crossed kinds = IsInterrupt crossed kinds
 IsRow (Vread len flags) crossed kinds = ⊥
 IsRow (Inside point act) crossed kinds = ⊥
+IsRow _ crossed kinds = kinds ≡ []
 
 -- the rows of an act inside a vread
 abbrev pub IsActRow : InsideAct → List Kind → Type 0

@@ -80,11 +80,6 @@ pub data Telling : Type 0 where
 
 -- what kind of line an event has
 abbrev pub telling : Setting → Event → Telling
-telling set (At moment) = silent
-telling set (On cpu) = silent
-telling set (Hw bytes) = silent
-telling set Drop = silent
-telling set (State number) = silent
 telling set (Write text) = mixes (Mix text 0)
 telling set (Device word text) = mixes (device_entry word text)
 telling set Bits = mixes ReadBits
@@ -106,8 +101,7 @@ telling set (Prepare cpu) = prepares Prepared
 telling set (Online cpu) = prepares Onlined
 telling set (Vmfork word text) = vmforks (device_entry word text)
 telling set (Irq v1 v2) = samples v1 v2
-telling set (Vread len flags) = silent
-telling set (Inside point act) = silent
+telling set _ = silent
 
 -- the root that a visit of the pool in front extracted
 abbrev pub root_before : Sign → Option ℕ

@@ -185,11 +185,6 @@ pub fn is_row(event: &Event, crossed: Crossing, kinds: &[Kind]) -> bool
     ensures { IsTrue result ↔ IsRow event.now crossed kinds.now }
 {
     match event {
-        Event::At { .. }
-        | Event::On { .. }
-        | Event::Hw { .. }
-        | Event::Drop
-        | Event::State { .. } => kinds.is_empty(),
         Event::Write { .. } | Event::Device { .. } | Event::Bits => matches!(kinds, [Kind::Pool]),
         Event::Add { .. } | Event::Credit { .. } | Event::Input { .. } => is_credit(crossed, kinds),
         Event::Kread { len } | Event::Uread { len } => is_plain_read(*len, kinds),
@@ -204,6 +199,7 @@ pub fn is_row(event: &Event, crossed: Crossing, kinds: &[Kind]) -> bool
         Event::Vmfork { .. } => is_vmfork(kinds),
         Event::Irq { .. } => is_interrupt(crossed, kinds),
         Event::Vread { .. } | Event::Inside { .. } => false,
+        _ => kinds.is_empty(),
     }
 }
 
