@@ -1,19 +1,18 @@
 -- A field in which no word of its own length is spelt is no word.
-use Rattle.std.proofs.Common.{◌≡◌, ℕ, ◌<◌, ◌≤◌, ◌==◌, leb, true, false, inl, inr, None, Some, Option, List, [], ◌∷◌, length, refl, sym, ap, ◌∙◌, arith}
-use Rattle.std.specs.List.{AllByRecursion, filter, find, list_all}
-use Rattle.std.specs.Prelude.{codes}
+use Rattle.std.proofs.Common.{◌≡◌, ℕ, ◌≤◌, ◌==◌, leb, Bool, true, false, inl, inr, None, Some, Option, List, [], ◌∷◌, length, refl, sym, ap, ◌∙◌, arith}
+use Rattle.std.specs.List.{AllByRecursion, find, list_all}
+use Rattle.std.specs.Prelude.{◌&&◌, codes}
 use Rattle.std.specs.Str.{bytes_eq}
 use Rattle.std.proofs.lemmas.Bool.{and_parts, cases_Bool, eq-eqb, false_from_ne_true, leb-true}
 use Rattle.std.proofs.lemmas.Slice.Eq.{bytes_eq-Decides}
 use Rattle.key_names.specs.declared.events.Word.{Word}
+use Rattle.key_names.specs.declared.events.Word.TheVariants.{End}
 use Rattle.key_names.specs.Texts.Spelling.{word_text}
 use Rattle.key_names.specs.Texts.ScriptFaults.{all_words, said_by, said_by_word, word_of}
+use Rattle.event_script.specs.WordLengths.{of_length, Misspelt, IsAmong}
 
 abbrev spelt_in : List ℕ → List Word → Option Word
 spelt_in field ws = find (λ w. bytes_eq (word_text w) field) ws
-
-abbrev pub of_length : ℕ → List Word → List Word
-of_length n ws = filter (λ w. length (word_text w) == n) ws
 
 other_length : (field : List ℕ) (w : Word) → (length (word_text w) == length field) ≡ false
     → bytes_eq (word_text w) field ≡ false
@@ -32,10 +31,6 @@ by_length field (w ∷ ws) =
 word_of_length : (n : ℕ) (field : List ℕ) → length field ≡ n → word_of field ≡ spelt_in field (of_length n all_words)
 word_of_length n field is = rw (← is) (sym (by_length field all_words))
 
--- the word is not what the field spells
-abbrev pub Misspelt : List ℕ → Word → Type 0
-Misspelt field w = bytes_eq (word_text w) field ≡ false
-
 none_of : (field : List ℕ) (ws : List Word) → AllByRecursion (Misspelt field) ws → spelt_in field ws ≡ None
 none_of field [] none = refl
 none_of field (w ∷ ws) none = rw none.0 (none_of field ws none.1)
@@ -44,46 +39,35 @@ no_word : (n : ℕ) (field : List ℕ) → length field ≡ n → AllByRecursion
     → None ≡ word_of field
 no_word n field is none = sym (word_of_length n field is ∙ none_of field (of_length n all_words) none)
 
-pub no_word_of_2 : (field : List ℕ) → 2 ≤ length field → length field < 3
-    → AllByRecursion (Misspelt field) (of_length 2 all_words) → None ≡ word_of field
-no_word_of_2 field least most none = no_word 2 field (omega arith) none
+again : (w : Word) → word_of (word_text w) ≡ Some w
+again End = refl
+again _ = refl
 
-pub no_word_of_3 : (field : List ℕ) → 3 ≤ length field → length field < 4
-    → AllByRecursion (Misspelt field) (of_length 3 all_words) → None ≡ word_of field
-no_word_of_3 field least most none = no_word 3 field (omega arith) none
+-- the word of its own length that a field is, is the word that it is
+pub among : (n : ℕ) (field : List ℕ) (found : Option Word) → length field ≡ n → IsAmong n field found →
+    found ≡ word_of field
+among n field None is none = no_word n field is none
+among n field (Some word) is spelt = rw spelt (sym (again word))
 
-pub no_word_of_4 : (field : List ℕ) → 4 ≤ length field → length field < 5
-    → AllByRecursion (Misspelt field) (of_length 4 all_words) → None ≡ word_of field
-no_word_of_4 field least most none = no_word 4 field (omega arith) none
+-- each word has from 2 to 7 bytes
+abbrev in_length : Word → Bool
+in_length w = leb 2 (length (word_text w)) && leb (length (word_text w)) 7
 
-pub no_word_of_5 : (field : List ℕ) → 5 ≤ length field → length field < 6
-    → AllByRecursion (Misspelt field) (of_length 5 all_words) → None ≡ word_of field
-no_word_of_5 field least most none = no_word 5 field (omega arith) none
-
-pub no_word_of_6 : (field : List ℕ) → 6 ≤ length field → length field < 7
-    → AllByRecursion (Misspelt field) (of_length 6 all_words) → None ≡ word_of field
-no_word_of_6 field least most none = no_word 6 field (omega arith) none
-
-pub no_word_of_7 : (field : List ℕ) → 7 ≤ length field → length field < 8
-    → AllByRecursion (Misspelt field) (of_length 7 all_words) → None ≡ word_of field
-no_word_of_7 field least most none = no_word 7 field (omega arith) none
-
--- the words are shorter
-none_longer : (field : List ℕ) (ws : List Word) → 8 ≤ length field
-    → list_all (λ w. leb (length (word_text w)) 7) ws ≡ true → spelt_in field ws ≡ None
-none_longer field [] long short = refl
-none_longer field (w ∷ ws) long short =
-    let both = and_parts (leb (length (word_text w)) 7) (list_all (λ v. leb (length (word_text v)) 7) ws) short in
+none_outside : (field : List ℕ) (ws : List Word) → (2 ≤ length field → 8 ≤ length field)
+    → list_all in_length ws ≡ true → spelt_in field ws ≡ None
+none_outside field [] outside all = refl
+none_outside field (w ∷ ws) outside all =
+    let both = and_parts (in_length w) (list_all in_length ws) all in
+    let len = and_parts (leb 2 (length (word_text w))) (leb (length (word_text w)) 7) both.0 in
     let other : Misspelt field w = false_from_ne_true _ (λ same.
     let is = ap length ((bytes_eq-Decides (word_text w) field).0 same) in
-    let most = leb-true (length (word_text w)) 7 both.0 in omega arith) in
-    rw other (none_longer field ws long both.1)
+    let least = leb-true 2 (length (word_text w)) len.0 in
+    let most = leb-true (length (word_text w)) 7 len.1 in
+    let long = outside (omega arith) in omega arith) in
+    rw other (none_outside field ws outside both.1)
 
-pub no_longer_word : (field : List ℕ) → 8 ≤ length field → None ≡ word_of field
-no_longer_word field long = sym (none_longer field all_words long refl)
-
-pub ruleset no_words =
-    (no_word_of_2, no_word_of_3, no_word_of_4, no_word_of_5, no_word_of_6, no_word_of_7, no_longer_word)
+pub no_word_outside : (field : List ℕ) → (2 ≤ length field → 8 ≤ length field) → None ≡ word_of field
+no_word_outside field outside = sym (none_outside field all_words outside refl)
 
 -- ---- a line whose first field is a word
 

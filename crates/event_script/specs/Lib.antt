@@ -5,3 +5,4 @@ pub mod Drafts
 pub mod ScriptViews
 pub mod LoadScript
 pub mod ByteWords
+pub mod WordLengths

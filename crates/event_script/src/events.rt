@@ -1,7 +1,7 @@
 //! The event that a line says.
 
-ghost use Rattle.std.specs.Prelude.{ℕ, ◌<◌, ◌≤◌, ◌^◌, ◌≡◌, List, MatchResult, false, true};
-ghost use Rattle.event_script.specs.ByteWords.{has_bytes, stands_alone};
+ghost use Rattle.std.specs.Prelude.{◌<◌, ◌≤◌, ◌^◌, ◌≡◌, MatchResult, false};
+ghost use Rattle.event_script.specs.ByteWords.{has_bytes};
 ghost use Rattle.event_script.specs.Views.{Gives, Tells, fields_of};
 ghost use Rattle.key_names.specs.Texts.ScriptFaults.{binary, bytes, event_of, hardware_words, input_of};
 ghost use Rattle.key_names.specs.Texts.ScriptFaults.{number, number_in, plain, since, unary};
@@ -12,6 +12,7 @@ use crate::error::LineError;
 use crate::fields::{four, none, one, two};
 use crate::hexes::hardware_words;
 use crate::numbers::{number, number_from, one_below, one_number, two_numbers};
+use crate::words::alone;
 use key_names::{Event, FaultKind, Word};
 use std::alloc::Global;
 
@@ -24,24 +25,6 @@ fn plain(event: Event, rest: Option<&[u8]>) -> Result<Event, FaultKind>
 {
     none(rest)?;
     Ok(event)
-}
-
-/// The event of a word that stands alone.
-fn alone(word: Word) -> Event
-    requires { stands_alone word ≡ true }
-    ensures { (version cpus : ℕ) (fields : List (List ℕ)) → event_of version cpus word fields ≡ plain result fields }
-{
-    match word {
-        Word::Bits => Event::Bits,
-        Word::Int8 => Event::Int8,
-        Word::Int16 => Event::Int16,
-        Word::Int32 => Event::Int32,
-        Word::Int64 => Event::Int64,
-        Word::Reseed => Event::Reseed,
-        Word::Tick => Event::Tick,
-        Word::Drop => Event::Drop,
-        _ => unreachable!(),
-    }
 }
 
 fn at(rest: Option<&[u8]>) -> Result<Event, FaultKind>
