@@ -8,7 +8,8 @@ use Rattle.key_names.specs.declared.entries.PoolEntry.{PoolEntry}
 use Rattle.key_names.specs.declared.entries.BaseEntry.{BaseEntry}
 use Rattle.key_names.specs.declared.entries.BaseEntry.TheVariants.{Resume}
 use Rattle.key_names.specs.declared.entries.CpuEntry.{CpuEntry}
-use Rattle.key_names.specs.declared.events.InsideAct.TheVariants.{Wipe as WipeAct, Vread as VreadAct, Reseed as ReseedAct}
+use Rattle.key_names.specs.declared.events.InsideAct.TheVariants.{Wipe as WipeAct, Vread as VreadAct}
+use Rattle.key_names.specs.declared.events.InsideAct.TheVariants.{Reseed as ReseedAct}
 use Rattle.key_names.specs.PoolList.{pool_after}
 use Rattle.key_names.specs.BaseList.{BaseMayCome, base_step, base_start}
 use Rattle.key_names.specs.CpuList.{CpuMayCome, cpu_step, cpu_start}
@@ -50,7 +51,8 @@ lists_fit lists lawful (step ∷ steps) = (one step, lists_fit lists lawful step
             DeedFits (facts_of lists) (deed_or (λ e. at_cpu (cpu_visit lists c place e)) o)
         go None is = tt
         go (Some e) is =
-            (may_at (CpuMayCome lists.base c) (cpu_step lists.base c) cpu_start (cpu_list lists c) place e (lawful.cpus c) is).fits
+            (may_at (CpuMayCome lists.base c) (cpu_step lists.base c) cpu_start (cpu_list lists c) place e
+            (lawful.cpus c) is).fits
 
     one : (step : Step) → DeedFits (facts_of lists) (deed_of lists step)
     one (Look g) = tt

@@ -1,5 +1,6 @@
 -- The kinds of a form whose entries fit are a row of its event.
-use Rattle.std.proofs.Common.{◌≡◌, ℕ, ◌≤◌, Bool, true, false, List, [], ◌∷◌, ◌⊎◌, inl, inr, refl, sym, subst, ap, ◌∙◌, arith, Option, Some, None}
+use Rattle.std.proofs.Common.{◌≡◌, ℕ, ◌≤◌, Bool, true, false, List, [], ◌∷◌, ◌⊎◌, inl, inr, refl, sym, subst, ap, ◌∙◌}
+use Rattle.std.proofs.Common.{arith, Option, Some, None}
 use Rattle.std.specs.Prelude.{◌==◌, ◌&&◌, not, MatchBool}
 use Rattle.std.proofs.lemmas.Bool.Decides.{nat_tests}
 use Rattle.key_names.specs.declared.entries.Taken.{Taken}
@@ -19,10 +20,12 @@ use Rattle.key_names.specs.Flags.{is_bad, is_nonblock, is_insecure}
 use Rattle.key_names.specs.Calls.{Setting}
 use Rattle.key_names.specs.Deeds.{Deed, looked, at_pool, at_cpu, PoolVisit, CpuVisit}
 use Rattle.key_names.specs.Forms.{Form, IntForm, ReseedForm, CreditForm, IrqForm, DumpForm, Cross, Looked, ReadForm}
-use Rattle.key_names.specs.Forms.{VmforkForm, PoolOnly, CpuOnly, DrawForm, CpuReadForm, Rooted, BaseOnly, SysForm, LookedForm}
+use Rattle.key_names.specs.Forms.{VmforkForm, PoolOnly, CpuOnly, DrawForm, CpuReadForm, Rooted, BaseOnly, SysForm}
+use Rattle.key_names.specs.Forms.{LookedForm}
 use Rattle.key_names.specs.Forms.{WaitedInVain, Waited}
 use Rattle.input_pool.specs.declared.pool.Crossing.{Crossing as Crossed}
-use Rattle.input_pool.specs.declared.pool.Crossing.TheVariants.{None as Nothing, Early as CrossedEarly, Ready as CrossedReady}
+use Rattle.input_pool.specs.declared.pool.Crossing.TheVariants.{None as Nothing, Early as CrossedEarly}
+use Rattle.input_pool.specs.declared.pool.Crossing.TheVariants.{Ready as CrossedReady}
 use Rattle.line_forms.specs.declared.kind.Kind.{Kind}
 use Rattle.line_forms.specs.declared.kind.Kind.TheVariants.{Unready, Ready, Pool, Base, Resumed, Cpu}
 use Rattle.line_forms.specs.Kinds.{look_kind, base_kind, kind_of, kinds_of}
@@ -42,7 +45,8 @@ is_ready : (g : ℕ) → 1 ≤ g → look_kind g ≡ Ready
 is_ready g p = look_kind_is 0 g false (is_some g p)
 
 -- a CPU's look found something
-read_known : (s : CpuState) (e : CpuEntry) (look : ℕ) (refill : Option ℕ) (taken : Taken) → e ≡ CpuRead look refill taken →
+read_known : (s : CpuState) (e : CpuEntry) (look : ℕ) (refill : Option ℕ) (taken : Taken) →
+    e ≡ CpuRead look refill taken →
     CpuFits s e → 1 ≤ look
 read_known s e look refill taken is fits =
     let P : CpuEntry → Type 0 = λ e. CpuFits s e in
@@ -68,7 +72,8 @@ module _ (c : LaneFacts) (set : Setting) where
   looked_is : (g : ℕ) (k : Kind) (ds rest : List Deed) → ds ≡ looked g ∷ rest → look_kind g ≡ k → K ds ≡ k ∷ K rest
   looked_is g k ds rest is p = ap K is ∙ ap (λ x. x ∷ K rest) p
 
-  rooted_row : (entry : ℕ → BaseEntry) → ((r : ℕ) → base_kind (entry r) ≡ Base) → (ds : List Deed) → Rooted set entry ds →
+  rooted_row : (entry : ℕ → BaseEntry) → ((r : ℕ) → base_kind (entry r) ≡ Base) →
+      (ds : List Deed) → Rooted set entry ds →
       K ds ≡ Pool ∷ Base ∷ []
   rooted_row entry h ds f =
       row_of set.cpu (Pool ∷ Base ∷ []) (f.pool, ((f.base, ap base_kind f.names ∙ h f.pool.place), tt)) f.deeds_are
@@ -119,7 +124,8 @@ module _ (c : LaneFacts) (set : Setting) where
         read taken g false z rest form (fit_at c is fit).1,
       )
 
-  plain_read : (taken : Taken) (n : ℕ) (ds : List Deed) → MatchBool (n == 0) (ds ≡ []) (Looked (ReadForm set taken) ds) →
+  plain_read : (taken : Taken) (n : ℕ) (ds : List Deed) →
+      MatchBool (n == 0) (ds ≡ []) (Looked (ReadForm set taken) ds) →
       AllFit c ds → IsPlainRead n (K ds)
   plain_read taken n ds form fit = go (n == 0) form
     where
@@ -139,7 +145,8 @@ module _ (c : LaneFacts) (set : Setting) where
   wait n ds (inr f) fit =
       inr (
         K f.rest,
-        ap K f.deeds_are ∙ two (base_kind f.wait.entry) (base_kind f.resume.entry) (K f.rest) (ap base_kind f.waits) (ap base_kind f.resumes),
+        ap K f.deeds_are ∙ two (base_kind f.wait.entry) (base_kind f.resume.entry) (K f.rest) (ap base_kind f.waits)
+            (ap base_kind f.resumes),
         go (n == 0) f.reads,
       )
     where
@@ -177,7 +184,8 @@ module _ (c : LaneFacts) (set : Setting) where
       Row = ((rest : List Kind) × (K ds ≡ Unready ∷ rest) × IsBehindLook n flags false rest)
           ⊎ ((rest : List Kind) × (K ds ≡ Ready ∷ rest) × IsBehindLook n flags true rest)
 
-      by : (g : ℕ) (rest : List Deed) → ds ≡ looked g ∷ rest → LookedForm set n flags g rest → (z : Bool) → (g == 0) ≡ z → Row
+      by : (g : ℕ) (rest : List Deed) → ds ≡ looked g ∷ rest → LookedForm set n flags g rest → (z : Bool) →
+          (g == 0) ≡ z → Row
       by g rest is f true z = inl (
         K rest,
         looked_is g Unready ds rest is (unready g (zero_of g z)),
@@ -203,9 +211,11 @@ module _ (c : LaneFacts) (set : Setting) where
 
       go : IntForm set w g rest → IsInt (K ds)
       go (inl (p, inl f)) = inl (K rest, looked_is g Unready ds rest is (unready g p), inl (draw (Kernel w) rest f))
-      go (inl (p, inr f)) = inl (K rest, looked_is g Unready ds rest is (unready g p), inr (cpu_read (Kernel w) rest f fits))
+      go (inl (p, inr f)) =
+          inl (K rest, looked_is g Unready ds rest is (unready g p), inr (cpu_read (Kernel w) rest f fits))
       go (inr (p, inl f)) =
-          let known = int_known f.cpu.before f.cpu.entry f.look None w f.filled f.serves (fit_at c f.deeds_are fits).1.0 in
+          let known =
+          int_known f.cpu.before f.cpu.entry f.look None w f.filled f.serves (fit_at c f.deeds_are fits).1.0 in
           inr (
             K rest,
             looked_is g Ready ds rest is (is_ready g p),
@@ -249,14 +259,16 @@ module _ (c : LaneFacts) (set : Setting) where
   irq v1 v2 crossed ds is f = go f.dumps
     where
       go : (f.rest ≡ []) ⊎ DumpForm set f.rest → IsInterrupt crossed (K ds)
-      go (inl p) = inl (row_of set.cpu (Cpu ∷ []) ((f.sample, f.on), tt) (f.deeds_are ∙ ap (λ r. at_cpu f.sample ∷ r) p))
+      go (inl p) =
+          inl (row_of set.cpu (Cpu ∷ []) ((f.sample, f.on), tt) (f.deeds_are ∙ ap (λ r. at_cpu f.sample ∷ r) p))
       go (inr d) =
           let all : ds ≡ at_cpu f.sample ∷ at_cpu d.dump ∷ at_pool d.mixes.pool ∷ d.mixes.rest =
           f.deeds_are ∙ ap (λ r. at_cpu f.sample ∷ r) (d.deeds_are ∙ ap (λ r. at_cpu d.dump ∷ r) d.mixes.deeds_are) in
           inr (
             K d.mixes.rest,
             ap K all ∙ ap (λ ks. ks) (tops d.mixes.rest f.sample d.dump d.mixes.pool f.on d.on),
-            cross crossed (crossing d.mixes.pool.before.bits d.mixes.pool.after.bits) d.mixes.rest (is ∙ ap first_crossing all)
+            cross crossed (crossing d.mixes.pool.before.bits d.mixes.pool.after.bits) d.mixes.rest
+                (is ∙ ap first_crossing all)
                 d.mixes.crosses,
           )
         where

@@ -1,5 +1,6 @@
 -- Steps of an event's line with a row's kinds and the entries that they tell are a form.
-use Rattle.std.proofs.Common.{◌≡◌, ℕ, zero, suc, ◌≤◌, Bool, true, false, List, [], ◌∷◌, ◌⊎◌, inl, inr, refl, sym, subst, ap, ◌∙◌, arith, None}
+use Rattle.std.proofs.Common.{◌≡◌, ℕ, zero, suc, ◌≤◌, Bool, true, false, List, [], ◌∷◌, ◌⊎◌, inl, inr, refl, sym, subst}
+use Rattle.std.proofs.Common.{ap, ◌∙◌, arith, None}
 use Rattle.std.specs.Prelude.{◌==◌, MatchBool}
 use Rattle.key_names.specs.declared.entries.Taken.{Taken}
 use Rattle.key_names.specs.declared.entries.Taken.TheVariants.{User, Kernel}
@@ -20,7 +21,8 @@ use Rattle.key_names.specs.Deeds.{Deed, looked, at_pool, at_base, at_cpu, nothin
 use Rattle.key_names.specs.Forms.{Form, IntForm, ReseedForm, CreditForm, IrqForm, Cross, Looked, ReadForm}
 use Rattle.key_names.specs.Forms.{VmforkForm, device_entry, PoolOnly, CpuOnly}
 use Rattle.input_pool.specs.declared.pool.Crossing.{Crossing as Crossed}
-use Rattle.input_pool.specs.declared.pool.Crossing.TheVariants.{None as Nothing, Early as CrossedEarly, Ready as CrossedReady}
+use Rattle.input_pool.specs.declared.pool.Crossing.TheVariants.{None as Nothing, Early as CrossedEarly}
+use Rattle.input_pool.specs.declared.pool.Crossing.TheVariants.{Ready as CrossedReady}
 use Rattle.line_forms.specs.declared.kind.Kind.TheVariants.{Unready, Ready, Pool, Base, Cpu}
 use Rattle.line_forms.specs.Kinds.{kinds_of}
 use Rattle.line_forms.specs.Rows.{IsRow, IsDraw, IsCpuRead, IsRead, IsLookedRead, IsInt, IsBehindCredit}
@@ -31,7 +33,8 @@ use Rattle.line_forms.specs.Told.{samples, reseeds, ticks, forks, prepares, vmfo
 use Rattle.input_pool.specs.PoolStands.{crossing_of}
 use Rattle.line_forms.specs.Laws.{RowIsForm, EndRowIsForm}
 use Rattle.line_forms.specs.declared.told.Sign.{Sign}
-use Rattle.line_forms.specs.declared.told.Sign.TheVariants.{Saw as saw, Nowhere as nowhere, InPool as in_pool, InBase as in_base, InCpu as in_cpu}
+use Rattle.line_forms.specs.declared.told.Sign.TheVariants.{Saw as saw, Nowhere as nowhere, InPool as in_pool}
+use Rattle.line_forms.specs.declared.told.Sign.TheVariants.{InBase as in_base, InCpu as in_cpu}
 use Rattle.line_forms.proofs.RowShapes.{shaped, deeds_in, kinds_in}
 use Rattle.line_forms.proofs.RowReads.{draw_row, cpu_read_row, system_rows, no_more}
 
@@ -44,13 +47,15 @@ module _ (c : LaneFacts) (set : Setting) where
 
   -- ---- reads
 
-  looked_read : (taken : Taken) (ds : List Deed) → LineFills c set (reads taken) ds → IsLookedRead (kinds_of set.cpu ds) →
+  looked_read : (taken : Taken) (ds : List Deed) → LineFills c set (reads taken) ds →
+      IsLookedRead (kinds_of set.cpu ds) →
       Looked (ReadForm set taken) ds
   looked_read taken ds fill (inl (rest, p, row)) =
       let s = shaped set.cpu (Unready ∷ rest) ds p in
       let r : List Deed = deeds_in set.cpu rest s.0.1 in
       let f = line_at (reads taken) s.1 fill in
-      let row : IsRead false (kinds_of set.cpu r) = subst (λ ks. IsRead false ks) (sym (kinds_in set.cpu rest s.0.1)) row in
+      let row : IsRead false (kinds_of set.cpu r) =
+      subst (λ ks. IsRead false ks) (sym (kinds_in set.cpu rest s.0.1)) row in
       (s.0.0.0, r, s.1, go s.0.0.0 s.0.0.1 r f.1 row)
     where
       go : (g : ℕ) → g ≡ 0 → (r : List Deed) → AllFill (Fills c set (reads taken) (saw g)) nowhere (saw g) r →
@@ -61,7 +66,8 @@ module _ (c : LaneFacts) (set : Setting) where
       let s = shaped set.cpu (Ready ∷ rest) ds p in
       let r : List Deed = deeds_in set.cpu rest s.0.1 in
       let f = line_at (reads taken) s.1 fill in
-      let row : IsRead true (kinds_of set.cpu r) = subst (λ ks. IsRead true ks) (sym (kinds_in set.cpu rest s.0.1)) row in
+      let row : IsRead true (kinds_of set.cpu r) =
+      subst (λ ks. IsRead true ks) (sym (kinds_in set.cpu rest s.0.1)) row in
       (s.0.0.0, r, s.1, go s.0.0.0 r f.1 row)
     where
       go : (g : ℕ) → (r : List Deed) → AllFill (Fills c set (reads taken) (saw g)) nowhere (saw g) r →
@@ -142,7 +148,8 @@ module _ (c : LaneFacts) (set : Setting) where
         }),
       )
 
-  int_row : (w : ℕ) (ds : List Deed) → LineFills c set (ints w) ds → IsInt (kinds_of set.cpu ds) → Looked (IntForm set w) ds
+  int_row : (w : ℕ) (ds : List Deed) → LineFills c set (ints w) ds → IsInt (kinds_of set.cpu ds) →
+      Looked (IntForm set w) ds
   int_row w ds fill (inl (rest, p, row)) =
       let s = shaped set.cpu (Unready ∷ rest) ds p in
       let r : List Deed = deeds_in set.cpu rest s.0.1 in
@@ -167,12 +174,15 @@ module _ (c : LaneFacts) (set : Setting) where
   -- ---- credits
 
   -- what follows a credit: the credit's visit, and what is told of the steps behind it
-  cross_row : (v : PoolVisit) (crossed : Crossed) (r : List Deed) → crossing_of crossed ≡ crossing v.before.bits v.after.bits →
+  cross_row : (v : PoolVisit) (crossed : Crossed) (r : List Deed) →
+      crossing_of crossed ≡ crossing v.before.bits v.after.bits →
       c.crossed_at v.place ≡ crossing v.before.bits v.after.bits → IsBehindCredit crossed (kinds_of set.cpu r) →
       ((p : PoolVisit) (w : BaseVisit) → r ≡ at_pool p ∷ at_base w ∷ [] →
       (p.entry ≡ Extract set.hw w.place) × (w.entry ≡ crossed_entry (c.crossed_at v.place) p.place set.now)) →
       ((w : BaseVisit) → r ≡ at_base w ∷ [] → w.entry ≡ Early None) → Cross set (crossing v.before.bits v.after.bits) r
-  cross_row v crossed r is closed row rooted alone = let P : Crossing → Type 0 = λ x. Cross set x r in subst P is (go crossed refl row)
+  cross_row v crossed r is closed row rooted alone =
+      let P : Crossing → Type 0 = λ x. Cross set x r in
+      subst P is (go crossed refl row)
     where
       named : (x : Crossed) → crossed ≡ x → (p : PoolVisit) (w : BaseVisit) →
           w.entry ≡ crossed_entry (c.crossed_at v.place) p.place set.now →
@@ -209,7 +219,8 @@ module _ (c : LaneFacts) (set : Setting) where
           let P : Crossing → Type 0 = λ x. Cross set x r in
           subst P (sym (ap crossing_of q)) (inr (record { base = s.0.0.0; deeds_are = s.1; is = alone s.0.0.0 s.1 }))
 
-  credit_row : (e : PoolEntry) (crossed : Crossed) (ds : List Deed) → crossing_of crossed ≡ first_crossing ds → CrossingsKnown c ds →
+  credit_row : (e : PoolEntry) (crossed : Crossed) (ds : List Deed) → crossing_of crossed ≡ first_crossing ds →
+      CrossingsKnown c ds →
       LineFills c set (credits e) ds → IsCredit crossed (kinds_of set.cpu ds) → CreditForm set e ds
   credit_row e crossed ds is close fill (rest, p, row) =
       let s = shaped set.cpu (Pool ∷ rest) ds p in
@@ -227,7 +238,8 @@ module _ (c : LaneFacts) (set : Setting) where
             (λ w q. (let g = line_at (credits e) (s.1 ∙ ap (λ x. at_pool v ∷ x) q) fill in g.1.0));
       }
 
-  irq_row : (v1 v2 : ℕ) (crossed : Crossed) (ds : List Deed) → crossing_of crossed ≡ first_crossing ds → CrossingsKnown c ds →
+  irq_row : (v1 v2 : ℕ) (crossed : Crossed) (ds : List Deed) → crossing_of crossed ≡ first_crossing ds →
+      CrossingsKnown c ds →
       LineFills c set (samples v1 v2) ds → IsInterrupt crossed (kinds_of set.cpu ds) → IrqForm set v1 v2 ds
   irq_row v1 v2 crossed ds is close fill (inl k) =
       let s = shaped set.cpu (Cpu ∷ []) ds k in
@@ -267,7 +279,8 @@ module _ (c : LaneFacts) (set : Setting) where
 
   -- ---- the other events
 
-  pool_row : (e : PoolEntry) (ds : List Deed) → LineFills c set (mixes e) ds → kinds_of set.cpu ds ≡ Pool ∷ [] → PoolOnly e ds
+  pool_row : (e : PoolEntry) (ds : List Deed) → LineFills c set (mixes e) ds → kinds_of set.cpu ds ≡ Pool ∷ [] →
+      PoolOnly e ds
   pool_row e ds fill k =
       let s = shaped set.cpu (Pool ∷ []) ds k in
       let f = line_at (mixes e) s.1 fill in
@@ -280,7 +293,8 @@ module _ (c : LaneFacts) (set : Setting) where
       let f = line_at (prepares e) s.1 fill in
       record { visit = s.0.0.0; deeds_are = s.1; on = s.0.0.1; is = f.0 }
 
-  pub reseed_row : (ds : List Deed) → LineFills c set reseeds ds → IsReseed (kinds_of set.cpu ds) → Looked (ReseedForm set) ds
+  pub reseed_row : (ds : List Deed) → LineFills c set reseeds ds → IsReseed (kinds_of set.cpu ds) →
+      Looked (ReseedForm set) ds
   reseed_row ds fill (inl k) =
       let s = shaped set.cpu (Unready ∷ []) ds k in
       (s.0.0.0, [], s.1, inl (s.0.0.1, refl))

@@ -1,5 +1,6 @@
 -- Steps with a row's kinds and the entries that they tell are a form.
-use Rattle.std.proofs.Common.{◌≡◌, ℕ, Bool, true, false, List, [], ◌∷◌, ◌⊎◌, inl, inr, refl, ◌++◌, sym, subst, ap, ◌∙◌, arith}
+use Rattle.std.proofs.Common.{◌≡◌, ℕ, Bool, true, false, List, [], ◌∷◌, ◌⊎◌, inl, inr, refl, ◌++◌, sym, subst, ap, ◌∙◌}
+use Rattle.std.proofs.Common.{arith}
 use Rattle.std.specs.Prelude.{◌==◌, ◌&&◌, not, nat_le, if◌then◌else◌, MatchBool}
 use Rattle.std.proofs.lemmas.Bool.Decides.{nat_tests}
 use Rattle.key_names.specs.declared.entries.Taken.{Taken}
@@ -191,7 +192,8 @@ abbrev Form : Setting → ℕ → ℕ → List Deed → Type 0
 Form set n flags deeds = (g : ℕ) × (rest : List Deed) × (deeds ≡ looked g ∷ rest) × LookedForm set n flags g rest
 
 pub system_by : (c : LaneFacts) (set : Setting) (sooner : Taken) (n flags : ℕ) (first a b : Sign) (deeds : List Deed) →
-    AllFill (FillsPart c set sooner (User n) first) a b deeds → IsSystemCall n flags (kinds_of set.cpu deeds) → SysForm set n flags deeds
+    AllFill (FillsPart c set sooner (User n) first) a b deeds → IsSystemCall n flags (kinds_of set.cpu deeds) →
+    SysForm set n flags deeds
 system_by c set sooner n flags first a b0 deeds fill row = go (is_bad flags) row
   where
     by : (g : ℕ) (z : Bool) → (g == 0) ≡ z → (rest : List Kind) (s : Shape set.cpu rest) →

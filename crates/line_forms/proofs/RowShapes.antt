@@ -100,12 +100,14 @@ module _ (cpu : ℕ) where
   deed_kind Pool x = refl
   deed_kind Base x = x.1
   deed_kind Resumed x = x.1
-  deed_kind Cpu x = (let p : x.0.cpu ≡ cpu = x.1 in let q : (x.0.cpu == cpu) ≡ true = grind (arith, nat_tests) in ap cpu_kind q)
+  deed_kind Cpu x =
+      (let p : x.0.cpu ≡ cpu = x.1 in let q : (x.0.cpu == cpu) ≡ true = grind (arith, nat_tests) in ap cpu_kind q)
   deed_kind OtherCpu x = x.1
 
   pub kinds_in : (ks : List Kind) (s : Shape ks) → kinds_of cpu (deeds_in ks s) ≡ ks
   kinds_in [] s = refl
-  kinds_in (k ∷ ks) s = both (kind_of cpu (deed k s.0)) k (kinds_of cpu (deeds_in ks s.1)) ks (deed_kind k s.0) (kinds_in ks s.1)
+  kinds_in (k ∷ ks) s =
+      both (kind_of cpu (deed k s.0)) k (kinds_of cpu (deeds_in ks s.1)) ks (deed_kind k s.0) (kinds_in ks s.1)
 
   -- deeds that are visits of these kinds have them
   pub row_of : (ks : List Kind) (s : Shape ks) {ds : List Deed} → ds ≡ deeds_in ks s → kinds_of cpu ds ≡ ks

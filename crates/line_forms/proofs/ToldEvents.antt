@@ -1,5 +1,6 @@
 -- The steps around each visit of an event's line tell its entry.
-use Rattle.std.proofs.Common.{◌≡◌, ℕ, zero, suc, ◌≤◌, Bool, true, false, List, [], ◌∷◌, ◌⊎◌, inl, inr, refl, sym, subst, ap, ◌∙◌, arith, None}
+use Rattle.std.proofs.Common.{◌≡◌, ℕ, zero, suc, ◌≤◌, Bool, true, false, List, [], ◌∷◌, ◌⊎◌, inl, inr, refl, sym, subst}
+use Rattle.std.proofs.Common.{ap, ◌∙◌, arith, None}
 use Rattle.std.specs.Prelude.{◌==◌, MatchBool}
 use Rattle.key_names.specs.declared.entries.Taken.TheVariants.{User, Kernel}
 use Rattle.key_names.specs.declared.entries.PoolEntry.{PoolEntry}
@@ -26,7 +27,8 @@ use Rattle.line_forms.specs.Told.{samples, reseeds, ticks, forks, prepares, vmfo
 use Rattle.key_names.specs.LineSamples.{SamplesStand, EntryIsQuiet}
 use Rattle.line_forms.specs.Laws.{FormIsTold, EndIsTold}
 use Rattle.line_forms.specs.declared.told.Sign.{Sign}
-use Rattle.line_forms.specs.declared.told.Sign.TheVariants.{Saw as saw, Nowhere as nowhere, InPool as in_pool, InBase as in_base, InCpu as in_cpu}
+use Rattle.line_forms.specs.declared.told.Sign.TheVariants.{Saw as saw, Nowhere as nowhere, InPool as in_pool}
+use Rattle.line_forms.specs.declared.told.Sign.TheVariants.{InBase as in_base, InCpu as in_cpu}
 use Rattle.line_forms.proofs.ToldReads.{filled_at, fit_at, read_told, draw_told, cpu_read_told, system_told}
 
 module _ (c : LaneFacts) (set : Setting) where
@@ -38,15 +40,18 @@ module _ (c : LaneFacts) (set : Setting) where
 
   -- ---- reads
 
-  looked_read_told : (e : Event) (ds : List Deed) → (n : ℕ) → MatchBool (n == 0) (ds ≡ []) (Looked (ReadForm set (Kernel n)) ds) →
+  looked_read_told : (e : Event) (ds : List Deed) →
+      (n : ℕ) → MatchBool (n == 0) (ds ≡ []) (Looked (ReadForm set (Kernel n)) ds) →
       LineFills c set (reads (Kernel n)) ds
   looked_read_told e ds n form = go (n == 0) form
     where
-      go : (b : Bool) → MatchBool b (ds ≡ []) (Looked (ReadForm set (Kernel n)) ds) → LineFills c set (reads (Kernel n)) ds
+      go : (b : Bool) → MatchBool b (ds ≡ []) (Looked (ReadForm set (Kernel n)) ds) →
+          LineFills c set (reads (Kernel n)) ds
       go true p = none_told (reads (Kernel n)) ds p
       go false f = line_at (reads (Kernel n)) f.2 (tt, read_told c set (Kernel n) (saw f.0) nowhere f.0 f.1 f.3)
 
-  user_read_told : (e : Event) (ds : List Deed) → (n : ℕ) → MatchBool (n == 0) (ds ≡ []) (Looked (ReadForm set (User n)) ds) →
+  user_read_told : (e : Event) (ds : List Deed) →
+      (n : ℕ) → MatchBool (n == 0) (ds ≡ []) (Looked (ReadForm set (User n)) ds) →
       LineFills c set (reads (User n)) ds
   user_read_told e ds n form = go (n == 0) form
     where
@@ -57,7 +62,8 @@ module _ (c : LaneFacts) (set : Setting) where
   -- ---- integers
 
   -- an integer behind a look that found 0 is a read of the kernel's
-  as_int : (w : ℕ) (first : Sign) (a b : Sign) (ds : List Deed) → AllFill (Fills c set (reads (Kernel w)) first) a b ds →
+  as_int : (w : ℕ) (first : Sign) (a b : Sign) (ds : List Deed) →
+      AllFill (Fills c set (reads (Kernel w)) first) a b ds →
       AllFill (Fills c set (ints w) (saw 0)) a b ds
   as_int w first a b [] h = tt
   as_int w first a b (looked g ∷ ds) h = (tt, as_int w first b (saw g) ds h.1)
@@ -107,11 +113,22 @@ module _ (c : LaneFacts) (set : Setting) where
       go : (x : Crossing) → crossing f.pool.before.bits f.pool.after.bits ≡ x → Cross set x f.rest →
           LineFills c set (credits e) ds
       go none is p = line_at (credits e) (f.deeds_are ∙ ap (λ r. at_pool f.pool ∷ r) p) (f.credits, tt)
-      go ready is r = line_at (credits e) (f.deeds_are ∙ ap (λ x. at_pool f.pool ∷ x) r.deeds_are)
-          (f.credits, (r.extracts, (crossed_as (c.crossed_at f.pool.place) ready r.pool.place r.base.entry (closed ∙ is) r.names, tt)))
-      go early is (inl r) = line_at (credits e) (f.deeds_are ∙ ap (λ x. at_pool f.pool ∷ x) r.deeds_are)
-          (f.credits, (r.extracts, (crossed_as (c.crossed_at f.pool.place) early r.pool.place r.base.entry (closed ∙ is) r.names, tt)))
-      go early is (inr r) = line_at (credits e) (f.deeds_are ∙ ap (λ x. at_pool f.pool ∷ x) r.deeds_are) (f.credits, (r.is, tt))
+      go ready is r = line_at (credits e) (f.deeds_are ∙ ap (λ x. at_pool f.pool ∷ x) r.deeds_are) (
+        f.credits,
+        (
+          r.extracts,
+          (crossed_as (c.crossed_at f.pool.place) ready r.pool.place r.base.entry (closed ∙ is) r.names, tt),
+        ),
+      )
+      go early is (inl r) = line_at (credits e) (f.deeds_are ∙ ap (λ x. at_pool f.pool ∷ x) r.deeds_are) (
+        f.credits,
+        (
+          r.extracts,
+          (crossed_as (c.crossed_at f.pool.place) early r.pool.place r.base.entry (closed ∙ is) r.names, tt),
+        ),
+      )
+      go early is (inr r) =
+          line_at (credits e) (f.deeds_are ∙ ap (λ x. at_pool f.pool ∷ x) r.deeds_are) (f.credits, (r.is, tt))
 
   -- ---- interrupts
 
@@ -124,31 +141,37 @@ module _ (c : LaneFacts) (set : Setting) where
   mixed sample dump mix rest is (inr d) =
       let p : dump ≡ d.dump = (let q = d.deeds_are in cc) in
       let q : mix ≡ d.mix = (let q = d.deeds_are in cc) in
-      let P : CpuVisit → Type 0 = λ v. d.mix.entry ≡ Mix (dump_bytes (c.fast v.cpu v.place)) (dump_bits (c.fast v.cpu v.place)) in
+      let P : CpuVisit → Type 0 =
+      λ v. d.mix.entry ≡ Mix (dump_bytes (c.fast v.cpu v.place)) (dump_bits (c.fast v.cpu v.place)) in
       ap (λ v. v.entry) q ∙ subst P (sym p) d.mixes
 
   irq_line : (v1 v2 : ℕ) (ds : List Deed) → IrqForm set v1 v2 ds → AllFit c ds → SamplesStand c.fast ds →
       LineFills c set (samples v1 v2) ds
   irq_line v1 v2 ds f fit stand = go f.dumps
     where
-      dumped : (d : DumpForm set f.rest) → (x : Crossing) → crossing d.mixes.pool.before.bits d.mixes.pool.after.bits ≡ x →
+      dumped : (d : DumpForm set f.rest) →
+          (x : Crossing) → crossing d.mixes.pool.before.bits d.mixes.pool.after.bits ≡ x →
           Cross set x d.mixes.rest → LineFills c set (samples v1 v2) ds
       dumped d x is cross = go x is cross
         where
           all : ds ≡ at_cpu f.sample ∷ at_cpu d.dump ∷ at_pool d.mixes.pool ∷ d.mixes.rest
-          all = f.deeds_are ∙ ap (λ r. at_cpu f.sample ∷ r) (d.deeds_are ∙ ap (λ r. at_cpu d.dump ∷ r) d.mixes.deeds_are)
+          all = f.deeds_are
+              ∙ ap (λ r. at_cpu f.sample ∷ r) (d.deeds_are ∙ ap (λ r. at_cpu d.dump ∷ r) d.mixes.deeds_are)
 
-          with_rest : {xs : List Deed} → d.mixes.rest ≡ xs → ds ≡ at_cpu f.sample ∷ at_cpu d.dump ∷ at_pool d.mixes.pool ∷ xs
+          with_rest : {xs : List Deed} → d.mixes.rest ≡ xs →
+              ds ≡ at_cpu f.sample ∷ at_cpu d.dump ∷ at_pool d.mixes.pool ∷ xs
           with_rest p = all ∙ ap (λ r. at_cpu f.sample ∷ at_cpu d.dump ∷ at_pool d.mixes.pool ∷ r) p
 
-          mix : d.mixes.pool.entry ≡ Mix (dump_bytes (c.fast d.dump.cpu d.dump.place)) (dump_bits (c.fast d.dump.cpu d.dump.place))
+          mix : d.mixes.pool.entry ≡ Mix (dump_bytes (c.fast d.dump.cpu d.dump.place))
+              (dump_bits (c.fast d.dump.cpu d.dump.place))
           mix = mixed f.sample d.dump d.mixes.pool d.mixes.rest d.dumps
               (let P : List Deed → Type 0 = λ x. SamplesStand c.fast x in subst P all stand)
 
           closed : c.crossed_at d.mixes.pool.place ≡ crossing d.mixes.pool.before.bits d.mixes.pool.after.bits
           closed = (fit_at c all fit).1.1.0
 
-          go : (x : Crossing) → crossing d.mixes.pool.before.bits d.mixes.pool.after.bits ≡ x → Cross set x d.mixes.rest →
+          go : (x : Crossing) → crossing d.mixes.pool.before.bits d.mixes.pool.after.bits ≡ x →
+              Cross set x d.mixes.rest →
               LineFills c set (samples v1 v2) ds
           go none is p = line_at (samples v1 v2) (with_rest p) (f.samples, (d.dumps, (mix, tt)))
           go ready is r = line_at (samples v1 v2) (with_rest r.deeds_are) (
@@ -159,7 +182,10 @@ module _ (c : LaneFacts) (set : Setting) where
                 mix,
                 (
                   r.extracts,
-                  (crossed_as (c.crossed_at d.mixes.pool.place) ready r.pool.place r.base.entry (closed ∙ is) r.names, tt),
+                  (
+                    crossed_as (c.crossed_at d.mixes.pool.place) ready r.pool.place r.base.entry (closed ∙ is) r.names,
+                    tt,
+                  ),
                 ),
               ),
             ),
@@ -172,12 +198,16 @@ module _ (c : LaneFacts) (set : Setting) where
                 mix,
                 (
                   r.extracts,
-                  (crossed_as (c.crossed_at d.mixes.pool.place) early r.pool.place r.base.entry (closed ∙ is) r.names, tt),
+                  (
+                    crossed_as (c.crossed_at d.mixes.pool.place) early r.pool.place r.base.entry (closed ∙ is) r.names,
+                    tt,
+                  ),
                 ),
               ),
             ),
           )
-          go early is (inr r) = line_at (samples v1 v2) (with_rest r.deeds_are) (f.samples, (d.dumps, (mix, (r.is, tt))))
+          go early is (inr r) =
+              line_at (samples v1 v2) (with_rest r.deeds_are) (f.samples, (d.dumps, (mix, (r.is, tt))))
 
       go : (f.rest ≡ []) ⊎ DumpForm set f.rest → LineFills c set (samples v1 v2) ds
       go (inl p) = line_at (samples v1 v2) (f.deeds_are ∙ ap (λ r. at_cpu f.sample ∷ r) p) (f.samples, tt)

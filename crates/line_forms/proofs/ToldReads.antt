@@ -1,5 +1,6 @@
 -- The steps around each visit of a read tell its entry.
-use Rattle.std.proofs.Common.{◌≡◌, ℕ, ◌≤◌, Bool, true, false, List, [], ◌∷◌, ◌⊎◌, inl, inr, refl, ◌++◌, sym, subst, ap, ◌∙◌, arith}
+use Rattle.std.proofs.Common.{◌≡◌, ℕ, ◌≤◌, Bool, true, false, List, [], ◌∷◌, ◌⊎◌, inl, inr, refl, ◌++◌, sym, subst, ap}
+use Rattle.std.proofs.Common.{◌∙◌, arith}
 use Rattle.std.specs.Prelude.{◌==◌, ◌&&◌, not, nat_le, if◌then◌else◌, MatchBool}
 use Rattle.std.proofs.lemmas.Bool.Decides.{nat_tests}
 use Rattle.key_names.specs.declared.entries.Taken.{Taken}
@@ -83,7 +84,8 @@ module _ (c : LaneFacts) (set : Setting) (early : Taken) (n : ℕ) (first : Sign
           let p : ds ≡ at_base f.wait ∷ at_base f.resume ∷ [] =
           is ∙ ap (λ xs. at_base f.wait ∷ at_base f.resume ∷ xs) none in
           let fits = fit_at c p fit in
-          fill_at c set early (User n) first a (saw g) p (f.waits, (went_on f.resume.before f.resume.entry f.resumes fits.1.0, tt))
+          fill_at c set early (User n) first a (saw g) p
+          (f.waits, (went_on f.resume.before f.resume.entry f.resumes fits.1.0, tt))
       go false rest (inl read) is =
           let p = is ∙ ap (λ xs. at_base f.wait ∷ at_base f.resume ∷ xs) read.deeds_are in
           let fits = fit_at c p fit in
@@ -98,7 +100,8 @@ module _ (c : LaneFacts) (set : Setting) (early : Taken) (n : ℕ) (first : Sign
   none_told : (a b : Sign) (ds : List Deed) → ds ≡ [] → FillU a b ds
   none_told a b ds p = fill_at c set early (User n) first a b p tt
 
-  looked_told : (a : Sign) (flags g : ℕ) (ds : List Deed) → LookedForm set n flags g ds → AllFit c ds → FillU a (saw g) ds
+  looked_told : (a : Sign) (flags g : ℕ) (ds : List Deed) → LookedForm set n flags g ds → AllFit c ds →
+      FillU a (saw g) ds
   looked_told a flags g ds form fit = go (g == 0 && not (is_insecure flags)) form
     where
       waits : (b : Bool) → MatchBool b (ds ≡ []) (WaitedInVain ds ⊎ Waited set n ds) → FillU a (saw g) ds
@@ -192,7 +195,8 @@ module _ (c : LaneFacts) (set : Setting) (early taken : Taken) (first : Sign) wh
 -- a key's call, a look, and what is told behind them
 pub key_told : KeyCallIsTold
 key_told c set n first xs h ys a b there form fit more =
-    in_front c set (User 32) (User n) first xs h ys a b there (system_by c set (User 32) 32 0 first a b xs form fit) more
+    in_front c set (User 32) (User n) first xs h ys a b there
+    (system_by c set (User 32) 32 0 first a b xs form fit) more
 
 pub last_told : LastCallIsTold
 last_told c set n flags first xs a b form fit = system_by c set (User 32) n flags first a b xs form fit
