@@ -1,16 +1,10 @@
 -- The kinds of events, by the calls that they ask for.
 use Rattle.std.specs.Prelude.{⊤}
 use Rattle.key_names.specs.declared.events.Event.{Event}
-use Rattle.key_names.specs.declared.events.Event.TheVariants.{At, On, Hw, Device, Write, Add, Credit, Bits, Irq, Input, Read, Vread, Kread, Dread, Uread, Int8, Int16, Int32, Int64, Reseed, Tick, Drop, Fork, Inside, Prepare, Online, Vmfork, State}
-
--- they set something, and ask nothing of the core
-abbrev pub IsSetting : Event → Type 0
-IsSetting (At moment) = ⊤
-IsSetting (On cpu) = ⊤
-IsSetting (Hw bytes) = ⊤
-IsSetting Drop = ⊤
-IsSetting (State number) = ⊤
-IsSetting _ = ⊥
+use Rattle.key_names.specs.declared.events.Event.TheVariants.{Device, Write, Add, Credit, Bits, Irq, Input}
+use Rattle.key_names.specs.declared.events.Event.TheVariants.{Read, Vread, Kread, Dread, Uread, Int8, Int16, Int32}
+use Rattle.key_names.specs.declared.events.Event.TheVariants.{Int64, Reseed, Tick, Fork, Inside, Prepare, Online}
+use Rattle.key_names.specs.declared.events.Event.TheVariants.{Vmfork}
 
 -- samples, and what is read of their credit
 abbrev pub IsSample : Event → Type 0
@@ -57,6 +51,11 @@ IsCall (Vread len flags) = ⊥
 IsCall (Fork child) = ⊥
 IsCall (Inside point act) = ⊥
 IsCall _ = ⊤
+
+-- none of the kinds above: it asks nothing of the core, and may set something
+abbrev pub IsQuiet : Event → Type 0
+IsQuiet event = IsCall event × (IsSample event → ⊥) × (IsReseed event → ⊥) × (IsOfCpu event → ⊥) × (IsRead event → ⊥)
+    × (IsInteger event → ⊥)
 
 -- it forks nobody
 abbrev pub ForksNobody : Event → Type 0

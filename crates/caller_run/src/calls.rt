@@ -143,12 +143,8 @@ fn ask<R: Wait>(rt: &R, site: &mut Site, served: &mut [u8], event: &Event) -> Re
         }
         Event::Reseed | Event::Tick | Event::Vmfork { .. } => reseed_by(rt, site, event),
         Event::Prepare { .. } | Event::Online { .. } => come_online(rt, site, event),
-        Event::At { .. }
-        | Event::On { .. }
-        | Event::Hw { .. }
-        | Event::Drop
-        | Event::State { .. } => Reply::only(Answer::Ok),
-        _ => unreachable!(),
+        Event::Vread { .. } | Event::Fork { .. } | Event::Inside { .. } => unreachable!(),
+        _ => Reply::only(Answer::Ok),
     }
 }
 

@@ -1,9 +1,9 @@
 -- Calls of the core as what a caller's events ask for.
-use Rattle.std.proofs.Common.{◌≡◌, ℕ, ◌≤◌, List, [], map, refl, sym, ap, subst, arith}
+use Rattle.std.proofs.Common.{◌≡◌, ℕ, ◌≤◌, List, [], map, refl, sym, ap, subst, arith, rules}
 use Rattle.key_names.specs.declared.events.Answer.{Answer}
 use Rattle.key_names.specs.declared.events.Answer.TheVariants.{Ok as Done}
 use Rattle.key_names.specs.declared.events.Event.{Event}
-use Rattle.key_names.specs.declared.events.Event.TheVariants.{At, On, Hw, Irq, Drop, State, Add, Credit}
+use Rattle.key_names.specs.declared.events.Event.TheVariants.{At, Irq, Add, Credit}
 use Rattle.key_names.specs.declared.events.Word.{Word}
 use Rattle.key_names.specs.declared.events.Word.TheVariants.{Bits}
 use Rattle.key_names.specs.declared.names.Step.{Step}
@@ -23,7 +23,7 @@ use Rattle.rng_core.specs.declared.site.Site.{Site}
 use Rattle.rng_core.proofs.Makings.{did_nothing}
 use Rattle.caller_run.specs.Calling.{Does, CanAsk, Asked, Called}
 use Rattle.caller_run.proofs.Events.OwnSites.{own_hands}
-use Rattle.caller_run.specs.Kinds.{IsSetting}
+use Rattle.caller_run.specs.Kinds.{IsQuiet}
 use Rattle.caller_run.specs.Says.{shown_by, ShowsFit, IsNoCount}
 use Rattle.caller_run.specs.declared.states.States.{States}
 use Rattle.caller_run.specs.declared.reply.Shows.{Shows}
@@ -91,28 +91,24 @@ as_credit done = record {
   };
 }
 
--- what is only set
+-- what asks nothing of the core
 
-settings_fulfil : (set : calls.Setting) (event : Event) → IsSetting event → IsOutcomeOf set event Done no_data []
-settings_fulfil set (At moment) is = record { form = refl; answers = refl; shows = refl }
-settings_fulfil set (On cpu) is = record { form = refl; answers = refl; shows = refl }
-settings_fulfil set (Hw bytes) is = record { form = refl; answers = refl; shows = refl }
-settings_fulfil set Drop is = record { form = refl; answers = refl; shows = refl }
-settings_fulfil set (State number) is = record { form = refl; answers = refl; shows = refl }
-settings_fulfil set event is = absurd is
+quiet_fulfil : (set : calls.Setting) (event : Event) → IsQuiet event → IsOutcomeOf set event Done no_data []
+quiet_fulfil set (At moment) is = record { form = refl; answers = refl; shows = refl }
+quiet_fulfil set _ is = search rules
 
-no_interrupt : (event : Event) → IsSetting event → IsNoInterrupt event
-no_interrupt (Irq v1 v2) is = absurd is
+no_interrupt : (event : Event) → IsQuiet event → IsNoInterrupt event
+no_interrupt (Irq v1 v2) is = absurd (is.1 tt)
 no_interrupt event is = tt
 
-pub asks_nothing : {event : Event} {m : Site} {said : Reply} {served : List ℕ} → CanAsk m → IsSetting event →
+pub asks_nothing : {event : Event} {m : Site} {said : Reply} {served : List ℕ} → CanAsk m → IsQuiet event →
     said ≡ record { answer = Done; shows = Nothing } → Asked event said served m m
 asks_nothing {event = event} {m = m} can is says = by_answer {steps = 0} refl says (no_interrupt event is) (record {
   same = record { lanes = refl; set = refl; pass = refl; trace = refl };
   has = can.idle.has;
   room = omega arith;
   did = did_nothing m.set (at m) (let s = can.idle.has.pass.sized in let some = m.lanes.now.few.0 in omega arith)
-      (settings_fulfil (setting_of m.set) event is);
+      (quiet_fulfil (setting_of m.set) event is);
 })
 
 -- at a site that a caller made, what was asked there is its own call

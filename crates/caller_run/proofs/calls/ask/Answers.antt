@@ -21,8 +21,8 @@ returns-in-Reseed g c = c.reseed_by.ensures c.args.served.now
 pub returns-in-Write : goal.returns-in-Write
 returns-in-Write g c = c.sample.ensures c.args.served.now
 
-pub returns-in-At : goal.returns-in-At
-returns-in-At g c = asks_nothing c.requires.can (search rules) c.only.ensures
+pub returns-in_default : goal.returns-in_default
+returns-in_default g c = asks_nothing c.requires.can (search rules) c.only.ensures
 
 -- the event of an integer is that of its width
 by_width : (event : Event) (width : ℕ) → IsInteger event → width ≡ most_shown event → event ≡ int_event width
