@@ -12,7 +12,7 @@ use crate::lexing::{cut, number_below};
 use crate::names::{answer_of, word_of};
 use crate::steps::steps_of;
 use crate::view::LineView;
-use key_names::{Answer, Trace, Word};
+use key_names::{Answer, Step, Trace, Word};
 use std::alloc::{AllocError, Global};
 
 /// The caller's and the event's number.
@@ -34,16 +34,16 @@ struct Fields<'a> {
 
 /// A line as it was read.
 #[derive(Drop)]
-pub(crate) struct ReadLine {
+pub(crate) struct ReadLine<'a> {
     pub(crate) caller: u32,
     pub(crate) event: u32,
     pub(crate) word: Word,
     pub(crate) answer: Answer,
-    pub(crate) trace: Trace,
+    pub(crate) steps: &'a [Step],
     pub(crate) shows: Shows,
 }
 
-impl ReadLine {
+impl<'a> ReadLine<'a> {
     /// The line.
     pub(crate) fn view(&self) -> LineView<'_>
         ensures line { seen result ≡ seen_read self.now }
@@ -54,7 +54,7 @@ impl ReadLine {
             event: self.event,
             word: self.word,
             answer: self.answer,
-            steps: self.trace.steps(),
+            steps: self.steps,
             shown: self.shows.view(),
         }
     }
@@ -89,8 +89,12 @@ fn fields_of(line: &[u8]) -> Option<Fields<'_>>
     })
 }
 
-/// The line that a text without its line feed spells.
-pub(crate) fn line_of(alloc: Global, text: &[u8]) -> Result<Option<ReadLine>, AllocError>
+/// The line that a text without its line feed spells. Its steps are put in the trace.
+pub(crate) fn line_of<'a>(
+    alloc: Global,
+    text: &[u8],
+    trace: &'a mut Trace,
+) -> Result<Option<ReadLine<'a>>, AllocError>
     ensures { IfOk result (λ line. Reads line_text LineFits text.now (option_map seen_read line)) }
 {
     let Some(fields) = fields_of(text) else {
@@ -105,7 +109,7 @@ pub(crate) fn line_of(alloc: Global, text: &[u8]) -> Result<Option<ReadLine>, Al
     let Some(answer) = answer_of(fields.answer) else {
         return Ok(None);
     };
-    let Some(trace) = steps_of(fields.steps) else {
+    let Some(steps) = steps_of(fields.steps, trace) else {
         return Ok(None);
     };
     let Some(shows) = shown_of(alloc, word, fields.shown)? else {
@@ -116,7 +120,7 @@ pub(crate) fn line_of(alloc: Global, text: &[u8]) -> Result<Option<ReadLine>, Al
         event: numbers.event,
         word,
         answer,
-        trace,
+        steps,
         shows,
     }))
 }
