@@ -8,7 +8,7 @@ ghost use Rattle.transcript_text.specs.Shows.{bytes_read};
 ghost use Rattle.transcript_text.specs.Views.{bytes_of, seen};
 
 use crate::data::{Shows, shown_of};
-use crate::lexing::{cut, number_below};
+use crate::lexing::{cut, cut_near, number_below};
 use crate::names::{answer_of, word_of};
 use crate::steps::steps_of;
 use crate::view::LineView;
@@ -63,7 +63,7 @@ impl<'a> ReadLine<'a> {
 fn numbers_of(text: &[u8]) -> Option<Numbers>
     ensures { Reads numbers_text NumbersFit text.now result }
 {
-    let (caller, event) = cut(b'.', text)?;
+    let (caller, event) = cut_near(b'.', text)?;
     let caller = number_below(1 << 32, caller)?;
     let event = number_below(1 << 32, event)?;
     Some(Numbers {
@@ -76,9 +76,9 @@ fn fields_of(line: &[u8]) -> Option<Fields<'_>>
     ensures { MatchOption result ((a b c d e : List ℕ) → IsSplit line.now a b c d e → ⊥)
         (λ f. IsSplit line.now f.numbers.now f.word.now f.answer.now f.steps.now f.shown.now) }
 {
-    let (numbers, rest) = cut(b' ', line)?;
-    let (word, rest) = cut(b' ', rest)?;
-    let (answer, rest) = cut(b' ', rest)?;
+    let (numbers, rest) = cut_near(b' ', line)?;
+    let (word, rest) = cut_near(b' ', rest)?;
+    let (answer, rest) = cut_near(b' ', rest)?;
     let (steps, shown) = cut(b' ', rest)?;
     Some(Fields {
         numbers,

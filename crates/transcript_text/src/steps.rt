@@ -5,7 +5,7 @@ ghost use Rattle.std.specs.Option.{option_map};
 ghost use Rattle.key_names.specs.Texts.TranscriptGrammar.{lane_text, mark_text, step_text, steps_text, LaneFits, MarkFits, StepFits};
 ghost use Rattle.transcript_text.specs.Reading.{Reads, StepsFit};
 
-use crate::lexing::{cut, number_below, spells};
+use crate::lexing::{cut, cut_near, number_below, spells};
 use key_names::trace::MOST_STEPS;
 use key_names::{LaneId, Mark, Step, Trace};
 
@@ -32,8 +32,8 @@ fn lane_of(text: &[u8]) -> Option<LaneId>
 fn mark_of(text: &[u8]) -> Option<Mark>
     ensures { Reads mark_text MarkFits text.now result }
 {
-    let (lane, rest) = cut(b':', text)?;
-    let (place, stamp) = cut(b'@', rest)?;
+    let (lane, rest) = cut_near(b':', text)?;
+    let (place, stamp) = cut_near(b'@', rest)?;
     Some(Mark {
         lane: lane_of(lane)?,
         place: number_below(MOST_NUMBERS, place)?,
