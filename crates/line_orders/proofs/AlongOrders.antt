@@ -1,6 +1,6 @@
 -- What goes along the orders of callers, from each parent to its children.
-use Rattle.std.proofs.Common.{◌≡◌, ℕ, zero, suc, ◌+◌, ◌<◌, ◌≤◌, Bool, true, false, Option, Some, None, List, [], ◌∷◌, ◌++◌, length, take, drop, min, get_or, map, refl, sym, subst, ap, ◌∙◌, arith, append_assoc}
-use Rattle.std.specs.Prelude.{◌↔◌, ⊤, slice_get}
+use Rattle.std.proofs.Common.{◌≡◌, ℕ, zero, suc, ◌+◌, ◌<◌, ◌≤◌, Option, Some, None, List, [], ◌∷◌, ◌++◌, length, take, drop, min, get_or, map, refl, sym, subst, ap, ◌∙◌, arith, append_assoc}
+use Rattle.std.specs.Prelude.{slice_get}
 use Rattle.std.specs.List.{fold, AllByRecursion}
 use Rattle.std.specs.Global.{Vec}
 use mathlib.Core.Logic.{dite}
@@ -17,7 +17,7 @@ use Rattle.line_orders.specs.declared.order.Fork.{Fork}
 use Rattle.line_orders.specs.Orders.{all_forks, front_in}
 use Rattle.line_orders.specs.Along.{Along, AreAlong, begin_in, kept_at}
 use Rattle.line_orders.proofs.Carried.{get_front}
-use Rattle.line_orders.proofs.Forks.{FoundIn, AtParent, at_parent, rises, steps_before}
+use Rattle.line_orders.proofs.Forks.{AtParent, at_parent, rises, steps_before}
 
 take_drop : {X : Type 0} (n : ℕ) (xs : List X) → take n xs ++ drop n xs ≡ xs
 take_drop zero xs = refl

@@ -1,8 +1,7 @@
 -- Lines and marks stand for a transcript exactly where they stand for its bare lines.
 use Rattle.std.proofs.Common.{◌≡◌, ℕ, suc, List, [], ◌∷◌, map, inl, inr, refl, sym, subst, ap, ◌∙◌}
-use Rattle.std.specs.Prelude.{◌↔◌, ◌⊎◌}
+use Rattle.std.specs.Prelude.{◌↔◌}
 use Rattle.std.specs.List.{AllByRecursion}
-use Rattle.key_names.specs.declared.names.LaneId.{LaneId}
 use Rattle.key_names.specs.declared.names.Step.{Step}
 use Rattle.key_names.specs.declared.events.Event.{Event}
 use Rattle.key_names.specs.declared.events.Word.{Word}
@@ -11,7 +10,7 @@ use Rattle.key_names.specs.Texts.ScriptGrammar.{Script, event_word}
 use Rattle.key_names.specs.SeenLine.{SeenLine}
 use Rattle.key_names.specs.SameSteps.{bare, SameSteps}
 use Rattle.key_names.specs.History.{stamps_of, caller_orders}
-use Rattle.key_names.specs.IsTranscript.{LineIs, LinesFit, EachCaller, HasLines, MarkBy, all_marks, lane_marks, Rises}
+use Rattle.key_names.specs.IsTranscript.{LineIs, LinesFit, EachCaller, HasLines, MarkBy, lane_marks, Rises}
 use Rattle.key_names.specs.IsTranscript.{PlacesStand, MarksStand, script_calls}
 use Rattle.key_names.proofs.Unique.BareLines.{bare_all, bare_marks, bare_orders}
 use Rattle.line_orders.specs.Begun.{IsEarlyFault}

@@ -1,5 +1,5 @@
 -- Where a caller's order begins in its parent's: as it is kept, and as the definitions say.
-use Rattle.std.proofs.Common.{◌≡◌, ℕ, zero, suc, ◌+◌, ◌<◌, ◌≤◌, Bool, true, false, cond, Option, Some, None, List, [], ◌∷◌, ◌++◌, length, take, drop, refl, sym, subst, ap, ◌∙◌, arith, append_assoc, length-append}
+use Rattle.std.proofs.Common.{◌≡◌, ℕ, suc, ◌+◌, ◌<◌, Bool, true, false, Option, Some, None, List, [], ◌∷◌, ◌++◌, length, take, refl, sym, subst, ap, ◌∙◌, arith, append_assoc, length-append}
 use Rattle.std.specs.Prelude.{◌==◌, if◌then◌else◌}
 use Rattle.std.specs.List.{AllByRecursion}
 use Rattle.std.proofs.lemmas.Bool.Decides.{nat_tests}
@@ -10,7 +10,7 @@ use Rattle.key_names.specs.Book.{list_at}
 use Rattle.key_names.specs.Calls.{Call, alone, ForkPoint, with_call_before, fork_point, Parent, parent_here, parent_from}
 use Rattle.key_names.specs.History.{call_steps, calls_steps, through_visit}
 use Rattle.line_orders.specs.declared.order.Fork.{Fork}
-use Rattle.line_orders.specs.Orders.{fork_here, forks_in, all_forks, front_in}
+use Rattle.line_orders.specs.Orders.{forks_in, all_forks, front_in}
 
 through_front : (s r : List Step) → take (length (through_visit s)) (s ++ r) ≡ through_visit s
 through_front [] r = refl

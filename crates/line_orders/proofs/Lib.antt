@@ -12,3 +12,4 @@ pub mod Carried
 pub mod OwnSteps
 pub mod AllCalls
 pub mod SettingsFound
+pub mod MarkGroups

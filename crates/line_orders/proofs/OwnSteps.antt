@@ -1,5 +1,5 @@
 -- Own steps and forks, call by call.
-use Rattle.std.proofs.Common.{◌≡◌, ℕ, suc, ◌+◌, ◌<◌, ◌≤◌, List, [], ◌∷◌, ◌++◌, length, get_or, drop, map, refl, sym, ap, ◌∙◌, arith, append_assoc, length-append, add-one}
+use Rattle.std.proofs.Common.{◌≡◌, ℕ, ◌+◌, ◌<◌, List, [], ◌∷◌, ◌++◌, length, get_or, drop, map, refl, length-append, add-one}
 use Rattle.std.specs.Global.{Vec}
 use Rattle.key_names.specs.declared.names.Step.{Step}
 use Rattle.key_names.specs.History.{call_steps, calls_steps}
@@ -7,7 +7,7 @@ use Rattle.line_orders.specs.declared.called.Called.{Called}
 use Rattle.line_orders.specs.declared.order.Fork.{Fork}
 use Rattle.line_orders.specs.Called.{seen_call, seen_calls}
 use Rattle.line_orders.specs.Orders.{fork_here, forks_in, all_forks}
-use Rattle.line_orders.proofs.Fronts.{goes_on, dropped}
+use Rattle.line_orders.proofs.Fronts.{goes_on}
 
 pub own_next : (calls : List Called) (n : ℕ) (call : Called) (own whole : List Step) → n < length calls →
     call ≡ get_or calls n call → own ++ calls_steps (map seen_call (drop n calls)) ≡ whole →

@@ -1,5 +1,5 @@
 -- What calls find set, and what a child starts with.
-use Rattle.std.proofs.Common.{◌≡◌, ◌⊎◌, inl, inr, ℕ, zero, suc, ◌+◌, ◌<◌, ◌≤◌, Option, Some, None, List, [], ◌∷◌, ◌++◌, length, get_or, take, drop, map, refl, sym, subst, ap, ◌∙◌, arith, length-append}
+use Rattle.std.proofs.Common.{◌≡◌, ◌⊎◌, inl, inr, ℕ, zero, suc, ◌+◌, ◌<◌, Option, Some, None, List, [], ◌∷◌, ◌++◌, length, get_or, take, drop, map, refl, sym, subst, ap, ◌∙◌, arith, length-append}
 use Rattle.std.specs.Prelude.{slice_get, unwrap_or}
 use Rattle.std.specs.List.{fold, AllByRecursion}
 use Rattle.std.specs.Global.{Vec}
@@ -10,7 +10,6 @@ use Rattle.key_names.specs.Calls.{Setting, Call, Parent, parent_from, first_sett
 use Rattle.key_names.specs.Calls.{inherited_setting, first_settings}
 use Rattle.key_names.specs.IsTranscript.{start_setting}
 use Rattle.line_orders.specs.declared.called.Called.{Called}
-use Rattle.line_orders.specs.declared.order.Fork.{Fork}
 use Rattle.line_orders.specs.Called.{seen_call, seen_calls}
 use Rattle.line_orders.specs.Orders.{all_forks, front_in}
 use Rattle.line_orders.specs.Settings.{settings_from, found_by, first_found}

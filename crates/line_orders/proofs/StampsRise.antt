@@ -1,6 +1,6 @@
 -- Stamps rise along some steps exactly where each step may follow the last stamp.
-use Rattle.std.proofs.Common.{◌≡◌, ℕ, ◌<◌, Option, Some, None, List, [], ◌∷◌}
-use Rattle.std.specs.Prelude.{◌↔◌, ⊤}
+use Rattle.std.proofs.Common.{ℕ, Option, Some, None, List, [], ◌∷◌}
+use Rattle.std.specs.Prelude.{◌↔◌}
 use Rattle.std.specs.List.{AllByRecursion}
 use Rattle.key_names.specs.declared.names.Step.{Step}
 use Rattle.key_names.specs.declared.names.Step.TheVariants.{Look, Visit as Marked}

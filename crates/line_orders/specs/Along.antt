@@ -1,5 +1,5 @@
 -- What is carried along some steps.
-use Rattle.std.specs.Prelude.{ℕ, suc, ◌≡◌, ◌≤◌, ⊤, Option, Some, None, List, [], ◌∷◌, length, take, slice_get}
+use Rattle.std.specs.Prelude.{ℕ, ◌≡◌, ◌≤◌, ⊤, Option, Some, None, List, [], ◌∷◌, length, take, slice_get}
 use Rattle.std.specs.List.{fold}
 use Rattle.std.specs.Global.{Vec}
 use Rattle.key_names.specs.declared.names.Step.{Step}

@@ -1,13 +1,25 @@
 -- Marks sorted by lane and stamp, and runs of them.
-use Rattle.std.specs.Prelude.{ℕ, suc, ◌+◌, ◌≡◌, ◌<◌, ◌≤◌, ◌⊎◌, ⊤, Bool, MatchBool, Option, Some, None, List, [], ◌∷◌}
+use Rattle.std.specs.Prelude.{ℕ, suc, ◌+◌, ◌≡◌, ◌<◌, ◌≤◌, ◌⊎◌, ⊤, Bool, true, false, MatchBool, Option, Some, None, List, [], ◌∷◌}
 use Rattle.key_names.specs.declared.names.LaneId.{LaneId}
 use Rattle.key_names.specs.declared.names.LaneId.TheVariants.{Pool as PoolLane, Base as BaseLane, Cpu as CpuLane}
 use Rattle.key_names.specs.declared.names.Mark.{Mark}
 use Rattle.key_names.specs.IsTranscript.{MarkBy, is_same_lane}
+use Rattle.line_orders.specs.declared.marks.Group.{Group}
+use Rattle.line_orders.specs.declared.marks.Group.TheVariants.{Pool, Base, Cpus}
 use Rattle.line_orders.specs.declared.marks.MarkOf.{MarkOf}
 
 abbrev pub seen_mark : MarkOf → MarkBy
 seen_mark of = record { mark = of.mark; who = of.who }
+
+-- the lane is one of those whose marks are gathered together
+abbrev pub is_in : Group → LaneId → Bool
+is_in Pool PoolLane = true
+is_in Base BaseLane = true
+is_in Cpus (CpuLane c) = true
+is_in _ _ = false
+
+abbrev pub is_by : Group → MarkBy → Bool
+is_by group by = is_in group by.mark.lane
 
 -- the pool, the base, and then the CPUs by their numbers
 abbrev pub lane_rank : LaneId → ℕ

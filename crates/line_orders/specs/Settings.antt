@@ -1,5 +1,5 @@
 -- The settings that calls find.
-use Rattle.std.specs.Prelude.{ℕ, ◌≡◌, ◌<◌, Option, Some, None, List, [], ◌∷◌, length, slice_get, unwrap_or}
+use Rattle.std.specs.Prelude.{ℕ, ◌≡◌, Option, Some, None, List, [], ◌∷◌, length, slice_get, unwrap_or}
 use Rattle.std.specs.Global.{Vec}
 use Rattle.key_names.specs.Book.{list_at}
 use Rattle.key_names.specs.Calls.{Setting, Call, first_setting, setting_after_call}

@@ -1,10 +1,10 @@
 //! The marks of all lines, and whether in each lane their places count up with their stamps.
 ghost use Rattle.std.specs.Prelude.{◌≡◌, ◌↔◌, ◌+◌, ◌++◌, ◌<◌, ◌≤◌, ℕ, IsTrue, IfOk, OnOk, List, [], map, length, IsPermutation};
-ghost use Rattle.std.specs.List.{flat_map, AllByRecursion};
+ghost use Rattle.std.specs.List.{filter, flat_map, AllByRecursion};
 ghost use Rattle.key_names.specs.declared.names.LaneId.{LaneId};
 ghost use Rattle.key_names.specs.IsTranscript.{is_same_lane, line_marks, all_marks, lane_marks, PlacesStand};
 ghost use Rattle.line_orders.specs.Seen.{seen_bare, seen_callers};
-ghost use Rattle.line_orders.specs.Marks.{seen_mark, lane_rank, Follows, RunsCount, IsSortedByLane};
+ghost use Rattle.line_orders.specs.Marks.{seen_mark, is_in, is_by, lane_rank, Follows, RunsCount, IsSortedByLane};
 
 use crate::bare::BareLine;
 use key_names::{LaneId, Mark, Step, Who};
@@ -17,40 +17,85 @@ pub struct MarkOf {
     pub who: Who,
 }
 
-fn push_line_marks(marks: &mut Vec<MarkOf>, line: &BareLine<'_>) -> Result<(), AllocError>
+/// Lanes whose marks are gathered together.
+#[derive(Clone, Copy)]
+enum Group {
+    Pool,
+    Base,
+    Cpus,
+}
+
+fn is_in(group: Group, lane: LaneId) -> bool
+    ensures { result ≡ is_in group lane }
+{
+    match (group, lane) {
+        (Group::Pool, LaneId::Pool) => true,
+        (Group::Base, LaneId::Base) => true,
+        (Group::Cpus, LaneId::Cpu(_)) => true,
+        _ => false,
+    }
+}
+
+fn push_line_marks(
+    marks: &mut Vec<MarkOf>,
+    group: Group,
+    line: &BareLine<'_>,
+) -> Result<(), AllocError>
     ensures { OnOk result (map seen_mark marks.new.items
-        ≡ map seen_mark marks.old.items ++ line_marks (seen_bare line.now)) }
+        ≡ map seen_mark marks.old.items ++ filter (is_by group) (line_marks (seen_bare line.now))) }
 {
     for (number, step) in line.steps.iter().enumerate() {
         if let Step::Visit(mark) = step {
-            let who = Who {
-                caller: line.caller,
-                event: line.event,
-                step: number as u32,
-            };
-            marks.push(MarkOf { mark: *mark, who })?;
+            if is_in(group, mark.lane) {
+                let who = Who {
+                    caller: line.caller,
+                    event: line.event,
+                    step: number as u32,
+                };
+                marks.push(MarkOf { mark: *mark, who })?;
+            }
         }
     }
     Ok(())
 }
 
-fn push_marks(marks: &mut Vec<MarkOf>, lines: &[BareLine<'_>]) -> Result<(), AllocError>
+fn push_marks(
+    marks: &mut Vec<MarkOf>,
+    group: Group,
+    lines: &[BareLine<'_>],
+) -> Result<(), AllocError>
     ensures { OnOk result (map seen_mark marks.new.items
-        ≡ map seen_mark marks.old.items ++ flat_map line_marks (map seen_bare lines.now)) }
+        ≡ map seen_mark marks.old.items ++ filter (is_by group) (flat_map line_marks (map seen_bare lines.now))) }
 {
     for line in lines {
-        push_line_marks(marks, line)?;
+        push_line_marks(marks, group, line)?;
     }
     Ok(())
 }
 
+fn push_group(
+    marks: &mut Vec<MarkOf>,
+    group: Group,
+    callers: &[Vec<BareLine<'_>>],
+) -> Result<(), AllocError>
+    ensures { OnOk result (map seen_mark marks.new.items
+        ≡ map seen_mark marks.old.items ++ filter (is_by group) (all_marks (seen_callers callers.now))) }
+{
+    for lines in callers {
+        push_marks(marks, group, lines)?;
+    }
+    Ok(())
+}
+
+// All marks, those of the pool first and then those of the base: where one caller made them all on one CPU, they stand
+// as they are to be sorted.
 fn gathered(alloc: Global, callers: &[Vec<BareLine<'_>>]) -> Result<Vec<MarkOf>, AllocError>
-    ensures { IfOk result (λ marks. map seen_mark marks.items ≡ all_marks (seen_callers callers.now)) }
+    ensures { IfOk result (λ marks. IsPermutation (all_marks (seen_callers callers.now)) (map seen_mark marks.items)) }
 {
     let mut marks = Vec::new(alloc);
-    for lines in callers {
-        push_marks(&mut marks, lines)?;
-    }
+    push_group(&mut marks, Group::Pool, callers)?;
+    push_group(&mut marks, Group::Base, callers)?;
+    push_group(&mut marks, Group::Cpus, callers)?;
     Ok(marks)
 }
 

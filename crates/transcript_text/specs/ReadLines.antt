@@ -28,6 +28,6 @@ seen_read read = record {
   event = read.event;
   word = read.word;
   answer = read.answer;
-  steps = read.trace;
+  steps = read.steps.now;
   shown = seen_shows read.shows;
 }

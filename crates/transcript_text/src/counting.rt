@@ -7,13 +7,19 @@ ghost use Rattle.transcript_text.specs.ReadTexts.{HasCount, IsLineOf, IsNoLine};
 use crate::lexing::{cut, spells};
 use crate::line::line_of;
 use crate::reading::MOST_CALLERS;
+use key_names::Trace;
 use std::alloc::{AllocError, Global};
 
 /// The caller of the line that a text spells, where it is a line of a caller from this number on.
-fn caller_of(alloc: Global, text: &[u8], least: u32) -> Result<Option<u32>, AllocError>
+fn caller_of(
+    alloc: Global,
+    text: &[u8],
+    trace: &mut Trace,
+    least: u32,
+) -> Result<Option<u32>, AllocError>
     ensures { IfOk result (λ caller. MatchOption caller (IsNoLine text.now least) (IsLineOf text.now least)) }
 {
-    let Some(read) = line_of(alloc, text)? else {
+    let Some(read) = line_of(alloc, text, trace)? else {
         return Ok(None);
     };
     if read.caller < least {
@@ -44,6 +50,7 @@ pub fn count_lines(alloc: Global, text: &[u8]) -> Result<Option<u64>, AllocError
     if !spells(head, b"rngtranscript 1") {
         return Ok(None);
     }
+    let mut trace = Trace::empty();
     let mut rest = behind;
     let mut least = 0;
     let mut count = 0;
@@ -54,7 +61,7 @@ pub fn count_lines(alloc: Global, text: &[u8]) -> Result<Option<u64>, AllocError
             }
             return Ok(Some(count));
         }
-        let Some(caller) = caller_of(alloc, line, least)? else {
+        let Some(caller) = caller_of(alloc, line, &mut trace, least)? else {
             return Ok(None);
         };
         least = caller;

@@ -13,7 +13,7 @@ use std::alloc::{AllocError, Global};
 use std::mem;
 
 /// One more line of a caller.
-fn push_read(lines: &mut CallerLines, read: &ReadLine) -> Result<(), AllocError>
+fn push_read(lines: &mut CallerLines, read: &ReadLine<'_>) -> Result<(), AllocError>
     requires fits { LineFits (seen_read read.now) }
     requires short { IsShort read.now.shows }
     ensures { OnOk result (lines.new.lines ≡ lines.old.lines ++ seen_read read.now ∷ []) }
@@ -48,7 +48,7 @@ pub(crate) fn add_line(
     alloc: Global,
     done: &mut Vec<CallerLines>,
     current: &mut CallerLines,
-    read: &ReadLine,
+    read: &ReadLine<'_>,
 ) -> Result<(), AllocError>
     requires later { vec_len done.old ≤ (seen_read read.now).caller }
     requires fits { LineFits (seen_read read.now) }

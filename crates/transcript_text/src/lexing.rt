@@ -5,6 +5,9 @@ ghost use Rattle.transcript_text.specs.Reading.{lacks, Reads};
 use event_script::numbers::number_up_to;
 use memchr::memchr;
 
+/// So many bytes are looked at one by one.
+const NEAR: usize = 8;
+
 /// Whether a text is this one.
 pub(crate) fn spells(text: &[u8], name: &[u8]) -> bool
     ensures { IsTrue result ↔ (text.now ≡ name.now) }
@@ -21,6 +24,19 @@ pub(crate) fn cut(byte: u8, text: &[u8]) -> Option<(&[u8], &[u8])>
         Some(place) => Some((&text[..place], &text[place + 1..])),
         None => None,
     }
+}
+
+/// The same, for a short front: the first bytes are looked at one by one, which takes less than to begin a search.
+pub(crate) fn cut_near(byte: u8, text: &[u8]) -> Option<(&[u8], &[u8])>
+    ensures { MatchOption result (lacks byte text.now ≡ true)
+        (λ both. (text.now ≡ both.0.now ++ byte ∷ both.1.now) × (lacks byte both.0.now ≡ true)) }
+{
+    for place in 0..text.len().min(NEAR) {
+        if text[place] == byte {
+            return Some((&text[..place], &text[place + 1..]));
+        }
+    }
+    cut(byte, text)
 }
 
 /// The number below a limit that a text spells in decimal, without leading zeros.

@@ -8,11 +8,11 @@ ghost use Rattle.transcript_text.specs.Shows.{bytes_read};
 ghost use Rattle.transcript_text.specs.Views.{bytes_of, seen};
 
 use crate::data::{Shows, shown_of};
-use crate::lexing::{cut, number_below};
+use crate::lexing::{cut, cut_near, number_below};
 use crate::names::{answer_of, word_of};
 use crate::steps::steps_of;
 use crate::view::LineView;
-use key_names::{Answer, Trace, Word};
+use key_names::{Answer, Step, Trace, Word};
 use std::alloc::{AllocError, Global};
 
 /// The caller's and the event's number.
@@ -34,16 +34,16 @@ struct Fields<'a> {
 
 /// A line as it was read.
 #[derive(Drop)]
-pub(crate) struct ReadLine {
+pub(crate) struct ReadLine<'a> {
     pub(crate) caller: u32,
     pub(crate) event: u32,
     pub(crate) word: Word,
     pub(crate) answer: Answer,
-    pub(crate) trace: Trace,
+    pub(crate) steps: &'a [Step],
     pub(crate) shows: Shows,
 }
 
-impl ReadLine {
+impl<'a> ReadLine<'a> {
     /// The line.
     pub(crate) fn view(&self) -> LineView<'_>
         ensures line { seen result ≡ seen_read self.now }
@@ -54,7 +54,7 @@ impl ReadLine {
             event: self.event,
             word: self.word,
             answer: self.answer,
-            steps: self.trace.steps(),
+            steps: self.steps,
             shown: self.shows.view(),
         }
     }
@@ -63,7 +63,7 @@ impl ReadLine {
 fn numbers_of(text: &[u8]) -> Option<Numbers>
     ensures { Reads numbers_text NumbersFit text.now result }
 {
-    let (caller, event) = cut(b'.', text)?;
+    let (caller, event) = cut_near(b'.', text)?;
     let caller = number_below(1 << 32, caller)?;
     let event = number_below(1 << 32, event)?;
     Some(Numbers {
@@ -76,9 +76,9 @@ fn fields_of(line: &[u8]) -> Option<Fields<'_>>
     ensures { MatchOption result ((a b c d e : List ℕ) → IsSplit line.now a b c d e → ⊥)
         (λ f. IsSplit line.now f.numbers.now f.word.now f.answer.now f.steps.now f.shown.now) }
 {
-    let (numbers, rest) = cut(b' ', line)?;
-    let (word, rest) = cut(b' ', rest)?;
-    let (answer, rest) = cut(b' ', rest)?;
+    let (numbers, rest) = cut_near(b' ', line)?;
+    let (word, rest) = cut_near(b' ', rest)?;
+    let (answer, rest) = cut_near(b' ', rest)?;
     let (steps, shown) = cut(b' ', rest)?;
     Some(Fields {
         numbers,
@@ -89,8 +89,12 @@ fn fields_of(line: &[u8]) -> Option<Fields<'_>>
     })
 }
 
-/// The line that a text without its line feed spells.
-pub(crate) fn line_of(alloc: Global, text: &[u8]) -> Result<Option<ReadLine>, AllocError>
+/// The line that a text without its line feed spells. Its steps are put in the trace.
+pub(crate) fn line_of<'a>(
+    alloc: Global,
+    text: &[u8],
+    trace: &'a mut Trace,
+) -> Result<Option<ReadLine<'a>>, AllocError>
     ensures { IfOk result (λ line. Reads line_text LineFits text.now (option_map seen_read line)) }
 {
     let Some(fields) = fields_of(text) else {
@@ -105,7 +109,7 @@ pub(crate) fn line_of(alloc: Global, text: &[u8]) -> Result<Option<ReadLine>, Al
     let Some(answer) = answer_of(fields.answer) else {
         return Ok(None);
     };
-    let Some(trace) = steps_of(fields.steps) else {
+    let Some(steps) = steps_of(fields.steps, trace) else {
         return Ok(None);
     };
     let Some(shows) = shown_of(alloc, word, fields.shown)? else {
@@ -116,7 +120,7 @@ pub(crate) fn line_of(alloc: Global, text: &[u8]) -> Result<Option<ReadLine>, Al
         event: numbers.event,
         word,
         answer,
-        trace,
+        steps,
         shows,
     }))
 }

@@ -11,16 +11,19 @@ use crate::grouping::{add_line, finish};
 use crate::lexing::{cut, spells};
 use crate::line::line_of;
 use crate::transcript::Transcript;
+use key_names::Trace;
 use std::alloc::{AllocError, Global};
 
 /// A transcript has fewer callers than this number and one more.
 pub(crate) const MOST_CALLERS: u32 = 64;
 
-/// Adds the line that a text spells, and answers whether it is a line of the current caller or of a later one.
+/// Adds the line that a text spells, and answers whether it is a line of the current caller or of a later one. The
+/// trace is room for its steps, so that no line has to clear or move any.
 fn take_line(
     alloc: Global,
     done: &mut Vec<CallerLines>,
     current: &mut CallerLines,
+    trace: &mut Trace,
     text: &[u8],
 ) -> Result<bool, AllocError>
     requires { length text.now < 2 ^ 32 }
@@ -29,7 +32,7 @@ fn take_line(
         current.old.lines current.new.lines)
         (IsNoLine text.now (vec_len done.old))) }
 {
-    let Some(read) = line_of(alloc, text)? else {
+    let Some(read) = line_of(alloc, text, trace)? else {
         return Ok(false);
     };
     if read.caller >= MOST_CALLERS {
@@ -54,6 +57,7 @@ fn read_text(alloc: Global, text: &[u8]) -> Result<Transcript, TextError>
     }
     let mut done = Vec::new(alloc);
     let mut current = CallerLines::with_room(alloc, 0, 0, 0)?;
+    let mut trace = Trace::empty();
     let mut rest = behind;
     let mut number = 1;
     while let Some((line, behind)) = cut(b'\n', rest) {
@@ -64,7 +68,7 @@ fn read_text(alloc: Global, text: &[u8]) -> Result<Transcript, TextError>
             }
             return Ok(finish(done, current)?);
         }
-        if !take_line(alloc, &mut done, &mut current, line)? {
+        if !take_line(alloc, &mut done, &mut current, &mut trace, line)? {
             return Err(TextError::Fault { line: number });
         }
         rest = behind;

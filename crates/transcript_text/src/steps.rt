@@ -1,10 +1,11 @@
 //! Steps, read.
 ghost use Rattle.std.specs.Prelude.{◌≡◌, ◌<◌, ◌≤◌, ◌^◌, length};
 ghost use Rattle.std.specs.List.{AllByRecursion};
+ghost use Rattle.std.specs.Option.{option_map};
 ghost use Rattle.key_names.specs.Texts.TranscriptGrammar.{lane_text, mark_text, step_text, steps_text, LaneFits, MarkFits, StepFits};
 ghost use Rattle.transcript_text.specs.Reading.{Reads, StepsFit};
 
-use crate::lexing::{cut, number_below, spells};
+use crate::lexing::{cut, cut_near, number_below, spells};
 use key_names::trace::MOST_STEPS;
 use key_names::{LaneId, Mark, Step, Trace};
 
@@ -31,8 +32,8 @@ fn lane_of(text: &[u8]) -> Option<LaneId>
 fn mark_of(text: &[u8]) -> Option<Mark>
     ensures { Reads mark_text MarkFits text.now result }
 {
-    let (lane, rest) = cut(b':', text)?;
-    let (place, stamp) = cut(b'@', rest)?;
+    let (lane, rest) = cut_near(b':', text)?;
+    let (place, stamp) = cut_near(b'@', rest)?;
     Some(Mark {
         lane: lane_of(lane)?,
         place: number_below(MOST_NUMBERS, place)?,
@@ -57,20 +58,21 @@ fn step_of(text: &[u8]) -> Option<Step>
     }
 }
 
-/// The steps that a text names: a dash for none, otherwise at most 20 with commas between them.
-pub(crate) fn steps_of(text: &[u8]) -> Option<Trace>
-    ensures { Reads steps_text StepsFit text.now result }
+/// The steps that a text names: a dash for none, otherwise at most 20 with commas between them. They are put in the
+/// trace, which has no others.
+pub(crate) fn steps_of<'t>(text: &[u8], trace: &'t mut Trace) -> Option<&'t [Step]>
+    ensures { Reads steps_text StepsFit text.now (option_map (λ steps. steps.now) result) }
 {
-    let mut trace = Trace::empty();
+    trace.clear();
     if spells(text, b"-") {
-        return Some(trace);
+        return Some(trace.steps());
     }
     let mut rest = text;
     for _ in 0..MOST_STEPS {
         match cut(b',', rest) {
             None => {
                 trace.push(step_of(rest)?);
-                return Some(trace);
+                return Some(trace.steps());
             }
             Some((front, behind)) => {
                 trace.push(step_of(front)?);

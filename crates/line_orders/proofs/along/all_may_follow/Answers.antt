@@ -1,5 +1,5 @@
 use Rattle.std.specs.Prelude.{slice_get}
-use Rattle.std.proofs.Common.{◌≡◌, ◌+◌, ◌<◌, [], ◌∷◌, ◌++◌, length, map, refl, sym, subst, ap, ◌∙◌, arith}
+use Rattle.std.proofs.Common.{◌≡◌, ◌+◌, [], ◌∷◌, ◌++◌, length, refl, sym, ap, ◌∙◌, arith}
 use Rattle.std.proofs.lemmas.List.{length_push}
 use Rattle.line_orders.proofs.Carried.{get_last}
 use Rattle.line_orders.proofs.AlongOrders.{all_follow, owns_long, must_follow, now_kept, kept_more_callers}

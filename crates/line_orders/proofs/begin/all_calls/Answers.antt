@@ -1,7 +1,6 @@
-use Rattle.std.proofs.Common.{◌≡◌, ◌≤◌, length, map, sym, ap, ◌∙◌, arith}
+use Rattle.std.proofs.Common.{◌≡◌, length, map, sym, ap, ◌∙◌, arith}
 use Rattle.std.specs.Global.{Vec}
 use Rattle.std.proofs.lemmas.List.{length-map}
-use Rattle.key_names.specs.Calls.{calls_of}
 use Rattle.line_orders.specs.declared.bare.BareLine.{BareLine}
 use Rattle.line_orders.specs.Seen.{seen_bare, seen_callers}
 use Rattle.line_orders.specs.Called.{seen_calls}

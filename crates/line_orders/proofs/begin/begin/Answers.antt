@@ -1,7 +1,6 @@
-use Rattle.std.proofs.Common.{◌≡◌, ◌≤◌, List, length, map, inr, refl, sym, ap, ◌∙◌, arith}
+use Rattle.std.proofs.Common.{◌≡◌, List, length, map, inr, refl, sym, ap, ◌∙◌, arith}
 use Rattle.std.specs.Global.{Vec}
 use Rattle.std.proofs.lemmas.List.{length-map}
-use Rattle.key_names.specs.Calls.{Call}
 use Rattle.key_names.specs.declared.names.Step.{Step}
 use Rattle.key_names.specs.History.{calls_steps, caller_orders}
 use Rattle.key_names.specs.IsTranscript.{all_marks, script_calls}

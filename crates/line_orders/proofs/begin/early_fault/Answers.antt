@@ -1,6 +1,3 @@
-use Rattle.std.proofs.Common.{◌≡◌, map, ◌∙◌}
-use Rattle.key_names.specs.SameSteps.{bare}
-use Rattle.line_orders.specs.Seen.{seen_callers}
 use Rattle.line_orders.proofs.BareStands.{lines_both, marks_both, fault_of_bare}
 use Rattle.line_orders.proofs.begin.early_fault.Goals as goal
 

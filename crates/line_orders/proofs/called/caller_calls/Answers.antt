@@ -1,8 +1,6 @@
-use Rattle.std.proofs.Common.{◌≡◌, ◌+◌, ◌<◌, ◌≤◌, Bool, true, false, length, drop, refl, sym, ◌∙◌, arith}
+use Rattle.std.proofs.Common.{◌≡◌, ◌+◌, ◌<◌, ◌≤◌, true, false, refl, ◌∙◌, arith}
 use Rattle.std.specs.Prelude.{nat_lt}
 use Rattle.std.proofs.lemmas.Bool.Decides.{nat_tests}
-use Rattle.key_names.specs.Calls.{has_vread}
-use Rattle.line_orders.specs.Called.{seen_act}
 use Rattle.line_orders.proofs.CallsFrom.{vread_next, waits_next, unbound_next, alone_next, calls_end}
 use Rattle.line_orders.proofs.called.caller_calls.Goals as goal
 use Rattle.line_orders.proofs.called.caller_calls.Goals.{in-Vread+in_ok-push-in-Vread, in-Inside+then-number-end+in_ok-push-in-Inside, in-Inside+else-number-end+in_ok-push-in-Inside-2, in_default+in_ok-push-in_default}

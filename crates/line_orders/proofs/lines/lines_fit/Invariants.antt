@@ -1,4 +1,4 @@
-use Rattle.std.proofs.Common.{map, drop}
+use Rattle.std.proofs.Common.{drop}
 use Rattle.std.specs.Prelude.{◌↔◌}
 use Rattle.key_names.specs.IsTranscript.{LinesFit, EachCaller}
 use Rattle.line_orders.specs.Seen.{seen_callers}

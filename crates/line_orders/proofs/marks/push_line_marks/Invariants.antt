@@ -1,10 +1,12 @@
 use Rattle.std.proofs.Common.{◌≡◌, ◌++◌, map, drop}
+use Rattle.std.specs.List.{filter}
 use Rattle.key_names.specs.IsTranscript.{line_marks, marks_from}
 use Rattle.line_orders.specs.Seen.{seen_bare}
-use Rattle.line_orders.specs.Marks.{seen_mark}
+use Rattle.line_orders.specs.Marks.{seen_mark, is_by}
 use Rattle.line_orders.proofs.marks.push_line_marks.Given as goal
 
 abbrev pub invariant-loop-number : goal.invariant-loop-number
 invariant-loop-number l =
-    map seen_mark l.marks.items ++ marks_from l.line.caller l.line.event l.number (drop l.number l.line.steps.now)
-    ≡ map seen_mark l.initial.marks.items ++ line_marks (seen_bare l.line)
+    map seen_mark l.marks.items
+    ++ filter (is_by l.group) (marks_from l.line.caller l.line.event l.number (drop l.number l.line.steps.now))
+    ≡ map seen_mark l.initial.marks.items ++ filter (is_by l.group) (line_marks (seen_bare l.line))

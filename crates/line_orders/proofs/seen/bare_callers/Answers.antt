@@ -1,4 +1,4 @@
-use Rattle.std.proofs.Common.{◌<◌, [], length, map, ap, ◌∙◌, arith}
+use Rattle.std.proofs.Common.{[], map, ap, ◌∙◌, arith}
 use Rattle.std.specs.Global.{Vec}
 use Rattle.std.proofs.lemmas.List.{take_all}
 use Rattle.key_names.specs.SameSteps.{bare}

@@ -47,7 +47,7 @@ returns c =
       event = c.in-Some-numbers_of.numbers.event;
       word = c.in-Some-word_of.word;
       answer = c.in-Some-answer_of.answer;
-      trace = c.in-Some-steps_of.trace;
+      steps = c.in-Some-steps_of.steps;
       shows = c.in-Some-2.shows;
     }))
     c.in-Some-numbers_of.ensures.1 c.in-Some-numbers_of.ensures.0 c.in-Some-word_of.ensures.1
