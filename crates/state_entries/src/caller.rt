@@ -52,18 +52,19 @@ impl Model for Caller {
     ghost Value = { States };
 
     ghost view = { λ s. record {
-        outlines = record { each = s.outlines.items; current = s.current };
-        lists = lists_over s.lists.items;
-        stamp = s.stamp;
+      outlines = record { each = s.outlines.items; current = s.current };
+      lists = lists_over s.lists.items;
+      stamp = s.stamp;
     } };
 }
 
 impl Caller {
-    ghost use Rattle.std.specs.Prelude.{◌≡◌, IfOk, OnOk, map};
+    ghost use Rattle.std.specs.Prelude.{◌≡◌, ◌++◌, IfOk, OnOk, map, slice_set};
     ghost use Rattle.line_orders.specs.Called.{seen_act, seen_call};
-    ghost use Rattle.state_entries.specs.Callers.{current_outline};
+    ghost use Rattle.state_entries.specs.Callers.{current_outline, with_outline};
     ghost use Rattle.state_entries.specs.Left.{nothing_left, vread_left};
-    ghost use Rattle.state_entries.specs.Stamped.{States, first_states, left_over, lists_over};
+    ghost use Rattle.state_entries.specs.Entries.{call_entries};
+    ghost use Rattle.state_entries.specs.Stamped.{States, first_states, current_list, over, left_over, lists_over};
     ghost use Rattle.state_entries.specs.Stamped.{states_after, states_after_event};
 
     /// A caller that made no call yet, whose last visit, if its parent made one before the fork, has this stamp.
@@ -97,18 +98,34 @@ impl Caller {
         }
     }
 
+    fn set_outline(&mut self, outline: Outline)
+        ensures { self.new ≡ record self.old { outlines = with_outline self.old.outlines outline } }
+    {
+        if self.current < self.outlines.len() {
+            self.outlines[self.current] = outline;
+        }
+    }
+
+    fn put(&mut self, left: &[LeftEntry], done: u64, event: u32) -> Result<(), AllocError>
+        ensures { OnOk result (self.new ≡ record self.old {
+          lists = slice_set self.old.lists self.old.outlines.current
+              (current_list self.old ++ over done (call_entries left.now));
+        }) }
+    {
+        if self.current >= self.lists.len() {
+            return Ok(());
+        }
+        put_behind(&mut self.lists[self.current], left, done, event)?;
+        Ok(())
+    }
+
     // A call that was over at a stamp left this of the current state.
     fn keep(&mut self, left: &Leaving, done: u64, event: u32) -> Result<(), AllocError>
         ensures { OnOk result (self.new ≡ left_over done left.now self.old) }
     {
         self.stamp = done;
-        if self.current < self.outlines.len() {
-            self.outlines[self.current] = left.outline();
-        }
-        if self.current < self.lists.len() {
-            put_behind(&mut self.lists[self.current], left.entries(), done, event)?;
-        }
-        Ok(())
+        self.set_outline(left.outline());
+        self.put(left.entries(), done, event)
     }
 
     // An event by itself that is over at a stamp.
@@ -145,7 +162,7 @@ impl Caller {
         done: u64,
     ) -> Result<(), AllocError>
         ensures { OnOk result (self.new ≡ left_over done (vread_left len flags (map seen_act acts.now)
-            (nothing_left (current_outline self.old.outlines)) line.steps.now) self.old) }
+            (nothing_left (current_outline self.old.outlines)) line.entry.steps.now) self.old) }
     {
         let mut left = Leaving::begin(alloc, self.outline(), self.stamp);
         left.vread(len, flags, acts, line.steps)?;

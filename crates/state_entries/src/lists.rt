@@ -1,5 +1,6 @@
 //! The lists of the vgetrandom states of all callers.
-ghost use Rattle.std.specs.Prelude.{◌≡◌, ◌<◌, ℕ, IfOk, List, map, length, slice_get, unwrap_or};
+ghost use Rattle.std.specs.Prelude.{◌≡◌, ◌<◌, ℕ, IfOk, List, map, length, take, slice_get, unwrap_or};
+ghost use Rattle.key_names.specs.Book.{list_at};
 ghost use Rattle.key_names.specs.Calls.{Call};
 ghost use Rattle.key_names.specs.History.{calls_steps};
 ghost use Rattle.key_names.specs.IsTranscript.{script_calls};
@@ -7,7 +8,7 @@ ghost use Rattle.key_names.specs.SeenLine.{SeenLine};
 ghost use Rattle.key_names.specs.Texts.ScriptGrammar.{Script};
 ghost use Rattle.line_orders.specs.Begun.{PartsStand};
 ghost use Rattle.line_orders.specs.Called.{seen_call, seen_calls};
-ghost use Rattle.line_orders.specs.Orders.{all_forks};
+ghost use Rattle.line_orders.specs.Orders.{all_forks, front_in};
 ghost use Rattle.state_entries.specs.Cut.{AreCutByStamp};
 ghost use Rattle.state_entries.specs.Entries.{all_lists_in};
 ghost use Rattle.state_entries.specs.Laws.{AreStateLists};
@@ -17,39 +18,75 @@ ghost use Rattle.state_entries.specs.Stamps.{start_stamp};
 use crate::caller::Caller;
 use crate::entry::StateEntry;
 use crate::stamps::latest;
+use key_names::Step;
 use line_orders::begin::Parts;
 use line_orders::called::Called;
-use line_orders::order::{Orders, front_of};
+use line_orders::order::Fork;
 use std::alloc::{AllocError, Global};
 
+// The fork of a caller, if there is one.
+fn fork_of(forks: &[Fork], caller: usize) -> Option<Fork>
+    ensures { result ≡ front_in caller forks.now }
+{
+    for fork in forks {
+        if fork.child as usize == caller {
+            return Some(*fork);
+        }
+    }
+    None
+}
+
+// The first steps of some, or all where they are fewer.
+fn first_steps(steps: &[Step], count: usize) -> &[Step]
+    ensures { result.now ≡ take count steps.now }
+{
+    steps.get(..count).unwrap_or(steps)
+}
+
+// The parent's own steps before a fork.
+fn steps_before<'a>(own: &'a [Vec<Step>], fork: Fork) -> &'a [Step]
+    ensures { (callers : List (List Call)) → map (λ own. own.items) own.now ≡ map calls_steps callers →
+        result.now ≡ take fork.steps (calls_steps (list_at callers fork.parent)) }
+{
+    match own.get(fork.parent as usize) {
+        Some(steps) => first_steps(steps, fork.steps),
+        None => &[],
+    }
+}
+
+// The stamp at which a caller starts, or 0.
+fn start_at(starts: &[u64], caller: usize) -> u64
+    ensures { result ≡ unwrap_or (slice_get starts.now caller) 0 }
+{
+    starts.get(caller).copied().unwrap_or(0)
+}
+
 // The stamp of the last visit that stands before a caller's own, where those before the callers in front are known.
-fn start_stamp(starts: &[u64], orders: &Orders, caller: u32) -> u64
-    ensures { (callers : List (List Call)) → map (λ own. own.items) orders.now.own.items ≡ map calls_steps callers →
-        orders.now.forks.items ≡ all_forks 0 callers → length starts.now ≡ caller →
+fn start_stamp(starts: &[u64], own: &[Vec<Step>], forks: &[Fork], caller: usize) -> u64
+    ensures { (callers : List (List Call)) → map (λ own. own.items) own.now ≡ map calls_steps callers →
+        forks.now ≡ all_forks 0 callers → length starts.now ≡ caller →
         ((p : ℕ) → p < caller → unwrap_or (slice_get starts.now p) 0 ≡ start_stamp callers p) →
         result ≡ start_stamp callers caller }
 {
-    let Some(fork) = front_of(&orders.forks, caller) else {
-        return 0;
-    };
-    let before = starts.get(fork.parent as usize).copied().unwrap_or(0);
-    match orders.own.get(fork.parent as usize) {
-        Some(own) => latest(before, own.get(..fork.steps).unwrap_or(&[])),
-        None => before,
+    match fork_of(forks, caller) {
+        None => 0,
+        Some(fork) => latest(
+            start_at(starts, fork.parent as usize),
+            steps_before(own, fork),
+        ),
     }
 }
 
 // Those of each caller.
-fn start_stamps(alloc: Global, orders: &Orders) -> Result<Vec<u64>, AllocError>
-    requires { length orders.now.own.items ≤ 64 }
+fn start_stamps(alloc: Global, own: &[Vec<Step>], forks: &[Fork]) -> Result<Vec<u64>, AllocError>
     ensures { IfOk result (λ starts. (callers : List (List Call)) →
-        map (λ own. own.items) orders.now.own.items ≡ map calls_steps callers →
-        orders.now.forks.items ≡ all_forks 0 callers →
+        map (λ own. own.items) own.now ≡ map calls_steps callers → forks.now ≡ all_forks 0 callers →
         (c : ℕ) → c < length callers → unwrap_or (slice_get starts.items c) 0 ≡ start_stamp callers c) }
 {
     let mut starts = Vec::new(alloc);
-    for caller in 0..orders.own.len() {
-        starts.push(start_stamp(&starts, orders, caller as u32))?;
+    for caller in 0..own.len() {
+        let stamp = start_stamp(&starts, own, forks, caller);
+        starts.push(stamp)?;
     }
     Ok(starts)
 }
@@ -80,7 +117,7 @@ fn all_lists(
 {
     let mut lists = Vec::with_capacity(alloc, callers.len())?;
     for (number, calls) in callers.iter().enumerate() {
-        let start = starts.get(number).copied().unwrap_or(0);
+        let start = start_at(starts, number);
         lists.push(caller_lists(alloc, start, calls)?)?;
     }
     Ok(lists)
@@ -100,7 +137,7 @@ pub fn state_lists(
     ensures cut { (script : Script) (t : List (List SeenLine)) → PartsStand script t parts.now →
         IfOk result (λ lists. AreCutByStamp (script_calls script t) lists.items) }
 {
-    let starts = start_stamps(alloc, &parts.orders)?;
+    let starts = start_stamps(alloc, &parts.orders.own, &parts.orders.forks)?;
     let lists = all_lists(alloc, &starts, &parts.calls)?;
     Ok(lists)
 }

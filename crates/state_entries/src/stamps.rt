@@ -24,13 +24,13 @@ pub(crate) fn latest(stamp: u64, steps: &[Step]) -> u64
 pub(crate) fn behind_point(stamp: u64, acts: &[ActLine<'_>], point: u8) -> u64
     ensures { result ≡ latest_of stamp (steps_at_point (map seen_act acts.now) point) }
 {
-    let mut stamp = stamp;
+    let mut last = stamp;
     for bound in acts {
         if bound.point == point {
-            stamp = latest(stamp, bound.line.steps);
+            last = latest(last, bound.line.steps);
         }
     }
-    stamp
+    last
 }
 
 // The last stamp behind a `vread` and the acts inside it.
