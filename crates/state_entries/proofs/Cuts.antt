@@ -1,6 +1,6 @@
 -- The entries in the lists, and those that a stamp keeps of them.
 use Rattle.std.proofs.Common.{◌≡◌, ℕ, suc, ◌+◌, ◌<◌, ◌≤◌, Bool, true, false, List, [], ◌∷◌, ◌++◌, map, refl, sym, ap, ◌∙◌, arith, length, take}
-use Rattle.std.specs.Prelude.{◌==◌, if◌then◌else◌, nat_le, filter}
+use Rattle.std.specs.Prelude.{if◌then◌else◌, nat_le, filter}
 use Rattle.std.specs.List.{range_with_len}
 use Rattle.std.specs.Global.{Vec}
 use Rattle.std.proofs.lemmas.Bool.Decides.{nat_tests}

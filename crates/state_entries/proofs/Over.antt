@@ -12,9 +12,9 @@ use Rattle.key_names.specs.SeenLine.{SeenLine}
 use Rattle.key_names.proofs.Transcripts.TranscriptStates.{set_here, set_other, length_set}
 use Rattle.state_entries.specs.declared.entry.StateEntry.{StateEntry}
 use Rattle.state_entries.specs.Left.{Left, nothing_left, wiped, vread_left}
-use Rattle.state_entries.specs.Callers.{first_outlines, current_outline, outlines_after, outlines_after_event, entries_of_event, entries_left, left_in}
+use Rattle.state_entries.specs.Callers.{first_outlines, current_outline, outlines_after, entries_left, left_in}
 use Rattle.state_entries.specs.Stamps.{over_at}
-use Rattle.state_entries.specs.Stamped.{Over, over, overs_in, lists_over, States, first_states, current_list, left_over, states_after_event, states_after, list_over, caller_over, all_over}
+use Rattle.state_entries.specs.Stamped.{Over, over, overs_in, lists_over, States, first_states, current_list, left_over, states_after, list_over, caller_over, all_over}
 
 abbrev list_of : States → ℕ → List Over
 list_of s k = unwrap_or (slice_get s.lists k) []

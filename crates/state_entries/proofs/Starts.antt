@@ -14,7 +14,7 @@ use Rattle.line_orders.specs.declared.order.Fork.{Fork}
 use Rattle.line_orders.specs.Orders.{all_forks, front_in}
 use Rattle.line_orders.proofs.AlongOrders.{owns_long}
 use Rattle.line_orders.proofs.Carried.{get_front, get_last}
-use Rattle.line_orders.proofs.Forks.{FoundIn, AtParent, at_parent, steps_before}
+use Rattle.line_orders.proofs.Forks.{AtParent, at_parent, steps_before}
 use Rattle.state_entries.specs.Stamps.{latest_of, start_stamp}
 use Rattle.state_entries.proofs.Latest.{latest-append}
 

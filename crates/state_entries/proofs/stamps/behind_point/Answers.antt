@@ -1,4 +1,4 @@
-use Rattle.std.proofs.Common.{◌≡◌, ℕ, ◌+◌, List, ◌∷◌, map, drop, sym, ap, ◌∙◌}
+use Rattle.std.proofs.Common.{ℕ, ◌+◌, List, map, drop, sym, ap, ◌∙◌}
 use Rattle.key_names.specs.Calls.{BoundAct}
 use Rattle.key_names.specs.History.{steps_at_point}
 use Rattle.line_orders.specs.declared.called.ActLine.{ActLine}
