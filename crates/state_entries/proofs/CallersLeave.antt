@@ -70,7 +70,8 @@ set_stands o c d new x st states current is = record {
   where
     new_state : (k : ℕ) → o.current ≡ k → k < 16 → state_at d k ≡ x
     new_state k e below =
-        ap (λ xs. unwrap_or (slice_get xs k) wiped_state) (states ∙ ap (λ i. slice_set c.states i x) (sym st.current ∙ e))
+        ap (λ xs. unwrap_or (slice_get xs k) wiped_state)
+        (states ∙ ap (λ i. slice_set c.states i x) (sym st.current ∙ e))
         ∙ ap (λ o. unwrap_or o wiped_state) (set_here c.states k x (omega (arith, st.states)))
 
     old_state : (k : ℕ) → (o.current ≡ k → ⊥) → state_at d k ≡ state_at c k
@@ -83,7 +84,8 @@ set_stands o c d new x st states current is = record {
     stand k below true e =
         let same : o.current ≡ k = eqb-true o.current k e in
         stands_as (ap (λ i. unwrap_or (slice_get (slice_set o.each i new) k) wiped_outline) same
-        ∙ ap (λ o. unwrap_or o wiped_outline) (set_here o.each k new (omega (arith, st.count)))) (new_state k same below) is
+        ∙ ap (λ o. unwrap_or o wiped_outline) (set_here o.each k new (omega (arith, st.count))))
+        (new_state k same below) is
     stand k below false e =
         let ne : o.current ≡ k → ⊥ = λ p. (let yes : (o.current == k) ≡ true = eq-eqb o.current k p in absurd cc) in
         stands_as (ap (λ o. unwrap_or o wiped_outline) (set_other o.each o.current k new ne)) (old_state k ne)

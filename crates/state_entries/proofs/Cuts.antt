@@ -35,7 +35,8 @@ bare_over : (done : ℕ) (es : List VEntry) → bare (over done es) ≡ es
 bare_over done [] = refl
 bare_over done (e ∷ es) = ap (λ x. e ∷ x) (bare_over done es)
 
-bare_list : (k : ℕ) (o : Outlines) (before : ℕ) (calls : List Call) → bare (list_over k o before calls) ≡ list_left k o calls
+bare_list : (k : ℕ) (o : Outlines) (before : ℕ) (calls : List Call) →
+    bare (list_over k o before calls) ≡ list_left k o calls
 bare_list k o before [] = refl
 bare_list k o before (call ∷ calls) =
     let done : ℕ = over_at before call in
@@ -146,7 +147,8 @@ module _ (stamp : ℕ) where
   kept_entries (e ∷ es) = by (nat_le e.done stamp) (kept_entries es)
     where
       by : (b : Bool) → kept stamp (overs_in es) ≡ entries_to stamp es →
-          bare (if b then record { entry = e.entry; done = e.done } ∷ filter (λ (o : Over). nat_le o.done stamp) (overs_in es)
+          bare (if b
+          then record { entry = e.entry; done = e.done } ∷ filter (λ (o : Over). nat_le o.done stamp) (overs_in es)
           else filter (λ (o : Over). nat_le o.done stamp) (overs_in es))
           ≡ entries_in (if b then e ∷ filter (λ (x : StateEntry). nat_le x.done stamp) es
           else filter (λ (x : StateEntry). nat_le x.done stamp) es)

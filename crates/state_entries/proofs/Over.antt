@@ -30,7 +30,8 @@ nothing_over done false = refl
 -- a call that was over at a stamp puts these entries behind the current list
 record Puts (s : States) (done : ℕ) (l : List VEntry) (t : States) : Type 0 where
   count : length t.lists ≡ length s.lists
-  lists : (k : ℕ) → k < length s.lists → list_of t k ≡ list_of s k ++ over done (here_or_none (s.outlines.current == k) l)
+  lists : (k : ℕ) → k < length s.lists →
+      list_of t k ≡ list_of s k ++ over done (here_or_none (s.outlines.current == k) l)
 
 puts_none : (s : States) (done : ℕ) (t : States) → t.lists ≡ s.lists → Puts s done [] t
 puts_none s done t same = record {
@@ -68,7 +69,8 @@ record Goes (s : States) (call : Call) (t : States) : Type 0 where
   stamp : t.stamp ≡ over_at s.stamp call
   puts : Puts s (over_at s.stamp call) (entries_left s.outlines call) t
 
-alone_goes : (s : States) (event : Event) (line : SeenLine) → Goes s (alone event line) (states_after s (alone event line))
+alone_goes : (s : States) (event : Event) (line : SeenLine) →
+    Goes s (alone event line) (states_after s (alone event line))
 alone_goes s Drop line = record {
   outlines = refl;
   stamp = refl;
@@ -143,7 +145,8 @@ listed (x ∷ xs) from (suc n) f len each =
     let rest = listed xs (from + 1) n f (omega arith) (λ k below.
     let next : from + suc k ≡ from + 1 + k = omega arith in each (suc k) (omega arith) ∙ ap f next) in cc
 
-pub calls_over : (start : ℕ) (calls : List Call) → (fold states_after (first_states start) calls).lists ≡ caller_over start calls
+pub calls_over : (start : ℕ) (calls : List Call) →
+    (fold states_after (first_states start) calls).lists ≡ caller_over start calls
 calls_over start calls =
     let all : AllPut (first_states start) calls (fold states_after (first_states start) calls) =
     calls_put (first_states start) calls in

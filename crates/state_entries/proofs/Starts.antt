@@ -39,7 +39,8 @@ module _ (starts : ℕ → ℕ) (callers : List (List Call)) (c : ℕ)
         ∙ latest-append 0 (start_of callers p) (steps_before parent.fork)
         ∙ ap (λ s. latest_of s (steps_before parent.fork)) (sym (known p low))
     | inr high ↦ ap (λ o. latest_of 0 (inherited_steps (ancestors_steps callers c) o)) is
-        ∙ ap (λ (s : List Step). latest_of 0 (s ++ calls_steps parent.fork.before ++ through_visit parent.fork.line.steps))
+        ∙ ap (λ (s : List Step).
+        latest_of 0 (s ++ calls_steps parent.fork.before ++ through_visit parent.fork.line.steps))
         (list_past (ancestors_steps callers c) p (omega (arith, long_ancestors callers c)))
         ∙ ap (λ s. latest_of s (steps_before parent.fork)) (sym (unknown p high))
   ]

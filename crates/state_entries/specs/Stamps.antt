@@ -6,11 +6,11 @@ use Rattle.key_names.specs.Calls.{Call}
 use Rattle.key_names.specs.CallerOrders.{start_of}
 use Rattle.key_names.specs.History.{call_steps, stamps_of}
 
--- the greatest of a stamp and those of the visits among some steps: the last one, since stamps rise along a caller's order
+-- the greatest of a stamp and those of the visits among some steps: in a caller's order, where stamps rise, the last one
 abbrev pub latest_of : ℕ → List Step → ℕ
 latest_of stamp steps = fold max stamp (stamps_of steps)
 
--- the stamp of the last visit that a caller had made when a call was over, its last one before the call having this stamp
+-- the stamp of the last visit that a caller had made when a call was over, before being that of its last one before
 abbrev pub over_at : ℕ → Call → ℕ
 over_at before call = latest_of before (call_steps call)
 

@@ -36,8 +36,8 @@ fn put_behind(
     Ok(())
 }
 
-/// The sixteen vgetrandom states of a caller, one of which is the current one, the lists that they were left so far, and
-/// the stamp of its last visit.
+/// The sixteen vgetrandom states of a caller, one of which is the current one: their outlines and their lists so far,
+/// and the stamp of the caller's last visit.
 #[derive(Drop)]
 pub struct Caller {
     outlines: Vec<Outline>,

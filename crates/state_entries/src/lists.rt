@@ -123,8 +123,8 @@ fn all_lists(
     Ok(lists)
 }
 
-/// Of each caller, and of each of its sixteen vgetrandom states, the entries that its calls leave, in their order. Where
-/// the parts are those of a transcript, the stamps at which their calls were over tell which calls left them.
+/// Of each caller, and of each of its sixteen vgetrandom states, the entries that its calls leave, in their order, with
+/// the stamps at which the calls were over.
 ///
 /// # Errors
 ///

@@ -17,14 +17,17 @@ loop-number-preserved c =
     let here : lists_over new
     ≡ caller_over (starts c.loop-number.number) (map seen_call c.index-callers-number.result.items) =
     c.in_ok-caller_lists.ensures ∙ ap (λ n. caller_over n (map seen_call c.deref.result.now)) c.start_at-start.ensures
-    ∙ ap (λ (calls : List Called). caller_over (starts c.loop-number.number) (map seen_call calls)) c.deref.ensures.value in
-    ap (λ (l : List (Vec (Vec StateEntry))). all_lists_over l ++ all_over starts (c.loop-number.number + 1) (seen_calls rest))
+    ∙ ap (λ (calls : List Called). caller_over (starts c.loop-number.number) (map seen_call calls))
+    c.deref.ensures.value in
+    ap (λ (l : List (Vec (Vec StateEntry))).
+    all_lists_over l ++ all_over starts (c.loop-number.number + 1) (seen_calls rest))
     c.in_ok-push.ensures.items
     ∙ ap (λ (l : List (List (List Over))). l ++ all_over starts (c.loop-number.number + 1) (seen_calls rest))
     (map_last (λ (l : Vec (Vec StateEntry)). lists_over l.items) c.loop-number.lists.items c.in_ok-caller_lists.field-0)
     ∙ goes_on (λ (xs : List (Vec Called)). all_over starts c.loop-number.number (seen_calls xs))
     (λ (xs : List (Vec Called)). all_over starts (c.loop-number.number + 1) (seen_calls xs)) c.args.callers.now
-    c.loop-number.number c.index-callers-number.result (all_lists_over c.loop-number.lists.items) (lists_over new ∷ []) _
+    c.loop-number.number c.index-callers-number.result (all_lists_over c.loop-number.lists.items)
+    (lists_over new ∷ []) _
     c.loop-number-test.true c.index-callers-number.is
     (one_caller starts c.loop-number.number (map seen_call c.index-callers-number.result.items) (seen_calls rest)
     (lists_over new) here)

@@ -9,6 +9,7 @@ use Rattle.state_entries.proofs.lists.caller_lists.Goals as goal
 pub returns : goal.returns
 returns c =
     c.lists.ensures
-    ∙ ap (λ (s : States). s.lists) (sym (at_drop_all (λ calls. fold states_after c.loop-call.caller (map seen_call calls))
+    ∙ ap (λ (s : States). s.lists)
+    (sym (at_drop_all (λ calls. fold states_after c.loop-call.caller (map seen_call calls))
     c.args.calls.now c.loop-call.call-index c.loop-call-test.false) ∙ c.loop-call.invariant)
     ∙ calls_over c.args.stamp (map seen_call c.args.calls.now)

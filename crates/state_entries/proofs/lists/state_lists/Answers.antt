@@ -16,7 +16,8 @@ pub returns-clause-lists : goal.returns-clause-lists
 returns-clause-lists c = λ lists settings ms means.
     let starts : ℕ → ℕ = λ n. unwrap_or (slice_get c.deref-3.result.now n) 0 in
     entries_are_left starts (seen_calls c.args.parts.now.calls.items) c.in_ok-lists.lists.items
-    (c.in_ok-lists.ensures ∙ ap (λ (calls : List (Vec Called)). all_over starts 0 (seen_calls calls)) c.deref-4.ensures.value)
+    (c.in_ok-lists.ensures
+    ∙ ap (λ (calls : List (Vec Called)). all_over starts 0 (seen_calls calls)) c.deref-4.ensures.value)
     ∙ all_leave lists settings 0 (seen_calls c.args.parts.now.calls.items) ms means
 
 pub returns-clause-cut : goal.returns-clause-cut
@@ -24,7 +25,8 @@ returns-clause-cut c = λ script t stands stamp.
     let callers : List (List Call) = script_calls script t in
     let starts : ℕ → ℕ = λ n. unwrap_or (slice_get c.deref-3.result.now n) 0 in
     entries_are_cut stamp starts (start_stamp callers) callers c.in_ok-lists.lists.items
-    (c.in_ok-lists.ensures ∙ ap (λ (calls : List (Vec Called)). all_over starts 0 (seen_calls calls)) c.deref-4.ensures.value
+    (c.in_ok-lists.ensures
+    ∙ ap (λ (calls : List (Vec Called)). all_over starts 0 (seen_calls calls)) c.deref-4.ensures.value
     ∙ ap (all_over starts 0) stands.calls)
     (λ n low. ap (λ (xs : List ℕ). unwrap_or (slice_get xs n) 0) c.deref-3.ensures.value
     ∙ c.in_ok-starts.ensures callers

@@ -12,7 +12,8 @@ use Rattle.state_entries.proofs.stamps.behind_point.Goals.{then-bound-point, els
 pub loop-bound-preserved : goal.loop-bound-preserved
 loop-bound-preserved c =
     let rest : List BoundAct = map seen_act (drop (c.loop-bound.bound-index + 1) c.args.acts.now) in
-    let so_far = sym (ap (λ (xs : List ActLine). latest_of c.loop-bound.last (steps_at_point (map seen_act xs) c.args.point))
+    let so_far =
+    sym (ap (λ (xs : List ActLine). latest_of c.loop-bound.last (steps_at_point (map seen_act xs) c.args.point))
     (dropped c.args.acts.now c.loop-bound.bound-index c.bound-item.result c.loop-bound-test.true c.bound-item.is))
     ∙ c.loop-bound.invariant in
     elim c.if-bound-point.branch [
