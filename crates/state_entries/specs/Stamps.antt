@@ -10,11 +10,12 @@ use Rattle.key_names.specs.History.{call_steps, stamps_of}
 abbrev pub latest_of : ℕ → List Step → ℕ
 latest_of stamp steps = fold max stamp (stamps_of steps)
 
--- the stamp of the last visit that a caller had made when a call was over, before being that of its last one before
+-- when a call is over: the stamp of the last visit that its caller has made by then, where `before` is that of the last
+-- one in front of the call
 abbrev pub over_at : ℕ → Call → ℕ
 over_at before call = latest_of before (call_steps call)
 
--- how many of some calls were over by a stamp, the caller's last visit before them having the stamp `before`
+-- how many of some calls, from the first on, were over by a stamp
 abbrev pub made_by : ℕ → ℕ → List Call → ℕ
 made_by stamp before [] = 0
 made_by stamp before (call ∷ calls) =
