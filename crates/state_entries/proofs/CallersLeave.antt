@@ -1,11 +1,10 @@
 -- A caller's calls leave the lists of whatever they mean.
-use Rattle.std.proofs.Common.{◌≡◌, ℕ, zero, suc, ◌+◌, ◌<◌, ◌≤◌, Bool, true, false, List, [], ◌∷◌, ◌++◌, map, refl, sym, subst, ap, ◌∙◌, append_assoc, append-nil, arith, length, replicate}
+use Rattle.std.proofs.Common.{◌≡◌, ℕ, zero, suc, ◌<◌, ◌≤◌, Bool, true, false, List, [], ◌∷◌, ◌++◌, map, refl, sym, subst, ap, ◌∙◌, arith, length, replicate}
 use Rattle.std.specs.Prelude.{◌==◌, if◌then◌else◌, slice_get, slice_set, unwrap_or, nat_lt}
 use Rattle.std.proofs.lemmas.Bool.Decides.{nat_tests}
 use Rattle.std.proofs.lemmas.Option.{slice_get_past}
-use Rattle.std.specs.List.{fold, range_with_len}
+use Rattle.std.specs.List.{range_with_len}
 use Rattle.std.proofs.lemmas.Bool.{eqb-true, eq-eqb}
-use Rattle.key_names.specs.declared.entries.VEntry.{VEntry}
 use Rattle.key_names.specs.declared.events.Event.{Event}
 use Rattle.key_names.specs.declared.events.Event.TheVariants.{Drop, State}
 use Rattle.key_names.specs.Book.{Lists}
@@ -16,233 +15,187 @@ use Rattle.key_names.specs.VgetrandomState.{VgetrandomState, wiped_state}
 use Rattle.key_names.specs.Meaning.{CallerState, caller_start, CallMeaning, current_state, Means, LineMeaning, AloneMeans}
 use Rattle.key_names.specs.IsTranscript.{CallsMean, EachOfCall, EachLine, entries_of_state, CallerMeans, EachCaller, state_lists}
 use Rattle.key_names.proofs.Transcripts.TranscriptStates.{state_at, set_here, set_other, length_set}
+use Rattle.state_entries.specs.declared.outline.Outline.{Outline}
 use Rattle.state_entries.specs.Outline.{wiped_outline, IsBetweenCalls}
-use Rattle.state_entries.specs.Left.{Left, nothing_left, wiped}
-use Rattle.state_entries.specs.Callers.{States, first_states, current_left, with_left, states_after, states_after_event, lists_left}
+use Rattle.state_entries.specs.Left.{nothing_left}
+use Rattle.state_entries.specs.Callers.{Outlines, first_outlines, current_outline, with_outline, outlines_after_event, outlines_after, entries_of_event, entries_left, left_in, list_left, lists_left}
 use Rattle.state_entries.specs.Laws.{CallsLeave}
 use Rattle.state_entries.proofs.VreadsLeave.{vread_leaves}
 
--- what was left of the state of a number
-abbrev pub left_at : States → ℕ → Left
-left_at s k = unwrap_or (slice_get s.left k) nothing_left
+abbrev outline_at : Outlines → ℕ → Outline
+outline_at o k = unwrap_or (slice_get o.each k) wiped_outline
 
 -- each state has its outline
-pub record Stands (s : States) (c : CallerState) : Type 0 where
-  pub count : length s.left ≡ 16
-  pub states : length c.states ≡ 16
-  pub current : s.current ≡ c.current
-  pub each : (k : ℕ) → k < 16 → IsBetweenCalls (left_at s k).outline (state_at c k)
+record Stands (o : Outlines) (c : CallerState) : Type 0 where
+  count : length o.each ≡ 16
+  states : length c.states ≡ 16
+  current : o.current ≡ c.current
+  each : (k : ℕ) → k < 16 → IsBetweenCalls (outline_at o k) (state_at c k)
 
--- a call leaves the states so, and its entries in the list of the current one
-pub record Goes (s : States) (m : CallMeaning) (t : States) : Type 0 where
-  pub stands : Stands t m.after
-  pub entries : (k : ℕ) → k < 16 →
-      (left_at t k).entries ≡ (left_at s k).entries ++ (if m.before.current == k then m.entries else [])
+-- the outlines go along with a call, and its entries are those that it means
+record Goes (o : Outlines) (call : Call) (m : CallMeaning) : Type 0 where
+  stands : Stands (outlines_after o call) m.after
+  entries : entries_left o call ≡ m.entries
 
-stands_as : {l l' : Left} {x x' : VgetrandomState} → l ≡ l' → x ≡ x' → IsBetweenCalls l'.outline x' →
-    IsBetweenCalls l.outline x
+stands_as : {l l' : Outline} {x x' : VgetrandomState} → l ≡ l' → x ≡ x' → IsBetweenCalls l' x' → IsBetweenCalls l x
 stands_as {l = l} {l' = l'} {x = x} {x' = x'} p q is =
-    let P : Left → Type 0 = λ y. IsBetweenCalls y.outline x in
-    let Q : VgetrandomState → Type 0 = λ y. IsBetweenCalls l'.outline y in subst P (sym p) (subst Q (sym q) is)
+    let P : Outline → Type 0 = λ y. IsBetweenCalls y x in
+    let Q : VgetrandomState → Type 0 = λ y. IsBetweenCalls l' y in subst P (sym p) (subst Q (sym q) is)
 
 wiped_stands : IsBetweenCalls wiped_outline wiped_state
 wiped_stands = record { outline = record { generation = refl; served = refl }; idle = refl }
 
 -- where nothing happens to the states
-same_goes : (s : States) (m : CallMeaning) (t : States) → Stands s m.before → t.left ≡ s.left →
-    m.after.states ≡ m.before.states → t.current ≡ m.after.current → m.entries ≡ [] → Goes s m t
-same_goes s m t st left states current none = record {
-  stands = record {
-    count = ap length left ∙ st.count;
-    states = ap length states ∙ st.states;
-    current = current;
-    each = λ k below.
-        stands_as (ap (λ x. unwrap_or (slice_get x k) nothing_left) left)
-        (ap (λ x. unwrap_or (slice_get x k) wiped_state) states) (st.each k below);
-  };
-  entries = λ k below. ap (λ x. (unwrap_or (slice_get x k) nothing_left).entries) left
-      ∙ sym (append-nil (left_at s k).entries)
-      ∙ ap (λ es. (left_at s k).entries ++ es) (sym (nothing (m.before.current == k)));
+same_stands : (o p : Outlines) (c d : CallerState) → Stands o c → p.each ≡ o.each → d.states ≡ c.states →
+    p.current ≡ d.current → Stands p d
+same_stands o p c d st outlines states current = record {
+  count = ap length outlines ∙ st.count;
+  states = ap length states ∙ st.states;
+  current = current;
+  each = λ k below.
+      stands_as (ap (λ x. unwrap_or (slice_get x k) wiped_outline) outlines)
+      (ap (λ x. unwrap_or (slice_get x k) wiped_state) states) (st.each k below);
 }
-  where
-    nothing : (b : Bool) → (if b then m.entries else []) ≡ []
-    nothing true = none
-    nothing false = refl
 
 -- where the current state becomes another one
-set_goes : (s : States) (m : CallMeaning) (new : Left) (x : VgetrandomState) → Stands s m.before →
-    m.after.states ≡ slice_set m.before.states m.before.current x → m.after.current ≡ m.before.current →
-    IsBetweenCalls new.outline x → new.entries ≡ (current_left s).entries ++ m.entries → Goes s m (with_left s new)
-set_goes s m new x st states current is more = record {
-  stands = record {
-    count = length_set s.left s.current new ∙ st.count;
-    states = ap length states ∙ length_set m.before.states m.before.current x ∙ st.states;
-    current = st.current ∙ sym current;
-    each = λ k below. stand k below (s.current == k) refl;
-  };
-  entries = λ k below. entry k below (m.before.current == k) refl;
+set_stands : (o : Outlines) (c d : CallerState) (new : Outline) (x : VgetrandomState) → Stands o c →
+    d.states ≡ slice_set c.states c.current x → d.current ≡ c.current → IsBetweenCalls new x →
+    Stands (with_outline o new) d
+set_stands o c d new x st states current is = record {
+  count = length_set o.each o.current new ∙ st.count;
+  states = ap length states ∙ length_set c.states c.current x ∙ st.states;
+  current = st.current ∙ sym current;
+  each = λ k below. stand k below (o.current == k) refl;
 }
   where
-    T : States
-    T = with_left s new
-
-    -- the current one, and any other
-    here : (k : ℕ) → s.current ≡ k → k < 16 → left_at T k ≡ new
-    here k e below =
-        ap (λ i. unwrap_or (slice_get (slice_set s.left i new) k) nothing_left) e
-        ∙ ap (λ o. unwrap_or o nothing_left) (set_here s.left k new (omega (arith, st.count)))
-
-    other : (k : ℕ) → (s.current ≡ k → ⊥) → left_at T k ≡ left_at s k
-    other k ne = ap (λ o. unwrap_or o nothing_left) (set_other s.left s.current k new ne)
-
-    new_state : (k : ℕ) → s.current ≡ k → k < 16 → state_at m.after k ≡ x
+    new_state : (k : ℕ) → o.current ≡ k → k < 16 → state_at d k ≡ x
     new_state k e below =
         ap (λ xs. unwrap_or (slice_get xs k) wiped_state)
-        (states ∙ ap (λ i. slice_set m.before.states i x) (sym st.current ∙ e))
-        ∙ ap (λ o. unwrap_or o wiped_state) (set_here m.before.states k x (omega (arith, st.states)))
+        (states ∙ ap (λ i. slice_set c.states i x) (sym st.current ∙ e))
+        ∙ ap (λ o. unwrap_or o wiped_state) (set_here c.states k x (omega (arith, st.states)))
 
-    old_state : (k : ℕ) → (s.current ≡ k → ⊥) → state_at m.after k ≡ state_at m.before k
+    old_state : (k : ℕ) → (o.current ≡ k → ⊥) → state_at d k ≡ state_at c k
     old_state k ne =
         ap (λ xs. unwrap_or (slice_get xs k) wiped_state) states
-        ∙ ap (λ o. unwrap_or o wiped_state) (set_other m.before.states m.before.current k x (λ e. ne (st.current ∙ e)))
+        ∙ ap (λ o. unwrap_or o wiped_state) (set_other c.states c.current k x (λ e. ne (st.current ∙ e)))
 
-    stand : (k : ℕ) → k < 16 → (b : Bool) → (s.current == k) ≡ b →
-        IsBetweenCalls (left_at T k).outline (state_at m.after k)
+    stand : (k : ℕ) → k < 16 → (b : Bool) → (o.current == k) ≡ b →
+        IsBetweenCalls (outline_at (with_outline o new) k) (state_at d k)
     stand k below true e =
-        let same : s.current ≡ k = eqb-true s.current k e in
-        stands_as (here k same below) (new_state k same below) is
+        let same : o.current ≡ k = eqb-true o.current k e in
+        stands_as (ap (λ i. unwrap_or (slice_get (slice_set o.each i new) k) wiped_outline) same
+        ∙ ap (λ o. unwrap_or o wiped_outline) (set_here o.each k new (omega (arith, st.count))))
+        (new_state k same below) is
     stand k below false e =
-        let ne : s.current ≡ k → ⊥ = λ p. (let yes : (s.current == k) ≡ true = eq-eqb s.current k p in absurd cc) in
-        stands_as (other k ne) (old_state k ne) (st.each k below)
-
-    entry : (k : ℕ) → k < 16 → (b : Bool) → (m.before.current == k) ≡ b →
-        (left_at T k).entries ≡ (left_at s k).entries ++ (if b then m.entries else [])
-    entry k below true e =
-        let same : s.current ≡ k = st.current ∙ eqb-true m.before.current k e in
-        ap (λ (l : Left). l.entries) (here k same below) ∙ more
-        ∙ ap (λ i. (unwrap_or (slice_get s.left i) nothing_left).entries ++ m.entries) same
-    entry k below false e =
-        ap (λ (l : Left). l.entries) (other k (λ p.
-        let yes : (m.before.current == k) ≡ true = eq-eqb m.before.current k (sym st.current ∙ p) in absurd cc))
-        ∙ sym (append-nil (left_at s k).entries)
+        let ne : o.current ≡ k → ⊥ = λ p. (let yes : (o.current == k) ≡ true = eq-eqb o.current k p in absurd cc) in
+        stands_as (ap (λ o. unwrap_or o wiped_outline) (set_other o.each o.current k new ne)) (old_state k ne)
+        (st.each k below)
 
 -- the current state has its outline, also where there is none of its number
-current_stands : (s : States) (c : CallerState) → Stands s c →
-    IsBetweenCalls (current_left s).outline (current_state c)
-current_stands s c st = go (nat_lt s.current 16) refl
+current_stands : (o : Outlines) (c : CallerState) → Stands o c → IsBetweenCalls (current_outline o) (current_state c)
+current_stands o c st = go (nat_lt o.current 16) refl
   where
-    go : (b : Bool) → nat_lt s.current 16 ≡ b → IsBetweenCalls (current_left s).outline (current_state c)
+    go : (b : Bool) → nat_lt o.current 16 ≡ b → IsBetweenCalls (current_outline o) (current_state c)
     go true e =
-        let below : s.current < 16 = grind (arith, nat_tests) in
-        let P : ℕ → Type 0 = λ k. IsBetweenCalls (current_left s).outline (state_at c k) in
-        subst P st.current (st.each s.current below)
+        let below : o.current < 16 = grind (arith, nat_tests) in
+        let P : ℕ → Type 0 = λ k. IsBetweenCalls (current_outline o) (state_at c k) in
+        subst P st.current (st.each o.current below)
     go false e =
-        let above : 16 ≤ s.current = grind (arith, nat_tests) in
-        stands_as {l = current_left s} {l' = nothing_left} {x = current_state c} {x' = wiped_state}
-        (ap (λ o. unwrap_or o nothing_left) (slice_get_past s.left s.current (omega (arith, st.count))))
+        let above : 16 ≤ o.current = grind (arith, nat_tests) in
+        stands_as {l = current_outline o} {l' = wiped_outline} {x = current_state c} {x' = wiped_state}
+        (ap (λ o. unwrap_or o wiped_outline) (slice_get_past o.each o.current (omega (arith, st.count))))
         (ap (λ o. unwrap_or o wiped_state)
         (slice_get_past c.states c.current (omega (arith, st.states, st.current)))) wiped_stands
 
 -- ---- one call
 
-alone_goes : (s : States) (event : Event) (m : CallMeaning) → Stands s m.before → AloneMeans event m →
-    Goes s m (states_after_event s event)
-alone_goes s Drop m st means =
-    set_goes s m (wiped (current_left s)) wiped_state st (ap (λ (c : CallerState). c.states) means.after)
-    (ap (λ (c : CallerState). c.current) means.after) wiped_stands
-    (ap (λ es. (current_left s).entries ++ es) (sym means.entries))
-alone_goes s (State number) m st means =
-    same_goes s m _ st refl (ap (λ (c : CallerState). c.states) means.after)
-    (sym (ap (λ (c : CallerState). c.current) means.after)) means.entries
-alone_goes s event m st means =
-    same_goes s m _ st refl (ap (λ (c : CallerState). c.states) means.after)
-    (st.current ∙ sym (ap (λ (c : CallerState). c.current) means.after)) means.entries
+alone_goes : (o : Outlines) (event : Event) (m : CallMeaning) → Stands o m.before → AloneMeans event m →
+    Stands (outlines_after_event o event) m.after × (entries_of_event event ≡ m.entries)
+alone_goes o Drop m st means = (
+  set_stands o m.before m.after wiped_outline wiped_state st (ap (λ (c : CallerState). c.states) means.after)
+      (ap (λ (c : CallerState). c.current) means.after) wiped_stands,
+  sym means.entries,
+)
+alone_goes o (State number) m st means = (
+  same_stands o _ m.before m.after st refl (ap (λ (c : CallerState). c.states) means.after)
+      (sym (ap (λ (c : CallerState). c.current) means.after)),
+  sym means.entries,
+)
+alone_goes o event m st means = (
+  same_stands o _ m.before m.after st refl (ap (λ (c : CallerState). c.states) means.after)
+      (st.current ∙ sym (ap (λ (c : CallerState). c.current) means.after)),
+  sym means.entries,
+)
 
 abbrev HasDeeds : Lists → SeenLine → LineMeaning → Type 0
 HasDeeds lists line m = deeds_of lists line.steps ≡ m.deeds
 
-call_goes : (lists : Lists) (s : States) (call : Call) (m : CallMeaning) → Stands s m.before → Means call m →
-    EachOfCall (HasDeeds lists) call m → Goes s m (states_after s call)
-call_goes lists s (alone event line) m st means deeds = alone_goes s event m st means
-call_goes lists s (vread_call n flags line acts) m st means deeds =
-    let v = vread_leaves lists n flags acts line.steps m (current_left s) means deeds.0
-    (current_stands s m.before st) in
-    set_goes s m _ v.state st (ap (λ (c : CallerState). c.states) v.after)
-    (ap (λ (c : CallerState). c.current) v.after) v.stands v.entries
-call_goes lists s (unbound bound) m st means deeds =
-    same_goes s m _ st refl (ap (λ (c : CallerState). c.states) means.after)
-    (st.current ∙ sym (ap (λ (c : CallerState). c.current) means.after)) means.entries
-call_goes lists s (ending line) m st means deeds =
-    same_goes s m _ st refl (ap (λ (c : CallerState). c.states) means.after)
-    (st.current ∙ sym (ap (λ (c : CallerState). c.current) means.after)) means.entries
+call_goes : (lists : Lists) (o : Outlines) (call : Call) (m : CallMeaning) → Stands o m.before → Means call m →
+    EachOfCall (HasDeeds lists) call m → Goes o call m
+call_goes lists o (alone event line) m st means deeds =
+    let goes = alone_goes o event m st means in record { stands = goes.0; entries = goes.1 }
+call_goes lists o (vread_call n flags line acts) m st means deeds =
+    let v = vread_leaves lists n flags acts line.steps m (nothing_left (current_outline o)) means deeds.0
+    (current_stands o m.before st) in
+    record {
+      stands = set_stands o m.before m.after _ v.state st (ap (λ (c : CallerState). c.states) v.after)
+          (ap (λ (c : CallerState). c.current) v.after) v.stands;
+      entries = v.entries;
+    }
+call_goes lists o (unbound bound) m st means deeds = record {
+  stands = same_stands o o m.before m.after st refl (ap (λ (c : CallerState). c.states) means.after)
+      (st.current ∙ sym (ap (λ (c : CallerState). c.current) means.after));
+  entries = sym means.entries;
+}
+call_goes lists o (ending line) m st means deeds = record {
+  stands = same_stands o o m.before m.after st refl (ap (λ (c : CallerState). c.states) means.after)
+      (st.current ∙ sym (ap (λ (c : CallerState). c.current) means.after));
+  entries = sym means.entries;
+}
 
 -- ---- one call after another
 
-pub record AllGo (s : States) (ms : List CallMeaning) (t : States) : Type 0 where
-  pub count : length t.left ≡ 16
-  pub entries : (k : ℕ) → k < 16 → (left_at t k).entries ≡ (left_at s k).entries ++ entries_of_state k ms
+stands_at : (o : Outlines) (c d : CallerState) → c ≡ d → Stands o c → Stands o d
+stands_at o c d e st = let P : CallerState → Type 0 = λ x. Stands o x in subst P e st
 
-stands_at : (s : States) (c d : CallerState) → c ≡ d → Stands s c → Stands s d
-stands_at s c d e st = let P : CallerState → Type 0 = λ x. Stands s x in subst P e st
-
-calls_go : (lists : Lists) (s : States) (c : CallerState) (calls : List Call) (ms : List CallMeaning) → Stands s c →
-    CallsMean c calls ms → EachLine (HasDeeds lists) calls ms → AllGo s ms (fold states_after s calls)
-calls_go lists s c [] [] st means deeds =
-    record { count = st.count; entries = λ k below. sym (append-nil (left_at s k).entries) }
-calls_go lists s c [] (m ∷ ms) st means deeds = absurd means
-calls_go lists s c (call ∷ calls) [] st means deeds = absurd means
-calls_go lists s c (call ∷ calls) (m ∷ ms) st means deeds =
-    let one = call_goes lists s call m (stands_at s c m.before (sym means.0) st) means.1 deeds.0 in
-    let more = calls_go lists (states_after s call) m.after calls ms one.stands means.2 deeds.1 in
-    record {
-      count = more.count;
-      entries = λ k below. more.entries k below ∙ ap (λ es. es ++ entries_of_state k ms) (one.entries k below)
-          ∙ append_assoc (left_at s k).entries (if m.before.current == k then m.entries else [])
-          (entries_of_state k ms);
-    }
+calls_go : (lists : Lists) (o : Outlines) (c : CallerState) (calls : List Call) (ms : List CallMeaning) → Stands o c →
+    CallsMean c calls ms → EachLine (HasDeeds lists) calls ms → (k : ℕ) → list_left k o calls ≡ entries_of_state k ms
+calls_go lists o c [] [] st means deeds k = refl
+calls_go lists o c [] (m ∷ ms) st means deeds k = absurd means
+calls_go lists o c (call ∷ calls) [] st means deeds k = absurd means
+calls_go lists o c (call ∷ calls) (m ∷ ms) st means deeds k =
+    let here : Stands o m.before = stands_at o c m.before (sym means.0) st in
+    let one : Goes o call m = call_goes lists o call m here means.1 deeds.0 in
+    let more = calls_go lists (outlines_after o call) m.after calls ms one.stands means.2 deeds.1 k in
+    let first : left_in k o call ≡ (if m.before.current == k then m.entries else []) =
+    ap (λ i. if i == k then entries_left o call else []) here.current
+    ∙ ap (λ es. if m.before.current == k then es else []) one.entries in
+    ap (λ es. es ++ list_left k (outlines_after o call) calls) first
+    ∙ ap (λ es. (if m.before.current == k then m.entries else []) ++ es) more
 
 -- ---- the lists
 
--- what all states are as a caller starts
-replicated : (n k : ℕ) → unwrap_or (slice_get (replicate n nothing_left) k) nothing_left ≡ nothing_left
-replicated zero k = refl
-replicated (suc n) zero = refl
-replicated (suc n) (suc k) = replicated n k
-
-replicated_state : (n k : ℕ) → unwrap_or (slice_get (replicate n wiped_state) k) wiped_state ≡ wiped_state
-replicated_state zero k = refl
-replicated_state (suc n) zero = refl
-replicated_state (suc n) (suc k) = replicated_state n k
-
-at_start : (setting : Setting) → Stands first_states (caller_start setting)
+at_start : (setting : Setting) → Stands first_outlines (caller_start setting)
 at_start setting = record {
   count = refl;
   states = refl;
   current = refl;
-  each = λ k below. stands_as (replicated 16 k) (replicated_state 16 k) wiped_stands;
+  each = λ k below. stands_as (replicated 16 k wiped_outline) (replicated 16 k wiped_state) wiped_stands;
 }
+  where
+    replicated : {A : Type 0} (n k : ℕ) (x : A) → unwrap_or (slice_get (replicate n x) k) x ≡ x
+    replicated zero k x = refl
+    replicated (suc n) zero x = refl
+    replicated (suc n) (suc k) x = replicated n k x
 
--- lists that are told number by number
-listed : (xs : List Left) (from n : ℕ) (f : ℕ → List VEntry) → length xs ≡ n →
-    ((k : ℕ) → k < n → (unwrap_or (slice_get xs k) nothing_left).entries ≡ f (from + k)) →
-    map (λ (l : Left). l.entries) xs ≡ map f (range_with_len from n)
-listed [] from zero f len each = refl
-listed [] from (suc n) f len each = absurd (omega arith)
-listed (x ∷ xs) from zero f len each = absurd (omega arith)
-listed (x ∷ xs) from (suc n) f len each =
-    let here : from + 0 ≡ from = omega arith in
-    let first : x.entries ≡ f from = each 0 (omega arith) ∙ ap f here in
-    let rest = listed xs (from + 1) n f (omega arith) (λ k below.
-    let next : from + suc k ≡ from + 1 + k = omega arith in each (suc k) (omega arith) ∙ ap f next) in cc
+pub map_same : {A B : Type 0} (f g : A → B) (xs : List A) → ((x : A) → f x ≡ g x) → map f xs ≡ map g xs
+map_same f g [] same = refl
+map_same f g (x ∷ xs) same = ap (λ y. y ∷ map f xs) (same x) ∙ ap (λ ys. g x ∷ ys) (map_same f g xs same)
 
 pub calls_leave : CallsLeave
 calls_leave lists setting calls ms means =
-    let all = calls_go lists first_states (caller_start setting) calls ms (at_start setting) means.follows
-    means.deeds in
-    listed (fold states_after first_states calls).left 0 16 (λ k. entries_of_state k ms) all.count
-    (λ k below. all.entries k below
-    ∙ ap (λ (l : Left). l.entries ++ entries_of_state k ms) (replicated 16 k)
-    ∙ (let same : k ≡ 0 + k = omega arith in ap (λ j. entries_of_state j ms) same))
+    map_same (λ k. list_left k first_outlines calls) (λ k. entries_of_state k ms) (range_with_len 0 16)
+    (calls_go lists first_outlines (caller_start setting) calls ms (at_start setting) means.follows means.deeds)
 
 pub all_leave : (lists : Lists) (settings : ℕ → Setting) (c : ℕ) (callers : List (List Call))
     (ms : List (List CallMeaning)) →

@@ -1,5 +1,9 @@
-pub mod Outlines
 pub mod KeySteps
+pub mod Outlines
 pub mod AttemptsLeave
 pub mod VreadsLeave
 pub mod CallersLeave
+pub mod Latest
+pub mod Over
+pub mod Cuts
+pub mod Starts

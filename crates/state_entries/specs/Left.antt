@@ -22,8 +22,9 @@ pub record Left : Type 0 where
   pub outline : Outline
   pub entries : List VEntry
 
-abbrev pub nothing_left : Left
-nothing_left = record { outline = wiped_outline; entries = [] }
+-- nothing was left of a state of this outline
+abbrev pub nothing_left : Outline → Left
+nothing_left outline = record { outline = outline; entries = [] }
 
 abbrev pub left_more : List VEntry → Left → Left
 left_more entries l = record l { entries = l.entries ++ entries }

@@ -1,7 +1,12 @@
 //! The vgetrandom states of a caller while its calls are gone through.
-use crate::entry::StateEntry;
+ghost use Rattle.std.specs.Prelude.{◌≡◌, ◌++◌, OnOk};
+ghost use Rattle.state_entries.specs.Entries.{call_entries};
+ghost use Rattle.state_entries.specs.Stamped.{over, overs_in};
+
+use crate::entry::{LeftEntry, StateEntry};
 use crate::leaving::Leaving;
-use crate::stamps::{behind_acts, latest};
+use crate::outline::Outline;
+use crate::stamps::behind_call;
 use key_names::Event;
 use line_orders::bare::BareLine;
 use line_orders::called::{ActLine, Called};
@@ -11,29 +16,56 @@ use std::marker::Model;
 /// How many vgetrandom states a caller has.
 const STATES: usize = 16;
 
-/// The sixteen vgetrandom states of a caller, one of which is the current one, and the stamp of its last visit.
+// The entries that a call left, which was over at a stamp, stand behind a list. The event is the call's.
+fn put_behind(
+    list: &mut Vec<StateEntry>,
+    left: &[LeftEntry],
+    done: u64,
+    event: u32,
+) -> Result<(), AllocError>
+    ensures { OnOk result (overs_in list.new.items ≡ overs_in list.old.items ++ over done (call_entries left.now)) }
+{
+    for one in left {
+        list.push(StateEntry {
+            entry: one.entry,
+            stamp: one.stamp,
+            done,
+            event,
+        })?;
+    }
+    Ok(())
+}
+
+/// The sixteen vgetrandom states of a caller, one of which is the current one: their outlines and their lists so far,
+/// and the stamp of the caller's last visit.
 #[derive(Drop)]
 pub struct Caller {
-    states: Vec<Leaving>,
+    outlines: Vec<Outline>,
+    lists: Vec<Vec<StateEntry>>,
     current: usize,
     stamp: u64,
 }
 
 impl Model for Caller {
-    ghost use Rattle.state_entries.specs.Callers.{States};
+    ghost use Rattle.state_entries.specs.Stamped.{States, lists_over};
 
     ghost Value = { States };
 
-    ghost view = { λ s. record { left = s.states.items; current = s.current } };
+    ghost view = { λ s. record {
+      outlines = record { each = s.outlines.items; current = s.current };
+      lists = lists_over s.lists.items;
+      stamp = s.stamp;
+    } };
 }
 
 impl Caller {
-    ghost use Rattle.std.specs.Prelude.{◌≡◌, IfOk, OnOk, map};
+    ghost use Rattle.std.specs.Prelude.{◌≡◌, ◌++◌, IfOk, OnOk, map, slice_set};
     ghost use Rattle.line_orders.specs.Called.{seen_act, seen_call};
-    ghost use Rattle.state_entries.specs.Callers.{States, first_states, current_left, with_left};
-    ghost use Rattle.state_entries.specs.Callers.{states_after, states_after_event};
-    ghost use Rattle.state_entries.specs.Left.{wiped, vread_left};
-    ghost use Rattle.state_entries.specs.Entries.{lists_in};
+    ghost use Rattle.state_entries.specs.Callers.{current_outline, with_outline};
+    ghost use Rattle.state_entries.specs.Left.{nothing_left, vread_left};
+    ghost use Rattle.state_entries.specs.Entries.{call_entries};
+    ghost use Rattle.state_entries.specs.Stamped.{States, first_states, current_list, over, left_over, lists_over};
+    ghost use Rattle.state_entries.specs.Stamped.{states_after, states_after_event};
 
     /// A caller that made no call yet, whose last visit, if its parent made one before the fork, has this stamp.
     ///
@@ -41,63 +73,100 @@ impl Caller {
     ///
     /// `AllocError` where there is no memory for the states.
     pub fn start(alloc: Global, stamp: u64) -> Result<Caller, AllocError>
-        ensures { IfOk result (λ caller. caller ≡ first_states) }
+        ensures { IfOk result (λ caller. caller ≡ first_states stamp) }
     {
-        let mut states = Vec::with_capacity(alloc, STATES)?;
-        while states.len() < STATES {
-            states.push(Leaving::new(alloc))?;
+        let mut outlines = Vec::with_capacity(alloc, STATES)?;
+        let mut lists = Vec::with_capacity(alloc, STATES)?;
+        while lists.len() < STATES {
+            outlines.push(Outline::wiped())?;
+            lists.push(Vec::new(alloc))?;
         }
         Ok(Caller {
-            states,
+            outlines,
+            lists,
             current: 0,
             stamp,
         })
     }
 
-    // The current state is wiped by the event of this number.
-    fn wipe(&mut self, event: u32) -> Result<(), AllocError>
-        ensures { OnOk result (self.new ≡ with_left self.old (wiped (current_left self.old))) }
+    fn outline(&self) -> Outline
+        ensures { result ≡ current_outline self.now.outlines }
     {
-        if self.current >= self.states.len() {
+        match self.outlines.get(self.current) {
+            Some(outline) => *outline,
+            None => Outline::wiped(),
+        }
+    }
+
+    fn set_outline(&mut self, outline: Outline)
+        ensures { self.new ≡ record self.old { outlines = with_outline self.old.outlines outline } }
+    {
+        if self.current < self.outlines.len() {
+            self.outlines[self.current] = outline;
+        }
+    }
+
+    fn put(&mut self, left: &[LeftEntry], done: u64, event: u32) -> Result<(), AllocError>
+        ensures { OnOk result (self.new ≡ record self.old {
+          lists = slice_set self.old.lists self.old.outlines.current
+              (current_list self.old ++ over done (call_entries left.now));
+        }) }
+    {
+        if self.current >= self.lists.len() {
             return Ok(());
         }
-        let state = &mut self.states[self.current];
-        state.begin(self.stamp, self.stamp, event);
-        state.wipe()?;
+        put_behind(&mut self.lists[self.current], left, done, event)?;
         Ok(())
     }
 
-    fn event(&mut self, event: &Event, line: BareLine<'_>) -> Result<(), AllocError>
-        ensures { OnOk result (self.new ≡ states_after_event self.old event.now) }
+    // A call that was over at a stamp left this of the current state.
+    fn keep(&mut self, left: &Leaving, done: u64, event: u32) -> Result<(), AllocError>
+        ensures { OnOk result (self.new ≡ left_over done left.now self.old) }
     {
-        self.stamp = latest(self.stamp, line.steps);
+        self.stamp = done;
+        self.set_outline(left.outline());
+        self.put(left.entries(), done, event)
+    }
+
+    // An event by itself that is over at a stamp.
+    fn event(
+        &mut self,
+        alloc: Global,
+        event: &Event,
+        number: u32,
+        done: u64,
+    ) -> Result<(), AllocError>
+        ensures { OnOk result (self.new ≡ states_after_event done self.old event.now) }
+    {
         match event {
-            Event::Drop => self.wipe(line.event)?,
+            Event::Drop => {
+                let mut left = Leaving::begin(alloc, self.outline(), done);
+                left.wipe()?;
+                self.keep(&left, done, number)?;
+            }
             Event::State { number } => self.current = *number as usize,
             _ => {}
         }
+        self.stamp = done;
         Ok(())
     }
 
+    // A `vread` that is over at a stamp.
     fn vread(
         &mut self,
+        alloc: Global,
         len: u32,
         flags: u32,
         line: BareLine<'_>,
         acts: &[ActLine<'_>],
+        done: u64,
     ) -> Result<(), AllocError>
-        ensures { OnOk result (self.new ≡ with_left self.old
-            (vread_left len flags (map seen_act acts.now) (current_left self.old) line.entry.steps.now)) }
+        ensures { OnOk result (self.new ≡ left_over done (vread_left len flags (map seen_act acts.now)
+            (nothing_left (current_outline self.old.outlines)) line.entry.steps.now) self.old) }
     {
-        if self.current >= self.states.len() {
-            return Ok(());
-        }
-        let done = behind_acts(latest(self.stamp, line.steps), acts);
-        let state = &mut self.states[self.current];
-        state.begin(self.stamp, done, line.event);
-        state.vread(len, flags, acts, line.steps)?;
-        self.stamp = done;
-        Ok(())
+        let mut left = Leaving::begin(alloc, self.outline(), self.stamp);
+        left.vread(len, flags, acts, line.steps)?;
+        self.keep(&left, done, line.event)
     }
 
     /// Goes through a call.
@@ -105,33 +174,29 @@ impl Caller {
     /// # Errors
     ///
     /// `AllocError` where there is no memory for the entries that it leaves.
-    pub fn call(&mut self, call: &Called<'_>) -> Result<(), AllocError>
+    pub fn call(&mut self, alloc: Global, call: &Called<'_>) -> Result<(), AllocError>
         ensures { OnOk result (self.new ≡ states_after self.old (seen_call call.now)) }
     {
+        let done = behind_call(self.stamp, call);
         match call {
-            Called::Alone { event, line } => self.event(event, *line),
+            Called::Alone { event, line } => self.event(alloc, event, line.event, done),
             Called::Vread {
                 len,
                 flags,
                 line,
                 acts,
-            } => self.vread(*len, *flags, *line, acts),
-            Called::Unbound(_) | Called::Ending(_) => Ok(()),
+            } => self.vread(alloc, *len, *flags, *line, acts, done),
+            Called::Unbound(_) | Called::Ending(_) => {
+                self.stamp = done;
+                Ok(())
+            }
         }
     }
 
     /// The lists of the states.
-    ///
-    /// # Errors
-    ///
-    /// `AllocError` where there is no memory for them.
-    pub fn lists(&self, alloc: Global) -> Result<Vec<Vec<StateEntry>>, AllocError>
-        ensures { IfOk result (λ lists. lists_in lists.items ≡ map (λ l. l.entries) self.now.left) }
+    pub fn lists(self) -> Vec<Vec<StateEntry>>
+        ensures { lists_over result.items ≡ self.lists }
     {
-        let mut lists = Vec::with_capacity(alloc, STATES)?;
-        for state in &self.states {
-            lists.push(state.list(alloc)?)?;
-        }
-        Ok(lists)
+        self.lists
     }
 }

@@ -1,6 +1,14 @@
 //! An entry of a vgetrandom state's list, and when it was left.
 use key_names::VEntry;
 
+/// An entry that a call left of a vgetrandom state.
+#[derive(Clone, Copy, Debug, PartialEq, Eq)]
+pub struct LeftEntry {
+    pub entry: VEntry,
+    /// The stamp of the last visit that its caller had made before it, or 0 where there was none.
+    pub stamp: u64,
+}
+
 /// An entry of a vgetrandom state, when and by whom it was left.
 #[derive(Clone, Copy, Debug, PartialEq, Eq)]
 pub struct StateEntry {

@@ -1,9 +1,9 @@
-//! A vgetrandom state while its caller's calls are gone through: its outline, and the entries that it was left so far.
+//! A vgetrandom state while a call on it is gone through: its outline, and the entries that the call left so far.
 ghost use Rattle.std.specs.Prelude.{◌≡◌, None, Some, [], true, MatchOption, map};
 ghost use Rattle.line_orders.specs.Called.{seen_act};
 ghost use Rattle.state_entries.specs.Left.{wipes_at, key_read, second_key, key_in_front};
 
-use crate::entry::StateEntry;
+use crate::entry::LeftEntry;
 use crate::outline::Outline;
 use crate::stamps::{before_wipe, behind_point};
 use key_names::{InsideAct, LaneId, Step, VEntry, flags};
@@ -114,23 +114,21 @@ fn second_key(steps: &[Step]) -> Option<(KeyRead, &[Step])>
     }
 }
 
-/// A vgetrandom state: its outline, its list so far, and the call on it that is gone through.
+/// A vgetrandom state in a call: its outline, what the call left, and the stamp of the caller's last visit so far.
 #[derive(Drop)]
 pub struct Leaving {
     outline: Outline,
-    entries: Vec<StateEntry>,
+    entries: Vec<LeftEntry>,
     stamp: u64,
-    done: u64,
-    event: u32,
 }
 
 impl Model for Leaving {
-    ghost use Rattle.state_entries.specs.Entries.{entries_in};
+    ghost use Rattle.state_entries.specs.Entries.{call_entries};
     ghost use Rattle.state_entries.specs.Left.{Left};
 
     ghost Value = { Left };
 
-    ghost view = { λ s. record { outline = s.outline; entries = entries_in s.entries.items } };
+    ghost view = { λ s. record { outline = s.outline; entries = call_entries s.entries.items } };
 }
 
 impl Leaving {
@@ -140,54 +138,43 @@ impl Leaving {
     ghost use Rattle.key_names.specs.Deeds.{deeds_of};
     ghost use Rattle.key_names.specs.Meaning.{CallMeaning, current_state, VreadMeans};
     ghost use Rattle.line_orders.specs.Called.{seen_act};
-    ghost use Rattle.state_entries.specs.Entries.{entries_in};
+    ghost use Rattle.state_entries.specs.Entries.{call_entries};
     ghost use Rattle.state_entries.specs.Laws.{Leaves};
     ghost use Rattle.state_entries.specs.Outline.{IsBetweenCalls, outlined};
     ghost use Rattle.state_entries.specs.Left.{Left, nothing_left, left_more, pushed, wiped, met, wipes_at, refilled};
     ghost use Rattle.state_entries.specs.Left.{copied, keyed, from_serve, from_written, attempted, tried_twice};
     ghost use Rattle.state_entries.specs.Left.{from_look, vread_left};
 
-    /// A state that no call was made on yet.
-    pub fn new(alloc: Global) -> Leaving
-        ensures { result ≡ nothing_left }
+    /// A call begins on a state of this outline, and its caller's last visit has this stamp.
+    pub fn begin(alloc: Global, outline: Outline, stamp: u64) -> Leaving
+        ensures { result ≡ nothing_left outline }
     {
         Leaving {
-            outline: Outline::wiped(),
+            outline,
             entries: Vec::new(alloc),
-            stamp: 0,
-            done: 0,
-            event: 0,
+            stamp,
         }
     }
 
-    /// The list.
-    ///
-    /// # Errors
-    ///
-    /// `AllocError` where there is no memory for it.
-    pub fn list(&self, alloc: Global) -> Result<Vec<StateEntry>, AllocError>
-        ensures { IfOk result (λ list. entries_in list.items ≡ self.now.entries) }
+    pub fn outline(&self) -> Outline
+        ensures { result ≡ self.now.outline }
     {
-        Vec::from_slice(alloc, &self.entries)
+        self.outline
     }
 
-    /// A call begins: the caller's last stamp before it and behind it, and the number of its event.
-    pub fn begin(&mut self, stamp: u64, done: u64, event: u32)
-        ensures { self.new ≡ self.old }
+    /// What the call left.
+    pub fn entries(&self) -> &[LeftEntry]
+        ensures { call_entries result.now ≡ self.now.entries }
     {
-        self.stamp = stamp;
-        self.done = done;
-        self.event = event;
+        &self.entries
     }
 
     fn push(&mut self, entry: VEntry) -> Result<(), AllocError>
         ensures { OnOk result (self.new ≡ pushed entry self.old) }
     {
-        self.entries.push(StateEntry {
+        self.entries.push(LeftEntry {
             entry,
             stamp: self.stamp,
-            done: self.done,
-            event: self.event,
         })?;
         Ok(())
     }

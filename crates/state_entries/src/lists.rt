@@ -1,39 +1,92 @@
 //! The lists of the vgetrandom states of all callers.
-ghost use Rattle.std.specs.Prelude.{◌≡◌, IfOk, map};
+ghost use Rattle.std.specs.Prelude.{◌≡◌, ◌<◌, ℕ, IfOk, List, map, length, take, slice_get, unwrap_or};
+ghost use Rattle.key_names.specs.Book.{list_at};
+ghost use Rattle.key_names.specs.Calls.{Call};
+ghost use Rattle.key_names.specs.History.{calls_steps};
+ghost use Rattle.key_names.specs.IsTranscript.{script_calls};
+ghost use Rattle.key_names.specs.SeenLine.{SeenLine};
+ghost use Rattle.key_names.specs.Texts.ScriptGrammar.{Script};
+ghost use Rattle.line_orders.specs.Begun.{PartsStand};
 ghost use Rattle.line_orders.specs.Called.{seen_call, seen_calls};
-ghost use Rattle.state_entries.specs.Callers.{lists_left};
-ghost use Rattle.state_entries.specs.Entries.{lists_in, all_lists_in};
+ghost use Rattle.line_orders.specs.Orders.{all_forks, front_in};
+ghost use Rattle.state_entries.specs.Cut.{AreCutByStamp};
+ghost use Rattle.state_entries.specs.Entries.{all_lists_in};
 ghost use Rattle.state_entries.specs.Laws.{AreStateLists};
+ghost use Rattle.state_entries.specs.Stamped.{lists_over, all_lists_over, caller_over, all_over};
+ghost use Rattle.state_entries.specs.Stamps.{start_stamp};
 
 use crate::caller::Caller;
 use crate::entry::StateEntry;
 use crate::stamps::latest;
+use key_names::Step;
 use line_orders::begin::Parts;
 use line_orders::called::Called;
-use line_orders::order::Orders;
+use line_orders::order::Fork;
 use std::alloc::{AllocError, Global};
 
+// The fork of a caller, if there is one.
+fn fork_of(forks: &[Fork], caller: usize) -> Option<Fork>
+    ensures { result ≡ front_in caller forks.now }
+{
+    for fork in forks {
+        if fork.child as usize == caller {
+            return Some(*fork);
+        }
+    }
+    None
+}
+
+// The first steps of some, or all where they are fewer.
+fn first_steps(steps: &[Step], count: usize) -> &[Step]
+    ensures { result.now ≡ take count steps.now }
+{
+    steps.get(..count).unwrap_or(steps)
+}
+
+// The parent's own steps before a fork.
+fn steps_before<'a>(own: &'a [Vec<Step>], fork: Fork) -> &'a [Step]
+    ensures { (callers : List (List Call)) → map (λ own. own.items) own.now ≡ map calls_steps callers →
+        result.now ≡ take fork.steps (calls_steps (list_at callers fork.parent)) }
+{
+    match own.get(fork.parent as usize) {
+        Some(steps) => first_steps(steps, fork.steps),
+        None => &[],
+    }
+}
+
+// The stamp at which a caller starts, or 0.
+fn start_at(starts: &[u64], caller: usize) -> u64
+    ensures { result ≡ unwrap_or (slice_get starts.now caller) 0 }
+{
+    starts.get(caller).copied().unwrap_or(0)
+}
+
 // The stamp of the last visit that stands before a caller's own, where those before the callers in front are known.
-fn start_stamp(starts: &[u64], orders: &Orders, caller: usize) -> u64 {
-    let Some(fork) = orders
-        .forks
-        .iter()
-        .find(|fork| fork.child as usize == caller)
-    else {
-        return 0;
-    };
-    let before = starts.get(fork.parent as usize).copied().unwrap_or(0);
-    match orders.own.get(fork.parent as usize) {
-        Some(own) => latest(before, own.get(..fork.steps).unwrap_or(&[])),
-        None => before,
+fn start_stamp(starts: &[u64], own: &[Vec<Step>], forks: &[Fork], caller: usize) -> u64
+    ensures { (callers : List (List Call)) → map (λ own. own.items) own.now ≡ map calls_steps callers →
+        forks.now ≡ all_forks 0 callers → length starts.now ≡ caller →
+        ((p : ℕ) → p < caller → unwrap_or (slice_get starts.now p) 0 ≡ start_stamp callers p) →
+        result ≡ start_stamp callers caller }
+{
+    match fork_of(forks, caller) {
+        None => 0,
+        Some(fork) => latest(
+            start_at(starts, fork.parent as usize),
+            steps_before(own, fork),
+        ),
     }
 }
 
 // Those of each caller.
-fn start_stamps(alloc: Global, orders: &Orders) -> Result<Vec<u64>, AllocError> {
+fn start_stamps(alloc: Global, own: &[Vec<Step>], forks: &[Fork]) -> Result<Vec<u64>, AllocError>
+    ensures { IfOk result (λ starts. (callers : List (List Call)) →
+        map (λ own. own.items) own.now ≡ map calls_steps callers → forks.now ≡ all_forks 0 callers →
+        (c : ℕ) → c < length callers → unwrap_or (slice_get starts.items c) 0 ≡ start_stamp callers c) }
+{
     let mut starts = Vec::new(alloc);
-    for caller in 0..orders.own.len() {
-        starts.push(start_stamp(&starts, orders, caller))?;
+    for caller in 0..own.len() {
+        let stamp = start_stamp(&starts, own, forks, caller);
+        starts.push(stamp)?;
     }
     Ok(starts)
 }
@@ -44,13 +97,13 @@ fn caller_lists(
     stamp: u64,
     calls: &[Called<'_>],
 ) -> Result<Vec<Vec<StateEntry>>, AllocError>
-    ensures { IfOk result (λ lists. lists_in lists.items ≡ lists_left (map seen_call calls.now)) }
+    ensures { IfOk result (λ lists. lists_over lists.items ≡ caller_over stamp (map seen_call calls.now)) }
 {
     let mut caller = Caller::start(alloc, stamp)?;
     for call in calls {
-        caller.call(call)?;
+        caller.call(alloc, call)?;
     }
-    caller.lists(alloc)
+    Ok(caller.lists())
 }
 
 // Those of all callers.
@@ -59,17 +112,19 @@ fn all_lists(
     starts: &[u64],
     callers: &[Vec<Called<'_>>],
 ) -> Result<Vec<Vec<Vec<StateEntry>>>, AllocError>
-    ensures { IfOk result (λ lists. all_lists_in lists.items ≡ map lists_left (seen_calls callers.now)) }
+    ensures { IfOk result (λ lists. all_lists_over lists.items
+        ≡ all_over (λ c. unwrap_or (slice_get starts.now c) 0) 0 (seen_calls callers.now)) }
 {
     let mut lists = Vec::with_capacity(alloc, callers.len())?;
     for (number, calls) in callers.iter().enumerate() {
-        let start = starts.get(number).copied().unwrap_or(0);
+        let start = start_at(starts, number);
         lists.push(caller_lists(alloc, start, calls)?)?;
     }
     Ok(lists)
 }
 
-/// Of each caller, and of each of its sixteen vgetrandom states, the entries that its calls leave, in their order.
+/// Of each caller, and of each of its sixteen vgetrandom states, the entries that its calls leave, in their order, with
+/// the stamps at which the calls were over.
 ///
 /// # Errors
 ///
@@ -78,9 +133,11 @@ pub fn state_lists(
     alloc: Global,
     parts: &Parts<'_>,
 ) -> Result<Vec<Vec<Vec<StateEntry>>>, AllocError>
-    ensures { IfOk result (λ lists. AreStateLists (seen_calls parts.now.calls.items) (all_lists_in lists.items)) }
+    ensures lists { IfOk result (λ lists. AreStateLists (seen_calls parts.now.calls.items) (all_lists_in lists.items)) }
+    ensures cut { (script : Script) (t : List (List SeenLine)) → PartsStand script t parts.now →
+        IfOk result (λ lists. AreCutByStamp (script_calls script t) lists.items) }
 {
-    let starts = start_stamps(alloc, &parts.orders)?;
+    let starts = start_stamps(alloc, &parts.orders.own, &parts.orders.forks)?;
     let lists = all_lists(alloc, &starts, &parts.calls)?;
     Ok(lists)
 }

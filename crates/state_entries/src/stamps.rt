@@ -1,9 +1,16 @@
 //! The stamps of a caller's visits.
+ghost use Rattle.std.specs.Prelude.{◌≡◌, map};
+ghost use Rattle.key_names.specs.History.{steps_at_point, vread_steps};
+ghost use Rattle.line_orders.specs.Called.{seen_act, seen_call};
+ghost use Rattle.state_entries.specs.Stamps.{latest_of, over_at};
+
 use key_names::{InsideAct, Step};
-use line_orders::called::ActLine;
+use line_orders::called::{ActLine, Called};
 
 /// The greatest stamp among this one and those of the visits of some steps.
-pub(crate) fn latest(stamp: u64, steps: &[Step]) -> u64 {
+pub(crate) fn latest(stamp: u64, steps: &[Step]) -> u64
+    ensures { result ≡ latest_of stamp steps.now }
+{
     let mut latest = stamp;
     for step in steps {
         if let Step::Visit(mark) = step {
@@ -13,24 +20,39 @@ pub(crate) fn latest(stamp: u64, steps: &[Step]) -> u64 {
     latest
 }
 
-/// The last stamp behind all acts inside a `vread`.
-pub(crate) fn behind_acts(stamp: u64, acts: &[ActLine<'_>]) -> u64 {
-    let mut stamp = stamp;
-    for bound in acts {
-        stamp = latest(stamp, bound.line.steps);
-    }
-    stamp
-}
-
 /// The last stamp behind those of a point.
-pub(crate) fn behind_point(stamp: u64, acts: &[ActLine<'_>], point: u8) -> u64 {
-    let mut stamp = stamp;
+pub(crate) fn behind_point(stamp: u64, acts: &[ActLine<'_>], point: u8) -> u64
+    ensures { result ≡ latest_of stamp (steps_at_point (map seen_act acts.now) point) }
+{
+    let mut last = stamp;
     for bound in acts {
         if bound.point == point {
-            stamp = latest(stamp, bound.line.steps);
+            last = latest(last, bound.line.steps);
         }
     }
-    stamp
+    last
+}
+
+// The last stamp behind a `vread` and the acts inside it.
+fn behind_vread(stamp: u64, steps: &[Step], acts: &[ActLine<'_>]) -> u64
+    ensures { result ≡ latest_of stamp (vread_steps steps.now (map seen_act acts.now)) }
+{
+    let own = latest(stamp, steps);
+    let started = behind_point(own, acts, 1);
+    let written = behind_point(started, acts, 2);
+    let served = behind_point(written, acts, 3);
+    behind_point(served, acts, 4)
+}
+
+/// The last stamp behind a call.
+pub(crate) fn behind_call(stamp: u64, call: &Called<'_>) -> u64
+    ensures { result ≡ over_at stamp (seen_call call.now) }
+{
+    match call {
+        Called::Alone { line, .. } | Called::Ending(line) => latest(stamp, line.steps),
+        Called::Unbound(act) => latest(stamp, act.line.steps),
+        Called::Vread { line, acts, .. } => behind_vread(stamp, line.steps, acts),
+    }
 }
 
 /// The last stamp behind those of a point before its first wipe.

@@ -1,0 +1,110 @@
+-- The greatest stamp among a stamp and those of visits, in whichever order these come.
+use Rattle.std.proofs.Common.{◌≡◌, ℕ, zero, suc, ◌≤◌, max, Bool, true, false, List, [], ◌∷◌, ◌++◌, refl, sym, ap, ◌∙◌, append_assoc, arith, take, drop}
+use Rattle.std.specs.Prelude.{◌==◌, if◌then◌else◌, slice_get}
+use Rattle.std.specs.Option.{option_map_or}
+use Rattle.std.proofs.lemmas.Bool.{eqb-true, eq-eqb}
+use Rattle.key_names.specs.declared.names.Step.{Step}
+use Rattle.key_names.specs.declared.names.Step.TheVariants.{Look, Visit as Marked}
+use Rattle.key_names.specs.Calls.{BoundAct}
+use Rattle.key_names.specs.History.{is_mark, steps_at_point, cut_behind_visits, cut_behind_rekey, vread_steps}
+use Rattle.state_entries.specs.Stamps.{latest_of}
+
+pub latest-append : (stamp : ℕ) (a b : List Step) → latest_of stamp (a ++ b) ≡ latest_of (latest_of stamp a) b
+latest-append stamp [] b = refl
+latest-append stamp (Look g ∷ a) b = latest-append stamp a b
+latest-append stamp (Marked mark ∷ a) b = latest-append (max stamp mark.stamp) a b
+
+latest_max : (stamp : ℕ) (a : List Step) → latest_of stamp a ≡ max stamp (latest_of 0 a)
+latest_max stamp [] = omega arith
+latest_max stamp (Look g ∷ a) = latest_max stamp a
+latest_max stamp (Marked mark ∷ a) =
+    let one = latest_max (max stamp mark.stamp) a in
+    let other = latest_max (max 0 mark.stamp) a in omega arith
+
+pub latest_above : (stamp : ℕ) (a : List Step) → stamp ≤ latest_of stamp a
+latest_above stamp a = let is = latest_max stamp a in omega arith
+
+latest_swaps : (stamp : ℕ) (a b : List Step) → latest_of (latest_of stamp a) b ≡ latest_of (latest_of stamp b) a
+latest_swaps stamp a b =
+    let one = latest_max stamp a in let two = latest_max (latest_of stamp a) b in
+    let three = latest_max stamp b in let four = latest_max (latest_of stamp b) a in omega arith
+
+-- ---- a vread
+
+take_drop : {X : Type 0} (n : ℕ) (xs : List X) → take n xs ++ drop n xs ≡ xs
+take_drop zero xs = refl
+take_drop (suc n) [] = refl
+take_drop (suc n) (x ∷ xs) = ap (λ ys. x ∷ ys) (take_drop n xs)
+
+visits_whole : (steps : List Step) → (cut_behind_visits steps).0 ++ (cut_behind_visits steps).1 ≡ steps
+visits_whole [] = refl
+visits_whole (Look g ∷ steps) = refl
+visits_whole (Marked mark ∷ steps) = ap (λ s. Marked mark ∷ s) (visits_whole steps)
+
+rekey_whole : (steps : List Step) → (cut_behind_rekey steps).0 ++ (cut_behind_rekey steps).1 ≡ steps
+rekey_whole steps = go (option_map_or is_mark (slice_get steps 2) false)
+  where
+    cut : List Step × List Step
+    cut = cut_behind_visits (drop 2 steps)
+
+    go : (b : Bool) → let parts : List Step × List Step = if b then (take 2 steps ++ cut.0, cut.1) else ([], steps) in
+        parts.0 ++ parts.1 ≡ steps
+    go true = append_assoc (take 2 steps) cut.0 cut.1 ∙ ap (λ s. take 2 steps ++ s) (visits_whole (drop 2 steps))
+        ∙ take_drop 2 steps
+    go false = refl
+
+-- one act more, at the point or elsewhere
+pub at_point : (stamp : ℕ) (bound : BoundAct) (acts : List BoundAct) (point : ℕ) → bound.point ≡ point →
+    latest_of stamp (steps_at_point (bound ∷ acts) point)
+    ≡ latest_of (latest_of stamp bound.line.steps) (steps_at_point acts point)
+at_point stamp bound acts point is =
+    rw (eq-eqb bound.point point is) (latest-append stamp bound.line.steps (steps_at_point acts point))
+
+pub elsewhere : (stamp : ℕ) (bound : BoundAct) (acts : List BoundAct) (point : ℕ) → (bound.point ≡ point → ⊥) →
+    latest_of stamp (steps_at_point (bound ∷ acts) point) ≡ latest_of stamp (steps_at_point acts point)
+elsewhere stamp bound acts point ne = by (bound.point == point) refl
+  where
+    by : (b : Bool) → (bound.point == point) ≡ b →
+        latest_of stamp (steps_at_point (bound ∷ acts) point) ≡ latest_of stamp (steps_at_point acts point)
+    by true is = absurd (ne (eqb-true bound.point point is))
+    by false is = rw is refl
+
+-- some steps in seven parts, of which the fourth and the last may come behind the first
+parts_move : (s : ℕ) (a p q c r t d : List Step) →
+    latest_of s (a ++ p ++ q ++ c ++ r ++ t ++ d)
+    ≡ latest_of (latest_of (latest_of (latest_of (latest_of s (a ++ c ++ d)) p) q) r) t
+parts_move s a p q c r t d =
+    latest-append s (a ++ p ++ q ++ c ++ r ++ t) d
+    ∙ ap (λ z. latest_of z d) (latest-append s (a ++ p ++ q ++ c ++ r) t)
+    ∙ ap (λ z. latest_of (latest_of z t) d) (latest-append s (a ++ p ++ q ++ c) r)
+    ∙ ap (λ z. latest_of (latest_of (latest_of z r) t) d)
+    (latest-append s (a ++ p ++ q) c ∙ ap (λ z. latest_of z c) (latest-append s (a ++ p) q)
+    ∙ ap (λ z. latest_of (latest_of z q) c) (latest-append s a p) ∙ latest_swaps (latest_of x p) q c
+    ∙ ap (λ z. latest_of z q) (latest_swaps x p c))
+    ∙ latest_swaps (latest_of (latest_of (latest_of y p) q) r) t d
+    ∙ ap (λ z. latest_of z t) (latest_swaps (latest_of (latest_of y p) q) r d)
+    ∙ ap (λ z. latest_of (latest_of z r) t) (latest_swaps (latest_of y p) q d)
+    ∙ ap (λ z. latest_of (latest_of (latest_of z q) r) t) (latest_swaps y p d)
+    ∙ ap (λ z. latest_of (latest_of (latest_of (latest_of z p) q) r) t)
+    (sym (latest-append s (a ++ c) d ∙ ap (λ z. latest_of z d) (latest-append s a c)))
+  where
+    x : ℕ
+    x = latest_of s a
+
+    y : ℕ
+    y = latest_of (latest_of s a) c
+
+-- the acts' visits may be looked at behind the vread's own
+pub latest_vread : (stamp : ℕ) (steps : List Step) (acts : List BoundAct) →
+    latest_of stamp (vread_steps steps acts)
+    ≡ latest_of (latest_of (latest_of (latest_of (latest_of stamp steps) (steps_at_point acts 1))
+    (steps_at_point acts 2)) (steps_at_point acts 3)) (steps_at_point acts 4)
+latest_vread stamp steps acts =
+    let cut : List Step × List Step = cut_behind_rekey (drop 2 steps) in
+    let whole : take 2 steps ++ cut.0 ++ cut.1 ≡ steps =
+    append_assoc (take 2 steps) cut.0 cut.1 ∙ ap (λ s. take 2 steps ++ s) (rekey_whole (drop 2 steps))
+    ∙ take_drop 2 steps in
+    parts_move stamp (take 2 steps) (steps_at_point acts 1) (steps_at_point acts 2) cut.0 (steps_at_point acts 3)
+    (steps_at_point acts 4) cut.1
+    ∙ ap (λ s. latest_of (latest_of (latest_of (latest_of (latest_of stamp s) (steps_at_point acts 1))
+    (steps_at_point acts 2)) (steps_at_point acts 3)) (steps_at_point acts 4)) whole
