@@ -5,12 +5,13 @@ use Rattle.std.proofs.lemmas.Bool.{le-ltb}
 use Rattle.key_names.specs.Texts.ScriptFaults.{fault_in, first_fault, front}
 use Rattle.key_names.specs.Texts.ScriptGrammar.{Script, IsScript}
 use Rattle.key_names.proofs.Script.ScriptTexts.{script_again}
-use Rattle.rng_tool.specs.Ends.{AtOutputEnd, EndsWith}
-use Rattle.rng_tool.specs.JudgeOutcome.{IsJudgeRefusal, JudgeEnds, judged_fault, most_judged}
+use Rattle.tool_ends.specs.Ends.{AtOutputEnd, EndsWith}
+use Rattle.tool_ends.specs.Pairs.{TellsFault, most_input, pair_fault}
+use Rattle.tool_ends.specs.declared.status.Status.{Status}
+use Rattle.tool_ends.specs.declared.status.Status.TheVariants.{Done, No, Usage, ReadFault, WriteFault, Refused, NoMemory}
+use Rattle.rng_tool.specs.JudgeOutcome.{JudgeEnds}
 use Rattle.rng_tool.specs.Outcome.{IsRefusal, RunEnds}
 use Rattle.rng_tool.specs.declared.judge.Judge.{Judge}
-use Rattle.rng_tool.specs.declared.status.Status.{Status}
-use Rattle.rng_tool.specs.declared.status.Status.TheVariants.{Done, No, Usage, ReadFault, WriteFault, Refused, NoMemory}
 
 -- a text that is a script is not refused
 not_refused : (script : Script) (text output : List ℕ) → IsScript script text → IsRefusal text output → ⊥
@@ -18,11 +19,11 @@ not_refused script text output is refusal =
     let none = ap fault_in (script_again text script is) in cc (none, refusal.first)
 
 -- nor one whose script stands in front, where it is short
-not_judge_refused : (script : Script) (text output : List ℕ) → length text ≤ most_judged → IsScript script (front text)
-    → IsJudgeRefusal text output → ⊥
+not_judge_refused : (script : Script) (text output : List ℕ) → length text ≤ most_input → IsScript script (front text)
+    → TellsFault text output → ⊥
 not_judge_refused script text output short is refusal =
-    let same : judged_fault text ≡ first_fault (front text) =
-    (let le : ltb most_judged (length text) ≡ false = le-ltb _ _ short in rw le refl) in
+    let same : pair_fault text ≡ first_fault (front text) =
+    (let le : ltb most_input (length text) ≡ false = le-ltb _ _ short in rw le refl) in
     not_refused script (front text) output is
     (record { fault = refusal.fault; first = sym same ∙ refusal.first; line = refusal.line })
 
@@ -48,7 +49,7 @@ module _ (left_after a b : Option (List ℕ)) where
 
   pub judge_completes : (judge : Judge) (status : Status) (left : Option (List ℕ))
       → JudgeEnds judge status left left_after a b → (status ≡ ReadFault → ⊥) → (status ≡ WriteFault → ⊥)
-      → IfSome left (λ all. (script : Script) → length all ≤ most_judged → IsScript script (front all)
+      → IfSome left (λ all. (script : Script) → length all ≤ most_input → IsScript script (front all)
       → (status ≡ Done) ⊎ ((status ≡ No) ⊎ (status ≡ NoMemory)))
   judge_completes judge status None e read written = tt
   judge_completes judge Done (Some all) e read written = λ script short is. inl refl

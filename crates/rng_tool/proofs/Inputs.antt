@@ -1,123 +1,21 @@
--- What was read of an input, and what all of it calls for.
-use Rattle.std.proofs.Common.{ℕ, ◌+◌, ◌≡◌, ◌≤◌, ◌<◌, ◌⊎◌, true, ltb, List, Option, None, Some, length, take, sym, ap, ◌∙◌, subst, arith, inl, inr, refl}
-use Rattle.std.specs.Prelude.{IfSome}
-use Rattle.std.specs.Io.KnownBytes.{Appends, Consumes, IsAtEnd, Keeps}
-use Rattle.std.proofs.lemmas.Bool.{cases_lt, lt-ltb}
-use Rattle.std.proofs.lemmas.List.{take_all, length-take}
+-- Up to which length an input is answered, and that all above it are refused alike.
+use Rattle.std.proofs.Common.{ℕ, ◌≡◌, ◌≤◌, ◌<◌, true, ltb, List, Some, length, sym, ap, ◌∙◌, arith, refl}
+use Rattle.std.proofs.lemmas.Bool.{lt-ltb}
 use Rattle.key_names.specs.declared.faults.FaultKind.TheVariants.{TooLong}
 use Rattle.key_names.specs.Texts.ScriptFaults.{first_fault, script_of}
 use Rattle.key_names.specs.Texts.ScriptGrammar.{Script, IsScript}
-use Rattle.io_edges.specs.Pieces.{AppendsPrefix}
-use Rattle.rng_tool.specs.Ends.{IsAnswered}
-use Rattle.rng_tool.specs.JudgeOutcome.{IsJudgeRefusal, JudgeCalls, judged_fault}
-use Rattle.rng_tool.specs.Outcome.{IsRefusal, CallsFor}
-use Rattle.rng_tool.specs.Reads.{OnlyDone, ReadsEnds, SomeAnswer, WritesEnds}
+use Rattle.tool_ends.proofs.Inputs.{IsLimited}
+use Rattle.tool_ends.proofs.Pairs.{too_long_alike}
+use Rattle.rng_tool.specs.JudgeOutcome.{JudgeCalls}
+use Rattle.rng_tool.specs.Outcome.{CallsFor}
 use Rattle.rng_tool.specs.declared.judge.Judge.{Judge}
-use Rattle.rng_tool.specs.declared.status.Status.{Status}
-use Rattle.rng_tool.specs.declared.status.Status.TheVariants.{Done, No, Usage, ReadFault, WriteFault, Refused, NoMemory}
 
--- what is right of one kind is right of a wider one
-pub wider : (Of Wide : Status → List ℕ → Type 0) → ((s : Status) (o : List ℕ) → Of s o → Wide s o) →
-    (status : Status) (a b : Option (List ℕ)) → WritesEnds Of status a b → WritesEnds Wide status a b
-wider Of Wide is Done a b e = (e.0, is Done e.0 e.1, e.2)
-wider Of Wide is No a b e = (e.0, is No e.0 e.1, e.2)
-wider Of Wide is Refused a b e = (e.0, is Refused e.0 e.1, e.2)
-wider Of Wide is WriteFault a b e = (e.0, (e.1.0, e.1.1, is e.1.0 e.0 e.1.2), e.2)
-wider Of Wide is NoMemory a b e = e
-wider Of Wide is Usage a b e = e
-wider Of Wide is ReadFault a b e = e
+-- ---- runs
 
 -- a text that is too long has its first fault at line 0
 too_long : (text : List ℕ) → 16777216 < length text → first_fault text ≡ Some (record { line = 0; kind = TooLong })
 unfolding script_of
 too_long text long = let is : ltb 16777216 (length text) ≡ true = lt-ltb _ _ long in rw is refl
-
--- of a kind of output: an input within the limit is answered, and all above it are refused alike
-pub record IsLimited (limit : ℕ) (Of : List ℕ → Status → List ℕ → Type 0) : Type 0 where
-  pub done : (input output : List ℕ) → Of input Done output → length input ≤ limit
-  pub no : (input output : List ℕ) → Of input No output → length input ≤ limit
-  pub refused : (input all output : List ℕ) → limit < length input → limit < length all →
-      Of input Refused output → Of all Refused output
-
-module _ (limit : ℕ) (Of : List ℕ → Status → List ℕ → Type 0) (limited : IsLimited limit Of) where
-  -- what was read of an input is all of it, or is too long as the whole input is
-  read_or_too_long : (all input : List ℕ) → input ≡ take (limit + 1) all →
-      (input ≡ all) ⊎ ((limit < length input) × (limit < length all))
-  read_or_too_long all input is = elim (cases_lt limit (length all)) [
-    | inl long ↦ inr (omega (arith, ap length is, length-take (limit + 1) all), long)
-    | inr short ↦ inl (is ∙ take_all (limit + 1) all (omega arith))
-  ]
-
-  -- what the part of an input that is read calls for, all of it calls for
-  of_long : (status : Status) → IsAnswered status → (input all output : List ℕ) → limit < length input →
-      limit < length all → Of input status output → Of all status output
-  of_long Done answered input all output long too is =
-      let short = limited.done input output is in absurd (omega (arith, long))
-  of_long No answered input all output long too is =
-      let short = limited.no input output is in absurd (omega (arith, long))
-  of_long Refused answered input all output long too is = limited.refused input all output long too is
-  of_long Usage answered input all output long too is = absurd answered
-  of_long ReadFault answered input all output long too is = absurd answered
-  of_long WriteFault answered input all output long too is = absurd answered
-  of_long NoMemory answered input all output long too is = absurd answered
-
-  of_all : (status : Status) → IsAnswered status → (left : Option (List ℕ)) (input output : List ℕ) →
-      IfSome left (λ all. input ≡ take (limit + 1) all) → Of input status output →
-      IfSome left (λ all. Of all status output)
-  of_all status answered None input output front is = tt
-  of_all status answered (Some all) input output front is = elim (read_or_too_long all input front) [
-    | inl same ↦ subst (λ text. Of text status output) same is
-    | inr long ↦ of_long status answered input all output long.0 long.1 is
-  ]
-
-  some_of_all : (left : Option (List ℕ)) (input output : List ℕ) → IfSome left (λ all. input ≡ take (limit + 1) all) →
-      SomeAnswer (Of input) output → IfSome left (λ all. SomeAnswer (Of all) output)
-  some_of_all None input output front is = tt
-  some_of_all (Some all) input output front is =
-      (is.0, is.1, of_all is.0 is.1 (Some all) input output front is.2)
-
-  -- what was read, and what was written of it, end the command
-  pub reads_end : (left left_after held held_after : Option (List ℕ)) (input : List ℕ) →
-      Consumes left left_after input → (length input ≤ limit → IsAtEnd left_after) →
-      IfSome left (λ all. input ≡ take (limit + 1) all) → (status : Status) →
-      WritesEnds (Of input) status held held_after → ReadsEnds Of status left left_after held held_after
-  reads_end left left_after held held_after input read whole front Done e = record {
-    input = input;
-    output = e.0;
-    read = read;
-    whole = whole (limited.done input e.0 e.1);
-    is = e.1;
-    written = e.2;
-  }
-  reads_end left left_after held held_after input read whole front No e = record {
-    input = input;
-    output = e.0;
-    read = read;
-    whole = whole (limited.no input e.0 e.1);
-    is = e.1;
-    written = e.2;
-  }
-  reads_end left left_after held held_after input read whole front Refused e = record {
-    input = input;
-    output = e.0;
-    read = read;
-    refusal = e.1;
-    of_all = of_all Refused tt left input e.0 front e.1;
-    written = e.2;
-  }
-  reads_end left left_after held held_after input read whole front WriteFault e = record {
-    input = input;
-    output = e.0;
-    read = read;
-    output_is = e.1;
-    of_all = some_of_all left input e.0 front e.1;
-    written = e.2;
-  }
-  reads_end left left_after held held_after input read whole front NoMemory e = e
-  reads_end left left_after held held_after input read whole front Usage e = e
-  reads_end left left_after held held_after input read whole front ReadFault e = absurd e
-
--- ---- runs
 
 script_is_short : (script : Script) (input : List ℕ) → IsScript script input → length input ≤ 16777216
 script_is_short script input is =
@@ -136,17 +34,9 @@ run_is_limited = record {
 
 -- ---- checks and replays
 
-pub judged_too_long : (text : List ℕ) → 100663296 < length text →
-    judged_fault text ≡ Some (record { line = 0; kind = TooLong })
-judged_too_long text long = let is : ltb 100663296 (length text) ≡ true = lt-ltb _ _ long in rw is refl
-
 pub judge_is_limited : (judge : Judge) → IsLimited 100663296 (JudgeCalls judge)
 judge_is_limited judge = record {
-  done = λ input output is. is.short;
+  done = λ input output is. is.pair.short;
   no = λ input output is. is.short;
-  refused = λ input all output long too is. record {
-    fault = is.fault;
-    first = judged_too_long all too ∙ sym (judged_too_long input long) ∙ is.first;
-    line = is.line;
-  };
+  refused = λ input all output long too tells. too_long_alike input all output long too tells;
 }

@@ -1,22 +1,19 @@
 -- What is said of a script and of the transcript behind it, as what their text calls for.
-use Rattle.std.proofs.Common.{ℕ, ◌≡◌, ◌<◌, List, length, sym, subst, refl, arith, inr}
-use Rattle.std.proofs.lemmas.List.Concat.{length-flat_map}
-use Rattle.key_names.specs.IsTranscript.{lines_clause}
-use Rattle.key_names.specs.Texts.ScriptGrammar.{Script, WellFormed}
+use Rattle.std.proofs.Common.{ℕ, List, sym, subst, refl, inl, inr}
+use Rattle.key_names.specs.IsTranscript.{HasLines, lines_clause}
+use Rattle.key_names.specs.Texts.ScriptGrammar.{Script}
 use Rattle.key_names.specs.SeenLine.{SeenLine}
-use Rattle.key_names.specs.Texts.TranscriptGrammar.{IsTranscriptText, TranscriptFits, all_lines, transcript_text}
+use Rattle.key_names.specs.Texts.TranscriptGrammar.{TranscriptFits, transcript_text}
 use Rattle.serial_replay.specs.Replayed.{IsTheTranscript}
-use Rattle.rng_tool.specs.JudgeOutcome.{Fails, GivesBack, HasTooManyLines, SaidOf, TextSaidOf, no_line}
+use Rattle.tool_ends.specs.Pairs.{FailsAsText, IsNoPair, IsPair, RefusalOf, behind}
+use Rattle.tool_ends.specs.declared.pair.NoPair.{NoPair}
+use Rattle.tool_ends.specs.declared.pair.NoPair.TheVariants.{Refused as FirstFault, No as Clause, NoMemory as Unread}
+use Rattle.tool_ends.specs.declared.status.Status.{Status}
+use Rattle.tool_ends.specs.declared.status.Status.TheVariants.{Done, No, Usage, ReadFault, WriteFault, Refused, NoMemory}
+use Rattle.rng_tool.specs.JudgeOutcome.{Fails, GivesBack, IsClause, JudgeCalls, SaidOf}
 use Rattle.rng_tool.specs.declared.judge.Judge.{Judge}
 use Rattle.rng_tool.specs.declared.judge.Judge.TheVariants.{Check, Replay}
-use Rattle.rng_tool.specs.declared.status.Status.{Status}
-use Rattle.rng_tool.specs.declared.status.Status.TheVariants.{Done, No, Usage, ReadFault, WriteFault, Refused, NoMemory}
-use Rattle.rng_tool.proofs.Runs.{few_lines, under_own_number}
-
--- a line with its status
-pub the_answer : (Of : Status → List ℕ → Type 0) (status : Status) (line : List ℕ) → Of status line →
-    (s : Status) (o : List ℕ) → (s ≡ status) × (o ≡ line) → Of s o
-the_answer Of status line of s o is = subst (λ s. Of s o) (sym is.0) (subst (Of status) (sym is.1) of)
+use Rattle.rng_tool.proofs.Runs.{under_own_number}
 
 -- what was made is the text of the transcript that it is
 pub gives_back : (script : Script) (t made : List (List SeenLine)) → TranscriptFits made →
@@ -31,32 +28,54 @@ gives_back script t made fits is = record {
   };
 }
 
--- more lines than any script's transcript has are not those of this script
-too_many_fail : (judge : Judge) (script : Script) (t : List (List SeenLine)) → WellFormed script →
-    65600 < length (all_lines t) → Fails judge script t 2
-too_many_fail Check script t ok many = record {
-  clause = lines_clause;
-  is = refl;
-  fails = λ lines. absurd (omega (arith, many, few_lines script t ok lines, length-flat_map (λ ls. ls) t));
-}
-too_many_fail Replay script t ok many = record {
-  clause = lines_clause;
-  is = refl;
-  fails = λ lines. absurd (omega (arith, many, few_lines script t ok lines, length-flat_map (λ ls. ls) t));
-}
-
-pub too_many_said : (judge : Judge) (script : Script) (text line : List ℕ) → WellFormed script →
-    HasTooManyLines text → line ≡ no_line 2 → TextSaidOf judge script text No line
-too_many_said judge script text line ok many is =
-    (2, inr (many.lines, many.is_text, too_many_fail judge script many.lines ok many.many), is)
-
 -- what is said of a transcript is said of its text
-pub text_said : (judge : Judge) (script : Script) (text : List ℕ) (t : List (List SeenLine)) → IsTranscriptText text t →
-    (s : Status) (o : List ℕ) → SaidOf judge script t s o → TextSaidOf judge script text s o
-text_said judge script text t is Done o said = (t, is, said)
-text_said judge script text t is No o said = (said.0, inr (t, is, said.1), said.2)
-text_said judge script text t is Usage o said = said
-text_said judge script text t is ReadFault o said = said
-text_said judge script text t is WriteFault o said = said
-text_said judge script text t is Refused o said = said
-text_said judge script text t is NoMemory o said = said
+pub pair_said : (judge : Judge) (input : List ℕ) (script : Script) (t : List (List SeenLine)) → IsPair input script t →
+    (s : Status) (o : List ℕ) → SaidOf judge script t s o → JudgeCalls judge input s o
+pair_said judge input script t pair Done o said = record { script = script; lines = t; pair = pair; says = said }
+pair_said judge input script t pair No o said = record {
+  short = pair.short;
+  script = script;
+  is_script = pair.is_script;
+  number = said.0;
+  clause = inr (t, pair.text, said.1);
+  line = said.2;
+}
+pair_said judge input script t pair Refused o said = absurd said
+pair_said judge input script t pair Usage o said = absurd said
+pair_said judge input script t pair ReadFault o said = absurd said
+pair_said judge input script t pair WriteFault o said = absurd said
+pair_said judge input script t pair NoMemory o said = absurd said
+
+-- without its lines a transcript fails the second clause
+lacks_lines : (judge : Judge) (script : Script) (t : List (List SeenLine)) → (HasLines script t → ⊥) →
+    Fails judge script t 2
+lacks_lines Check script t fails = record { clause = lines_clause; is = refl; fails = fails }
+lacks_lines Replay script t fails = record { clause = lines_clause; is = refl; fails = fails }
+
+clause_said : (judge : Judge) (input : List ℕ) (number : ℕ) (fails : FailsAsText input number) →
+    IsClause judge fails.script (behind input) number
+clause_said judge input number fails = elim fails.clause [
+  | inl none ↦ inl none
+  | inr lacks ↦ inr (
+    lacks.1.lines,
+    lacks.1.is_text,
+    subst (Fails judge fails.script lacks.1.lines) (sym lacks.0)
+        (lacks_lines judge fails.script lacks.1.lines lacks.1.fails),
+  )
+]
+
+-- what is said of an input that is not read is said of its text
+pub none_said : (judge : Judge) (input : List ℕ) (why : NoPair) → IsNoPair input why → (s : Status) (o : List ℕ) →
+    RefusalOf why s o → JudgeCalls judge input s o
+none_said judge input (FirstFault fault) is s o said = subst (λ status. JudgeCalls judge input status o) (sym said.0)
+    (record { fault = fault; first = is; line = said.1 })
+none_said judge input (Clause number) is s o said = subst (λ status. JudgeCalls judge input status o) (sym said.0)
+    (record {
+      short = is.short;
+      script = is.script;
+      is_script = is.is_script;
+      number = number;
+      clause = clause_said judge input number is;
+      line = said.1;
+    })
+none_said judge input Unread is s o said = absurd said

@@ -2,7 +2,5 @@ pub mod Inputs
 pub mod Judging
 pub mod Runs
 pub mod ShownBytes
-pub mod NumberWords
-pub mod Endings
 pub mod Completes
 pub mod VforkWords

@@ -2,9 +2,9 @@
 use Rattle.std.specs.Prelude.{ℕ, ◌≡◌, ◌<◌, ◌≤◌, ◌^◌, ◌++◌, List, [], ◌∷◌, Option, Some, None, String, string_bytes, codes, decimal, map}
 use Rattle.std.specs.List.{flat_map}
 use Rattle.draw_below.specs.TableDraws.{AreTableDraws}
-use Rattle.rng_tool.specs.Ends.{EndsWith}
 use Rattle.rng_tool.specs.declared.draw.Draw.{Draw}
-use Rattle.rng_tool.specs.declared.status.Status.{Status}
+use Rattle.tool_ends.specs.Ends.{EndsWith}
+use Rattle.tool_ends.specs.declared.status.Status.{Status}
 
 -- the texts are `draw C K`, with numbers in their ranges
 pub record AskDraw (texts : List (List ℕ)) (bound count : ℕ) : Type 0 where

@@ -2,9 +2,9 @@
 use Rattle.std.specs.Prelude.{ℕ, ◌≡◌, ◌<◌, ◌≤◌, ◌^◌, ◌++◌, List, [], ◌∷◌, Option, String, string_bytes, codes, decimal, map}
 use Rattle.irq_feed.specs.declared.table_feed.FeedSums.{FeedSums}
 use Rattle.irq_feed.specs.TableFeed.{IsFed}
-use Rattle.rng_tool.specs.Ends.{EndsWith}
 use Rattle.rng_tool.specs.declared.feed.Feed.{Feed}
-use Rattle.rng_tool.specs.declared.status.Status.{Status}
+use Rattle.tool_ends.specs.Ends.{EndsWith}
+use Rattle.tool_ends.specs.declared.status.Status.{Status}
 
 -- the texts are `feed START FEEDERS SAMPLES`, with numbers in their ranges
 pub record AskFeed (texts : List (List ℕ)) (start feeders samples : ℕ) : Type 0 where

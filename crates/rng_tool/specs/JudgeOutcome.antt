@@ -1,40 +1,17 @@
 -- What `check` and `replay` promise: a script, and a transcript behind it.
-use Rattle.std.specs.Prelude.{ℕ, ◌≡◌, ◌⊎◌, ◌<◌, ◌≤◌, List, [], ◌∷◌, ◌++◌, Option, Some, String, string_bytes, codes, map}
-use Rattle.std.specs.Prelude.{drop, length, nat_lt, if◌then◌else◌}
-use Rattle.std.specs.Fmt.{decimal}
-use Rattle.key_names.specs.declared.faults.FaultKind.TheVariants.{TooLong}
-use Rattle.key_names.specs.declared.faults.ScriptFault.{ScriptFault}
-use Rattle.key_names.specs.Texts.ScriptFaults.{first_fault, front}
+use Rattle.std.specs.Prelude.{ℕ, ◌≡◌, ◌⊎◌, ◌≤◌, List, [], ◌∷◌, ◌++◌, Option, String, string_bytes, codes, length, map}
+use Rattle.key_names.specs.Texts.ScriptFaults.{front}
 use Rattle.key_names.specs.Texts.ScriptGrammar.{Script, IsScript}
 use Rattle.key_names.specs.SeenLine.{SeenLine}
-use Rattle.key_names.specs.Texts.Spelling.{lined, spaced}
-use Rattle.key_names.specs.Texts.TranscriptGrammar.{IsTranscriptText, all_lines}
+use Rattle.key_names.specs.Texts.TranscriptGrammar.{IsTranscriptText}
 use Rattle.transcript_check.specs.Judged.{IsSound, FailsFirst}
 use Rattle.serial_replay.specs.Replayed.{IsTheTranscript, StopsAt}
-use Rattle.rng_tool.specs.Reads.{ReadsEnds}
-use Rattle.rng_tool.specs.Refusal.{refusal_line}
+use Rattle.tool_ends.specs.Pairs.{IsPair, TellsFault, behind, most_input, no_line}
+use Rattle.tool_ends.specs.Reads.{ReadsEnds}
+use Rattle.tool_ends.specs.declared.status.Status.{Status}
+use Rattle.tool_ends.specs.declared.status.Status.TheVariants.{Done, No, Usage, ReadFault, WriteFault, Refused, NoMemory}
 use Rattle.rng_tool.specs.declared.judge.Judge.{Judge}
 use Rattle.rng_tool.specs.declared.judge.Judge.TheVariants.{Check, Replay}
-use Rattle.rng_tool.specs.declared.status.Status.{Status}
-use Rattle.rng_tool.specs.declared.status.Status.TheVariants.{Done, No, Usage, ReadFault, WriteFault, Refused, NoMemory}
-
--- the most bytes of a script and a transcript
-abbrev pub most_judged : ℕ
-most_judged = 100663296
-
--- the text behind the script
-abbrev pub behind : List ℕ → List ℕ
-behind input = drop (length (front input)) input
-
--- the first fault of an input: it is too long, or its script has one
-abbrev pub judged_fault : List ℕ → Option ScriptFault
-judged_fault input =
-    if nat_lt most_judged (length input) then Some (record { line = 0; kind = TooLong }) else first_fault (front input)
-
-pub record IsJudgeRefusal (input output : List ℕ) : Type 0 where
-  pub fault : ScriptFault
-  pub first : judged_fault input ≡ Some fault
-  pub line : output ≡ refusal_line fault
 
 -- ---- what is said of a transcript that is lawful, or that the steps make
 
@@ -65,11 +42,9 @@ Fails Replay = StopsAt
 
 -- a script, with a transcript behind it of which this is said
 pub record JudgeAnswer (judge : Judge) (input output : List ℕ) : Type 0 where
-  pub short : length input ≤ most_judged
   pub script : Script
-  pub is_script : IsScript script (front input)
   pub lines : List (List SeenLine)
-  pub text : IsTranscriptText (behind input) lines
+  pub pair : IsPair input script lines
   pub says : Says judge script lines output
 
 -- the text behind the script is no transcript's, which is clause 1, or it is one of which a clause fails
@@ -78,11 +53,8 @@ IsClause judge script text number =
     (number ≡ 1) × ((lines : List (List SeenLine)) → IsTranscriptText text lines → ⊥)
     ⊎ (lines : List (List SeenLine)) × IsTranscriptText text lines × Fails judge script lines number
 
-abbrev pub no_line : ℕ → List ℕ
-no_line number = lined (spaced (codes "no" ∷ decimal number ∷ []) ∷ [])
-
 pub record JudgeVerdict (judge : Judge) (input output : List ℕ) : Type 0 where
-  pub short : length input ≤ most_judged
+  pub short : length input ≤ most_input
   pub script : Script
   pub is_script : IsScript script (front input)
   pub number : ℕ
@@ -99,23 +71,11 @@ SaidOf judge script t ReadFault output = ⊥
 SaidOf judge script t WriteFault output = ⊥
 SaidOf judge script t NoMemory output = ⊥
 
--- what is said of the text behind a script
-abbrev pub TextSaidOf : Judge → Script → List ℕ → Status → List ℕ → Type 0
-TextSaidOf judge script text Done output =
-    (lines : List (List SeenLine)) × IsTranscriptText text lines × Says judge script lines output
-TextSaidOf judge script text No output =
-    (number : ℕ) × IsClause judge script text number × (output ≡ no_line number)
-TextSaidOf judge script text Refused output = ⊥
-TextSaidOf judge script text Usage output = ⊥
-TextSaidOf judge script text ReadFault output = ⊥
-TextSaidOf judge script text WriteFault output = ⊥
-TextSaidOf judge script text NoMemory output = ⊥
-
 -- the output that an input calls for, and the status that says so
 abbrev pub JudgeCalls : Judge → List ℕ → Status → List ℕ → Type 0
 JudgeCalls judge input Done output = JudgeAnswer judge input output
 JudgeCalls judge input No output = JudgeVerdict judge input output
-JudgeCalls judge input Refused output = IsJudgeRefusal input output
+JudgeCalls judge input Refused output = TellsFault input output
 JudgeCalls judge input Usage output = ⊥
 JudgeCalls judge input ReadFault output = ⊥
 JudgeCalls judge input WriteFault output = ⊥
@@ -124,12 +84,6 @@ JudgeCalls judge input NoMemory output = ⊥
 -- how the command ends, what the source then has left and what the sink holds
 abbrev pub JudgeEnds : Judge → Status → Option (List ℕ) → Option (List ℕ) → Option (List ℕ) → Option (List ℕ) → Type 0
 JudgeEnds judge = ReadsEnds (JudgeCalls judge)
-
--- a transcript's text with more lines than any script's transcript has
-pub record HasTooManyLines (text : List ℕ) : Type 0 where
-  pub lines : List (List SeenLine)
-  pub is_text : IsTranscriptText text lines
-  pub many : 65600 < length (all_lines lines)
 
 -- ---- the words
 

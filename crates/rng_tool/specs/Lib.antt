@@ -1,6 +1,3 @@
-pub mod Refusal
-pub mod Ends
-pub mod Reads
 pub mod Outcome
 pub mod LoadOutcome
 pub mod DrawOutcome

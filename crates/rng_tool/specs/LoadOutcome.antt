@@ -5,10 +5,10 @@ use Rattle.key_names.specs.declared.lines.Data.TheVariants.{Bytes}
 use Rattle.key_names.specs.SeenLine.{SeenLine, bytes_shown}
 use Rattle.key_names.specs.Texts.TranscriptGrammar.{all_lines}
 use Rattle.event_script.specs.LoadScript.{load_script}
-use Rattle.rng_tool.specs.Ends.{EndsWith}
 use Rattle.rng_tool.specs.Outcome.{IsRunOf}
 use Rattle.rng_tool.specs.declared.load.Load.{Load}
-use Rattle.rng_tool.specs.declared.status.Status.{Status}
+use Rattle.tool_ends.specs.Ends.{EndsWith}
+use Rattle.tool_ends.specs.declared.status.Status.{Status}
 
 -- the texts are `load START CALLERS EVENTS`, with numbers in their ranges
 pub record AskLoad (texts : List (List ℕ)) (start callers events : ℕ) : Type 0 where

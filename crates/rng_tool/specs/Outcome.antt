@@ -10,19 +10,10 @@ use Rattle.key_names.specs.Texts.ScriptFaults.{first_fault}
 use Rattle.key_names.specs.Texts.ScriptGrammar.{Script, IsScript}
 use Rattle.key_names.specs.Texts.TranscriptGrammar.{IsTranscriptText}
 use Rattle.key_names.specs.declared.faults.ScriptFault.{ScriptFault}
-use Rattle.rng_tool.specs.Reads.{ReadsEnds}
-use Rattle.rng_tool.specs.Refusal.{refusal_line}
-use Rattle.rng_tool.specs.declared.status.Status.{Status}
-use Rattle.rng_tool.specs.declared.status.Status.TheVariants.{Done, No, Usage, ReadFault, WriteFault, Refused, NoMemory}
-
-abbrev pub code_of : Status → ℕ
-code_of Done = 0
-code_of No = 1
-code_of Usage = 2
-code_of ReadFault = 3
-code_of WriteFault = 4
-code_of Refused = 5
-code_of NoMemory = 6
+use Rattle.tool_ends.specs.Pairs.{refusal_line}
+use Rattle.tool_ends.specs.Reads.{ReadsEnds}
+use Rattle.tool_ends.specs.declared.status.Status.{Status}
+use Rattle.tool_ends.specs.declared.status.Status.TheVariants.{Done, No, Usage, ReadFault, WriteFault, Refused, NoMemory}
 
 -- the lines are a lawful transcript for a script; its book puts no byte of a key to use twice, and what they show are
 -- bytes of named keys, none of them twice

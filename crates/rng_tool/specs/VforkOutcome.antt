@@ -6,8 +6,8 @@ use Rattle.key_names.specs.VreadSteps.{number_of}
 use Rattle.vdso_state.specs.declared.place.Turn.{Turn}
 use Rattle.vdso_state.specs.Turns.{turn_number}
 use Rattle.fork_runs.specs.TableForks.{AreForkedBytes}
-use Rattle.rng_tool.specs.Ends.{EndsWith}
-use Rattle.rng_tool.specs.declared.status.Status.{Status}
+use Rattle.tool_ends.specs.Ends.{EndsWith}
+use Rattle.tool_ends.specs.declared.status.Status.{Status}
 use Rattle.rng_tool.specs.declared.vfork.Vfork.{Vfork}
 
 -- the texts are `vfork POINT ATTEMPT N`, with numbers in their ranges

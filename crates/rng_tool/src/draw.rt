@@ -4,14 +4,14 @@ ghost use Rattle.io_edges.specs.Faults.{Rose};
 ghost use Rattle.draw_below.specs.TableDraws.{ends_of};
 ghost use Rattle.rng_tool.specs.DrawOutcome.{AskDraw, DrawEnds, DrawOf, IsDraw, IsSmallDraw, draw_line, draw_text};
 
-use crate::numbers::number_in;
-use crate::status::Status;
 use arrayvec::ArrayString;
 use draw_below::{Drawn, draw_on_new_table};
 use io_edges::{Failed, NoMemory, Sink, put_all};
 use itoa::Buffer;
 use std::alloc::Global;
 use std::sync::Wait;
+use tool_ends::Status;
+use tool_ends::numbers::number_in;
 
 /// The most draws of one run.
 const MOST_DRAWS: u32 = 1000;

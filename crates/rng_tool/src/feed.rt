@@ -4,15 +4,15 @@ ghost use Rattle.io_edges.specs.Faults.{Rose};
 ghost use Rattle.irq_feed.specs.declared.table_feed.FeedSums.{FeedSums};
 ghost use Rattle.rng_tool.specs.FeedOutcome.{AskFeed, FeedEnds, FeedOf, IsFeed, IsSmallFeed, feed_line};
 
-use crate::numbers::number_in;
-use crate::short_line::{ShortLine, add_number};
-use crate::status::Status;
 use arrayvec::ArrayString;
 use io_edges::{Failed, Gate, NoMemory, Sink, put_all};
 use irq_feed::{FeedSums, feed_on_new_table};
 use std::alloc::Global;
 use std::sync::Wait;
 use std::thread::Threads;
+use tool_ends::Status;
+use tool_ends::numbers::number_in;
+use tool_ends::short_lines::{ShortLine, add_number};
 
 /// The most feeders of one run.
 const MOST_FEEDERS: u32 = 16;

@@ -7,9 +7,6 @@ ghost use Rattle.key_names.specs.Texts.TranscriptGrammar.{all_lines};
 ghost use Rattle.rng_tool.specs.LoadOutcome.{AskLoad, IsLoad, IsSmall, LoadEnds, LoadOf, data_len, load_line};
 
 use crate::callers::transcript_of;
-use crate::numbers::number_in;
-use crate::short_line::{ShortLine, add_number};
-use crate::status::Status;
 use arrayvec::ArrayString;
 use event_script::Script;
 use io_edges::{Failed, Gate, NoMemory, Sink, put_all};
@@ -17,6 +14,9 @@ use key_names::Data;
 use std::alloc::Global;
 use std::sync::Wait;
 use std::thread::Threads;
+use tool_ends::Status;
+use tool_ends::numbers::number_in;
+use tool_ends::short_lines::{ShortLine, add_number};
 use transcript_check::check::{Verdict, check};
 use transcript_text::{CallerLines, Transcript};
 

@@ -8,32 +8,29 @@
 //! the short lines of all that is not a transcript.
 #![tactic(auto)]
 
-mod answers;
-#[cfg(test)]
-mod caller_tests;
+ghost use Rattle.std.specs.Prelude.{◌≡◌, ◌⊎◌, ℕ, List, Option};
+ghost use Rattle.io_edges.specs.Faults.{Rose};
+ghost use Rattle.rng_tool.specs.Commands.{IsNoForm, TakesInput};
+ghost use Rattle.rng_tool.specs.JudgeOutcome.{IsJudge, JudgeEnds};
+ghost use Rattle.rng_tool.specs.Outcome.{IsRun, RunEnds};
+
 mod callers;
 mod command;
 mod draw;
-mod ending;
 mod feed;
 mod judge;
 mod kept;
 mod load;
-mod numbers;
-mod refusal;
 mod run;
 mod run_script;
-mod short_line;
-mod status;
 #[cfg(test)]
 mod tests;
 mod told;
 mod vfork;
 
-use crate::judge::judge_of;
+use crate::judge::{Judge, judge_of};
 use crate::kept::KeptSource;
 use crate::run::run;
-use crate::status::Status;
 use crate::told::{Given, tell};
 use io_edges::{OpenGate, Source, StdSink, StdSource};
 use std::alloc::Global;
@@ -41,26 +38,10 @@ use std::io::{BufWriter, Write};
 use std::process::ExitCode;
 use std::sync::Wait;
 use std::thread::Threads;
-use std::{env, io};
+use tool_ends::{Status, words};
 
 /// How many bytes of output are gathered to one write.
 const GATHERED: usize = 64 * 1024;
-
-/// The words behind the program's name, or how a run ends without them.
-fn words(rt: &HostRuntime) -> Result<Vec<String>, Status> {
-    let mut words = Vec::new(rt.alloc());
-    let args = match env::args(rt) {
-        Ok(args) => args,
-        Err(error) if error.kind() == io::ErrorKind::OutOfMemory => return Err(Status::NoMemory),
-        Err(_) => return Err(Status::Usage),
-    };
-    for word in args.skip(1) {
-        if words.push(word).is_err() {
-            return Err(Status::NoMemory);
-        }
-    }
-    Ok(words)
-}
 
 /// Runs the command of the words over this source, and gathers its output for the writer.
 fn run_gathered<R: Threads + Wait + Sync, S: Source, O: Write + Drop>(
@@ -69,7 +50,17 @@ fn run_gathered<R: Threads + Wait + Sync, S: Source, O: Write + Drop>(
     words: &[String],
     source: &mut S,
     output: O,
-) -> Status {
+) -> Status
+    ensures usage { result ≡ Status.Usage → IsNoForm words.now }
+    ensures no_form { IsNoForm words.now → (result ≡ Status.Usage) ⊎ (result ≡ Status.NoMemory) }
+    ensures unread { (TakesInput words.now → ⊥) → source.new ≡ source.old }
+    ensures read_fault { result ≡ Status.ReadFault → Rose (S.faults source.old) (S.faults source.new) }
+    ensures ran { IsRun words.now → (held : Option (List ℕ)) × (held_after : Option (List ℕ))
+        × RunEnds result (S.left source.old) (S.left source.new) held held_after }
+    ensures judged { (judge : Judge) → IsJudge words.now judge → (held : Option (List ℕ)) × (held_after : Option (List ℕ))
+        × JudgeEnds judge result (S.left source.old) (S.left source.new) held held_after }
+    ensures verdict { result ≡ Status.No → (judge : Judge) × IsJudge words.now judge }
+{
     let Ok(output) = BufWriter::with_capacity(alloc, GATHERED, output) else {
         return Status::NoMemory;
     };

@@ -7,25 +7,25 @@ ghost use Rattle.key_names.specs.Texts.ScriptGrammar.{IsScript, Script};
 ghost use Rattle.rng_tool.specs.Commands.{IsNoForm, TakesInput};
 ghost use Rattle.rng_tool.specs.DrawOutcome.{DrawEnds, IsDraw};
 ghost use Rattle.rng_tool.specs.FeedOutcome.{FeedEnds, IsFeed};
-ghost use Rattle.rng_tool.specs.JudgeOutcome.{IsJudge, JudgeEnds, most_judged};
+ghost use Rattle.rng_tool.specs.JudgeOutcome.{IsJudge, JudgeEnds};
 ghost use Rattle.rng_tool.specs.LoadOutcome.{IsLoad, LoadEnds};
 ghost use Rattle.rng_tool.specs.Outcome.{IsRun, RunEnds};
 ghost use Rattle.rng_tool.specs.VforkOutcome.{IsVfork, VforkEnds};
+ghost use Rattle.tool_ends.specs.Pairs.{most_input};
 ghost use Rattle.vdso_state.specs.declared.place.Turn.{Turn};
 
 use crate::command::Command;
 use crate::draw::run_draw;
-use crate::ending::end_output;
 use crate::feed::run_feed;
 use crate::judge::{Judge, judge_input};
 use crate::load::run_load;
 use crate::run_script::run_input;
-use crate::status::Status;
 use crate::vfork::run_vfork;
 use io_edges::{Gate, Sink, Source};
 use std::alloc::Global;
 use std::sync::Wait;
 use std::thread::Threads;
+use tool_ends::{Status, end_output};
 
 /// Runs the command that the words are.
 ///
@@ -94,7 +94,7 @@ pub fn run<R: Threads + Wait + Sync, S: Source, K: Sink, G: Gate>(
         → (result ≡ Status.Done) ⊎ (result ≡ Status.NoMemory)) }
     ensures judge_completes { (judge : Judge) → IsJudge words.now judge
         → (Rose (S.faults source.old) (S.faults source.new) → ⊥) → (Rose (K.faults sink.old) (K.faults sink.new) → ⊥)
-        → IfSome (S.left source.old) (λ all. (script : Script) → length all ≤ most_judged → IsScript script (front all)
+        → IfSome (S.left source.old) (λ all. (script : Script) → length all ≤ most_input → IsScript script (front all)
         → (result ≡ Status.Done) ⊎ (result ≡ Status.No) ⊎ (result ≡ Status.NoMemory)) }
     ensures load_completes { (start callers events : ℕ) → IsLoad words.now start callers events
         → (Rose (K.faults sink.old) (K.faults sink.new) → ⊥) → (result ≡ Status.Done) ⊎ (result ≡ Status.NoMemory) }

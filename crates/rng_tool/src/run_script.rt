@@ -3,17 +3,16 @@ ghost use Rattle.std.specs.Prelude.{◌≡◌, ◌⊎◌, ◌≤◌};
 ghost use Rattle.io_edges.specs.Faults.{Rose};
 ghost use Rattle.key_names.specs.Texts.ScriptGrammar.{WellFormed};
 ghost use Rattle.rng_tool.specs.Outcome.{CallsFor, RunEnds, RunOf};
-ghost use Rattle.rng_tool.specs.Reads.{OnlyDone, WritesEnds};
+ghost use Rattle.tool_ends.specs.Reads.{OnlyDone, WritesEnds};
 
-use crate::answers::put_answer;
 use crate::callers::transcript_of;
-use crate::refusal::refusal_line;
-use crate::status::Status;
 use event_script::{Script, ScriptError, read};
 use io_edges::{Failed, Gate, ReadError, Sink, Source, read_to_limit};
 use std::alloc::Global;
 use std::sync::Wait;
 use std::thread::Threads;
+use tool_ends::short_lines::refusal_line;
+use tool_ends::{Status, put_line};
 use transcript_text::write_all;
 
 /// The most bytes of a script: 16 MiB.
@@ -60,7 +59,7 @@ fn answer<R: Threads + Wait + Sync, K: Sink, G: Gate>(
     drop(input);
     match found {
         Ok(script) => run_script(rt, alloc, &script, sink, gate),
-        Err(ScriptError::Fault(fault)) => put_answer(Status::Refused, &refusal_line(fault), sink),
+        Err(ScriptError::Fault(fault)) => put_line(Status::Refused, &refusal_line(fault), sink),
         Err(ScriptError::NoMemory) => Status::NoMemory,
     }
 }

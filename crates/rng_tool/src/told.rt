@@ -1,10 +1,10 @@
 //! What standard error is told of a run that did not end well.
 
 use crate::command::USAGE;
-use crate::status::Status;
 use event_script::{ScriptError, read, read_front};
 use key_names::{FaultKind, ScriptFault};
 use std::alloc::Global;
+use tool_ends::Status;
 
 /// The longest line of a script that is shown.
 const MOST_SHOWN: usize = 80;

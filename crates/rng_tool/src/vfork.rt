@@ -8,13 +8,13 @@ ghost use Rattle.vdso_state.specs.declared.place.Turn.{Turn};
 ghost use Rattle.vdso_state.specs.Turns.{turn_number};
 ghost use Rattle.rng_tool.specs.VforkOutcome.{AskVfork, IsSmallVfork, IsVfork, VforkEnds, VforkOf, end_line, vfork_text};
 
-use crate::numbers::number_in;
-use crate::status::Status;
 use fork_runs::{Point, Turn, fork_on_new_table};
 use hex::encode_to_slice;
 use io_edges::{Failed, NoMemory, Sink, put_all};
 use std::alloc::Global;
 use std::sync::Wait;
+use tool_ends::Status;
+use tool_ends::numbers::number_in;
 
 /// The most bytes that each end gives.
 const MOST_BYTES: u32 = 1 << 20;

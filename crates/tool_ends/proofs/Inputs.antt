@@ -1,10 +1,9 @@
 -- What was read of an input, and what all of it calls for.
-use Rattle.std.proofs.Common.{ℕ, ◌+◌, ◌≡◌, ◌≤◌, ◌<◌, ◌⊎◌, true, ltb, List, Option, None, Some, length, take, sym, ap, ◌∙◌, subst, arith, inl, inr, refl}
+use Rattle.std.proofs.Common.{ℕ, ◌+◌, ◌≡◌, ◌≤◌, ◌<◌, ◌⊎◌, List, Option, None, Some, length, take, sym, ap, ◌∙◌, subst, arith, inl, inr}
 use Rattle.std.specs.Prelude.{IfSome}
-use Rattle.std.specs.Io.KnownBytes.{Appends, Consumes, IsAtEnd, Keeps}
-use Rattle.std.proofs.lemmas.Bool.{cases_lt, lt-ltb}
+use Rattle.std.specs.Io.KnownBytes.{Consumes, IsAtEnd}
+use Rattle.std.proofs.lemmas.Bool.{cases_lt}
 use Rattle.std.proofs.lemmas.List.{take_all, length-take}
-use Rattle.io_edges.specs.Pieces.{AppendsPrefix}
 use Rattle.tool_ends.specs.Ends.{IsAnswered}
 use Rattle.tool_ends.specs.Reads.{ReadsEnds, SomeAnswer, WritesEnds}
 use Rattle.tool_ends.specs.declared.status.Status.{Status}

@@ -1,19 +1,22 @@
--- A script's transcript has a line for each event and for each caller, and no more.
-use Rattle.std.proofs.Common.{◌≡◌, ◌<◌, ℕ, suc, ◌+◌, ◌≤◌, refl, List, [], ◌∷◌, length, ap, arith, inl, inr, true, ltb, Some}
+-- A script's transcript has a line for each event and for each caller, and no more; and what answers an input that is no
+-- script with a transcript behind it.
+use Rattle.std.proofs.Common.{◌≡◌, ◌<◌, ℕ, suc, ◌+◌, ◌≤◌, refl, List, [], ◌∷◌, length, sym, ◌∙◌, arith, inl, inr, true, ltb, Some}
 use Rattle.std.specs.List.{sum_by}
 use Rattle.std.proofs.lemmas.Bool.{lt-ltb}
 use Rattle.std.proofs.lemmas.List.Concat.{length-flat_map}
 use Rattle.std.proofs.lemmas.List.Sums.{sum_by-cons}
 use Rattle.key_names.specs.declared.events.Event.{Event}
 use Rattle.key_names.specs.declared.faults.FaultKind.TheVariants.{TooLong}
+use Rattle.key_names.specs.declared.faults.ScriptFault.{ScriptFault}
 use Rattle.key_names.specs.IsTranscript.{EachCaller, HasLines, LinesFit}
 use Rattle.key_names.specs.Texts.ScriptFaults.{front}
 use Rattle.key_names.specs.Texts.ScriptGrammar.{Script, IsScript, WellFormed}
 use Rattle.key_names.specs.SeenLine.{SeenLine}
-use Rattle.key_names.specs.Texts.TranscriptGrammar.{all_lines}
-use Rattle.tool_ends.specs.Pairs.{HasTooManyLines, IsNoPair, IsNoText, LacksLines, behind, pair_fault}
+use Rattle.tool_ends.specs.Pairs.{HasTooManyLines, IsNoPair, IsNoText, LacksLines, RefusalOf, TellsFault, behind, no_line, pair_fault, refusal_line}
 use Rattle.tool_ends.specs.declared.pair.NoPair.{NoPair}
 use Rattle.tool_ends.specs.declared.pair.NoPair.TheVariants.{Refused, No, NoMemory}
+use Rattle.tool_ends.specs.declared.status.Status.{Status}
+use Rattle.tool_ends.specs.declared.status.Status.TheVariants.{Refused as IsRefused, No as IsNo}
 
 -- a caller has a line for each event, and its last one
 line_count : (c n : ℕ) (events : List Event) (lines : List SeenLine) → LinesFit c n events lines
@@ -24,7 +27,7 @@ line_count c n [] (line ∷ next ∷ lines) fit = absurd fit
 line_count c n (event ∷ events) [] fit = absurd fit
 line_count c n (event ∷ events) (line ∷ lines) fit = omega (arith, line_count c (suc n) events lines fit.1)
 
-abbrev Fit : ℕ → List (List Event) → List (List SeenLine) → Type 0
+abbrev pub Fit : ℕ → List (List Event) → List (List SeenLine) → Type 0
 Fit c callers t = EachCaller (λ k events lines. LinesFit k 0 events lines) c callers t
 
 -- there are as many lines as events, and one more for each caller
@@ -62,6 +65,15 @@ too_many script text ok many = record {
 pub too_long : (input : List ℕ) → 100663296 < length input → pair_fault input ≡ Some (record { line = 0; kind = TooLong })
 too_long input long = let is : ltb 100663296 (length input) ≡ true = lt-ltb _ _ long in rw is refl
 
+-- so the refusal of one such input is that of each
+pub too_long_alike : (input all output : List ℕ) → 100663296 < length input → 100663296 < length all →
+    TellsFault input output → TellsFault all output
+too_long_alike input all output long too tells = record {
+  fault = tells.fault;
+  first = too_long all too ∙ sym (too_long input long) ∙ tells.first;
+  line = tells.line;
+}
+
 -- what keeps the text behind a script from being read keeps the input from it
 pub no_pair : (input : List ℕ) (script : Script) → length input ≤ 100663296 → IsScript script (front input) →
     (why : NoPair) → IsNoText (behind input) why → IsNoPair input why
@@ -76,3 +88,13 @@ no_pair input script short is (No number) not = record {
   ];
 }
 no_pair input script short is NoMemory not = tt
+
+-- ---- the lines that say so
+
+pub refused_by : (fault : ScriptFault) (line : List ℕ) → line ≡ refusal_line fault → (s : Status) (o : List ℕ) →
+    (s ≡ IsRefused) × (o ≡ line) → RefusalOf (Refused fault) s o
+refused_by fault line is s o said = (said.0, said.1 ∙ is)
+
+pub failed_by : (number : ℕ) (line : List ℕ) → line ≡ no_line number → (s : Status) (o : List ℕ) →
+    (s ≡ IsNo) × (o ≡ line) → RefusalOf (No number) s o
+failed_by number line is s o said = (said.0, said.1 ∙ is)

@@ -1,4 +1,4 @@
--- A script with a transcript behind it as one input, and the lines that answer an input that is none.
+-- A script with a transcript behind it as one input, and what answers an input that is none.
 use Rattle.std.specs.Prelude.{ℕ, ◌≡◌, ◌⊎◌, ◌<◌, ◌≤◌, ⊤, List, [], ◌∷◌, Option, Some, codes, drop, length, nat_lt}
 use Rattle.std.specs.Prelude.{if◌then◌else◌}
 use Rattle.std.specs.Fmt.{decimal}
@@ -12,6 +12,8 @@ use Rattle.key_names.specs.Texts.Spelling.{lined, spaced}
 use Rattle.key_names.specs.Texts.TranscriptGrammar.{IsTranscriptText, all_lines}
 use Rattle.tool_ends.specs.declared.pair.NoPair.{NoPair}
 use Rattle.tool_ends.specs.declared.pair.NoPair.TheVariants.{Refused, No, NoMemory}
+use Rattle.tool_ends.specs.declared.status.Status.{Status}
+use Rattle.tool_ends.specs.declared.status.Status.TheVariants.{Refused as IsRefused, No as IsNo}
 
 -- the most bytes of a script and a transcript
 abbrev pub most_input : ℕ
@@ -64,7 +66,7 @@ IsNoPair input (Refused fault) = pair_fault input ≡ Some fault
 IsNoPair input (No number) = FailsAsText input number
 IsNoPair input NoMemory = ⊤
 
--- ---- the lines
+-- ---- the answers
 
 -- of a fault it tells the line and the kind
 abbrev pub refusal_line : ScriptFault → List ℕ
@@ -74,3 +76,15 @@ refusal_line fault =
 -- of a clause that fails its number
 abbrev pub no_line : ℕ → List ℕ
 no_line number = lined (spaced (codes "no" ∷ decimal number ∷ []) ∷ [])
+
+-- the line of an input's first fault
+pub record TellsFault (input output : List ℕ) : Type 0 where
+  pub fault : ScriptFault
+  pub first : pair_fault input ≡ Some fault
+  pub line : output ≡ refusal_line fault
+
+-- what says why an input is not read, and the status that says so
+abbrev pub RefusalOf : NoPair → Status → List ℕ → Type 0
+RefusalOf (Refused fault) status output = (status ≡ IsRefused) × (output ≡ refusal_line fault)
+RefusalOf (No number) status output = (status ≡ IsNo) × (output ≡ no_line number)
+RefusalOf NoMemory status output = ⊥

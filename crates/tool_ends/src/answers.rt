@@ -2,9 +2,11 @@
 ghost use Rattle.std.specs.Prelude.{◌≡◌, ◌≤◌};
 ghost use Rattle.io_edges.specs.Faults.{Rose};
 ghost use Rattle.tool_ends.specs.Ends.{IsAnswered};
+ghost use Rattle.tool_ends.specs.Pairs.{RefusalOf};
 ghost use Rattle.tool_ends.specs.Reads.{WritesEnds};
 
-use crate::short_lines::ShortLine;
+use crate::pair::NoPair;
+use crate::short_lines::{ShortLine, no_line, refusal_line};
 use crate::status::Status;
 use io_edges::{Failed, Sink, put_all};
 
@@ -33,4 +35,18 @@ pub fn put_line<K: Sink>(status: Status, line: &ShortLine, sink: &mut K) -> Stat
     ensures never_falls { K.faults sink.old ≤ K.faults sink.new }
 {
     put_answer(status, line.as_str().as_bytes(), sink)
+}
+
+/// Answers an input that was not read as a script with a transcript behind it.
+pub fn put_refusal<K: Sink>(why: NoPair, sink: &mut K) -> Status
+    ensures ends { WritesEnds (RefusalOf why) result (K.held sink.old) (K.held sink.new) }
+    ensures cut { result ≡ Status.WriteFault → Rose (K.faults sink.old) (K.faults sink.new) }
+    ensures silent { result ≡ Status.NoMemory → sink.new ≡ sink.old }
+    ensures never_falls { K.faults sink.old ≤ K.faults sink.new }
+{
+    match why {
+        NoPair::Refused(fault) => put_line(Status::Refused, &refusal_line(fault), sink),
+        NoPair::No(number) => put_line(Status::No, &no_line(number), sink),
+        NoPair::NoMemory => Status::NoMemory,
+    }
 }

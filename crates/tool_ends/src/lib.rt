@@ -1,19 +1,22 @@
 //! How a program of this repository ends: its statuses, what it has read and written at each, and the short lines that
 //! answer an input of which no more is said.
 //!
-//! [`pair::read_pair`] reads a script with a transcript behind it, or says why there is none. [`put_answer`], [`put_line`] and
-//! [`end_output`] write an answer and hand it on. `specs/Reads` says what a status promises of a source and a sink.
+//! [`pair::read_pair`] reads a script with a transcript behind it, or says why there is none, and [`put_refusal`] answers
+//! so. [`put_answer`], [`put_line`] and [`end_output`] write an answer and hand it on. `specs/Reads` says what a status
+//! promises of a source and a sink.
 //!
 //! It stands on `io_edges` for sources and sinks, and on `event_script` and `transcript_text` for what an input is.
 #![tactic(auto)]
 
 mod answers;
+mod command_line;
 mod ending;
 pub mod numbers;
 pub mod pair;
 pub mod short_lines;
 mod status;
 
-pub use answers::{put_answer, put_line};
+pub use answers::{put_answer, put_line, put_refusal};
+pub use command_line::words;
 pub use ending::end_output;
 pub use status::Status;

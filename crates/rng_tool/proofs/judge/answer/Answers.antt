@@ -1,17 +1,14 @@
-use Rattle.std.proofs.Common.{◌<◌, length, arith}
+use Rattle.tool_ends.proofs.Inputs.{wider}
 use Rattle.rng_tool.specs.JudgeOutcome.{JudgeCalls}
-use Rattle.rng_tool.specs.declared.status.Status.TheVariants.{Refused}
-use Rattle.rng_tool.proofs.Inputs.{judged_too_long, wider}
-use Rattle.rng_tool.proofs.Judging.{the_answer}
+use Rattle.rng_tool.proofs.Judging.{none_said, pair_said}
 use Rattle.rng_tool.proofs.judge.answer.Goals as goal
 
-pub returns-then-input-gt-MOST_INPUT-clause-ends :
-    goal.returns-then-input-gt-MOST_INPUT-clause-ends
-returns-then-input-gt-MOST_INPUT-clause-ends g c =
-    let Of = JudgeCalls c.args.judge c.args.input.now in
-    let long : 100663296 < length c.args.input.now = omega (arith, c.if-input-gt-MOST_INPUT.true) in
-    wider _ Of (the_answer Of Refused c.refusal_line.result.bytes (record {
-      fault = _;
-      first = judged_too_long c.args.input.now long;
-      line = c.refusal_line.ensures;
-    })) _ _ _ c.put_answer.ensures.ends
+pub returns-in-Ok-clause-ends : goal.returns-in-Ok-clause-ends
+returns-in-Ok-clause-ends g c =
+    wider _ (JudgeCalls c.args.judge c.args.input.now)
+    (pair_said c.args.judge c.args.input.now _ _ c.in-Ok.ensures.read) _ _ _ c.say.ensures.ends
+
+pub returns-in-Err-clause-ends : goal.returns-in-Err-clause-ends
+returns-in-Err-clause-ends g c =
+    wider _ (JudgeCalls c.args.judge c.args.input.now)
+    (none_said c.args.judge c.args.input.now c.in-Err.why c.in-Err.ensures.not_read) _ _ _ c.put_refusal.ensures.ends

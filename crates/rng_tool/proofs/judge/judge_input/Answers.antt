@@ -1,7 +1,8 @@
 use Rattle.std.proofs.Common.{ap, arith, length, subst}
 use Rattle.rng_tool.specs.JudgeOutcome.{JudgeCalls}
-use Rattle.rng_tool.specs.Reads.{WritesEnds}
-use Rattle.rng_tool.proofs.Inputs.{judge_is_limited, reads_end}
+use Rattle.tool_ends.specs.Reads.{WritesEnds}
+use Rattle.tool_ends.proofs.Inputs.{reads_end}
+use Rattle.rng_tool.proofs.Inputs.{judge_is_limited}
 use Rattle.rng_tool.proofs.judge.judge_input.Goals as goal
 
 pub returns-clause-ends : goal.returns-clause-ends

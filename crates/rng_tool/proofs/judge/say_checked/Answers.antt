@@ -1,8 +1,7 @@
 use Rattle.rng_tool.specs.JudgeOutcome.{SaidOf}
 use Rattle.rng_tool.specs.declared.judge.Judge.TheVariants.{Check}
-use Rattle.rng_tool.specs.declared.status.Status.TheVariants.{No}
-use Rattle.rng_tool.proofs.Inputs.{wider}
-use Rattle.rng_tool.proofs.Judging.{the_answer}
+use Rattle.tool_ends.specs.declared.status.Status.TheVariants.{No}
+use Rattle.tool_ends.proofs.Inputs.{the_answer, wider}
 use Rattle.rng_tool.proofs.judge.say_checked.Goals as goal
 
 pub returns-in-Ok-No-clause-ends : goal.returns-in-Ok-No-clause-ends
@@ -10,4 +9,4 @@ returns-in-Ok-No-clause-ends g c =
     let fails = rw c.in-Ok-No.field-0-is at c.in-Ok-No.ensures.judged in
     let Of = SaidOf Check c.args.script.now c.args.t.now in
     wider _ Of (the_answer Of No c.no_line.result.bytes
-    (c.in-Ok-No.number, fails, c.no_line.ensures)) _ _ _ c.put_answer-in-Ok-No.ensures.ends
+    (c.in-Ok-No.number, fails, c.no_line.ensures)) _ _ _ c.put_line-in-Ok-No.ensures.ends

@@ -1,6 +1,6 @@
 use Rattle.std.proofs.Common.{subst}
 use Rattle.key_names.specs.Texts.TranscriptGrammar.{TranscriptFits}
-use Rattle.rng_tool.specs.declared.status.Status.TheVariants.{Done}
+use Rattle.tool_ends.specs.declared.status.Status.TheVariants.{Done}
 use Rattle.rng_tool.proofs.Judging.{gives_back}
 use Rattle.rng_tool.proofs.judge.say_replayed.Goals as goal
 

@@ -1,6 +1,6 @@
 use Rattle.std.proofs.Common.{rules}
 use Rattle.key_names.specs.Texts.ScriptGrammar.{WellFormed}
-use Rattle.rng_tool.proofs.Runs.{few_lines}
+use Rattle.tool_ends.proofs.Pairs.{few_lines}
 use Rattle.rng_tool.proofs.load.summary.Goals as goal
 
 pub shown_len-requires : goal.shown_len-requires

@@ -8,7 +8,7 @@ use Rattle.rng_tool.specs.Outcome.{CallsFor}
 use Rattle.rng_tool.specs.VforkOutcome.{VforkEnds, VforkOf}
 use Rattle.rng_tool.specs.declared.command.Command.TheVariants.{Vfork as VforkCommand}
 use Rattle.rng_tool.proofs.Completes.{ends_completes, judge_completes, read_before, run_completes}
-use Rattle.rng_tool.proofs.Endings.{ends_after, reads_end_after, rose_at_end}
+use Rattle.tool_ends.proofs.Endings.{ends_after, reads_end_after, rose_at_end}
 use Rattle.rng_tool.proofs.run.run.Goals as goal
 
 pub returns-in-Some-Run-clause-write_fault : goal.returns-in-Some-Run-clause-write_fault

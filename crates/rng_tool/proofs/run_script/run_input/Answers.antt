@@ -1,7 +1,8 @@
 use Rattle.std.proofs.Common.{◌≡◌, arith, length, rules}
 use Rattle.std.specs.Prelude.{vec_len}
 use Rattle.rng_tool.specs.Outcome.{CallsFor}
-use Rattle.rng_tool.proofs.Inputs.{reads_end, run_is_limited}
+use Rattle.tool_ends.proofs.Inputs.{reads_end}
+use Rattle.rng_tool.proofs.Inputs.{run_is_limited}
 use Rattle.rng_tool.proofs.run_script.run_input.Goals as goal
 
 pub returns-clause-ends : goal.returns-clause-ends

@@ -1,4 +1,4 @@
-use Rattle.rng_tool.specs.declared.status.Status.TheVariants.{Done}
+use Rattle.tool_ends.specs.declared.status.Status.TheVariants.{Done}
 use Rattle.rng_tool.proofs.run_script.run_script.Goals as goal
 
 pub returns-clause-ends : goal.returns-clause-ends

@@ -2,7 +2,7 @@ use Rattle.std.proofs.Common.{◌∙◌, ◌≡◌, ap, arith, length, subst, sy
 use Rattle.std.specs.Prelude.{drop}
 use Rattle.std.proofs.lemmas.List.{length-drop, length-take, take_all}
 use Rattle.key_names.specs.Texts.ScriptFaults.{front}
-use Rattle.tool_ends.specs.Pairs.{IsNoText, behind}
+use Rattle.tool_ends.specs.Pairs.{IsNoText}
 use Rattle.tool_ends.proofs.Pairs.{no_pair}
 use Rattle.tool_ends.proofs.pair.read_pair.Goals as goal
 

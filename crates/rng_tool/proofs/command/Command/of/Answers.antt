@@ -1,5 +1,4 @@
 use Rattle.std.proofs.Common.{◌≡◌, Some, ap}
-use Rattle.rng_tool.specs.declared.command.Command.{Command}
 use Rattle.rng_tool.specs.declared.command.Command.TheVariants.{Vfork as VforkCommand}
 use Rattle.rng_tool.specs.declared.vfork.Vfork.{Vfork}
 use Rattle.rng_tool.proofs.command.Command.of.Goals as goal
