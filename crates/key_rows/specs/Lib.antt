@@ -7,3 +7,4 @@ pub mod HeldIsLive
 pub mod Cut
 pub mod Rows
 pub mod Ranks
+pub mod MadeOrder

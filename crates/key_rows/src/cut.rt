@@ -6,7 +6,7 @@ ghost use Rattle.key_names.specs.Book.{Book, Visit, entries_of};
 ghost use Rattle.key_uses.specs.KeptEntries.{base_entries, cpu_entries};
 ghost use Rattle.key_uses.specs.Moments.{visits_to};
 ghost use Rattle.key_rows.specs.Told.{cpu_lists};
-ghost use Rattle.key_rows.specs.Cut.{is_by, lane_moments, stamps_of, visit_stamps, KeepsVisits};
+ghost use Rattle.key_rows.specs.Cut.{is_by, stamps_of, visit_stamps, KeepsVisits};
 
 use crate::moments::{Moment, Moments};
 use list_replay::{KeptBase, KeptCpu, Lists};
@@ -19,16 +19,6 @@ fn is_by(moments: &[Moment], place: usize, stamp: u64) -> bool
     match moments.get(place) {
         Some(moment) => moment.stamp <= stamp,
         None => false,
-    }
-}
-
-// The moments of a CPU's visits.
-fn cpu_moments(moments: &Moments, cpu: usize) -> &[Moment]
-    ensures { result.now ≡ lane_moments (slice_get moments.now.cpus.items cpu) }
-{
-    match moments.cpus.get(cpu) {
-        Some(lane) => lane,
-        None => &[],
     }
 }
 
@@ -84,7 +74,7 @@ fn cpus_to(
 {
     let mut cpus = Vec::new(alloc);
     for (cpu, lane) in kept.cpus.iter().enumerate() {
-        cpus.push(cpu_to(alloc, stamp, lane, cpu_moments(moments, cpu))?)?;
+        cpus.push(cpu_to(alloc, stamp, lane, moments.of_cpu(cpu))?)?;
     }
     Ok(cpus)
 }

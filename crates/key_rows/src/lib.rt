@@ -4,9 +4,10 @@
 //! [`told`] says what the lists of a book tell of its keys. Its contract, entry by entry and each once, is by the
 //! definitions of `key_names` and of `specs/`: [`lives`] has where keys begin and end and which rests of batches are
 //! given up, and [`held`] the keys and the rests that are held behind the last entries. A [law](laws) says that what is
-//! told as held is what is live. [`cut`] has the lists up to a stamp, and [`rows`] puts a row together for each key.
-//! [`moments`] has when each entry was left and on which line, of which no clause speaks. The crate stands on what
-//! `list_replay` keeps of the lanes' lists and on the uses that `key_uses` gives.
+//! told as held is what is live. [`cut`] has the lists up to a stamp, and [`rows`] puts a row together for each key,
+//! and rows in the order in which their keys were made. [`moments`] has when each entry was left and on which line, as
+//! its caller tells it. The crate stands on what `list_replay` keeps of the lanes' lists and on the uses that
+//! `key_uses` gives.
 #![tactic(auto)]
 
 pub mod batches;

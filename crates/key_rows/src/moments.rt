@@ -1,4 +1,8 @@
 //! When the entries of a book were left, and on which lines.
+ghost use Rattle.std.specs.Prelude.{◌≡◌, slice_get};
+ghost use Rattle.key_rows.specs.Cut.{lane_moments};
+ghost use Rattle.key_rows.specs.MadeOrder.{moment_at, state_moments};
+
 use key_names::LaneId;
 use key_uses::used::Origin;
 
@@ -26,22 +30,50 @@ pub struct Moments {
     pub callers: Vec<Vec<Vec<Moment>>>,
 }
 
+// The moment at a place of a list.
+fn moment_in(list: &[Moment], place: u64) -> Option<Moment>
+    ensures { result ≡ slice_get list.now place }
+{
+    list.get(place as usize).copied()
+}
+
 impl Moments {
+    // The moments of a CPU's visits.
+    pub(crate) fn of_cpu(&self, cpu: usize) -> &[Moment]
+        ensures { result.now ≡ lane_moments (slice_get self.now.cpus.items cpu) }
+    {
+        match self.cpus.get(cpu) {
+            Some(lane) => lane,
+            None => &[],
+        }
+    }
+
+    // The moments of the entries of a caller's vgetrandom state.
+    fn of_state(&self, caller: u32, state: u32) -> &[Moment]
+        ensures { result.now ≡ state_moments (slice_get self.now.callers.items caller) state }
+    {
+        match self.callers.get(caller as usize) {
+            Some(states) => match states.get(state as usize) {
+                Some(list) => list,
+                None => &[],
+            },
+            None => &[],
+        }
+    }
+
     /// The moment of an entry, if there is one.
-    pub fn at(&self, origin: Origin) -> Option<Moment> {
-        let (list, place) = match origin {
-            Origin::Lane(LaneId::Pool, place) => (&self.pool, place),
-            Origin::Lane(LaneId::Base, place) => (&self.base, place),
-            Origin::Lane(LaneId::Cpu(cpu), place) => (self.cpus.get(cpu as usize)?, place),
+    pub fn at(&self, origin: Origin) -> Option<Moment>
+        ensures { result ≡ moment_at self.now origin }
+    {
+        match origin {
+            Origin::Lane(LaneId::Pool, place) => moment_in(&self.pool, place),
+            Origin::Lane(LaneId::Base, place) => moment_in(&self.base, place),
+            Origin::Lane(LaneId::Cpu(cpu), place) => moment_in(self.of_cpu(cpu as usize), place),
             Origin::State {
                 caller,
                 state,
                 place,
-            } => (
-                self.callers.get(caller as usize)?.get(state as usize)?,
-                place,
-            ),
-        };
-        list.get(place as usize).copied()
+            } => moment_in(self.of_state(caller, state), place),
+        }
     }
 }

@@ -5,10 +5,11 @@ ghost use Rattle.key_names.specs.declared.names.KeyName.{KeyName as BookName};
 ghost use Rattle.key_rows.specs.Rows.{rank_of, used_piece, given_up_piece, held_piece, all_pieces};
 ghost use Rattle.key_rows.specs.Rows.{pieces_of, endings_of, birth_of, IsRow};
 ghost use Rattle.key_rows.specs.Ranks.{PiecesByKey, EndingsByKey};
+ghost use Rattle.key_rows.specs.MadeOrder.{lane_number, origin_rank, stamp_or_0, is_call_key, made_rank, RowsByMaking};
 
 use crate::held::HeldRest;
 use crate::lives::{Birth, Ending, GivenUp, Holder};
-use crate::moments::Moments;
+use crate::moments::{Moment, Moments};
 use crate::told::Told;
 use key_names::{KeyName, LaneId, Span};
 use key_uses::used::{Origin, Purpose, Used};
@@ -242,7 +243,9 @@ pub fn make_rows(alloc: Global, told: &Told) -> Result<Vec<Row>, AllocError>
 }
 
 // Where a lane stands among all lanes: the pool, the base, and then the CPUs.
-fn lane_number(lane: LaneId) -> u64 {
+fn lane_number(lane: LaneId) -> u64
+    ensures { result ≡ lane_number lane }
+{
     match lane {
         LaneId::Pool => 0,
         LaneId::Base => 1,
@@ -250,24 +253,46 @@ fn lane_number(lane: LaneId) -> u64 {
     }
 }
 
-// Where a row stands in the order in which keys were made: by stamp, then lanes before vgetrandom states. Of two keys
-// of one visit the one that the erasure kept comes first.
-fn made_rank(moments: &Moments, row: &Row) -> (u64, (u64, u64, u64), u64, bool) {
-    let stamp = moments.at(row.made).map_or(0, |moment| moment.stamp);
-    let is_second = matches!(row.key, KeyName::Call(..));
-    match row.made {
-        Origin::Lane(lane, place) => (stamp, (0, lane_number(lane), 0), place, is_second),
+// Where an entry stands among all entries with its stamp: lanes before vgetrandom states, and then by place.
+fn origin_rank(origin: Origin) -> (u64, u64, u64, u64)
+    ensures { result ≡ origin_rank origin }
+{
+    match origin {
+        Origin::Lane(lane, place) => (0, lane_number(lane), 0, place),
         Origin::State {
             caller,
             state,
             place,
-        } => (
-            stamp,
-            (1, u64::from(caller), u64::from(state)),
-            place,
-            is_second,
-        ),
+        } => (1, u64::from(caller), u64::from(state), place),
     }
+}
+
+// The stamp of an entry, or 0 where it has none.
+fn stamp_of(moment: Option<Moment>) -> u64
+    ensures { result ≡ stamp_or_0 moment }
+{
+    match moment {
+        Some(moment) => moment.stamp,
+        None => 0,
+    }
+}
+
+// Of two keys of one visit the one that the erasure kept comes first.
+fn is_second(key: KeyName) -> bool
+    ensures { result ≡ is_call_key key }
+{
+    matches!(key, KeyName::Call(..))
+}
+
+// Where a row stands in the order in which keys were made: by stamp, then by entry.
+fn made_rank(moments: &Moments, row: &Row) -> (u64, (u64, u64, u64, u64), bool)
+    ensures { result ≡ made_rank moments.now row.now }
+{
+    (
+        stamp_of(moments.at(row.made)),
+        origin_rank(row.made),
+        is_second(row.key),
+    )
 }
 
 /// Puts rows in the order in which their keys were made.
@@ -276,7 +301,9 @@ fn made_rank(moments: &Moments, row: &Row) -> (u64, (u64, u64, u64), u64, bool) 
 ///
 /// `AllocError` where there is no memory to sort them.
 pub fn sort_rows(rows: &mut Vec<Row>, moments: &Moments) -> Result<(), AllocError>
-    ensures { IsPermutation rows.old.items rows.new.items }
+    ensures same { IsPermutation rows.old.items rows.new.items }
+    ensures ordered { OnOk result (RowsByMaking moments.now rows.new.items) }
 {
-    rows.sort_by_key(|row| made_rank(moments, row))
+    rows.sort_by_key(|row| made_rank(moments, row))?;
+    Ok(())
 }

@@ -109,6 +109,8 @@ impl CallerLines {
         bytes: usize,
     ) -> Result<CallerLines, AllocError>
         ensures lines { IfOk result (λ c. c.lines ≡ []) }
+        ensures bytes { IfOk result (λ c. c.bytes ≡ []) }
+        ensures steps { IfOk result (λ c. c.steps ≡ []) }
         ensures line_room { IfOk result (λ c. c.line_room ≡ lines) }
         ensures step_room { IfOk result (λ c. c.step_room ≡ steps) }
         ensures byte_room { IfOk result (λ c. c.byte_room ≡ bytes) }
@@ -127,6 +129,8 @@ impl CallerLines {
     /// `AllocError` where there is no memory for it.
     pub fn reserve(&mut self, line: LineView<'_>) -> Result<(), AllocError>
         ensures lines { self.new.lines ≡ self.old.lines }
+        ensures bytes { self.new.bytes ≡ self.old.bytes }
+        ensures steps { self.new.steps ≡ self.old.steps }
         ensures line_room { OnOk result (0 < self.new.line_room) }
         ensures step_room { OnOk result (length line.entry.steps.now ≤ self.new.step_room) }
         ensures byte_room { OnOk result (length (bytes_of line.entry.shown) ≤ self.new.byte_room) }
@@ -170,6 +174,8 @@ impl CallerLines {
         requires short { length (bytes_of line.shown) < 2 ^ 32 }
         requires fits { LineFits (seen line) }
         ensures lines { self.new.lines ≡ self.old.lines ++ seen line.entry ∷ [] }
+        ensures bytes { self.new.bytes ≡ self.old.bytes ++ bytes_of line.entry.shown }
+        ensures steps { self.new.steps ≡ self.old.steps ++ line.entry.steps.now }
         ensures line_room { self.new.line_room + 1 ≡ self.old.line_room }
         ensures step_room { self.old.step_room ≤ self.new.step_room + length line.entry.steps.now }
         ensures byte_room { self.old.byte_room ≤ self.new.byte_room + length (bytes_of line.entry.shown) }
@@ -186,6 +192,8 @@ impl CallerLines {
         requires short { length (bytes_of line.shown) < 2 ^ 32 }
         requires fits { LineFits (seen line) }
         ensures lines { self.new.lines ≡ slice_set self.old.lines number (seen line.entry) }
+        ensures bytes { self.new.bytes ≡ self.old.bytes ++ bytes_of line.entry.shown }
+        ensures steps { self.new.steps ≡ self.old.steps ++ line.entry.steps.now }
         ensures line_room { self.new.line_room ≡ self.old.line_room }
         ensures step_room { self.old.step_room ≤ self.new.step_room + length line.entry.steps.now }
         ensures byte_room { self.old.byte_room ≤ self.new.byte_room + length (bytes_of line.entry.shown) }

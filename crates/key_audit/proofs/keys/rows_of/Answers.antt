@@ -13,6 +13,6 @@ returns c t of keeps = record {
       (has_entries c.args.book.now.lanes (lists_of of) c.in_ok-entries.entries.items keeps.lanes
       (c.in_ok-entries.ensures ∙ ap all_lists_in c.deref.ensures.value ∙ keeps.states)));
   each = rw (← c.in_ok-rows.ensures.births)
-      (IsPermutation-map birth_of c.in_ok-rows.rows.items c.sort_rows.new.rows.items c.sort_rows.ensures);
-  say = All-permutation (IsRow (all_pieces c.in_ok-told.told) c.in_ok-told.told.lives.endings.items) _ _ c.sort_rows.ensures c.in_ok-rows.ensures.rows;
+      (IsPermutation-map birth_of c.in_ok-rows.rows.items c.sort_rows.new.rows.items c.sort_rows.ensures.same);
+  say = All-permutation (IsRow (all_pieces c.in_ok-told.told) c.in_ok-told.told.lives.endings.items) _ _ c.sort_rows.ensures.same c.in_ok-rows.ensures.rows;
 }

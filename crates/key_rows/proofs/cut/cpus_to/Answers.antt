@@ -25,8 +25,8 @@ loop-cpu-preserved c = λ book h.
     ∙ sym (ap (λ n. map entries_of (map (visits_to c.args.stamp) (take n book.cpus)))
     (let next : cpu + 1 ≡ suc cpu = omega arith in next)
     ∙ lane_more c.args.stamp lanes (moment_lists c.args.moments.now.cpus.items) book.cpus cpu c.lane-item.result cut
-    c.cpu_moments.result.now h.cpus h.cpu_stamps
+    c.of_cpu.result.now h.cpus h.cpu_stamps
     (found given lanes cpu c.lane-item.result same c.loop-cpu-test.true ∙ ap Some (sym c.lane-item.is))
-    (c.cpu_moments.ensures ∙ moments_at c.args.moments.now.cpus.items cpu)
+    (c.of_cpu.ensures ∙ moments_at c.args.moments.now.cpus.items cpu)
     (λ visits e. c.in_ok-cpu_to.ensures visits
     (ap (λ (ks : List KeptCpu). cpu_entries ks) c.deref.ensures.value ∙ e)))
