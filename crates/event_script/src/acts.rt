@@ -5,7 +5,7 @@ ghost use Rattle.event_script.specs.Views.{Tells, fields_of};
 ghost use Rattle.key_names.specs.Texts.ScriptFaults.{act_at, inside_of, vread_at};
 
 use crate::amounts::read_len;
-use crate::fields::{cut_near, one, spells};
+use crate::fields::{cut, one, spells};
 use crate::numbers::number_from;
 use key_names::{Event, FaultKind, InsideAct};
 
@@ -37,10 +37,10 @@ pub(crate) fn inside(rest: Option<&[u8]>) -> Result<Event, FaultKind>
     let Some(text) = rest else {
         return Err(FaultKind::UnknownWord);
     };
-    let Some((point, behind)) = cut_near(b' ', text) else {
+    let Some((point, behind)) = cut(b' ', text) else {
         return Err(FaultKind::UnknownWord);
     };
-    let Some((word, last)) = cut_near(b' ', behind) else {
+    let Some((word, last)) = cut(b' ', behind) else {
         if spells(behind, b"wipe") {
             return act(point, InsideAct::Wipe);
         }

@@ -8,9 +8,6 @@ ghost use Rattle.key_names.specs.Texts.ScriptFaults.{parts, no_field, one_field,
 use key_names::FaultKind;
 use memchr::memchr;
 
-/// So many bytes are looked at one by one.
-const NEAR: usize = 8;
-
 /// Whether a field is this text.
 pub(crate) fn spells(field: &[u8], text: &[u8]) -> bool
     ensures { result ≡ bytes_eq field.now text.now }
@@ -30,23 +27,6 @@ pub(crate) fn cut(byte: u8, text: &[u8]) -> Option<(&[u8], &[u8])>
     }
 }
 
-/// The same, for a short front: the first bytes are looked at one by one, which takes less than to begin a search.
-pub(crate) fn cut_near(byte: u8, text: &[u8]) -> Option<(&[u8], &[u8])>
-    ensures parts { MatchOption result (parts byte text.now ≡ text.now ∷ [])
-        (λ both. parts byte text.now ≡ both.0.now ∷ parts byte both.1.now) }
-    ensures len { IfSome result (λ both. length both.0.now + 1 + length both.1.now ≡ length text.now) }
-{
-    for place in 0..text.len().min(NEAR) {
-        if text[place] == byte {
-            return Some((&text[..place], &text[place + 1..]));
-        }
-    }
-    if text.len() <= NEAR {
-        return None;
-    }
-    cut(byte, text)
-}
-
 /// No field.
 pub(crate) fn none(rest: Option<&[u8]>) -> Result<(), FaultKind>
     ensures { Tells (λ _. []) result (no_field (fields_of rest.entry)) }
@@ -64,7 +44,7 @@ pub(crate) fn one(rest: Option<&[u8]>) -> Result<&[u8], FaultKind>
     let Some(text) = rest else {
         return Err(FaultKind::UnknownWord);
     };
-    match cut_near(b' ', text) {
+    match cut(b' ', text) {
         None => Ok(text),
         Some(_) => Err(FaultKind::UnknownWord),
     }
@@ -77,10 +57,10 @@ pub(crate) fn two(rest: Option<&[u8]>) -> Result<(&[u8], &[u8]), FaultKind>
     let Some(text) = rest else {
         return Err(FaultKind::UnknownWord);
     };
-    let Some((first, more)) = cut_near(b' ', text) else {
+    let Some((first, more)) = cut(b' ', text) else {
         return Err(FaultKind::UnknownWord);
     };
-    match cut_near(b' ', more) {
+    match cut(b' ', more) {
         None => Ok((first, more)),
         Some(_) => Err(FaultKind::UnknownWord),
     }
@@ -94,10 +74,10 @@ pub(crate) fn four(rest: Option<&[u8]>) -> Result<((&[u8], &[u8]), (&[u8], &[u8]
     let Some(text) = rest else {
         return Err(FaultKind::UnknownWord);
     };
-    let Some((first, more)) = cut_near(b' ', text) else {
+    let Some((first, more)) = cut(b' ', text) else {
         return Err(FaultKind::UnknownWord);
     };
-    let Some((second, last)) = cut_near(b' ', more) else {
+    let Some((second, last)) = cut(b' ', more) else {
         return Err(FaultKind::UnknownWord);
     };
     let (third, fourth) = two(Some(last))?;

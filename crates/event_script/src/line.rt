@@ -8,7 +8,7 @@ ghost use Rattle.key_names.specs.Texts.ScriptFaults.{said, said_by, said_by_word
 
 use crate::error::LineError;
 use crate::events::event_of;
-use crate::fields::{cut_near, none, one, spells, two};
+use crate::fields::{cut, none, one, spells, two};
 use crate::numbers::number;
 use crate::words::word_of;
 use key_names::{Event, FaultKind, Word};
@@ -91,7 +91,7 @@ pub(crate) fn line_says(
     ensures value { Gives said_as result (said version cpus line.now) }
     ensures range { IfOk result (λ what. SaidInRange version cpus (said_as what)) }
 {
-    match cut_near(b' ', line) {
+    match cut(b' ', line) {
         Some((first, rest)) => said_by(alloc, version, cpus, first, Some(rest)),
         None => said_by(alloc, version, cpus, line, None),
     }

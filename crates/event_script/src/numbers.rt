@@ -6,7 +6,7 @@ ghost use Rattle.event_script.specs.Views.{Tells, fields_of};
 ghost use Rattle.key_names.specs.declared.events.Event.{Event};
 ghost use Rattle.key_names.specs.Texts.ScriptFaults.{binary, number_below, number, number_in, unary};
 
-use crate::fields::cut_near;
+use crate::fields::cut;
 use key_names::FaultKind;
 
 /// So many digits are the number of a `u64`, whatever they are.
@@ -93,7 +93,7 @@ pub(crate) fn one_number(most: u64, rest: Option<&[u8]>) -> Result<u64, FaultKin
     if let Some(value) = number_up_to(most, text) {
         return Ok(value);
     }
-    match cut_near(b' ', text) {
+    match cut(b' ', text) {
         None => Err(FaultKind::BadNumber),
         Some(_) => Err(FaultKind::UnknownWord),
     }
@@ -122,13 +122,13 @@ pub(crate) fn two_numbers(
     let Some(text) = rest else {
         return Err(FaultKind::UnknownWord);
     };
-    let Some((first, second)) = cut_near(b' ', text) else {
+    let Some((first, second)) = cut(b' ', text) else {
         return Err(FaultKind::UnknownWord);
     };
     if let (Some(a), Some(b)) = (number_up_to(most, first), number_up_to(next, second)) {
         return Ok((a, b));
     }
-    match cut_near(b' ', second) {
+    match cut(b' ', second) {
         None => Err(FaultKind::BadNumber),
         Some(_) => Err(FaultKind::UnknownWord),
     }

@@ -4,6 +4,7 @@ pub mod Cutting
 pub mod FirstFaults
 pub mod GroupedLines
 pub mod HexPieces
+pub mod SpeltPieces
 pub mod LastDigits
 pub mod Keeping
 pub mod LineTexts

@@ -7,7 +7,7 @@ returns-in-Some-number_up_to-clause-value c = λ make.
     rw c.in-Some.is (one_is_read (c.args.most + 1) c.in-Some-number_up_to.value c.in-Some.text.now make (omega arith)
     c.in-Some-number_up_to.ensures.value)
 
-pub returns-in-Some-cut_near-clause-value : goal.returns-in-Some-cut_near-clause-value
-returns-in-Some-cut_near-clause-value c = λ make.
-    rw (c.in-Some.is, c.in-Some-cut_near.ensures.parts)
-    (one_too_many (c.args.most + 1) c.in-Some-cut_near.field-0.0.now c.in-Some-cut_near.field-0.1.now make)
+pub returns-in-Some-cut-clause-value : goal.returns-in-Some-cut-clause-value
+returns-in-Some-cut-clause-value c = λ make.
+    rw (c.in-Some.is, c.in-Some-cut.ensures.parts)
+    (one_too_many (c.args.most + 1) c.in-Some-cut.field-0.0.now c.in-Some-cut.field-0.1.now make)

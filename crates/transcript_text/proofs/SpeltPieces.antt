@@ -1,0 +1,133 @@
+-- Digits of bytes, read piece by piece.
+use Rattle.std.proofs.Common.{◌≡◌, ℕ, zero, suc, ◌+◌, ◌-◌, ◌*◌, ◌/◌, ◌%◌, ◌<◌, Option, Some, None, List, [], ◌∷◌, ◌++◌, length, take, drop, refl, ap, sym, subst, ◌∙◌, append_assoc, append-nil, length-append, arith}
+use Rattle.std.proofs.lemmas.List.{take-append-drop}
+use Rattle.hex.specs.Hex.{IsBytes, encode_with, encode_lower, lower_digits}
+use Rattle.key_names.specs.Texts.ScriptFaults.{bytes_of}
+use Rattle.key_names.specs.Texts.Spelling.{hex}
+use Rattle.key_names.proofs.Script.HexBytes.{encode_with-append, no_bytes}
+use Rattle.key_names.proofs.Script.HexFields.{bytes_takes, bytes_again}
+
+-- the text is the digits of these bytes, and then the rest; and if it is the digits of some bytes, so is the rest
+pub record SpeltSoFar (text bytes rest : List ℕ) : Type 0 where
+  pub whole : text ≡ encode_lower bytes ++ rest
+  pub small : IsBytes bytes
+  pub half : ℕ
+  pub even : length rest ≡ 2 * half
+  pub only : (all : List ℕ) → bytes_of text ≡ Some all → (last : List ℕ) × (rest ≡ encode_lower last) × IsBytes last
+
+-- a text of digits in two parts, the first of them of whole bytes
+record Split (front behind : List ℕ) : Type 0 where
+  first : List ℕ
+  last : List ℕ
+  first_is : front ≡ encode_lower first
+  last_is : behind ≡ encode_lower last
+  first_small : IsBytes first
+  last_small : IsBytes last
+
+small_more : (x : ℕ) (xs : List ℕ) → x < 256 → IsBytes xs → IsBytes (x ∷ xs)
+small_more x xs h small zero = h
+small_more x xs h small (suc i) = small i
+
+small_append : (xs ys : List ℕ) → IsBytes xs → IsBytes ys → IsBytes (xs ++ ys)
+small_append [] ys hx hy = hy
+small_append (x ∷ xs) ys hx hy = small_more x (xs ++ ys) (hx 0) (small_append xs ys (λ i. hx (suc i)) hy)
+
+none_spelt : (text : List ℕ) → ((all : List ℕ) → bytes_of text ≡ Some all → ⊥) → None ≡ bytes_of text
+none_spelt text not = go (bytes_of text) refl
+  where
+    go : (o : Option (List ℕ)) → bytes_of text ≡ o → None ≡ bytes_of text
+    go None e = sym e
+    go (Some all) e = absurd (not all e)
+
+cons_hex : (a b x : ℕ) (front behind first z : List ℕ) → (a ∷ b ∷ front) ++ behind ≡ encode_lower (x ∷ z)
+    → front ≡ encode_lower first → a ∷ b ∷ front ≡ encode_lower (x ∷ first)
+unfolding encode_with
+cons_hex a b x front behind first z e is = cc
+
+split_hex : (k : ℕ) (front behind z : List ℕ) → length front ≡ 2 * k → front ++ behind ≡ encode_lower z → IsBytes z
+    → Split front behind
+unfolding encode_with
+split_hex zero [] behind z long e small = record {
+  first = [];
+  last = z;
+  first_is = refl;
+  last_is = e;
+  first_small = λ i. omega arith;
+  last_small = small;
+}
+split_hex zero (a ∷ front) behind z long e small = absurd (omega arith)
+split_hex (suc k) [] behind z long e small = absurd (omega arith)
+split_hex (suc k) (a ∷ []) behind z long e small = absurd (omega arith)
+split_hex (suc k) (a ∷ b ∷ front) behind [] long e small = absurd cc
+split_hex (suc k) (a ∷ b ∷ front) behind (x ∷ z) long e small =
+    let tail : front ++ behind ≡ encode_lower z = cc in
+    let s = split_hex k front behind z (omega arith) tail (λ i. small (suc i)) in
+    record {
+      first = x ∷ s.first;
+      last = s.last;
+      first_is = cons_hex a b x front behind s.first z e s.first_is;
+      last_is = s.last_is;
+      first_small = small_more x s.first (small 0) s.first_small;
+      last_small = s.last_small;
+    }
+
+hex_some : (bytes text : List ℕ) → 0 < length text → text ≡ encode_lower bytes → text ≡ hex bytes
+unfolding encode_with
+hex_some [] text some e = absurd (omega (arith, ap length e))
+hex_some (b ∷ bytes) text some e = e
+
+hex_back : (bytes text : List ℕ) → 1 < length text → text ≡ hex bytes → text ≡ encode_lower bytes
+hex_back [] text some e = absurd (omega (arith, ap length e))
+hex_back (b ∷ bytes) text some e = e
+
+again : (text bytes : List ℕ) → 0 < length text → text ≡ encode_lower bytes → IsBytes bytes
+    → bytes_of text ≡ Some bytes
+again text bytes some e small = ap bytes_of (hex_some bytes text some e) ∙ bytes_again bytes small
+
+pub parts_of : (n : ℕ) (rest front behind : List ℕ) → front ≡ take n rest → behind ≡ drop n rest
+    → rest ≡ front ++ behind
+parts_of n rest front behind f b = sym (rw (f, b) (take-append-drop n rest))
+
+pub spelt_begins : (text none : List ℕ) → none ≡ [] → 1 < length text → length text % 2 ≡ 0
+    → SpeltSoFar text none text
+spelt_begins text none is some even = record {
+  whole = sym (ap (λ bytes. encode_lower bytes ++ text) is ∙ ap (λ l. l ++ text) no_bytes);
+  small = λ i. rw is (omega arith);
+  half = length text / 2;
+  even = omega (arith, even);
+  only = λ all e. let p = bytes_takes text all e in (all, hex_back all text some p.0, p.1);
+}
+
+module _ (text bytes rest front behind : List ℕ) (k : ℕ) (so_far : SpeltSoFar text bytes rest)
+    (parts : rest ≡ front ++ behind) (long : length front ≡ 2 * k) (some : 0 < k) where
+  pub spelt_more : (piece more : List ℕ) → Some piece ≡ bytes_of front → more ≡ bytes ++ piece
+      → SpeltSoFar text more behind
+  spelt_more piece more e more_is =
+      let p = bytes_takes front piece (sym e) in
+      let front_is : front ≡ encode_lower piece = hex_back piece front (omega (arith, long, some)) p.0 in
+      record {
+        whole =
+            so_far.whole ∙ ap (λ r. encode_lower bytes ++ r) (parts ∙ ap (λ f. f ++ behind) front_is)
+            ∙ sym (append_assoc (encode_lower bytes) (encode_lower piece) behind)
+            ∙ ap (λ l. l ++ behind) (sym (encode_with-append lower_digits bytes piece) ∙ ap encode_lower (sym more_is));
+        small = subst IsBytes (sym more_is) (small_append bytes piece so_far.small p.1);
+        half = so_far.half - k;
+        even = omega (arith, so_far.even, ap length parts, length-append front behind, long);
+        only = λ all found.
+            let o = so_far.only all found in
+            let s = split_hex k front behind o.0 long (sym parts ∙ o.1) o.2 in (s.last, s.last_is, s.last_small);
+      }
+
+  pub spelt_nowhere : None ≡ bytes_of front → None ≡ bytes_of text
+  spelt_nowhere none = none_spelt text (λ all found.
+      let o = so_far.only all found in
+      let s = split_hex k front behind o.0 long (sym parts ∙ o.1) o.2 in
+      let same : bytes_of front ≡ Some s.first =
+      again front s.first (omega (arith, long, some)) s.first_is s.first_small in
+      absurd cc)
+
+-- the text is spelt whole
+pub spelt_whole : (text bytes rest : List ℕ) → SpeltSoFar text bytes rest → rest ≡ [] → 0 < length text
+    → Some bytes ≡ bytes_of text
+spelt_whole text bytes rest s done some =
+    sym (again text bytes some (s.whole ∙ ap (λ r. encode_lower bytes ++ r) done ∙ append-nil (encode_lower bytes)) s.small)
