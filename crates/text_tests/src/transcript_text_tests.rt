@@ -1,7 +1,5 @@
-//! Published texts, lines built by hand, sinks that take little at a time or fail, and each fault once.
-ghost use Rattle.std.specs.Prelude.{◌≡◌, ◌+◌, ◌-◌, ◌<◌, ◌≤◌, ◌^◌, [], length};
-ghost use Rattle.std.specs.List.{AllByRecursion};
-ghost use Rattle.key_names.specs.Texts.TranscriptGrammar.{ShownFits, StepFits};
+//! Published texts, lines built by hand, a sink that fails at each line, and each fault once.
+ghost use Rattle.std.specs.Prelude.{◌≡◌, ◌<◌, ◌^◌, [], length};
 ghost use Rattle.transcript_text.specs.Views.{bytes_of, seen, seen_shown};
 
 use io_edges::{Failed, MemSink, Sink};
@@ -35,130 +33,6 @@ const FORK: &[u8] = b"rngtranscript 1
 end
 ";
 
-fn visit(lane: LaneId, place: u64, stamp: u64) -> Step
-    ensures { result ≡ Step.Visit (record { lane = lane; place = place; stamp = stamp }) }
-{
-    Step::Visit(Mark { lane, place, stamp })
-}
-
-/// One more line of caller 0, which shows no bytes.
-fn push(
-    lines: &mut CallerLines,
-    event: u32,
-    word: Word,
-    answer: Answer,
-    steps: &[Step],
-    shown: Shown<'_>,
-)
-    requires line_room { 0 < lines.old.line_room }
-    requires step_room { length steps.now ≤ lines.old.step_room }
-    requires few { length steps.now ≤ 20 }
-    requires steps { AllByRecursion StepFits steps.now }
-    requires shown { ShownFits word (seen_shown shown) }
-    requires no_bytes { bytes_of shown ≡ [] }
-    ensures line_room { lines.new.line_room + 1 ≡ lines.old.line_room }
-    ensures step_room { lines.old.step_room ≤ lines.new.step_room + length steps.now }
-    ensures count { length lines.new.lines ≡ length lines.old.lines + 1 }
-{
-    lines.push(LineView {
-        caller: 0,
-        event,
-        word,
-        answer,
-        steps,
-        shown,
-    });
-}
-
-/// The first four lines of the published text.
-fn first_lines(lines: &mut CallerLines)
-    requires line_room { 4 ≤ lines.old.line_room }
-    requires step_room { 4 ≤ lines.old.step_room }
-    ensures line_room { lines.new.line_room + 4 ≡ lines.old.line_room }
-    ensures step_room { lines.old.step_room ≤ lines.new.step_room + 4 }
-{
-    push(
-        lines,
-        0,
-        Word::Read,
-        Answer::Again,
-        &[Step::Look(0)],
-        Shown::None,
-    );
-    push(lines, 1, Word::Read, Answer::Invalid, &[], Shown::None);
-    push(lines, 2, Word::Read, Answer::Invalid, &[], Shown::None);
-    let waits = [
-        Step::Look(0),
-        visit(LaneId::Base, 0, 1),
-        visit(LaneId::Base, 1, 2),
-    ];
-    push(
-        lines,
-        3,
-        Word::Read,
-        Answer::Interrupted,
-        &waits,
-        Shown::None,
-    );
-}
-
-/// The other five.
-fn last_lines(lines: &mut CallerLines)
-    requires line_room { 5 ≤ lines.old.line_room }
-    requires step_room { 5 ≤ lines.old.step_room }
-    ensures some { 0 < length lines.new.lines }
-{
-    push(
-        lines,
-        4,
-        Word::Reseed,
-        Answer::NoData,
-        &[Step::Look(0)],
-        Shown::None,
-    );
-    push(
-        lines,
-        5,
-        Word::Bits,
-        Answer::Ok,
-        &[visit(LaneId::Pool, 0, 3)],
-        Shown::Count(0),
-    );
-    push(
-        lines,
-        6,
-        Word::Credit,
-        Answer::Ok,
-        &[visit(LaneId::Pool, 1, 4)],
-        Shown::None,
-    );
-    push(
-        lines,
-        7,
-        Word::Bits,
-        Answer::Ok,
-        &[visit(LaneId::Pool, 2, 5)],
-        Shown::Count(100),
-    );
-    push(
-        lines,
-        8,
-        Word::End,
-        Answer::Ok,
-        &[visit(LaneId::Base, 2, 6)],
-        Shown::None,
-    );
-}
-
-fn by_hand(alloc: Global) -> Result<Transcript, AllocError> {
-    let mut lines = CallerLines::with_room(alloc, 9, 9, 0)?;
-    first_lines(&mut lines);
-    last_lines(&mut lines);
-    let mut callers = Vec::new(alloc);
-    callers.push(lines)?;
-    Ok(Transcript::of(callers))
-}
-
 fn sink(alloc: Global, step: usize, failing: u64) -> Result<MemSink, AllocError>
     requires { 0 < step }
 {
@@ -166,22 +40,13 @@ fn sink(alloc: Global, step: usize, failing: u64) -> Result<MemSink, AllocError>
 }
 
 #[test]
-fn lines_built_by_hand_are_the_published_text(rt: HostRuntime) -> Result<(), Fail> {
-    let transcript = by_hand(rt.alloc())?;
-    for step in [1, 7, 4096] {
-        assert!(rt; step > 0);
-        let mut sink = sink(rt.alloc(), step, 0)?;
-        assert_eq!(rt; write_all(&mut sink, &transcript), Ok(()));
-        assert_eq!(rt; sink.held(), BEFORE_READINESS, "step {step}");
-    }
-    Ok(())
-}
-
-#[test]
 fn each_line_is_one_put_and_a_failed_put_leaves_the_lines_before(
     rt: HostRuntime,
 ) -> Result<(), Fail> {
-    let transcript = by_hand(rt.alloc())?;
+    assert!(rt; BEFORE_READINESS.len() < 1 << 20);
+    let transcript = read(rt.alloc(), BEFORE_READINESS)
+        .ok()
+        .ok_or("a transcript")?;
     let mut whole = 0;
     for put in 1..12 {
         assert!(rt; whole <= BEFORE_READINESS.len());
@@ -344,14 +209,22 @@ fn the_number_of_bits_is_read(rt: HostRuntime) -> Result<(), Fail> {
     let line = caller.line(0);
     assert_eq!(rt; line.shown, Shown::Count(7));
     assert_eq!(rt; line.word, Word::Bits);
-    assert_eq!(rt; line.steps, [visit(LaneId::Pool, 0, 1)].as_slice());
+    assert_eq!(rt;
+        line.steps,
+        [Step::Visit(Mark {
+            lane: LaneId::Pool,
+            place: 0,
+            stamp: 1,
+        })]
+        .as_slice()
+    );
     assert_eq!(rt; caller.bytes().len(), 0);
     Ok(())
 }
 
-/// The number of the first faulty line of a text that begins with the head, and 0 where it has none.
-fn fault(rt: &impl Abort, alloc: Global, rest: &str) -> Result<u32, AllocError> {
-    let text = format!(in alloc; "rngtranscript 1\n{rest}")?;
+/// The number of the first faulty line of a text with this head, and 0 where it has none.
+fn fault(rt: &impl Abort, alloc: Global, head: &str, rest: &str) -> Result<u32, AllocError> {
+    let text = format!(in alloc; "{head}{rest}")?;
     assert!(rt; text.len() < 1 << 20);
     match read(alloc, text.as_bytes()) {
         Ok(_) => Ok(0),
@@ -410,27 +283,20 @@ fn the_first_faulty_line_is_named(rt: HostRuntime) -> Result<(), Fail> {
         ("0.0 read ok - -\r\nend\n", 2),
         ("0.0 read ok - -\nend", 3),
     ] {
-        assert_eq!(rt; fault(&rt, rt.alloc(), rest)?, line, "{rest}");
+        assert_eq!(rt;
+            fault(&rt, rt.alloc(), "rngtranscript 1\n", rest)?,
+            line,
+            "{rest}"
+        );
     }
-    Ok(())
-}
-
-#[test]
-fn a_text_without_its_head_is_faulty_in_line_1(rt: HostRuntime) {
-    for text in [
+    for head in [
         "",
         "end\n",
         "rngtranscript 1",
         "rngtranscript 2\nend\n",
         "rngtranscript 1 \nend\n",
     ] {
-        assert!(rt; text.len() < 100);
-        assert!(rt;
-            matches!(
-                read(rt.alloc(), text.as_bytes()),
-                Err(TextError::Fault { line: 1 })
-            ),
-            "{text}"
-        );
+        assert_eq!(rt; fault(&rt, rt.alloc(), head, "")?, 1, "{head}");
     }
+    Ok(())
 }
