@@ -1,10 +1,10 @@
 -- What is kept of the parts of a transcript is kept of the book that its steps make.
-use Rattle.std.proofs.Common.{◌≡◌, ℕ, Some, None, List, map, sym, subst, ◌∙◌, inl, inr}
+use Rattle.std.proofs.Common.{◌≡◌, ℕ, Some, None, List, map, sym, ap, subst, ◌∙◌, inl, inr}
 use Rattle.std.specs.Prelude.{Option, Result, Ok, Err, IfOk, MatchOption, IsPermutation}
 use Rattle.std.specs.Global.{Vec}
 use Rattle.key_names.specs.Book.{Book, Lists, lists_of}
 use Rattle.key_names.specs.Calls.{Call}
-use Rattle.key_names.specs.IsTranscript.{CallerMeans, EachCaller, IsTranscriptBy, MadeBook, MarkBy, all_marks, script_calls}
+use Rattle.key_names.specs.IsTranscript.{CallerMeans, EachCaller, IsTranscriptBy, MadeBook, MarkBy, all_marks, script_calls, state_lists}
 use Rattle.key_names.specs.IsTranscript.{start_setting}
 use Rattle.key_names.specs.Meaning.{CallMeaning}
 use Rattle.key_names.specs.SameSteps.{bare}
@@ -23,12 +23,16 @@ use Rattle.list_replay.specs.Kept.{Keeps}
 use Rattle.list_replay.specs.Lawful.{Lawful}
 use Rattle.list_replay.specs.Tables.{Tables}
 use Rattle.serial_replay.proofs.MadeBooks.{made_fills, made_lawful}
+use Rattle.key_uses.specs.Moments.{first_calls}
+use Rattle.state_entries.specs.Cut.{AreCutByStamp}
 use Rattle.state_entries.specs.declared.entry.StateEntry.{StateEntry}
 use Rattle.state_entries.specs.Entries.{all_lists_in}
 use Rattle.state_entries.specs.Laws.{AreStateLists}
 use Rattle.told_entries.specs.Gathered.{IsBookOf, IsGathered}
 use Rattle.key_audit.specs.declared.book.KeptBook.{KeptBook}
 use Rattle.key_audit.specs.Kept.{KeepsBook}
+use Rattle.key_audit.proofs.CutStates.{cut_states, over_bare}
+use Rattle.key_audit.proofs.VisitMarks.{marks_visits}
 
 -- where lines or marks do not stand no book is made
 pub not_begun : (script : Script) (t : List (List SeenLine)) (number : ℕ) → IsEarlyFault script t number →
@@ -50,16 +54,22 @@ module _ (script : Script) (t : List (List SeenLine)) (parts : Parts) (stand : P
 
   pub keeps_book : (lanes : KeptLists) → ((lists : Lists) → Fills told lists → Lawful told lists → Keeps lanes lists) →
       (states : Vec (Vec (Vec StateEntry))) → AreStateLists (seen_calls parts.calls.items) (all_lists_in states.items) →
-      KeepsBook (record { lanes = lanes; states = states; marks = parts.marks }) t m.book
-  keeps_book lanes keeps states are = record {
+      AreCutByStamp (script_calls script t) states.items →
+      KeepsBook (record { lanes = lanes; states = states; marks = parts.marks }) t (script_calls script t) m.book
+      m.meanings
+  keeps_book lanes keeps states are cut = record {
     lanes = keeps (lists_of m.book) (made_fills script t parts stand told gathered m)
         (made_lawful script t parts stand told gathered m);
     states = are (lists_of m.book) (start_setting (script_calls script t)) m.meanings
         (subst (λ (calls : List (List Call)).
         EachCaller (λ c calls ms. CallerMeans (lists_of m.book) (start_setting (script_calls script t) c) calls ms) 0 calls
         m.meanings) (sym stand.calls) m.forms.callers) ∙ sym m.forms.states;
+    cut = cut_states (lists_of m.book) (start_setting (script_calls script t)) (script_calls script t) m.meanings
+        states.items m.forms.callers cut;
     marks = stand.all_marks;
     sorted = stand.sorted;
+    visits = marks_visits m.book (all_marks t) parts.marks.items stand.all_marks stand.sorted m.marks.lanes
+        m.forms.visits;
   }
 
 -- ---- from bare lines to the lines themselves
@@ -75,25 +85,35 @@ module _ (script : Script) (t : List (List SeenLine)) (book : Book) (ms : List (
     forms = lawful.forms;
   })
 
-  keeps_lines : (kept : KeptBook) → KeepsBook kept (map (map bare) t) bare_book.0.book → KeepsBook kept t book
+  abbrev KeepsBare : KeptBook → Book → List (List CallMeaning) → Type 0
+  KeepsBare kept b m = KeepsBook kept (map (map bare) t) (script_calls script (map (map bare) t)) b m
+
+  keeps_lines : (kept : KeptBook) → KeepsBare kept bare_book.0.book bare_book.0.meanings →
+      KeepsBook kept t (script_calls script t) book ms
   keeps_lines kept keeps =
-      let of : KeepsBook kept (map (map bare) t) book = subst (KeepsBook kept (map (map bare) t)) bare_book.1 keeps in record {
+      let same : KeepsBare kept book bare_book.0.meanings =
+      subst (λ (b : Book). KeepsBare kept b bare_book.0.meanings) bare_book.1 keeps in
+      let of : KeepsBare kept book ms =
+      subst (λ (m : List (List CallMeaning)). KeepsBare kept book m) bare_book.2 same in record {
         lanes = of.lanes;
         states = of.states;
+        cut = λ stamp. of.cut stamp
+            ∙ ap (λ (made : ℕ → ℕ). map state_lists (first_calls made 0 ms)) (over_bare stamp script t);
         marks = subst (λ (marks : List MarkBy). IsPermutation marks (map seen_mark kept.marks.items)) (bare_marks t) of.marks;
         sorted = of.sorted;
+        visits = of.visits;
       }
 
   some_keeps : (o : Option KeptBook) →
-      MatchOption o ⊥ (λ kept. KeepsBook kept (map (map bare) t) bare_book.0.book) →
-      MatchOption o ⊥ (λ kept. KeepsBook kept t book)
+      MatchOption o ⊥ (λ kept. KeepsBare kept bare_book.0.book bare_book.0.meanings) →
+      MatchOption o ⊥ (λ kept. KeepsBook kept t (script_calls script t) book ms)
   some_keeps None keeps = keeps
   some_keeps (Some kept) keeps = keeps_lines kept keeps
 
   -- what is kept of the book of the bare lines is kept of that of the lines
   pub kept_of_bare : {E : Type 0} (r : Result (Option KeptBook) E) →
       ((made : MadeBook script (map (map bare) t)) →
-      IfOk r (λ o. MatchOption o ⊥ (λ kept. KeepsBook kept (map (map bare) t) made.book))) →
-      IfOk r (λ o. MatchOption o ⊥ (λ kept. KeepsBook kept t book))
+      IfOk r (λ o. MatchOption o ⊥ (λ kept. KeepsBare kept made.book made.meanings))) →
+      IfOk r (λ o. MatchOption o ⊥ (λ kept. KeepsBook kept t (script_calls script t) book ms))
   kept_of_bare (Ok o) each = some_keeps o (each bare_book.0)
   kept_of_bare (Err e) each = tt

@@ -1,9 +1,14 @@
 -- What is told of a script and a transcript, as what their text calls for.
 use Rattle.std.proofs.Common.{ℕ, ◌≡◌, ◌<◌, List, length, sym, subst, ◌∙◌, inl, inr}
 use Rattle.std.specs.Prelude.{⊤, Result, Ok, Err, IfOk}
+use Rattle.std.specs.Global.{Vec}
 use Rattle.key_names.specs.declared.faults.ScriptFault.{ScriptFault}
+use Rattle.key_names.specs.Book.{Book}
+use Rattle.key_names.specs.Calls.{Call}
+use Rattle.key_names.specs.Meaning.{CallMeaning}
 use Rattle.key_names.specs.SeenLine.{SeenLine}
 use Rattle.key_names.specs.Texts.ScriptGrammar.{Script}
+use Rattle.key_uses.specs.HeldUnused.{HoldsUnused}
 use Rattle.tool_ends.specs.Pairs.{IsNoPair, IsPair, no_line, refusal_line}
 use Rattle.tool_ends.specs.declared.pair.NoPair.{NoPair}
 use Rattle.tool_ends.specs.declared.pair.NoPair.TheVariants.{Refused as FirstFault, No as Clause, NoMemory as Unread}
@@ -12,7 +17,8 @@ use Rattle.tool_ends.specs.declared.status.Status.TheVariants.{Done, No, Usage, 
 use Rattle.tool_ends.proofs.Inputs.{IsLimited}
 use Rattle.tool_ends.proofs.Pairs.{too_long}
 use Rattle.key_audit.specs.declared.ask.Ask.{Ask}
-use Rattle.key_audit.specs.Outcome.{Calls, RefusalOf, ToldOf}
+use Rattle.key_audit.specs.Live.{lists_behind}
+use Rattle.key_audit.specs.Outcome.{Calls, RefusalOf, TellsHeld, TellsLive, ToldOf}
 
 -- what is told of a transcript is told of its text
 pub of_pair : (ask : Ask) (input : List ℕ) (script : Script) (t : List (List SeenLine)) → IsPair input script t →
@@ -52,6 +58,14 @@ is_limited ask = record {
     line = of.line;
   };
 }
+
+-- what is in memory was put to no use
+pub live_told : {E : Type 0} (stamp : ℕ) (callers : List (List Call)) (book : Book) (ms : List (List CallMeaning))
+    (r : Result (Vec ℕ) E) → HoldsUnused (lists_behind stamp callers book ms) →
+    IfOk r (λ text. TellsHeld stamp callers book ms text.items) →
+    IfOk r (λ text. TellsLive stamp callers book ms text.items)
+live_told stamp callers book ms (Ok text) unused told = record { told = told; unused = unused }
+live_told stamp callers book ms (Err e) unused told = tt
 
 -- of some outputs nothing is said
 pub any_ok : {A E : Type 0} (r : Result A E) → IfOk r (λ a. ⊤)

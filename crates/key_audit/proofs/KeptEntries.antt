@@ -10,7 +10,7 @@ use Rattle.list_replay.specs.declared.kept.KeptBase.{KeptBase}
 use Rattle.list_replay.specs.declared.kept.KeptCpu.{KeptCpu}
 use Rattle.list_replay.specs.declared.kept.Lists.{Lists as KeptLists}
 use Rattle.list_replay.specs.Kept.{Keeps}
-use Rattle.key_uses.specs.KeptEntries.{cpu_entries}
+use Rattle.key_uses.specs.KeptEntries.{base_entries, cpu_entries}
 use Rattle.key_rows.specs.Told.{caller_lists, cpu_lists, HasEntries}
 
 -- lists of one length whose elements stand for each other
@@ -29,15 +29,18 @@ cpus_are : (cpus : List (Vec KeptCpu)) → cpu_lists cpus ≡ map cpu_entries (m
 cpus_are [] = refl
 cpus_are (lane ∷ cpus) = λ i. cpu_entries lane.items ∷ cpus_are cpus i
 
-pub has_entries : (kept : KeptLists) (lists : Lists) (callers : List (Vec (Vec VEntry))) → Keeps kept lists →
-    caller_lists callers ≡ lists.callers → HasEntries lists kept callers
-has_entries kept lists callers keeps states = record {
-  base = same_entries (λ (k : KeptBase). k.entry) kept.base.items lists.base keeps.base.count
-      (λ i k e there is. (keeps.base.each i k e there is).entry);
-  cpus = cpus_are kept.cpus.items
+module _ (kept : KeptLists) (lists : Lists) (keeps : Keeps kept lists) where
+  pub base_kept : base_entries kept.base.items ≡ lists.base
+  base_kept = same_entries (λ (k : KeptBase). k.entry) kept.base.items lists.base keeps.base.count
+      (λ i k e there is. (keeps.base.each i k e there is).entry)
+
+  pub cpus_kept : cpu_lists kept.cpus.items ≡ lists.cpus
+  cpus_kept = cpus_are kept.cpus.items
       ∙ same_entries cpu_entries (map (λ (lane : Vec KeptCpu). lane.items) kept.cpus.items) lists.cpus keeps.cpus.count
       (λ c ks es there is.
       let lane = keeps.cpus.each c ks es there is in
-      same_entries (λ (k : KeptCpu). k.entry) ks es lane.count (λ i k e at e_is. (lane.each i k e at e_is).entry));
-  states = states;
-}
+      same_entries (λ (k : KeptCpu). k.entry) ks es lane.count (λ i k e at e_is. (lane.each i k e at e_is).entry))
+
+  pub has_entries : (callers : List (Vec (Vec VEntry))) → caller_lists callers ≡ lists.callers →
+      HasEntries lists kept callers
+  has_entries callers states = record { base = base_kept; cpus = cpus_kept; states = states }

@@ -1,6 +1,6 @@
 pub mod Commands
-pub mod Cut
 pub mod Kept
+pub mod Live
 pub mod Moments
 pub mod Outcome
 pub mod Texts

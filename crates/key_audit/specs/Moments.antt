@@ -1,9 +1,30 @@
--- The moments of the entries of a book.
-use Rattle.std.specs.Prelude.{ℕ, ◌≡◌, ◌<◌, List, map, filter, length}
+-- The moments of the entries of a book: when each visit was made, and on which line.
+use Rattle.std.specs.Prelude.{ℕ, ◌≡◌, ◌<◌, List, [], ◌∷◌, ◌++◌, map, filter, length}
 use Rattle.std.specs.Global.{Vec}
 use Rattle.key_names.specs.declared.names.LaneId.{LaneId}
+use Rattle.key_names.specs.declared.names.LaneId.TheVariants.{Pool as PoolLane, Base as BaseLane, Cpu as CpuLane}
+use Rattle.key_names.specs.Book.{Book, Visit, list_at}
 use Rattle.key_names.specs.IsTranscript.{MarkBy, is_same_lane}
 use Rattle.key_rows.specs.declared.moments.Moment.{Moment}
+use Rattle.key_rows.specs.declared.moments.Moments.{Moments}
+use Rattle.key_rows.specs.Cut.{moment_lists}
+
+-- ---- of a book
+
+-- the stamp of a visit, and the line that made it
+abbrev pub visit_moment : {E : Type 0} → Visit E → Moment
+visit_moment v = record { stamp = v.stamp; line = record { caller = v.who.caller; event = v.who.event } }
+
+abbrev pub visit_moments : {E : Type 0} → List (Visit E) → List Moment
+visit_moments visits = map visit_moment visits
+
+-- of each visit of each lane its moment
+pub record AreMoments (book : Book) (moments : Moments) : Type 0 where
+  pub pool : moments.pool.items ≡ visit_moments book.pool
+  pub base : moments.base.items ≡ visit_moments book.base
+  pub cpus : moment_lists moments.cpus.items ≡ map visit_moments book.cpus
+
+-- ---- of marks
 
 abbrev pub moment_by : MarkBy → Moment
 moment_by by = record { stamp = by.mark.stamp; line = record { caller = by.who.caller; event = by.who.event } }
@@ -11,3 +32,28 @@ moment_by by = record { stamp = by.mark.stamp; line = record { caller = by.who.c
 -- the marks of a lane, in their order
 abbrev pub marks_on : LaneId → List MarkBy → List MarkBy
 marks_on lane marks = filter (λ by. is_same_lane by.mark.lane lane) marks
+
+abbrev pub moments_on : LaneId → List MarkBy → List Moment
+moments_on lane marks = map moment_by (marks_on lane marks)
+
+-- so many CPUs, and of each lane the moments of these marks
+pub record HasMarks (many : ℕ) (marks : List MarkBy) (moments : Moments) : Type 0 where
+  pub pool : moments.pool.items ≡ moments_on PoolLane marks
+  pub base : moments.base.items ≡ moments_on BaseLane marks
+  pub count : length moments.cpus.items ≡ many
+  pub cpus : (c : ℕ) → c < many → list_at (moment_lists moments.cpus.items) c ≡ moments_on (CpuLane c) marks
+
+-- a mark more, behind those of its lane
+pub record AddsMark (old : Moments) (by : MarkBy) (new : Moments) : Type 0 where
+  pub pool : new.pool.items ≡ old.pool.items ++ moments_on PoolLane (by ∷ [])
+  pub base : new.base.items ≡ old.base.items ++ moments_on BaseLane (by ∷ [])
+  pub count : length new.cpus.items ≡ length old.cpus.items
+  pub cpus : (c : ℕ) → c < length old.cpus.items →
+      list_at (moment_lists new.cpus.items) c
+      ≡ list_at (moment_lists old.cpus.items) c ++ moments_on (CpuLane c) (by ∷ [])
+
+-- the marks of a book's visits: on each lane those of its visits, in their order
+pub record MarksVisits (book : Book) (marks : List MarkBy) : Type 0 where
+  pub pool : moments_on PoolLane marks ≡ visit_moments book.pool
+  pub base : moments_on BaseLane marks ≡ visit_moments book.base
+  pub cpus : (c : ℕ) → moments_on (CpuLane c) marks ≡ visit_moments (list_at book.cpus c)

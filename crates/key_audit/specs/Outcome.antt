@@ -3,9 +3,13 @@ use Rattle.std.specs.Prelude.{ℕ, ◌≡◌, ◌⊎◌, ⊤, List, ◌++◌, Op
 use Rattle.std.specs.List.{flat_map}
 use Rattle.key_names.specs.declared.faults.ScriptFault.{ScriptFault}
 use Rattle.key_names.specs.Book.{Book, Lists, lists_of}
+use Rattle.key_names.specs.Calls.{Call}
+use Rattle.key_names.specs.IsTranscript.{script_calls}
+use Rattle.key_names.specs.Meaning.{CallMeaning}
 use Rattle.key_names.specs.SeenLine.{SeenLine}
 use Rattle.key_names.specs.Texts.ScriptGrammar.{Script}
 use Rattle.transcript_check.specs.Judged.{FailsFirst, IsSound}
+use Rattle.key_uses.specs.HeldUnused.{HoldsUnused}
 use Rattle.key_rows.specs.declared.moments.Moments.{Moments}
 use Rattle.key_rows.specs.declared.rows.Row.{Row}
 use Rattle.key_rows.specs.declared.told.Told.{Told}
@@ -19,6 +23,8 @@ use Rattle.tool_ends.specs.declared.status.Status.{Status}
 use Rattle.tool_ends.specs.declared.status.Status.TheVariants.{Done, No, Usage, ReadFault, WriteFault, Refused, NoMemory}
 use Rattle.key_audit.specs.declared.ask.Ask.{Ask}
 use Rattle.key_audit.specs.declared.ask.Ask.TheVariants.{Keys, Live, Line}
+use Rattle.key_audit.specs.Live.{AreRowsOf, held_lines, lists_behind, live_keys, live_rests, rest_line}
+use Rattle.key_audit.specs.Moments.{AreMoments}
 use Rattle.key_audit.specs.Texts.{rows_text}
 
 -- ---- what is told of a book
@@ -33,22 +39,43 @@ pub record AreRows (book : Book) (rows : List Row) : Type 0 where
 -- the text of the rows
 pub record TellsKeys (book : Book) (output : List ℕ) : Type 0 where
   pub moments : Moments
+  pub are_moments : AreMoments book moments
   pub rows : List Row
   pub are : AreRows book rows
   pub text : output ≡ rows_text moments rows
 
--- of what is held behind a stamp, and of where a line comes from, nothing is said yet
-abbrev pub Tells : Ask → Book → List ℕ → Type 0
-Tells Keys book output = TellsKeys book output
-Tells (Live stamp) book output = ⊤
-Tells (Line line) book output = ⊤
+-- the lines of what is in memory behind a stamp, and of what can be computed from it, of which nothing is said yet
+pub record TellsHeld (stamp : ℕ) (callers : List (List Call)) (book : Book) (ms : List (List CallMeaning))
+    (output : List ℕ) : Type 0 where
+  pub moments : Moments
+  pub are_moments : AreMoments book moments
+  pub rows : List Row
+  pub are : AreRows book rows
+  -- the rows of the keys that are in memory, each once and no others
+  pub numbers : List ℕ
+  pub held : AreRowsOf rows (live_keys (lists_behind stamp callers book ms)) numbers
+  pub more : List ℕ
+  pub text : output ≡ held_lines moments rows numbers
+      ++ flat_map rest_line (live_rests (lists_behind stamp callers book ms)) ++ more
+
+-- and none of that was put to use in the visits and the calls up to the stamp
+pub record TellsLive (stamp : ℕ) (callers : List (List Call)) (book : Book) (ms : List (List CallMeaning))
+    (output : List ℕ) : Type 0 where
+  pub told : TellsHeld stamp callers book ms output
+  pub unused : HoldsUnused (lists_behind stamp callers book ms)
+
+-- of where a line comes from nothing is said yet
+abbrev pub Tells : Ask → List (List Call) → Book → List (List CallMeaning) → List ℕ → Type 0
+Tells Keys callers book ms output = TellsKeys book output
+Tells (Live stamp) callers book ms output = TellsLive stamp callers book ms output
+Tells (Line line) callers book ms output = ⊤
 
 -- ---- what is told of a transcript
 
 -- the transcript is lawful, and this is told of its book
 pub record TellsLawful (ask : Ask) (script : Script) (t : List (List SeenLine)) (output : List ℕ) : Type 0 where
   pub sound : IsSound script t
-  pub tells : Tells ask sound.book output
+  pub tells : Tells ask (script_calls script t) sound.book sound.meanings output
 
 -- the number of the first clause that fails
 pub record TellsClause (script : Script) (t : List (List SeenLine)) (output : List ℕ) : Type 0 where

@@ -1,5 +1,6 @@
 //! The text that answers a command.
 ghost use Rattle.std.specs.Prelude.{IfOk};
+ghost use Rattle.key_names.specs.IsTranscript.{script_calls};
 ghost use Rattle.key_names.specs.Texts.ScriptGrammar.{WellFormed};
 ghost use Rattle.transcript_check.specs.Judged.{IsSound};
 ghost use Rattle.key_audit.specs.Outcome.{Tells};
@@ -10,6 +11,7 @@ use crate::keys::keys_text;
 use crate::line::line_text;
 use crate::live::live_text;
 use event_script::Script;
+use key_uses::laws::moments_hold_unused;
 use std::alloc::{AllocError, Global};
 use transcript_text::Transcript;
 
@@ -25,11 +27,13 @@ pub(crate) fn answer_text(
     t: &Transcript,
 ) -> Result<Vec<u8>, AllocError>
     requires { WellFormed script.now }
-    ensures { (sound : IsSound script.now t.now) → IfOk result (λ text. Tells ask sound.book text.items) }
+    ensures { (sound : IsSound script.now t.now) → IfOk result (λ text.
+        Tells ask (script_calls script.now t.now) sound.book sound.meanings text.items) }
 {
     let Some(book) = book_of(alloc, script, t)? else {
         return Ok(Vec::new(alloc));
     };
+    moments_hold_unused();
     match ask {
         Ask::Keys => keys_text(alloc, &book),
         Ask::Live(stamp) => live_text(alloc, stamp, &book),

@@ -1,7 +1,7 @@
 //! The book of a transcript's steps.
 ghost use Rattle.std.specs.Prelude.{◌≡◌, List, IfOk, IsSome, MatchOption};
 ghost use Rattle.key_names.specs.Book.{Book};
-ghost use Rattle.key_names.specs.IsTranscript.{IsTranscriptBy, MadeBook};
+ghost use Rattle.key_names.specs.IsTranscript.{IsTranscriptBy, MadeBook, script_calls};
 ghost use Rattle.key_names.specs.Meaning.{CallMeaning};
 ghost use Rattle.key_names.specs.Texts.ScriptGrammar.{WellFormed};
 ghost use Rattle.line_orders.specs.Seen.{seen_callers};
@@ -37,7 +37,8 @@ fn of_lines(
 ) -> Result<Option<KeptBook>, AllocError>
     requires { WellFormed script.now }
     ensures { (made : MadeBook script.now (seen_callers lines.now)) →
-        IfOk result (λ o. MatchOption o ⊥ (λ kept. KeepsBook kept (seen_callers lines.now) made.book)) }
+        IfOk result (λ o. MatchOption o ⊥ (λ kept. KeepsBook kept (seen_callers lines.now)
+        (script_calls script.now (seen_callers lines.now)) made.book made.meanings)) }
 {
     let parts = match begin(alloc, script, lines)? {
         Begun::No(_) => return Ok(None),
@@ -70,7 +71,7 @@ pub fn book_of(
 ) -> Result<Option<KeptBook>, AllocError>
     requires { WellFormed script.now }
     ensures { (book : Book) (ms : List (List CallMeaning)) → IsTranscriptBy script.now t.now book ms →
-        IfOk result (λ o. MatchOption o ⊥ (λ kept. KeepsBook kept t.now book)) }
+        IfOk result (λ o. MatchOption o ⊥ (λ kept. KeepsBook kept t.now (script_calls script.now t.now) book ms)) }
 {
     let lines = bare_callers(alloc, t)?;
     of_lines(alloc, script, &lines)

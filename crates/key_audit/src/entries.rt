@@ -2,7 +2,7 @@
 ghost use Rattle.std.specs.Prelude.{◌≡◌, IfOk, map};
 ghost use Rattle.key_rows.specs.Told.{caller_lists};
 ghost use Rattle.state_entries.specs.Entries.{entries_in, lists_in, all_lists_in};
-ghost use Rattle.key_audit.specs.Cut.{entries_to, lists_to, all_lists_to};
+ghost use Rattle.state_entries.specs.Cut.{entries_to, lists_to, all_lists_to};
 
 use key_names::VEntry;
 use state_entries::StateEntry;

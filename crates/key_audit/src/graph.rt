@@ -1,4 +1,7 @@
 //! Which keys' bytes became which keys.
+ghost use Rattle.std.specs.Prelude.{◌≡◌, IfOk, IfSome, Some};
+ghost use Rattle.key_audit.specs.Live.{name_at};
+
 use key_names::{KeyName, LaneId};
 use key_rows::rows::{Fate, Row};
 use std::alloc::{AllocError, Global};
@@ -44,7 +47,9 @@ impl<'a> Graph<'a> {
     /// # Errors
     ///
     /// `AllocError` where there is no memory for it.
-    pub(crate) fn of(alloc: Global, rows: &'a [Row]) -> Result<Graph<'a>, AllocError> {
+    pub(crate) fn of(alloc: Global, rows: &'a [Row]) -> Result<Graph<'a>, AllocError>
+        ensures { IfOk result (λ graph. graph.rows.now ≡ rows.now) }
+    {
         let mut by_name = Vec::with_capacity(alloc, rows.len())?;
         for number in 0..rows.len() {
             by_name.push(number)?;
@@ -58,16 +63,18 @@ impl<'a> Graph<'a> {
     }
 
     /// The number of the row of a key.
-    pub(crate) fn find(&self, key: KeyName) -> Option<usize> {
+    pub(crate) fn find(&self, key: KeyName) -> Option<usize>
+        ensures { IfSome result (λ n. name_at self.now.rows.now n ≡ Some key) }
+    {
         let rank = rank(key);
         let first = self
             .by_name
             .partition_point(|number| rank_at(self.rows, *number) < rank);
         let number = *self.by_name.get(first)?;
-        self.rows
-            .get(number)
-            .filter(|row| row.key == key)
-            .map(|_| number)
+        match self.rows.get(number) {
+            Some(row) if row.key == key => Some(number),
+            _ => None,
+        }
     }
 
     // Marks the keys that the bytes of a row became.

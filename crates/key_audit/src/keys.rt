@@ -1,6 +1,8 @@
 //! The command `keys`: the rows of a book.
 ghost use Rattle.std.specs.Prelude.{◌≡◌, List, IfOk};
 ghost use Rattle.key_names.specs.Book.{Book};
+ghost use Rattle.key_names.specs.Calls.{Call};
+ghost use Rattle.key_names.specs.Meaning.{CallMeaning};
 ghost use Rattle.key_names.specs.SeenLine.{SeenLine};
 ghost use Rattle.key_audit.specs.Kept.{KeepsBook};
 ghost use Rattle.key_audit.specs.Outcome.{AreRows, TellsKeys};
@@ -24,8 +26,8 @@ pub(crate) fn rows_of(
     book: &KeptBook,
     moments: &Moments,
 ) -> Result<Vec<Row>, AllocError>
-    ensures { (t : List (List SeenLine)) (of : Book) → KeepsBook book.now t of →
-        IfOk result (λ rows. AreRows of rows.items) }
+    ensures { (t : List (List SeenLine)) (callers : List (List Call)) (of : Book) (ms : List (List CallMeaning)) →
+        KeepsBook book.now t callers of ms → IfOk result (λ rows. AreRows of rows.items) }
 {
     let entries = all_entries(alloc, &book.states)?;
     let told = tell_book(alloc, &book.lanes, &entries)?;
@@ -40,8 +42,8 @@ pub(crate) fn rows_of(
 ///
 /// `AllocError` where there is no memory for it.
 pub(crate) fn keys_text(alloc: Global, book: &KeptBook) -> Result<Vec<u8>, AllocError>
-    ensures { (t : List (List SeenLine)) (of : Book) → KeepsBook book.now t of →
-        IfOk result (λ text. TellsKeys of text.items) }
+    ensures { (t : List (List SeenLine)) (callers : List (List Call)) (of : Book) (ms : List (List CallMeaning)) →
+        KeepsBook book.now t callers of ms → IfOk result (λ text. TellsKeys of text.items) }
 {
     let moments = moments_of(alloc, book)?;
     let rows = rows_of(alloc, book, &moments)?;

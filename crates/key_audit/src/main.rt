@@ -11,10 +11,12 @@ mod audit;
 mod book;
 mod entries;
 mod graph;
+mod held;
 mod keys;
 mod line;
 mod live;
 mod moments;
+mod reach;
 mod text;
 
 use crate::ask::USAGE;

@@ -1,4 +1,9 @@
 //! When, and on which line, the entries of a book were left.
+ghost use Rattle.std.specs.Prelude.{ℕ, ◌≡◌, ◌<◌, ◌++◌, ◌==◌, ◌∷◌, [], IfOk, OnOk, length, map, if◌then◌else◌};
+ghost use Rattle.key_names.specs.Book.{list_at};
+ghost use Rattle.key_rows.specs.Cut.{moment_lists};
+ghost use Rattle.line_orders.specs.Marks.{seen_mark};
+ghost use Rattle.key_audit.specs.Moments.{moment_by, AddsMark, HasMarks};
 
 use crate::book::KeptBook;
 use key_names::LaneId;
@@ -7,7 +12,9 @@ use line_orders::marks::MarkOf;
 use state_entries::StateEntry;
 use std::alloc::{AllocError, Global};
 
-fn moment_by(of: &MarkOf) -> Moment {
+fn moment_by(of: &MarkOf) -> Moment
+    ensures { result ≡ moment_by (seen_mark of.now) }
+{
     Moment {
         stamp: of.mark.stamp,
         line: Line {
@@ -17,19 +24,56 @@ fn moment_by(of: &MarkOf) -> Moment {
     }
 }
 
-// Adds the moment of a visit behind those of its lane. A CPU that is not there has none.
-fn push(moments: &mut Moments, of: &MarkOf) -> Result<(), AllocError> {
+// Adds the moment of a visit of a CPU behind those that it has. A CPU that is not there has none.
+fn push_cpu(cpus: &mut Vec<Vec<Moment>>, cpu: usize, moment: Moment) -> Result<(), AllocError>
+    ensures count { length cpus.new.items ≡ length cpus.old.items }
+    ensures each { (c : ℕ) → c < length cpus.old.items → OnOk result (list_at (moment_lists cpus.new.items) c
+        ≡ list_at (moment_lists cpus.old.items) c ++ (if cpu == c then moment ∷ [] else [])) }
+{
+    if cpu < cpus.len() {
+        cpus[cpu].push(moment)?;
+    }
+    Ok(())
+}
+
+// Adds the moment of a visit behind those of its lane.
+fn push(moments: &mut Moments, of: &MarkOf) -> Result<(), AllocError>
+    ensures { OnOk result (AddsMark moments.old (seen_mark of.now) moments.new) }
+{
     let moment = moment_by(of);
     match of.mark.lane {
         LaneId::Pool => moments.pool.push(moment)?,
         LaneId::Base => moments.base.push(moment)?,
-        LaneId::Cpu(cpu) => {
-            if let Some(lane) = moments.cpus.get_mut(cpu as usize) {
-                lane.push(moment)?;
-            }
-        }
+        LaneId::Cpu(cpu) => push_cpu(&mut moments.cpus, cpu as usize, moment)?,
     }
     Ok(())
+}
+
+// So many CPUs, and no visits.
+fn no_visits(alloc: Global, cpus: usize) -> Result<Moments, AllocError>
+    ensures { IfOk result (λ moments. HasMarks cpus [] moments) }
+{
+    let mut moments = Moments {
+        pool: Vec::new(alloc),
+        base: Vec::new(alloc),
+        cpus: Vec::new(alloc),
+        callers: Vec::new(alloc),
+    };
+    for _ in 0..cpus {
+        moments.cpus.push(Vec::new(alloc))?;
+    }
+    Ok(moments)
+}
+
+// The moments of the visits that marks are of.
+fn visit_moments(alloc: Global, cpus: usize, marks: &[MarkOf]) -> Result<Moments, AllocError>
+    ensures { IfOk result (λ moments. HasMarks cpus (map seen_mark marks.now) moments) }
+{
+    let mut moments = no_visits(alloc, cpus)?;
+    for of in marks {
+        push(&mut moments, of)?;
+    }
+    Ok(moments)
 }
 
 fn list_moments(
@@ -62,27 +106,28 @@ fn caller_moments(
     Ok(moments)
 }
 
+fn state_moments(
+    alloc: Global,
+    callers: &[Vec<Vec<StateEntry>>],
+) -> Result<Vec<Vec<Vec<Moment>>>, AllocError> {
+    let mut moments = Vec::with_capacity(alloc, callers.len())?;
+    for (caller, lists) in (0..u32::MAX).zip(callers) {
+        moments.push(caller_moments(alloc, caller, lists)?)?;
+    }
+    Ok(moments)
+}
+
 /// The moments of the entries of a book: of each visit its stamp and its line, and of each entry of a vgetrandom state
 /// the stamp of the visit before it.
 ///
 /// # Errors
 ///
 /// `AllocError` where there is no memory for them.
-pub(crate) fn moments_of(alloc: Global, book: &KeptBook) -> Result<Moments, AllocError> {
-    let mut moments = Moments {
-        pool: Vec::new(alloc),
-        base: Vec::new(alloc),
-        cpus: Vec::new(alloc),
-        callers: Vec::new(alloc),
-    };
-    for _ in 0..book.lanes.cpus.len() {
-        moments.cpus.push(Vec::new(alloc))?;
-    }
-    for of in &book.marks {
-        push(&mut moments, of)?;
-    }
-    for (caller, lists) in (0..u32::MAX).zip(&book.states) {
-        moments.callers.push(caller_moments(alloc, caller, lists)?)?;
-    }
+pub(crate) fn moments_of(alloc: Global, book: &KeptBook) -> Result<Moments, AllocError>
+    ensures { IfOk result (λ moments.
+        HasMarks (length book.now.lanes.cpus.items) (map seen_mark book.now.marks.items) moments) }
+{
+    let mut moments = visit_moments(alloc, book.lanes.cpus.len(), &book.marks)?;
+    moments.callers = state_moments(alloc, &book.states)?;
     Ok(moments)
 }

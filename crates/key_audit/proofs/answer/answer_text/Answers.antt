@@ -1,4 +1,6 @@
-use Rattle.key_audit.proofs.Ends.{any_ok}
+use Rattle.key_names.specs.IsTranscript.{script_calls}
+use Rattle.key_audit.specs.Live.{calls_over}
+use Rattle.key_audit.proofs.Ends.{any_ok, live_told}
 use Rattle.key_audit.proofs.answer.answer_text.Goals as goal
 
 pub returns-in_default : goal.returns-in_default
@@ -8,10 +10,17 @@ returns-in_default c sound =
 pub returns-in-Keys : goal.returns-in-Keys
 returns-in-Keys c sound =
     let keeps = rw c.in-Some.is at (c.in_ok-book.ensures sound.book sound.meanings sound.lawful) in
-    rw c.in-Keys.is (c.keys_text.ensures c.args.t.now sound.book keeps)
+    let callers = script_calls c.args.script.now c.args.t.now in
+    rw c.in-Keys.is (c.keys_text.ensures c.args.t.now callers sound.book sound.meanings keeps)
 
 pub returns-in-Live : goal.returns-in-Live
-returns-in-Live c sound = rw c.in-Live.is (any_ok c.live_text.result)
+returns-in-Live c sound =
+    let keeps = rw c.in-Some.is at (c.in_ok-book.ensures sound.book sound.meanings sound.lawful) in
+    let callers = script_calls c.args.script.now c.args.t.now in
+    rw c.in-Live.is (live_told c.in-Live.stamp callers sound.book sound.meanings c.live_text.result
+    (c.moments_hold_unused.ensures c.args.script.now c.args.t.now sound.book sound.meanings c.in-Live.stamp
+    (calls_over c.in-Live.stamp callers) sound.lawful)
+    (c.live_text.ensures c.args.t.now callers sound.book sound.meanings keeps))
 
 pub returns : goal.returns
 returns c sound = rw c.in-Line.is (any_ok c.line_text.result)

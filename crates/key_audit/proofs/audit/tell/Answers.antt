@@ -1,4 +1,5 @@
 use Rattle.std.proofs.Common.{subst, sym}
+use Rattle.key_names.specs.IsTranscript.{script_calls}
 use Rattle.tool_ends.specs.declared.status.Status.TheVariants.{Done, No}
 use Rattle.tool_ends.proofs.Inputs.{the_answer, wider}
 use Rattle.key_audit.specs.Outcome.{Tells, ToldOf}
@@ -10,7 +11,8 @@ returns-in-Ok-clause-ends g c =
     let Of = ToldOf c.args.ask c.args.script.now c.args.t.now in
     wider _ Of (the_answer Of Done c.deref.result.now (record {
       sound = sound;
-      tells = subst (Tells c.args.ask sound.book) (sym c.deref.ensures.value) (c.in-Ok.ensures sound);
+      tells = subst (Tells c.args.ask (script_calls c.args.script.now c.args.t.now) sound.book sound.meanings)
+          (sym c.deref.ensures.value) (c.in-Ok.ensures sound);
     })) _ _ _ c.put_answer.ensures.ends
 
 pub returns-in-Ok-No-clause-ends : goal.returns-in-Ok-No-clause-ends

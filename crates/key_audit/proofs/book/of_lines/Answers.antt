@@ -45,4 +45,4 @@ returns c made =
     let gathered = rw c.in-Some.is at (c.in_ok-told.ensures.some t stand) in
     keeps_book c.args.script.now t c.in-Stands.parts stand (tables_of c.in-Some.told) gathered made c.in-Some-2.lanes
     (λ lists fills lawful. rw c.in-Some-2.is at (c.in_ok-lanes.ensures.only lists fills lawful))
-    c.in_ok-states.states c.in_ok-states.ensures
+    c.in_ok-states.states c.in_ok-states.ensures.lists (c.in_ok-states.ensures.cut c.args.script.now t stand)

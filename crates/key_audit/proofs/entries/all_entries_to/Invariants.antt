@@ -1,6 +1,6 @@
 use Rattle.std.proofs.Common.{◌≡◌, ◌++◌, drop}
 use Rattle.key_rows.specs.Told.{caller_lists}
-use Rattle.key_audit.specs.Cut.{all_lists_to}
+use Rattle.state_entries.specs.Cut.{all_lists_to}
 use Rattle.key_audit.proofs.entries.all_entries_to.Given as goal
 
 abbrev pub invariant-loop-lists : goal.invariant-loop-lists

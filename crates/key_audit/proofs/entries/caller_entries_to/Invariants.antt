@@ -1,5 +1,5 @@
 use Rattle.std.proofs.Common.{◌≡◌, ◌++◌, drop, map}
-use Rattle.key_audit.specs.Cut.{lists_to}
+use Rattle.state_entries.specs.Cut.{lists_to}
 use Rattle.key_audit.proofs.entries.caller_entries_to.Given as goal
 
 abbrev pub invariant-loop-list : goal.invariant-loop-list

@@ -1,5 +1,5 @@
 use Rattle.std.proofs.Common.{◌≡◌, ◌++◌, drop}
-use Rattle.key_audit.specs.Cut.{entries_to}
+use Rattle.state_entries.specs.Cut.{entries_to}
 use Rattle.key_audit.proofs.entries.list_entries_to.Given as goal
 
 abbrev pub invariant-loop-one : goal.invariant-loop-one

@@ -7,10 +7,10 @@ use Rattle.key_audit.proofs.KeptEntries.{has_entries}
 use Rattle.key_audit.proofs.keys.rows_of.Goals as goal
 
 pub returns : goal.returns
-returns c t of keeps = record {
+returns c t callers of ms keeps = record {
   told = c.in_ok-told.told;
   tells = c.in_ok-told.ensures (lists_of of) (rw c.deref-2.ensures.value
-      (has_entries c.args.book.now.lanes (lists_of of) c.in_ok-entries.entries.items keeps.lanes
+      (has_entries c.args.book.now.lanes (lists_of of) keeps.lanes c.in_ok-entries.entries.items
       (c.in_ok-entries.ensures ∙ ap all_lists_in c.deref.ensures.value ∙ keeps.states)));
   each = rw (← c.in_ok-rows.ensures.births)
       (IsPermutation-map birth_of c.in_ok-rows.rows.items c.sort_rows.new.rows.items c.sort_rows.ensures.same);

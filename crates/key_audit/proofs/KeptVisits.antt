@@ -1,0 +1,72 @@
+-- What is kept of a book's visits, with their moments.
+use Rattle.std.proofs.Common.{◌≡◌, ℕ, zero, suc, ◌<◌, List, [], ◌∷◌, length, map, refl, sym, ap, ◌∙◌, arith}
+use Rattle.std.proofs.lemmas.List.{length-map}
+use Rattle.key_names.specs.Book.{Book, Visit, entries_of, list_at, lists_of}
+use Rattle.key_names.specs.Calls.{Call}
+use Rattle.key_names.specs.IsTranscript.{MarkBy}
+use Rattle.key_names.specs.Meaning.{CallMeaning}
+use Rattle.key_names.specs.SeenLine.{SeenLine}
+use Rattle.line_orders.specs.Marks.{seen_mark}
+use Rattle.key_rows.specs.declared.moments.Moment.{Moment}
+use Rattle.key_rows.specs.declared.moments.Moments.{Moments}
+use Rattle.key_rows.specs.Cut.{KeepsVisits, moment_lists, stamps_of, visit_stamps}
+use Rattle.key_audit.specs.declared.book.KeptBook.{KeptBook}
+use Rattle.key_audit.specs.Kept.{KeepsBook}
+use Rattle.key_audit.specs.Moments.{AreMoments, HasMarks, MarksVisits, visit_moments}
+use Rattle.key_audit.proofs.KeptEntries.{base_kept, cpus_kept}
+
+same_at : {A : Type 0} (xs ys : List (List A)) → length xs ≡ length ys →
+    ((c : ℕ) → c < length xs → list_at xs c ≡ list_at ys c) → xs ≡ ys
+same_at [] [] long each = refl
+same_at [] (y ∷ ys) long each = absurd (omega arith)
+same_at (x ∷ xs) [] long each = absurd (omega arith)
+same_at (x ∷ xs) (y ∷ ys) long each =
+    let first : x ≡ y = each 0 (omega arith) in
+    let rest : xs ≡ ys = same_at xs ys (omega arith) (λ c lt. each (suc c) (omega arith)) in
+    λ i. first i ∷ rest i
+
+mapped_at : {A B : Type 0} (f : List A → List B) → f [] ≡ [] → (xss : List (List A)) (n : ℕ) →
+    list_at (map f xss) n ≡ f (list_at xss n)
+mapped_at f none [] n = sym none
+mapped_at f none (xs ∷ xss) zero = refl
+mapped_at f none (xs ∷ xss) (suc n) = mapped_at f none xss n
+
+visits_stamps : {E : Type 0} (visits : List (Visit E)) → stamps_of (visit_moments visits) ≡ visit_stamps visits
+visits_stamps [] = refl
+visits_stamps (v ∷ visits) = ap (λ ns. v.stamp ∷ ns) (visits_stamps visits)
+
+all_stamps : {E : Type 0} (cpus : List (List (Visit E))) →
+    map stamps_of (map visit_moments cpus) ≡ map visit_stamps cpus
+all_stamps [] = refl
+all_stamps (visits ∷ cpus) = λ i. visits_stamps visits i ∷ all_stamps cpus i
+
+-- the moments of a book's marks are those of its visits
+pub are_moments : (book : Book) (marks : List MarkBy) (count : ℕ) (moments : Moments) → MarksVisits book marks →
+    count ≡ length book.cpus → HasMarks count marks moments → AreMoments book moments
+are_moments book marks count moments visits cpus has = record {
+  pool = has.pool ∙ visits.pool;
+  base = has.base ∙ visits.base;
+  cpus = same_at (moment_lists moments.cpus.items) (map visit_moments book.cpus)
+      (length-map moments.cpus.items (λ lane. lane.items) ∙ has.count ∙ cpus ∙ sym (length-map book.cpus visit_moments))
+      (λ c lt. has.cpus c (let long = length-map moments.cpus.items (λ lane. lane.items) in
+      let n = has.count in omega arith)
+      ∙ visits.cpus c ∙ sym (mapped_at visit_moments refl book.cpus c));
+}
+
+module _ (kept : KeptBook) (t : List (List SeenLine)) (callers : List (List Call)) (book : Book)
+    (ms : List (List CallMeaning)) (keeps : KeepsBook kept t callers book ms) (moments : Moments) where
+  pub kept_moments : HasMarks (length kept.lanes.cpus.items) (map seen_mark kept.marks.items) moments →
+      AreMoments book moments
+  kept_moments has = are_moments book (map seen_mark kept.marks.items) (length kept.lanes.cpus.items) moments
+      keeps.visits
+      (sym (length-map kept.lanes.cpus.items (λ lane. lane.items)) ∙ keeps.lanes.cpus.count
+      ∙ length-map book.cpus entries_of) has
+
+  -- so the visits are kept with their stamps
+  pub keeps_visits : AreMoments book moments → KeepsVisits book kept.lanes moments
+  keeps_visits are = record {
+    base = base_kept kept.lanes (lists_of book) keeps.lanes;
+    base_stamps = ap stamps_of are.base ∙ visits_stamps book.base;
+    cpus = cpus_kept kept.lanes (lists_of book) keeps.lanes;
+    cpu_stamps = ap (map stamps_of) are.cpus ∙ all_stamps book.cpus;
+  }

@@ -1,0 +1,95 @@
+-- What is in memory behind a stamp.
+use Rattle.std.specs.Prelude.{ℕ, ◌≡◌, Bool, true, false, Option, Some, None, List, [], ◌∷◌, ◌++◌, codes, filter, length, map}
+use Rattle.std.specs.Prelude.{option_map, slice_get}
+use Rattle.std.specs.List.{flat_map}
+use Rattle.key_names.specs.declared.names.KeyName.{KeyName}
+use Rattle.key_names.specs.Book.{Book, Lists, list_at, lists_of}
+use Rattle.key_names.specs.Calls.{Call}
+use Rattle.key_names.specs.LiveMaterial.{base_key, cpu_batch, cpu_key, live_key, live_rest, state_batch, state_key}
+use Rattle.key_names.specs.Meaning.{CallMeaning}
+use Rattle.key_uses.specs.Moments.{book_at}
+use Rattle.state_entries.specs.Stamps.{made_by, start_stamp}
+use Rattle.key_rows.specs.declared.held.BatchHolder.{BatchHolder}
+use Rattle.key_rows.specs.declared.held.BatchHolder.TheVariants.{Cpu as CpuBatch, State as StateBatch}
+use Rattle.key_rows.specs.declared.held.Held.{Held}
+use Rattle.key_rows.specs.declared.held.HeldKey.{HeldKey}
+use Rattle.key_rows.specs.declared.held.HeldRest.{HeldRest}
+use Rattle.key_rows.specs.declared.held.KeyHolder.TheVariants.{Base, Cpu, State}
+use Rattle.key_rows.specs.declared.lives.Holder.TheVariants.{Cpu as InCpu, State as InState}
+use Rattle.key_rows.specs.declared.moments.Moments.{Moments}
+use Rattle.key_rows.specs.declared.rows.Fate.{Fate}
+use Rattle.key_rows.specs.declared.rows.Fate.TheVariants.{Became, Served, GivenUp, Held as HeldFate}
+use Rattle.key_rows.specs.declared.rows.Row.{Row}
+use Rattle.key_rows.specs.Held.{held_key, held_rest}
+use Rattle.key_rows.specs.Rests.{widths}
+use Rattle.key_rows.specs.Told.{told_below}
+use Rattle.key_audit.specs.Texts.{holder_text, key_text, name_text, piece_text, span_text}
+
+-- ---- a book behind a stamp
+
+-- how many calls of a caller were over by a stamp
+abbrev pub calls_over : ℕ → List (List Call) → ℕ → ℕ
+calls_over stamp callers c = made_by stamp (start_stamp callers c) (list_at callers c)
+
+-- of each lane the visits up to the stamp, and of each vgetrandom state the entries of the calls that were over by it
+abbrev pub lists_behind : ℕ → List (List Call) → Book → List (List CallMeaning) → Lists
+lists_behind stamp callers book ms = lists_of (book_at stamp (calls_over stamp callers) book ms)
+
+-- the keys that are in memory: of the base, of each CPU, and of each vgetrandom state of each caller
+abbrev pub live_keys : Lists → List HeldKey
+live_keys lists =
+    held_key Base (live_key lists base_key)
+    ++ told_below (length lists.cpus) (λ c. held_key (Cpu c) (live_key lists (cpu_key c)))
+    ++ told_below (length lists.callers) (λ caller. told_below (length (list_at lists.callers caller))
+    (λ state. held_key (State (record { caller = caller; state = state })) (live_key lists (state_key caller state))))
+
+-- the rests of batches that are there, where they have bytes: of each width of each CPU, and of each vgetrandom state
+abbrev pub live_rests : Lists → List HeldRest
+live_rests lists =
+    told_below (length lists.cpus)
+    (λ c. flat_map (λ width. held_rest (CpuBatch c width) (live_rest lists (cpu_batch c width))) widths)
+    ++ told_below (length lists.callers) (λ caller. told_below (length (list_at lists.callers caller))
+    (λ state. held_rest (StateBatch (record { caller = caller; state = state }))
+    (live_rest lists (state_batch caller state))))
+
+pub record IsHeld (lists : Lists) (held : Held) : Type 0 where
+  pub keys : held.keys.items ≡ live_keys lists
+  pub rests : held.rests.items ≡ live_rests lists
+
+-- ---- its text
+
+abbrev pub became_key : Fate → Bool
+became_key (Became key) = true
+became_key (Served by) = false
+became_key (GivenUp by) = false
+became_key HeldFate = false
+
+-- a row with no pieces but the keys that its bytes became, behind a word
+abbrev pub kept_line : List ℕ → Moments → Row → List ℕ
+kept_line word moments row =
+    word ++ key_text moments row
+    ++ flat_map (piece_text moments) (filter (λ piece. became_key piece.fate) row.pieces.items) ++ 10 ∷ []
+
+-- the line of the row at a number
+abbrev pub held_line : Moments → Option Row → List ℕ
+held_line moments None = []
+held_line moments (Some row) = kept_line (codes "held ") moments row
+
+abbrev pub held_lines : Moments → List Row → List ℕ → List ℕ
+held_lines moments rows numbers = flat_map (λ n. held_line moments (slice_get rows n)) numbers
+
+abbrev pub batch_holder_text : BatchHolder → List ℕ
+batch_holder_text (CpuBatch cpu width) = holder_text (InCpu cpu)
+batch_holder_text (StateBatch of) = holder_text (InState of)
+
+abbrev pub rest_line : HeldRest → List ℕ
+rest_line rest = codes "rest " ++ name_text rest.span.key ++ codes " " ++ batch_holder_text rest.holder ++ codes " "
+    ++ span_text rest.span ++ 10 ∷ []
+
+-- the name of the key of the row at a number
+abbrev pub name_at : List Row → ℕ → Option KeyName
+name_at rows n = option_map (λ row. row.key) (slice_get rows n)
+
+-- these are the numbers of the rows of keys that are held, each once and in their order
+abbrev pub AreRowsOf : List Row → List HeldKey → List ℕ → Type 0
+AreRowsOf rows keys numbers = map (name_at rows) numbers ≡ map (λ held. Some held.key) keys

@@ -1,0 +1,177 @@
+//! What is in memory behind a stamp, and its lines.
+ghost use Rattle.std.specs.Prelude.{◌≡◌, ◌++◌, IfOk, List, OnOk, filter, slice_get};
+ghost use Rattle.std.specs.List.{flat_map};
+ghost use Rattle.key_names.specs.Book.{Book};
+ghost use Rattle.key_names.specs.Calls.{Call};
+ghost use Rattle.key_names.specs.Meaning.{CallMeaning};
+ghost use Rattle.key_names.specs.SeenLine.{SeenLine};
+ghost use Rattle.key_audit.specs.Kept.{KeepsBook};
+ghost use Rattle.key_audit.specs.Moments.{AreMoments};
+ghost use Rattle.key_audit.specs.Texts.{piece_text};
+ghost use Rattle.key_audit.specs.Live.{AreRowsOf, IsHeld, lists_behind, batch_holder_text, became_key};
+ghost use Rattle.key_audit.specs.Live.{held_line, held_lines, kept_line, rest_line};
+
+use crate::book::KeptBook;
+use crate::entries::all_entries_to;
+use crate::graph::Graph;
+use crate::text::Text;
+use key_rows::cut::kept_to;
+use key_rows::held::{BatchHolder, Held, HeldKey, HeldRest};
+use key_rows::lives::Holder;
+use key_rows::moments::Moments;
+use key_rows::rows::{Fate, Piece, Row};
+use key_rows::told::tell_book;
+use std::alloc::{AllocError, Global};
+
+/// What is held behind a stamp.
+///
+/// # Errors
+///
+/// `AllocError` where there is no memory for it.
+pub(crate) fn held_at(
+    alloc: Global,
+    stamp: u64,
+    book: &KeptBook,
+    moments: &Moments,
+) -> Result<Held, AllocError>
+    ensures { (t : List (List SeenLine)) (callers : List (List Call)) (of : Book) (ms : List (List CallMeaning)) →
+        KeepsBook book.now t callers of ms → AreMoments of moments.now →
+        IfOk result (λ held. IsHeld (lists_behind stamp callers of ms) held) }
+{
+    let lanes = kept_to(alloc, stamp, &book.lanes, moments)?;
+    let entries = all_entries_to(alloc, stamp, &book.states)?;
+    let told = tell_book(alloc, &lanes, &entries)?;
+    Ok(told.held)
+}
+
+/// The numbers of the rows of keys that are held. Each has one, since an entry made it; where one had none, nothing
+/// would be told rather than all but it.
+///
+/// # Errors
+///
+/// `AllocError` where there is no memory for them.
+pub(crate) fn held_rows(
+    alloc: Global,
+    graph: &Graph<'_>,
+    keys: &[HeldKey],
+) -> Result<Vec<usize>, AllocError>
+    ensures { IfOk result (λ numbers. AreRowsOf graph.now.rows.now keys.now numbers.items) }
+{
+    let mut numbers = Vec::with_capacity(alloc, keys.len())?;
+    for held in keys {
+        let Some(number) = graph.find(held.key) else {
+            return Err(AllocError);
+        };
+        numbers.push(number)?;
+    }
+    Ok(numbers)
+}
+
+fn became_key(fate: Fate) -> bool
+    ensures { result ≡ became_key fate }
+{
+    matches!(fate, Fate::Became(_))
+}
+
+// Adds those of some pieces that became keys.
+fn put_became(text: &mut Text, moments: &Moments, pieces: &[Piece]) -> Result<(), AllocError>
+    ensures { OnOk result (text.new.bytes.items ≡ text.old.bytes.items
+        ++ flat_map (piece_text moments.now) (filter (λ piece. became_key piece.fate) pieces.now)) }
+{
+    for piece in pieces {
+        if became_key(piece.fate) {
+            text.piece(moments, *piece)?;
+        }
+    }
+    Ok(())
+}
+
+/// Adds a word and a row with no pieces but the keys that its bytes became.
+///
+/// # Errors
+///
+/// `AllocError` where there is no memory for the text.
+pub(crate) fn put_kept(
+    text: &mut Text,
+    word: &str,
+    moments: &Moments,
+    row: &Row,
+) -> Result<(), AllocError>
+    ensures { OnOk result (text.new.bytes.items ≡ text.old.bytes.items ++ kept_line word.now moments.now row.now) }
+{
+    text.word(word)?;
+    text.key(moments, row)?;
+    put_became(text, moments, &row.pieces)?;
+    text.word("\n")
+}
+
+// Adds the line of a held key, by the number of its row.
+fn put_held_at(
+    text: &mut Text,
+    moments: &Moments,
+    rows: &[Row],
+    number: usize,
+) -> Result<(), AllocError>
+    ensures { OnOk result (text.new.bytes.items
+        ≡ text.old.bytes.items ++ held_line moments.now (slice_get rows.now number)) }
+{
+    match rows.get(number) {
+        Some(row) => put_kept(text, "held ", moments, row),
+        None => Ok(()),
+    }
+}
+
+/// Adds the lines of held keys, by the numbers of their rows.
+///
+/// # Errors
+///
+/// `AllocError` where there is no memory for the text.
+pub(crate) fn put_held(
+    text: &mut Text,
+    moments: &Moments,
+    rows: &[Row],
+    numbers: &[usize],
+) -> Result<(), AllocError>
+    ensures { OnOk result (text.new.bytes.items
+        ≡ text.old.bytes.items ++ held_lines moments.now rows.now numbers.now) }
+{
+    for number in numbers {
+        put_held_at(text, moments, rows, *number)?;
+    }
+    Ok(())
+}
+
+fn put_batch_holder(text: &mut Text, holder: BatchHolder) -> Result<(), AllocError>
+    ensures { OnOk result (text.new.bytes.items ≡ text.old.bytes.items ++ batch_holder_text holder) }
+{
+    match holder {
+        BatchHolder::Cpu { cpu, .. } => text.holder(Holder::Cpu(cpu)),
+        BatchHolder::State(of) => text.holder(Holder::State(of)),
+    }
+}
+
+fn put_rest(text: &mut Text, rest: &HeldRest) -> Result<(), AllocError>
+    ensures { OnOk result (text.new.bytes.items ≡ text.old.bytes.items ++ rest_line rest.now) }
+{
+    text.word("rest ")?;
+    text.name(rest.span.key)?;
+    text.word(" ")?;
+    put_batch_holder(text, rest.holder)?;
+    text.word(" ")?;
+    text.span(rest.span)?;
+    text.word("\n")
+}
+
+/// Adds the lines of rests of batches.
+///
+/// # Errors
+///
+/// `AllocError` where there is no memory for the text.
+pub(crate) fn put_rests(text: &mut Text, rests: &[HeldRest]) -> Result<(), AllocError>
+    ensures { OnOk result (text.new.bytes.items ≡ text.old.bytes.items ++ flat_map rest_line rests.now) }
+{
+    for rest in rests {
+        put_rest(text, rest)?;
+    }
+    Ok(())
+}
