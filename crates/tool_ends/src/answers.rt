@@ -1,5 +1,5 @@
 //! Answers, with the status that they say.
-ghost use Rattle.std.specs.Prelude.{◌≡◌, ◌≤◌};
+ghost use Rattle.std.specs.Prelude.{◌≡◌, ◌≤◌, ◌⊎◌};
 ghost use Rattle.io_edges.specs.Faults.{Rose};
 ghost use Rattle.tool_ends.specs.Ends.{IsAnswered};
 ghost use Rattle.tool_ends.specs.Pairs.{RefusalOf};
@@ -15,6 +15,7 @@ pub fn put_answer<K: Sink>(status: Status, text: &[u8], sink: &mut K) -> Status
     requires { IsAnswered status }
     ensures ends { WritesEnds (λ is output. (is ≡ status) × (output ≡ text.now)) result
         (K.held sink.old) (K.held sink.new) }
+    ensures answered { (result ≡ status) ⊎ (result ≡ Status.WriteFault) }
     ensures cut { result ≡ Status.WriteFault → Rose (K.faults sink.old) (K.faults sink.new) }
     ensures silent { result ≡ Status.NoMemory → sink.new ≡ sink.old }
     ensures never_falls { K.faults sink.old ≤ K.faults sink.new }
@@ -30,6 +31,7 @@ pub fn put_line<K: Sink>(status: Status, line: &ShortLine, sink: &mut K) -> Stat
     requires { IsAnswered status }
     ensures ends { WritesEnds (λ is output. (is ≡ status) × (output ≡ line.now.bytes)) result
         (K.held sink.old) (K.held sink.new) }
+    ensures answered { (result ≡ status) ⊎ (result ≡ Status.WriteFault) }
     ensures cut { result ≡ Status.WriteFault → Rose (K.faults sink.old) (K.faults sink.new) }
     ensures silent { result ≡ Status.NoMemory → sink.new ≡ sink.old }
     ensures never_falls { K.faults sink.old ≤ K.faults sink.new }
@@ -40,6 +42,7 @@ pub fn put_line<K: Sink>(status: Status, line: &ShortLine, sink: &mut K) -> Stat
 /// Answers an input that was not read as a script with a transcript behind it.
 pub fn put_refusal<K: Sink>(why: NoPair, sink: &mut K) -> Status
     ensures ends { WritesEnds (RefusalOf why) result (K.held sink.old) (K.held sink.new) }
+    ensures memory { result ≡ Status.NoMemory → why ≡ NoPair.NoMemory }
     ensures cut { result ≡ Status.WriteFault → Rose (K.faults sink.old) (K.faults sink.new) }
     ensures silent { result ≡ Status.NoMemory → sink.new ≡ sink.old }
     ensures never_falls { K.faults sink.old ≤ K.faults sink.new }
