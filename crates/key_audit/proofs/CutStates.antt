@@ -7,7 +7,7 @@ use Rattle.key_names.specs.declared.names.Step.{Step}
 use Rattle.key_names.specs.Book.{Lists, list_at}
 use Rattle.key_names.specs.CallerOrders.{start_of}
 use Rattle.key_names.specs.Calls.{BoundAct, Call, Setting, alone, ending, unbound, vread_call}
-use Rattle.key_names.specs.History.{call_steps, caller_orders, calls_steps, cut_behind_rekey, steps_at_point}
+use Rattle.key_names.specs.History.{call_steps, calls_steps, cut_behind_rekey, steps_at_point}
 use Rattle.key_names.specs.IsTranscript.{CallerMeans, CallsMean, EachCaller, EachLine, script_calls, state_lists}
 use Rattle.key_names.specs.Meaning.{CallMeaning, CallerState, LineMeaning}
 use Rattle.key_names.specs.SameSteps.{bare}

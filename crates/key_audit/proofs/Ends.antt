@@ -1,15 +1,14 @@
 -- What is told of a script and a transcript, as what their text calls for.
-use Rattle.std.proofs.Common.{ℕ, ◌≡◌, ◌<◌, List, length, sym, subst, ◌∙◌, inl, inr}
+use Rattle.std.proofs.Common.{ℕ, List, sym, subst, ◌∙◌, inl, inr}
 use Rattle.std.specs.Prelude.{⊤, Result, Ok, Err, IfOk}
 use Rattle.std.specs.Global.{Vec}
-use Rattle.key_names.specs.declared.faults.ScriptFault.{ScriptFault}
 use Rattle.key_names.specs.Book.{Book}
 use Rattle.key_names.specs.Calls.{Call}
 use Rattle.key_names.specs.Meaning.{CallMeaning}
 use Rattle.key_names.specs.SeenLine.{SeenLine}
 use Rattle.key_names.specs.Texts.ScriptGrammar.{Script}
 use Rattle.key_uses.specs.HeldUnused.{HoldsUnused}
-use Rattle.tool_ends.specs.Pairs.{IsNoPair, IsPair, no_line, refusal_line}
+use Rattle.tool_ends.specs.Pairs.{IsNoPair, IsPair, RefusalOf}
 use Rattle.tool_ends.specs.declared.pair.NoPair.{NoPair}
 use Rattle.tool_ends.specs.declared.pair.NoPair.TheVariants.{Refused as FirstFault, No as Clause, NoMemory as Unread}
 use Rattle.tool_ends.specs.declared.status.Status.{Status}
@@ -18,7 +17,7 @@ use Rattle.tool_ends.proofs.Inputs.{IsLimited}
 use Rattle.tool_ends.proofs.Pairs.{too_long}
 use Rattle.key_audit.specs.declared.ask.Ask.{Ask}
 use Rattle.key_audit.specs.Live.{lists_behind}
-use Rattle.key_audit.specs.Outcome.{Calls, RefusalOf, TellsHeld, TellsLive, ToldOf}
+use Rattle.key_audit.specs.Outcome.{Calls, TellsHeld, TellsLive, ToldOf}
 
 -- what is told of a transcript is told of its text
 pub of_pair : (ask : Ask) (input : List ℕ) (script : Script) (t : List (List SeenLine)) → IsPair input script t →
@@ -30,14 +29,6 @@ of_pair ask input script t pair Usage o told = absurd told
 of_pair ask input script t pair ReadFault o told = absurd told
 of_pair ask input script t pair WriteFault o told = absurd told
 of_pair ask input script t pair NoMemory o told = absurd told
-
-pub refused_by : (fault : ScriptFault) (line : List ℕ) → line ≡ refusal_line fault → (s : Status) (o : List ℕ) →
-    (s ≡ Refused) × (o ≡ line) → RefusalOf (FirstFault fault) s o
-refused_by fault line is s o said = (said.0, said.1 ∙ is)
-
-pub failed_by : (number : ℕ) (line : List ℕ) → line ≡ no_line number → (s : Status) (o : List ℕ) →
-    (s ≡ No) × (o ≡ line) → RefusalOf (Clause number) s o
-failed_by number line is s o said = (said.0, said.1 ∙ is)
 
 -- what is said of an input that is not read is said of its text
 pub of_none : (ask : Ask) (input : List ℕ) (why : NoPair) → IsNoPair input why → (s : Status) (o : List ℕ) →

@@ -7,7 +7,6 @@ use Rattle.key_names.specs.IsTranscript.{MarkBy}
 use Rattle.key_names.specs.Meaning.{CallMeaning}
 use Rattle.key_names.specs.SeenLine.{SeenLine}
 use Rattle.line_orders.specs.Marks.{seen_mark}
-use Rattle.key_rows.specs.declared.moments.Moment.{Moment}
 use Rattle.key_rows.specs.declared.moments.Moments.{Moments}
 use Rattle.key_rows.specs.Cut.{KeepsVisits, moment_lists, stamps_of, visit_stamps}
 use Rattle.key_audit.specs.declared.book.KeptBook.{KeptBook}

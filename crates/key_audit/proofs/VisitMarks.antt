@@ -1,5 +1,5 @@
 -- The marks of a lane in the order of their stamps are those of its visits.
-use Rattle.std.proofs.Common.{◌≡◌, ℕ, zero, suc, ◌+◌, Bool, true, false, cond, Some, List, [], ◌∷◌, length, map, refl, sym, subst, ap, ◌∙◌, arith}
+use Rattle.std.proofs.Common.{◌≡◌, ℕ, suc, ◌+◌, Bool, true, false, cond, Some, List, [], ◌∷◌, length, map, refl, sym, subst, ap, ◌∙◌, arith}
 use Rattle.std.specs.Prelude.{IsPermutation, unwrap_or}
 use Rattle.std.specs.List.{AllByRecursion}
 use Rattle.std.proofs.lemmas.List.{length-map}
@@ -7,7 +7,6 @@ use Rattle.std.proofs.lemmas.List.Elements.{All-from_recursion, recursion_from_A
 use Rattle.std.proofs.lemmas.List.Sorted.{All-permutation}
 use Rattle.key_names.specs.declared.names.LaneId.{LaneId}
 use Rattle.key_names.specs.declared.names.LaneId.TheVariants.{Pool as PoolLane, Base as BaseLane, Cpu as CpuLane}
-use Rattle.key_names.specs.declared.names.Mark.{Mark}
 use Rattle.key_names.specs.declared.names.Who.{Who}
 use Rattle.key_names.specs.Book.{Book, Visit, list_at}
 use Rattle.key_names.specs.IsTranscript.{MarkBy, PlacesStand, VisitsAre, is_same_lane, lane_marks, stamped, stamped_at}
@@ -18,7 +17,6 @@ use Rattle.line_orders.specs.declared.marks.MarkOf.{MarkOf}
 use Rattle.line_orders.specs.Marks.{IsSortedByLane, seen_mark}
 use Rattle.line_orders.proofs.MarksMoved.{lane_moved, same_long}
 use Rattle.line_orders.proofs.Runs.{lane_sorted}
-use Rattle.key_rows.specs.declared.moments.Moment.{Moment}
 use Rattle.key_audit.specs.Moments.{MarksVisits, marks_on, moment_by, moments_on, visit_moment, visit_moments}
 
 -- the mark of a visit at a place

@@ -1,5 +1,5 @@
 -- What the words of a command line spell.
-use Rattle.std.proofs.Common.{◌≡◌, ℕ, ◌<◌, ◌≤◌, ◌^◌, ◌+◌, true, List, [], ◌∷◌, ◌++◌, Option, Some, None, length, get_or, append_assoc, sym, ap, ◌∙◌, arith}
+use Rattle.std.proofs.Common.{◌≡◌, ℕ, ◌<◌, ◌≤◌, true, List, [], ◌∷◌, ◌++◌, Option, Some, None, length, get_or, append_assoc, sym, ap, ◌∙◌, arith}
 use Rattle.std.specs.Prelude.{Bool, String, codes, decimal, map, slice_index_or, string_bytes}
 use Rattle.std.specs.Str.{bytes_eq}
 use Rattle.std.proofs.lemmas.Slice.Eq.{bytes_eq-Decides}

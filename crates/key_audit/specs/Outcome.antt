@@ -1,8 +1,7 @@
 -- What the program promises for each way to end: a script, and a transcript behind it, and what is told of them.
-use Rattle.std.specs.Prelude.{ℕ, ◌≡◌, ◌⊎◌, ⊤, List, ◌++◌, Option, Some, map, All, IsPermutation}
+use Rattle.std.specs.Prelude.{ℕ, ◌≡◌, ◌⊎◌, ⊤, List, ◌++◌, Option, map, All, IsPermutation}
 use Rattle.std.specs.List.{flat_map}
-use Rattle.key_names.specs.declared.faults.ScriptFault.{ScriptFault}
-use Rattle.key_names.specs.Book.{Book, Lists, lists_of}
+use Rattle.key_names.specs.Book.{Book, lists_of}
 use Rattle.key_names.specs.Calls.{Call}
 use Rattle.key_names.specs.IsTranscript.{script_calls}
 use Rattle.key_names.specs.Meaning.{CallMeaning}
@@ -15,10 +14,8 @@ use Rattle.key_rows.specs.declared.rows.Row.{Row}
 use Rattle.key_rows.specs.declared.told.Told.{Told}
 use Rattle.key_rows.specs.Rows.{IsRow, all_pieces, birth_of}
 use Rattle.key_rows.specs.Told.{book_tells, tells_of}
-use Rattle.tool_ends.specs.Pairs.{FailsAsText, IsPair, no_line, pair_fault, refusal_line}
+use Rattle.tool_ends.specs.Pairs.{FailsAsText, IsPair, TellsFault, no_line}
 use Rattle.tool_ends.specs.Reads.{ReadsEnds}
-use Rattle.tool_ends.specs.declared.pair.NoPair.{NoPair}
-use Rattle.tool_ends.specs.declared.pair.NoPair.TheVariants.{Refused as FirstFault, No as Clause, NoMemory as Unread}
 use Rattle.tool_ends.specs.declared.status.Status.{Status}
 use Rattle.tool_ends.specs.declared.status.Status.TheVariants.{Done, No, Usage, ReadFault, WriteFault, Refused, NoMemory}
 use Rattle.key_audit.specs.declared.ask.Ask.{Ask}
@@ -107,22 +104,11 @@ pub record OfText (input output : List ℕ) : Type 0 where
   pub fails : FailsAsText input number
   pub line : output ≡ no_line number
 
-pub record OfFault (input output : List ℕ) : Type 0 where
-  pub fault : ScriptFault
-  pub first : pair_fault input ≡ Some fault
-  pub line : output ≡ refusal_line fault
-
--- what says why an input is not read
-abbrev pub RefusalOf : NoPair → Status → List ℕ → Type 0
-RefusalOf (FirstFault fault) status output = (status ≡ Refused) × (output ≡ refusal_line fault)
-RefusalOf (Clause number) status output = (status ≡ No) × (output ≡ no_line number)
-RefusalOf Unread status output = ⊥
-
 -- the output that an input calls for, and the status that says so
 abbrev pub Calls : Ask → List ℕ → Status → List ℕ → Type 0
 Calls ask input Done output = OfPair ask Done input output
 Calls ask input No output = OfPair ask No input output ⊎ OfText input output
-Calls ask input Refused output = OfFault input output
+Calls ask input Refused output = TellsFault input output
 Calls ask input Usage output = ⊥
 Calls ask input ReadFault output = ⊥
 Calls ask input WriteFault output = ⊥

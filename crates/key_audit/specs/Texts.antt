@@ -1,5 +1,5 @@
 -- The texts of names, entries and rows.
-use Rattle.std.specs.Prelude.{ℕ, Option, Some, None, List, [], ◌∷◌, ◌++◌, codes, slice_get, unwrap_or, map}
+use Rattle.std.specs.Prelude.{ℕ, Option, Some, None, List, [], ◌∷◌, ◌++◌, codes, slice_get, unwrap_or}
 use Rattle.std.specs.Fmt.{decimal}
 use Rattle.std.specs.Global.{Vec}
 use Rattle.std.specs.List.{flat_map}
@@ -8,7 +8,6 @@ use Rattle.key_names.specs.declared.names.KeyName.TheVariants.{Root, Base, Cpu, 
 use Rattle.key_names.specs.declared.names.LaneId.{LaneId}
 use Rattle.key_names.specs.declared.names.LaneId.TheVariants.{Pool as PoolLane, Base as BaseLane, Cpu as CpuLane}
 use Rattle.key_names.specs.declared.names.Span.{Span}
-use Rattle.key_names.specs.Book.{list_at}
 use Rattle.key_uses.specs.declared.used.Origin.{Origin}
 use Rattle.key_uses.specs.declared.used.Origin.TheVariants.{Lane, State}
 use Rattle.key_rows.specs.declared.lives.Holder.{Holder}

@@ -4,16 +4,16 @@ ghost use Rattle.io_edges.specs.Faults.{Rose};
 ghost use Rattle.key_names.specs.Texts.ScriptGrammar.{WellFormed};
 ghost use Rattle.tool_ends.specs.Reads.{WritesEnds};
 ghost use Rattle.key_audit.specs.Commands.{Asks, IsNoForm};
-ghost use Rattle.key_audit.specs.Outcome.{AuditEnds, Calls, RefusalOf, ToldOf};
+ghost use Rattle.key_audit.specs.Outcome.{AuditEnds, Calls, ToldOf};
 
 use crate::answer::answer_text;
 use crate::ask::{Ask, ask_of};
 use event_script::Script;
 use io_edges::{ReadError, Sink, Source, read_to_limit};
 use std::alloc::Global;
-use tool_ends::pair::{MOST_INPUT, NoPair, read_pair};
-use tool_ends::short_lines::{no_line, refusal_line};
-use tool_ends::{Status, end_output, put_answer, put_line};
+use tool_ends::pair::{MOST_INPUT, read_pair};
+use tool_ends::short_lines::no_line;
+use tool_ends::{Status, end_output, put_answer, put_line, put_refusal};
 use transcript_check::check::{Verdict, check};
 use transcript_text::Transcript;
 
@@ -35,20 +35,6 @@ fn tell<K: Sink>(alloc: Global, ask: Ask, script: &Script, t: &Transcript, sink:
     }
 }
 
-// Answers an input that is no script with a transcript behind it.
-fn refuse<K: Sink>(why: NoPair, sink: &mut K) -> Status
-    ensures ends { WritesEnds (RefusalOf why) result (K.held sink.old) (K.held sink.new) }
-    ensures cut { result ≡ Status.WriteFault → Rose (K.faults sink.old) (K.faults sink.new) }
-    ensures silent { result ≡ Status.NoMemory → sink.new ≡ sink.old }
-    ensures never_falls { K.faults sink.old ≤ K.faults sink.new }
-{
-    match why {
-        NoPair::Refused(fault) => put_line(Status::Refused, &refusal_line(fault), sink),
-        NoPair::No(number) => put_line(Status::No, &no_line(number), sink),
-        NoPair::NoMemory => Status::NoMemory,
-    }
-}
-
 // What an input calls for.
 fn answer<K: Sink>(alloc: Global, ask: Ask, input: &[u8], sink: &mut K) -> Status
     ensures ends { WritesEnds (Calls ask input.now) result (K.held sink.old) (K.held sink.new) }
@@ -58,7 +44,7 @@ fn answer<K: Sink>(alloc: Global, ask: Ask, input: &[u8], sink: &mut K) -> Statu
 {
     match read_pair(alloc, input) {
         Ok((script, t)) => tell(alloc, ask, &script, &t, sink),
-        Err(why) => refuse(why, sink),
+        Err(why) => put_refusal(why, sink),
     }
 }
 

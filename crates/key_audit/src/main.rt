@@ -22,29 +22,12 @@ mod text;
 use crate::ask::USAGE;
 use crate::audit::audit;
 use io_edges::{StdSink, StdSource};
-use std::env;
-use std::io::{self, BufWriter};
+use std::io::BufWriter;
 use std::process::ExitCode;
-use tool_ends::Status;
+use tool_ends::{Status, words};
 
 /// How many bytes of output are gathered to one write.
 const GATHERED: usize = 64 * 1024;
-
-/// The words behind the program's name, or how a run ends without them.
-fn words(rt: &HostRuntime) -> Result<Vec<String>, Status> {
-    let mut words = Vec::new(rt.alloc());
-    let args = match env::args(rt) {
-        Ok(args) => args,
-        Err(error) if error.kind() == io::ErrorKind::OutOfMemory => return Err(Status::NoMemory),
-        Err(_) => return Err(Status::Usage),
-    };
-    for word in args.skip(1) {
-        if words.push(word).is_err() {
-            return Err(Status::NoMemory);
-        }
-    }
-    Ok(words)
-}
 
 fn run(rt: &HostRuntime, words: &[String]) -> Status {
     let Ok(output) = BufWriter::with_capacity(rt.alloc(), GATHERED, rt.stdout()) else {

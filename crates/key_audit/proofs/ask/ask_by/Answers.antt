@@ -1,4 +1,4 @@
-use Rattle.std.proofs.Common.{sym, ap, ◌∙◌}
+use Rattle.std.proofs.Common.{◌∙◌}
 use Rattle.std.specs.Prelude.{codes}
 use Rattle.key_audit.proofs.WordTexts.{live_none, live_only, line_only, same_text}
 use Rattle.key_audit.proofs.ask.ask_by.Goals as goal

@@ -11,4 +11,4 @@ returns-in-Ok-clause-ends g c =
 pub returns-in-Err-clause-ends : goal.returns-in-Err-clause-ends
 returns-in-Err-clause-ends g c =
     wider _ (Calls c.args.ask c.args.input.now)
-    (of_none c.args.ask c.args.input.now c.in-Err.why c.in-Err.ensures.not_read) _ _ _ c.refuse.ensures.ends
+    (of_none c.args.ask c.args.input.now c.in-Err.why c.in-Err.ensures.not_read) _ _ _ c.put_refusal.ensures.ends

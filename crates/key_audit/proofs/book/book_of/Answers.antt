@@ -1,4 +1,3 @@
-use Rattle.std.proofs.Common.{map}
 use Rattle.key_audit.proofs.Books.{kept_of_bare}
 use Rattle.key_audit.proofs.book.book_of.Goals as goal
 

@@ -1,7 +1,6 @@
 use Rattle.std.proofs.Common.{ℕ, ◌≡◌, Some, List, [], ◌++◌, map, sym, ap, ◌∙◌}
 use Rattle.std.specs.List.{flat_map}
 use Rattle.key_rows.specs.declared.held.HeldKey.{HeldKey}
-use Rattle.key_rows.specs.declared.held.HeldRest.{HeldRest}
 use Rattle.key_rows.specs.declared.rows.Row.{Row}
 use Rattle.key_audit.specs.Live.{held_lines, live_rests, lists_behind, name_at, rest_line}
 use Rattle.key_audit.proofs.KeptVisits.{kept_moments}
