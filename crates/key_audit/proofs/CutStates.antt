@@ -8,8 +8,8 @@ use Rattle.key_names.specs.Book.{Lists, list_at}
 use Rattle.key_names.specs.CallerOrders.{start_of}
 use Rattle.key_names.specs.Calls.{BoundAct, Call, Setting, alone, ending, unbound, vread_call}
 use Rattle.key_names.specs.History.{call_steps, calls_steps, cut_behind_rekey, steps_at_point}
-use Rattle.key_names.specs.IsTranscript.{CallerMeans, CallsMean, EachCaller, EachLine, script_calls, state_lists}
-use Rattle.key_names.specs.Meaning.{CallMeaning, CallerState, LineMeaning}
+use Rattle.key_names.specs.IsTranscript.{CallerMeans, EachCaller, script_calls, state_lists}
+use Rattle.key_names.specs.Meaning.{CallMeaning}
 use Rattle.key_names.specs.SameSteps.{bare}
 use Rattle.key_names.specs.SeenLine.{SeenLine}
 use Rattle.key_names.specs.Texts.ScriptGrammar.{Script}
@@ -17,6 +17,7 @@ use Rattle.key_names.proofs.History.CallerOrders.{order_is_start_and_own}
 use Rattle.key_names.proofs.Transcripts.TranscriptBooks.{lt_or_le}
 use Rattle.key_names.proofs.Unique.BareLines.{bare_act, bare_all, bare_call, bare_orders}
 use Rattle.key_uses.specs.Moments.{first_calls}
+use Rattle.key_uses.proofs.Moments.{calls_front, lines_front}
 use Rattle.state_entries.specs.Callers.{lists_left}
 use Rattle.state_entries.specs.Cut.{AreCutByStamp, all_lists_to, lists_made}
 use Rattle.state_entries.specs.Stamps.{latest_of, made_by, over_at, start_stamp}
@@ -26,23 +27,6 @@ use Rattle.std.specs.Global.{Vec}
 use Rattle.key_audit.specs.Live.{calls_over}
 
 -- ---- the first calls
-
--- they mean what they did
-calls_front : (s : CallerState) (n : ℕ) (calls : List Call) (ms : List CallMeaning) → CallsMean s calls ms →
-    CallsMean s (take n calls) (take n ms)
-calls_front s zero calls ms mean = tt
-calls_front s (suc n) [] [] mean = tt
-calls_front s (suc n) [] (m ∷ ms) mean = absurd mean
-calls_front s (suc n) (call ∷ calls) [] mean = absurd mean
-calls_front s (suc n) (call ∷ calls) (m ∷ ms) mean = (mean.0, mean.1, calls_front m.after n calls ms mean.2)
-
-lines_front : (P : SeenLine → LineMeaning → Type 0) (n : ℕ) (calls : List Call) (ms : List CallMeaning) →
-    EachLine P calls ms → EachLine P (take n calls) (take n ms)
-lines_front P zero calls ms each = tt
-lines_front P (suc n) [] [] each = tt
-lines_front P (suc n) [] (m ∷ ms) each = absurd each
-lines_front P (suc n) (call ∷ calls) [] each = absurd each
-lines_front P (suc n) (call ∷ calls) (m ∷ ms) each = (each.0, lines_front P n calls ms each.1)
 
 module _ (lists : Lists) (settings : ℕ → Setting) (stamp : ℕ) (starts made : ℕ → ℕ) where
   -- what the calls left that were made is what they mean

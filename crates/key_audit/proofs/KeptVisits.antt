@@ -1,5 +1,5 @@
 -- What is kept of a book's visits, with their moments.
-use Rattle.std.proofs.Common.{◌≡◌, ℕ, zero, suc, ◌<◌, List, [], ◌∷◌, length, map, refl, sym, ap, ◌∙◌, arith}
+use Rattle.std.proofs.Common.{◌≡◌, ℕ, suc, ◌<◌, List, [], ◌∷◌, length, map, refl, sym, ap, ◌∙◌, arith}
 use Rattle.std.proofs.lemmas.List.{length-map}
 use Rattle.key_names.specs.Book.{Book, Visit, entries_of, list_at, lists_of}
 use Rattle.key_names.specs.Calls.{Call}
@@ -7,6 +7,7 @@ use Rattle.key_names.specs.IsTranscript.{MarkBy}
 use Rattle.key_names.specs.Meaning.{CallMeaning}
 use Rattle.key_names.specs.SeenLine.{SeenLine}
 use Rattle.line_orders.specs.Marks.{seen_mark}
+use Rattle.key_uses.proofs.Moments.{mapped_at}
 use Rattle.key_rows.specs.declared.moments.Moments.{Moments}
 use Rattle.key_rows.specs.Cut.{KeepsVisits, moment_lists, stamps_of, visit_stamps}
 use Rattle.key_audit.specs.declared.book.KeptBook.{KeptBook}
@@ -23,12 +24,6 @@ same_at (x ∷ xs) (y ∷ ys) long each =
     let first : x ≡ y = each 0 (omega arith) in
     let rest : xs ≡ ys = same_at xs ys (omega arith) (λ c lt. each (suc c) (omega arith)) in
     λ i. first i ∷ rest i
-
-mapped_at : {A B : Type 0} (f : List A → List B) → f [] ≡ [] → (xss : List (List A)) (n : ℕ) →
-    list_at (map f xss) n ≡ f (list_at xss n)
-mapped_at f none [] n = sym none
-mapped_at f none (xs ∷ xss) zero = refl
-mapped_at f none (xs ∷ xss) (suc n) = mapped_at f none xss n
 
 visits_stamps : {E : Type 0} (visits : List (Visit E)) → stamps_of (visit_moments visits) ≡ visit_stamps visits
 visits_stamps [] = refl

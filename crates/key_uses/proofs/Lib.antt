@@ -2,4 +2,4 @@
 mod UsesMore
 mod Beginnings
 mod HeldUnused
-mod Moments
+pub mod Moments

@@ -27,7 +27,7 @@ begins_same : {E : Type 0} (whole part whole' part' : List E) → whole ≡ whol
 begins_same whole part whole' part' p q begins = (begins.0, p ∙ begins.1 ∙ ap (λ es. es ++ begins.0) (sym q))
 
 -- an element of a list of lists that a function gives
-mapped_at : {A B : Type 0} (f : List A → List B) → f [] ≡ [] → (xss : List (List A)) (n : ℕ) →
+pub mapped_at : {A B : Type 0} (f : List A → List B) → f [] ≡ [] → (xss : List (List A)) (n : ℕ) →
     list_at (map f xss) n ≡ f (list_at xss n)
 mapped_at f none [] n = sym none
 mapped_at f none (xs ∷ xss) zero = refl
@@ -95,7 +95,7 @@ entries_begin k (suc n) (m ∷ ms) =
     (rest.0, ap (λ es. own ++ es) rest.1 ∙ sym (append_assoc own (entries_of_state k (take n ms)) rest.0))
 
 -- the first calls mean what they did
-calls_front : (s : CallerState) (n : ℕ) (calls : List Call) (ms : List CallMeaning) → CallsMean s calls ms →
+pub calls_front : (s : CallerState) (n : ℕ) (calls : List Call) (ms : List CallMeaning) → CallsMean s calls ms →
     CallsMean s (take n calls) (take n ms)
 calls_front s zero calls ms mean = tt
 calls_front s (suc n) [] [] mean = tt
@@ -103,7 +103,7 @@ calls_front s (suc n) [] (m ∷ ms) mean = absurd mean
 calls_front s (suc n) (call ∷ calls) [] mean = absurd mean
 calls_front s (suc n) (call ∷ calls) (m ∷ ms) mean = (mean.0, mean.1, calls_front m.after n calls ms mean.2)
 
-lines_front : (P : SeenLine → LineMeaning → Type 0) (n : ℕ) (calls : List Call) (ms : List CallMeaning) →
+pub lines_front : (P : SeenLine → LineMeaning → Type 0) (n : ℕ) (calls : List Call) (ms : List CallMeaning) →
     EachLine P calls ms → EachLine P (take n calls) (take n ms)
 lines_front P zero calls ms each = tt
 lines_front P (suc n) [] [] each = tt

@@ -1,22 +1,29 @@
 //! A source that remembers what it gave, up to the length of a script.
-ghost use Rattle.std.specs.Prelude.{◌≡◌, ◌<◌, ◌≤◌, ◌++◌, [], take, length, None, Some, IfOk, IfSome, OnOk, OnErr};
+ghost use Rattle.std.specs.Prelude.{◌≡◌, ◌<◌, ◌≤◌, ◌++◌, [], take, length, None, Some, true, false, IfOk, IfSome, OnOk, OnErr};
 ghost use Rattle.std.specs.Io.{ReadsAtMost};
 ghost use Rattle.std.specs.Io.KnownBytes.{Consumes, IsAtEnd, Keeps};
 ghost use Rattle.io_edges.specs.Faults.{Rose};
-ghost use Rattle.rng_tool.specs.Kept.{given_by, source_of};
+ghost use Rattle.rng_tool.specs.Kept.{given_by, is_over, source_of};
 
 use io_edges::{Failed, Source};
+use memchr::memmem;
 use std::alloc::Global;
 
 /// The most bytes that are remembered: one more than the 16 MiB of a script, so that one which is too long is told.
 const MOST_KEPT: usize = 16_777_217;
 
+/// A script's last line, behind another line.
+const END_LINE: &[u8] = b"\nend\n";
+
 /// A source that remembers the bytes which it gave, while they are no more than a script can have and there is memory
-/// for them. Where they are more it lets go of them all.
+/// for them. Where they are more it lets go of them all. Where more than a script may be given, what comes behind the
+/// piece with the first line `end` is not remembered.
 #[derive(Drop)]
 pub(crate) struct KeptSource<S: Source + Drop> {
     source: S,
     given: Option<Vec<u8>>,
+    has_more: bool,
+    is_over: bool,
 }
 
 // The bytes with more behind them, or nothing where they are too many, or there is no memory for them.
@@ -31,18 +38,49 @@ fn with_more(mut given: Vec<u8>, more: &[u8]) -> Option<Vec<u8>>
     Some(given)
 }
 
+// Whether a line `end` came with the last `count` bytes.
+fn has_end(given: &[u8], count: usize) -> bool {
+    let before = given.len().saturating_sub(count);
+    let from = before.saturating_sub(END_LINE.len() - 1);
+    memmem::find(&given[from..], END_LINE).is_some()
+}
+
 impl<S: Source + Drop> KeptSource<S> {
-    /// A source that gives what `source` gives.
-    pub(crate) fn of(alloc: Global, source: S) -> KeptSource<S>
-        ensures { given_by result ≡ Some [] }
+    /// A source that gives what `source` gives: a script, and where it `has_more`, something else behind it.
+    pub(crate) fn of(alloc: Global, source: S, has_more: bool) -> KeptSource<S>
+        ensures given { given_by result ≡ Some [] }
+        ensures begun { is_over result ≡ false }
     {
         KeptSource {
             source,
             given: Some(Vec::new(alloc)),
+            has_more,
+            is_over: false,
         }
     }
 
-    /// All the bytes that it gave, or `None` where they are too many, or there was no memory for them.
+    // Remembers more bytes, unless the script is over.
+    fn remember(&mut self, more: &[u8])
+        ensures kept { is_over self.old ≡ false → IfSome (given_by self.new) (λ all.
+            IfSome (given_by self.old) (λ before. all ≡ before ++ more.now)) }
+        ensures over { is_over self.old ≡ true → given_by self.new ≡ given_by self.old }
+        ensures gone { given_by self.old ≡ None → given_by self.new ≡ None }
+        ensures source { source_of self.new ≡ source_of self.old }
+    {
+        if self.is_over {
+            return;
+        }
+        let Some(given) = self.given.take() else {
+            return;
+        };
+        if let Some(all) = with_more(given, more) {
+            self.is_over = self.has_more && has_end(&all, more.len());
+            self.given = Some(all);
+        }
+    }
+
+    /// The bytes that it gave, as far as it remembers them, or `None` where they are too many, or there was no memory for
+    /// them.
     pub(crate) fn given(&self) -> Option<&[u8]>
         ensures none { result ≡ None → given_by self.now ≡ None }
         ensures some { IfSome result (λ bytes. given_by self.now ≡ Some bytes.now) }
@@ -60,9 +98,9 @@ impl<S: Source + Drop> Source for KeptSource<S> {
     ghost faults = { λ s. S.faults s.source };
 
     fn take(&mut self, buf: &mut [u8]) -> Result<usize, Failed>
-        ensures kept { IfOk result (λ n. IfSome (given_by self.new) (λ all.
+        ensures kept { is_over self.old ≡ false → IfOk result (λ n. IfSome (given_by self.new) (λ all.
             IfSome (given_by self.old) (λ before. all ≡ before ++ take n buf.new))) }
-        ensures few { IfOk result (λ _. IfSome (given_by self.new) (λ all. length all ≤ 16777217)) }
+        ensures over { is_over self.old ≡ true → given_by self.new ≡ given_by self.old }
         ensures gone { given_by self.old ≡ None → given_by self.new ≡ None }
         ensures same { OnErr result (given_by self.new ≡ given_by self.old) }
 
@@ -77,9 +115,7 @@ impl<S: Source + Drop> Source for KeptSource<S> {
         ensures never_falls { S.faults (source_of self.old) ≤ S.faults (source_of self.new) }
     {
         let count = self.source.take(buf)?;
-        if let Some(given) = self.given.take() {
-            self.given = with_more(given, &buf[..count]);
-        }
+        self.remember(&buf[..count]);
         Ok(count)
     }
 }

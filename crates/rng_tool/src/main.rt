@@ -69,13 +69,12 @@ fn run_gathered<R: Threads + Wait + Sync, S: Source, O: Write + Drop>(
 }
 
 fn main(rt: HostRuntime) -> ExitCode {
-    let mut source = KeptSource::of(rt.alloc(), StdSource::of(rt.stdin()));
-    let (status, has_more) = match words(&rt) {
-        Ok(words) => {
-            let status = run_gathered(&rt, rt.alloc(), &words, &mut source, rt.stdout());
-            (status, judge_of(&words).is_some())
-        }
-        Err(status) => (status, false),
+    let words = words(&rt);
+    let has_more = words.as_ref().is_ok_and(|words| judge_of(words).is_some());
+    let mut source = KeptSource::of(rt.alloc(), StdSource::of(rt.stdin()), has_more);
+    let status = match words {
+        Ok(words) => run_gathered(&rt, rt.alloc(), &words, &mut source, rt.stdout()),
+        Err(status) => status,
     };
     let input = source.given();
     tell(&rt, rt.alloc(), status, Given { input, has_more });

@@ -15,8 +15,11 @@ pub const MOST_INPUT: usize = 100_663_296;
 /// The most lines of a script's transcript: one for each of 65,536 events, and the last one of each of 64 callers.
 const MOST_LINES: u64 = 65_600;
 
-/// Line feeds are counted in so many bytes at a time.
-const PIECE_BYTES: usize = 64;
+/// Line feeds are counted in so many bytes at once.
+const ROW_BYTES: usize = 64;
+
+/// So many rows are counted in lanes of eight bits, which hold up to 255.
+const PIECE_BYTES: usize = 255 * ROW_BYTES;
 
 /// Why an input was not read as a script and a transcript.
 #[derive(Clone, Copy, Debug, PartialEq, Eq)]
@@ -30,14 +33,19 @@ pub enum NoPair {
     NoMemory,
 }
 
-// How many line feeds a piece of a text has.
+// How many line feeds a piece of a text has: each lane counts those of its place in the rows.
 fn line_feeds(piece: &[u8]) -> u64 {
-    if piece.len() == PIECE_BYTES {
-        let found = u8x64::from_slice(piece).simd_eq(u8x64::splat(b'\n'));
-        u64::from(found.to_bitmask().count_ones())
-    } else {
-        piece.iter().filter(|byte| **byte == b'\n').count() as u64
+    let (rows, rest) = piece.as_chunks::<ROW_BYTES>();
+    let mut counts = u8x64::splat(0);
+    for row in rows {
+        let found = u8x64::from_array(*row).simd_eq(u8x64::splat(b'\n'));
+        counts = counts + found.select(u8x64::splat(1), u8x64::splat(0));
     }
+    let mut ends = rest.iter().filter(|byte| **byte == b'\n').count() as u64;
+    for count in &counts.to_array() {
+        ends = ends.saturating_add(u64::from(*count));
+    }
+    ends
 }
 
 // Whether the text is that of more lines than a script's transcript can have. It is not read then: its lines would take
