@@ -49,6 +49,7 @@ impl<S: Source + Drop> KeptSource<S> {
     /// A source that gives what `source` gives: a script, and where it `has_more`, something else behind it.
     pub(crate) fn of(alloc: Global, source: S, has_more: bool) -> KeptSource<S>
         ensures given { given_by result ≡ Some [] }
+        ensures more { result.has_more ≡ has_more }
         ensures begun { is_over result ≡ false }
     {
         KeptSource {
@@ -63,7 +64,9 @@ impl<S: Source + Drop> KeptSource<S> {
     fn remember(&mut self, more: &[u8])
         ensures kept { is_over self.old ≡ false → IfSome (given_by self.new) (λ all.
             IfSome (given_by self.old) (λ before. all ≡ before ++ more.now)) }
-        ensures over { is_over self.old ≡ true → given_by self.new ≡ given_by self.old }
+        ensures over { is_over self.old ≡ true → (given_by self.new ≡ given_by self.old) × (is_over self.new ≡ true) }
+        ensures alone { self.old.has_more ≡ false → is_over self.new ≡ is_over self.old }
+        ensures more { self.new.has_more ≡ self.old.has_more }
         ensures gone { given_by self.old ≡ None → given_by self.new ≡ None }
         ensures source { source_of self.new ≡ source_of self.old }
     {
@@ -100,7 +103,9 @@ impl<S: Source + Drop> Source for KeptSource<S> {
     fn take(&mut self, buf: &mut [u8]) -> Result<usize, Failed>
         ensures kept { is_over self.old ≡ false → IfOk result (λ n. IfSome (given_by self.new) (λ all.
             IfSome (given_by self.old) (λ before. all ≡ before ++ take n buf.new))) }
-        ensures over { is_over self.old ≡ true → given_by self.new ≡ given_by self.old }
+        ensures over { is_over self.old ≡ true → (given_by self.new ≡ given_by self.old) × (is_over self.new ≡ true) }
+        ensures alone { self.old.has_more ≡ false → is_over self.new ≡ is_over self.old }
+        ensures more { self.new.has_more ≡ self.old.has_more }
         ensures gone { given_by self.old ≡ None → given_by self.new ≡ None }
         ensures same { OnErr result (given_by self.new ≡ given_by self.old) }
 
