@@ -1,9 +1,9 @@
 //! A source that remembers what it gave, up to the length of a script.
-ghost use Rattle.std.specs.Prelude.{◌≡◌, ◌<◌, ◌≤◌, ◌++◌, [], take, length, None, Some, true, false, IfOk, IfSome, OnOk, OnErr};
+ghost use Rattle.std.specs.Prelude.{◌≡◌, ◌<◌, ◌≤◌, ◌++◌, [], take, length, None, Some, true, false, IsTrue, IfOk, IfSome, OnOk, OnErr};
 ghost use Rattle.std.specs.Io.{ReadsAtMost};
 ghost use Rattle.std.specs.Io.KnownBytes.{Consumes, IsAtEnd, Keeps};
 ghost use Rattle.io_edges.specs.Faults.{Rose};
-ghost use Rattle.rng_tool.specs.Kept.{given_by, is_over, source_of};
+ghost use Rattle.rng_tool.specs.Kept.{HasEndLine, given_by, is_over, source_of};
 
 use io_edges::{Failed, Source};
 use memchr::memmem;
@@ -39,10 +39,13 @@ fn with_more(mut given: Vec<u8>, more: &[u8]) -> Option<Vec<u8>>
 }
 
 // Whether a line `end` came with the last `count` bytes.
-fn has_end(given: &[u8], count: usize) -> bool {
+fn has_end(given: &[u8], count: usize) -> bool
+    ensures { IsTrue result → HasEndLine given.now }
+{
     let before = given.len().saturating_sub(count);
     let from = before.saturating_sub(END_LINE.len() - 1);
-    memmem::find(&given[from..], END_LINE).is_some()
+    let (_, last) = given.split_at(from);
+    memmem::find(last, END_LINE).is_some()
 }
 
 impl<S: Source + Drop> KeptSource<S> {
@@ -64,7 +67,9 @@ impl<S: Source + Drop> KeptSource<S> {
     fn remember(&mut self, more: &[u8])
         ensures kept { is_over self.old ≡ false → IfSome (given_by self.new) (λ all.
             IfSome (given_by self.old) (λ before. all ≡ before ++ more.now)) }
+        ensures few { is_over self.old ≡ false → IfSome (given_by self.new) (λ all. length all ≤ 16777217) }
         ensures over { is_over self.old ≡ true → (given_by self.new ≡ given_by self.old) × (is_over self.new ≡ true) }
+        ensures ends { is_over self.old ≡ false → is_over self.new ≡ true → IfSome (given_by self.new) HasEndLine }
         ensures alone { self.old.has_more ≡ false → is_over self.new ≡ is_over self.old }
         ensures more { self.new.has_more ≡ self.old.has_more }
         ensures gone { given_by self.old ≡ None → given_by self.new ≡ None }
@@ -103,7 +108,10 @@ impl<S: Source + Drop> Source for KeptSource<S> {
     fn take(&mut self, buf: &mut [u8]) -> Result<usize, Failed>
         ensures kept { is_over self.old ≡ false → IfOk result (λ n. IfSome (given_by self.new) (λ all.
             IfSome (given_by self.old) (λ before. all ≡ before ++ take n buf.new))) }
+        ensures few { is_over self.old ≡ false → IfOk result (λ _.
+            IfSome (given_by self.new) (λ all. length all ≤ 16777217)) }
         ensures over { is_over self.old ≡ true → (given_by self.new ≡ given_by self.old) × (is_over self.new ≡ true) }
+        ensures ends { is_over self.old ≡ false → is_over self.new ≡ true → IfSome (given_by self.new) HasEndLine }
         ensures alone { self.old.has_more ≡ false → is_over self.new ≡ is_over self.old }
         ensures more { self.new.has_more ≡ self.old.has_more }
         ensures gone { given_by self.old ≡ None → given_by self.new ≡ None }
