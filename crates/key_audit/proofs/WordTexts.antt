@@ -1,5 +1,5 @@
 -- What the words of a command line spell.
-use Rattle.std.proofs.Common.{◌≡◌, ℕ, ◌<◌, ◌≤◌, true, List, [], ◌∷◌, ◌++◌, Option, Some, None, length, get_or, append_assoc, sym, ap, ◌∙◌, arith}
+use Rattle.std.proofs.Common.{◌≡◌, ℕ, ◌<◌, ◌≤◌, true, List, [], ◌∷◌, ◌++◌, Option, Some, None, length, get_or, append_assoc, sym, subst, ap, ◌∙◌, arith}
 use Rattle.std.specs.Prelude.{Bool, String, codes, decimal, map, slice_index_or, string_bytes}
 use Rattle.std.specs.Str.{bytes_eq}
 use Rattle.std.proofs.lemmas.Slice.Eq.{bytes_eq-Decides}
@@ -7,7 +7,8 @@ use Rattle.key_names.specs.Texts.ScriptFaults.{number_below}
 use Rattle.key_names.proofs.Script.Numbers.{number_again, number_takes}
 use Rattle.key_rows.specs.declared.moments.Line.{Line}
 use Rattle.transcript_text.specs.Reading.{lacks}
-use Rattle.transcript_text.proofs.LineTexts.{spells_numbers, uncut_numbers}
+use Rattle.transcript_text.proofs.Cutting.{not_lacking}
+use Rattle.transcript_text.proofs.LineTexts.{spells_numbers}
 use Rattle.key_audit.specs.declared.ask.Ask.{Ask}
 use Rattle.key_audit.specs.declared.ask.Ask.TheVariants.{Keys, Live, Line as OneLine}
 use Rattle.key_audit.specs.Commands.{AskTexts, LineFits}
@@ -15,8 +16,9 @@ use Rattle.key_audit.specs.Texts.{line_text}
 
 pub not_cut : (text : List ℕ) → lacks 46 text ≡ true → (line : Line) → LineFits line → text ≡ line_text line → ⊥
 not_cut text lack line fits e =
-    uncut_numbers text lack (record { caller = line.caller; event = line.event })
-    (record { caller = fits.0; event = fits.1 }) e
+    not_lacking 46 (decimal line.caller) (decimal line.event)
+    (subst (λ (x : List ℕ). lacks 46 x ≡ true)
+    (e ∙ append_assoc (decimal line.caller) (codes ".") (decimal line.event)) lack)
 
 pub halves_are : (text caller event : List ℕ) → text ≡ caller ++ 46 ∷ event → lacks 46 caller ≡ true → (line : Line) →
     LineFits line → text ≡ line_text line → (caller ≡ decimal line.caller) × (event ≡ decimal line.event)
