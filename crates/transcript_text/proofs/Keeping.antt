@@ -1,7 +1,7 @@
 -- What is kept behind the bytes and the steps of some lines leaves these lines, and a line names what was kept for it.
-use Rattle.std.proofs.Common.{◌≡◌, ℕ, zero, suc, ◌+◌, ◌<◌, ◌≤◌, List, [], ◌∷◌, ◌++◌, length, take, drop, set, map, get_or, refl, ap, sym, subst, ◌∙◌, All, arith}
+use Rattle.std.proofs.Common.{◌≡◌, ℕ, zero, suc, ◌+◌, ◌<◌, ◌≤◌, List, [], ◌∷◌, ◌++◌, length, take, drop, set, map, get_or, refl, ap, sym, subst, ◌∙◌, append-nil, All, arith}
 use Rattle.std.specs.List.{AllByRecursion}
-use Rattle.std.proofs.lemmas.List.{length-append, length-drop, take-append-le, drop-append-le, take_all, drop_at, map_push, map-set}
+use Rattle.std.proofs.lemmas.List.{length-append, length-drop, take-append-drop, take-append-le, drop-append-le, take_all, drop_at, map_push, map-set}
 use Rattle.std.proofs.lemmas.List.Elements.{All-from_recursion}
 use Rattle.key_names.proofs.Lists.Each.{each_more, each_set}
 use Rattle.key_names.specs.declared.lines.Data.{Data}
@@ -14,6 +14,8 @@ use Rattle.transcript_text.specs.declared.view.LineView.{LineView}
 use Rattle.transcript_text.specs.declared.view.Shown.{Shown}
 use Rattle.transcript_text.specs.declared.view.Shown.TheVariants.{None as ShowsNone, Bytes as ShowsBytes, Count as ShowsCount}
 use Rattle.transcript_text.specs.Gathered.{IsWithin, LineWithin, IsKept, bytes_from, data_from, kept_line}
+use Rattle.transcript_text.specs.declared.line.ReadLine.{ReadLine}
+use Rattle.transcript_text.specs.ReadLines.{seen_read}
 use Rattle.transcript_text.specs.Views.{bytes_of, seen, seen_shown}
 
 -- items that stand within a list stay where more is put behind it
@@ -40,12 +42,12 @@ within_more kept more NoData within = tt
 within_more kept more (Count n) within = tt
 within_more kept more (Bytes start len) within = (within.0, omega (arith, length-append kept more))
 
-shown_in-bytes_from : (kept shown : List ℕ)
+pub shown_in-bytes_from : (kept shown : List ℕ)
     → shown_in (kept ++ shown) (bytes_from (length kept) shown) ≡ bytes_or_none shown
 shown_in-bytes_from kept [] = refl
 shown_in-bytes_from kept (b ∷ bs) = ap bytes (part_at kept (b ∷ bs))
 
-bytes_from_within : (kept shown : List ℕ) → IsWithin (length (kept ++ shown)) (bytes_from (length kept) shown)
+pub bytes_from_within : (kept shown : List ℕ) → IsWithin (length (kept ++ shown)) (bytes_from (length kept) shown)
 bytes_from_within kept [] = tt
 bytes_from_within kept (b ∷ bs) = (omega arith, omega (arith, length-append kept (b ∷ bs)))
 
@@ -89,6 +91,21 @@ module _ (bs more : List ℕ) (steps others : List Step) where
     fits = rw (seen_lines-more lines old.within) old.fits;
   }
 
+-- one more line that is seen so
+seen_one : (bs : List ℕ) (steps : List Step) (lines : List Line) (line : Line) (now : SeenLine) (before : List SeenLine)
+    → seen_line bs steps line ≡ now → seen_lines bs steps lines ≡ before
+    → seen_lines bs steps (lines ++ line ∷ []) ≡ before ++ now ∷ []
+seen_one bs steps lines line now before is e = map_push (seen_line bs steps) lines line ∙ rw (e, is) refl
+
+kept_one : (bs : List ℕ) (steps : List Step) (lines : List Line) (line : Line) (now : SeenLine)
+    → seen_line bs steps line ≡ now → LineWithin (length bs) (length steps) line → LineFits now
+    → IsKept bs steps lines → IsKept bs steps (lines ++ line ∷ [])
+kept_one bs steps lines line now is within fits old = record {
+  within = each_more (LineWithin (length bs) (length steps)) lines line old.within within;
+  fits = rw (seen_one bs steps lines line now _ is refl)
+      (each_more LineFits (seen_lines bs steps lines) now old.fits fits);
+}
+
 -- a line of a caller for which its bytes and steps were kept last
 module _ (bs after_bs : List ℕ) (steps after_steps : List Step) (line : LineView) (named : Line)
     (bytes_are : after_bs ≡ bs ++ bytes_of line.shown) (steps_are : after_steps ≡ steps ++ line.steps.now)
@@ -104,15 +121,11 @@ module _ (bs after_bs : List ℕ) (steps after_steps : List Step) (line : LineVi
 
   pub seen_pushed : (lines : List Line) (before : List SeenLine) → seen_lines after_bs after_steps lines ≡ before
       → seen_lines after_bs after_steps (lines ++ named ∷ []) ≡ before ++ seen line ∷ []
-  seen_pushed lines before e = map_push (seen_line after_bs after_steps) lines named ∙ rw (e, seen_named) refl
+  seen_pushed lines before e = seen_one after_bs after_steps lines named (seen line) before seen_named e
 
   pub kept_pushed : (lines : List Line) → LineFits (seen line) → IsKept after_bs after_steps lines
       → IsKept after_bs after_steps (lines ++ named ∷ [])
-  kept_pushed lines fits old = record {
-    within = each_more (LineWithin (length after_bs) (length after_steps)) lines named old.within named_within;
-    fits = rw (seen_pushed lines _ refl) (each_more LineFits (seen_lines after_bs after_steps lines) (seen line)
-        old.fits fits);
-  }
+  kept_pushed lines fits old = kept_one after_bs after_steps lines named (seen line) seen_named named_within fits old
 
   pub seen_replaced : (number : ℕ) (lines : List Line) (before : List SeenLine)
       → seen_lines after_bs after_steps lines ≡ before
@@ -127,6 +140,54 @@ module _ (bs after_bs : List ℕ) (steps after_steps : List Step) (line : LineVi
     fits = rw (seen_replaced number lines _ refl) (each_set LineFits (seen_lines after_bs after_steps lines) number
         (seen line) old.fits fits);
   }
+
+-- what begins with the bytes from before is these and what stands behind them
+grown : (bs after : List ℕ) → take (length bs) after ≡ bs → bs ++ drop (length bs) after ≡ after
+grown bs after e = ap (λ x. x ++ drop (length bs) after) (sym e) ∙ take-append-drop (length bs) after
+
+-- a line that was read: its steps were kept last, and its data are named among bytes that begin with those from before
+module _ (bs after : List ℕ) (steps : List Step) (begins : take (length bs) after ≡ bs) where
+  pub seen_grown : (others : List Step) (lines : List Line) → IsKept bs steps lines
+      → seen_lines after (steps ++ others) lines ≡ seen_lines bs steps lines
+  seen_grown others lines old =
+      subst (λ (x : List ℕ). seen_lines x (steps ++ others) lines ≡ seen_lines bs steps lines) (grown bs after begins)
+      (seen_lines-more bs (drop (length bs) after) steps others lines old.within)
+
+  kept_grown : (others : List Step) (lines : List Line) → IsKept bs steps lines → IsKept after (steps ++ others) lines
+  kept_grown others lines old = subst (λ (x : List ℕ). IsKept x (steps ++ others) lines) (grown bs after begins)
+      (kept_more bs (drop (length bs) after) steps others lines old)
+
+  pub kept_bytes : (lines : List Line) → IsKept bs steps lines → IsKept after steps lines
+  kept_bytes lines old = subst (λ (x : List Step). IsKept after x lines) (append-nil steps) (kept_grown [] lines old)
+
+  module _ (read : ReadLine) (shown : Data) where
+    abbrev read_kept : Line
+    read_kept = record {
+      caller = read.caller;
+      event = read.event;
+      word = read.word;
+      answer = read.answer;
+      steps = record { start = length steps; len = length read.steps.now };
+      shown = shown;
+    }
+
+    read_seen : seen_line after (steps ++ read.steps.now) read_kept ≡ seen_read read (shown_in after shown)
+    read_seen = rw (part_at steps read.steps.now) refl
+
+    pub seen_read_pushed : (lines : List Line) (old : List SeenLine) → IsKept bs steps lines
+        → seen_lines bs steps lines ≡ old
+        → seen_lines after (steps ++ read.steps.now) (lines ++ read_kept ∷ [])
+        ≡ old ++ seen_read read (shown_in after shown) ∷ []
+    seen_read_pushed lines old kept e = seen_one after (steps ++ read.steps.now) lines read_kept _ old read_seen
+        (seen_grown read.steps.now lines kept ∙ e)
+
+    pub kept_read_pushed : (lines : List Line) → IsWithin (length after) shown
+        → LineFits (seen_read read (shown_in after shown)) → IsKept bs steps lines
+        → IsKept after (steps ++ read.steps.now) (lines ++ read_kept ∷ [])
+    kept_read_pushed lines within fits old =
+        kept_one after (steps ++ read.steps.now) lines read_kept _ read_seen
+        (record { shown = within; steps' = omega (arith, length-append steps read.steps.now) }) fits
+        (kept_grown read.steps.now lines old)
 
 fits_at : (see : Line → SeenLine) (lines : List Line) (i : ℕ) (d : Line) → AllByRecursion LineFits (map see lines)
     → i < length lines → LineFits (see (get_or lines i d))

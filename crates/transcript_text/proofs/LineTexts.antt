@@ -13,14 +13,11 @@ use Rattle.key_names.specs.declared.events.Word.{Word}
 use Rattle.key_names.specs.declared.names.Step.{Step}
 use Rattle.key_names.specs.SeenLine.{Shown, no_data, bytes, count, SeenLine}
 use Rattle.key_names.specs.Texts.Spelling.{AllLower, is_lower_digit, word_text, spaced, hex}
-use Rattle.transcript_text.specs.Shows.{seen_shows, IsShort}
-use Rattle.transcript_text.specs.declared.data.Shows.{Shows}
-use Rattle.transcript_text.specs.declared.data.Shows.TheVariants.{Bytes, Count}
-use Rattle.transcript_text.proofs.ShownTexts.{shown_text-bytes}
 use Rattle.key_names.specs.Texts.TranscriptGrammar.{answer_text, steps_text, step_text, shown_text, line_text, StepFits, ShownFits, LineFits}
 use Rattle.transcript_text.specs.declared.line.Numbers.{Numbers}
 use Rattle.transcript_text.specs.Reading.{lacks, StepsFit}
-use Rattle.transcript_text.specs.ReadLines.{numbers_text, NumbersFit, IsSplit}
+use Rattle.transcript_text.specs.declared.line.ReadLine.{ReadLine}
+use Rattle.transcript_text.specs.ReadLines.{numbers_text, NumbersFit, FitsShowing, IsSplit, IsRead, seen_read}
 use Rattle.transcript_text.proofs.Cutting.{lacks-append, lacks-decimal, not_lacking, same_cut}
 use Rattle.transcript_text.proofs.NameTexts.{same_word, same_answer, word_lacks_space, word_lacks_feed, answer_lacks_space, answer_lacks_feed}
 use Rattle.transcript_text.proofs.StepLists.{next_text, steps_text-cons}
@@ -154,24 +151,6 @@ pub spells_line : (text a b c d e : List ℕ) → IsSplit text a b c d e → (li
     (steps_text line.steps) (shown_text line.shown)
 spells_line text a b c d e s line fits is = same_fields text a b c d e _ _ _ _ _ s (line_splits text line fits is)
 
--- the line of these fields
-pub made_line : (text a b c d e : List ℕ) → IsSplit text a b c d e → (line : SeenLine)
-    → a ≡ numbers_text (numbers_in line) → NumbersFit (numbers_in line)
-    → b ≡ word_text line.word → c ≡ answer_text line.answer → d ≡ steps_text line.steps → StepsFit line.steps
-    → e ≡ shown_text line.shown
-    → ShownFits line.word line.shown → LineFits line × (text ≡ line_text line)
-unfolding line_text
-made_line text a b c d e s line numbers numbers_are word answer steps steps_are shown shown_is = (
-  record {
-    caller = numbers_are.caller;
-    event = numbers_are.event;
-    few_steps = steps_are.few;
-    steps = steps_are.each;
-    shown = shown_is;
-  },
-  s.whole ∙ rw (numbers, word, answer, steps, shown) refl,
-)
-
 -- ---- no other line
 
 same_steps_with_commas : (a b : List Step) → AllByRecursion StepFits a → AllByRecursion StepFits b
@@ -252,6 +231,58 @@ same_line a b f g e =
     (same_steps a.steps b.steps f.steps g.steps fields.fourth)
     ∙ ap (λ (x : Shown). line_made b.caller b.event b.word b.answer b.steps x) shown
 
+-- ---- a line that was read
+
+last_short : (text a b c d e : List ℕ) → IsSplit text a b c d e → length e ≤ length text
+last_short text a b c d e s =
+    omega (
+      arith,
+      ap length s.whole,
+      length-append a (32 ∷ spaced (b ∷ c ∷ d ∷ e ∷ [])),
+      length-append b (32 ∷ spaced (c ∷ d ∷ e ∷ [])),
+      length-append c (32 ∷ spaced (d ∷ e ∷ [])),
+      length-append d (32 ∷ e),
+    )
+
+-- the line of these fields
+pub is_read : (text a b c d : List ℕ) (read : ReadLine) → IsSplit text a b c d read.shown.now
+    → a ≡ numbers_text (record { caller = read.caller; event = read.event })
+    → NumbersFit (record { caller = read.caller; event = read.event })
+    → b ≡ word_text read.word → c ≡ answer_text read.answer → d ≡ steps_text read.steps.now → StepsFit read.steps.now
+    → IsRead text read
+unfolding line_text
+is_read text a b c d read s numbers numbers_are word answer steps steps_are =
+    let fits : FitsShowing read = λ shown shown_fits e. record {
+      caller = numbers_are.caller;
+      event = numbers_are.event;
+      few_steps = steps_are.few;
+      steps = steps_are.each;
+      shown = shown_fits;
+    } in
+    let spelt : (shown : Shown) → read.shown.now ≡ shown_text shown → text ≡ line_text (seen_read read shown) =
+    λ shown e. s.whole ∙ rw (numbers, word, answer, steps, e) refl in
+    record {
+      fits = fits;
+      spelt = spelt;
+      only = λ line line_fits is.
+          let fields = spells_line text a b c d read.shown.now s line line_fits is in
+          let same : line.word ≡ read.word = same_word line.word read.word (sym fields.second ∙ word) in
+          let shown_fits = subst (λ (w : Word). ShownFits w line.shown) same line_fits.shown in (
+            same_line line (seen_read read line.shown) line_fits (fits line.shown shown_fits fields.fifth)
+                (sym is ∙ spelt line.shown fields.fifth),
+            fields.fifth,
+          );
+      short = last_short text a b c d read.shown.now s;
+    }
+
+-- what the line of a text shows is spelt by the last field
+pub shows_data : (text : List ℕ) (read : ReadLine) → IsRead text read → (line : SeenLine) → LineFits line
+    → text ≡ line_text line → ShownFits read.word line.shown × (read.shown.now ≡ shown_text line.shown)
+shows_data text read is line fits e =
+    let only = is.only line fits e in
+    let same : line.word ≡ read.word = ap (λ (l : SeenLine). l.word) only.0 in
+    (subst (λ (w : Word). ShownFits w line.shown) same fits.shown, only.1)
+
 -- ---- lines in a text
 
 pub no_end : (line : SeenLine) → line_text line ≡ codes "end" → ⊥
@@ -282,34 +313,3 @@ line_lacks_feed line fits =
     (lacks-append 10 (32 ∷ answer_text line.answer) _ (answer_lacks_feed line.answer)
     (lacks-append 10 (32 ∷ steps_text line.steps) _ (steps_lack 10 feed_outside refl refl line.steps fits.steps)
     (shown_lacks_feed line.word line.shown fits.shown))))
-
--- ---- lengths
-
-line_long : (line : SeenLine) → length (shown_text line.shown) ≤ length (line_text line)
-unfolding line_text
-line_long line =
-    let a = spaced (word_text line.word ∷ answer_text line.answer ∷ steps_text line.steps ∷ shown_text line.shown
-    ∷ []) in
-    let b = spaced (answer_text line.answer ∷ steps_text line.steps ∷ shown_text line.shown ∷ []) in
-    let c = spaced (steps_text line.steps ∷ shown_text line.shown ∷ []) in
-    omega (
-      arith,
-      length-append (numbers_text (numbers_in line)) (32 ∷ a),
-      length-append (word_text line.word)
-          (32 ∷ b),
-      length-append (answer_text line.answer) (32 ∷ c),
-      length-append (steps_text line.steps)
-          (32 ∷ shown_text line.shown),
-    )
-
-hex_long : (shown : List ℕ) → length shown ≤ length (hex shown)
-hex_long [] = omega arith
-hex_long (b ∷ shown) = omega (arith, length-encode_with lower_digits (b ∷ shown))
-
-pub short_shows : (shows : Shows) (line : SeenLine) → line.shown ≡ seen_shows shows → length (line_text line) < 2 ^ 32
-    → IsShort shows
-short_shows (Count n) line e short = omega arith
-short_shows (Bytes shown) line e short =
-    let same : length (shown_text line.shown) ≡ length (hex shown.items) =
-    ap length (ap shown_text e ∙ shown_text-bytes shown.items) in
-    omega (arith, line_long line, hex_long shown.items)

@@ -1,6 +1,6 @@
 -- Reading the lines of a text one after the other.
-use Rattle.std.proofs.Common.{◌≡◌, ℕ, ◌+◌, ◌<◌, true, List, [], ◌∷◌, ◌++◌, length, refl, sym, ap, subst, ◌∙◌, append_assoc, append-nil, arith}
-use Rattle.std.specs.Prelude.{codes, Result, Ok, Err}
+use Rattle.std.proofs.Common.{◌≡◌, ℕ, ◌+◌, ◌<◌, ◌≤◌, Bool, true, false, List, [], ◌∷◌, ◌++◌, length, refl, sym, ap, subst, ◌∙◌, append_assoc, append-nil, arith}
+use Rattle.std.specs.Prelude.{codes, Result, Ok, Err, IfOk, MatchBool}
 use Rattle.std.specs.List.{AllByRecursion}
 use Rattle.std.proofs.lemmas.List.{length_push, map_push, flat_map_more}
 use Rattle.key_names.specs.SeenLine.{SeenLine}
@@ -8,12 +8,16 @@ use Rattle.key_names.specs.Texts.Spelling.{lined}
 use Rattle.key_names.specs.Texts.TranscriptGrammar.{line_text, all_lines, transcript_lines, transcript_text, LineFits, IsTranscriptText, IsFirstFault}
 use Rattle.transcript_text.specs.Grouping.{Groups, Gives}
 use Rattle.transcript_text.specs.Reading.{lacks}
+use Rattle.transcript_text.specs.ReadLines.{IsRead, PushesRead, seen_read}
+use Rattle.transcript_text.specs.Shows.{SpellsNoData}
+use Rattle.transcript_text.specs.declared.line.ReadLine.{ReadLine}
 use Rattle.transcript_text.specs.ReadTexts.{AddsLine, Answers, IsNoLine, IsReadAs}
 use Rattle.transcript_text.specs.declared.error.TextError.{TextError}
 use Rattle.transcript_text.specs.declared.error.TextError.TheVariants.{Fault, NoMemory}
 use Rattle.transcript_text.proofs.Cutting.{same_cut, not_lacking}
 use Rattle.transcript_text.proofs.FirstFaults.{head_line, line_end, front_of, NoNext, fault_here, fault_behind, no_head, gives_nothing, one_transcript}
-use Rattle.transcript_text.proofs.GroupedLines.{LastHasLines-push, finished, no_groups}
+use Rattle.transcript_text.proofs.GroupedLines.{LastHasLines-push, finished, groups_push, no_groups}
+use Rattle.transcript_text.proofs.LineTexts.{shows_data}
 use Rattle.transcript_text.proofs.RisingLines.{Rising, last_caller, Rising-push, last_caller-push}
 
 -- the lines that were read, and the text behind them
@@ -105,6 +109,36 @@ pub gives_so_far : (text rest : List ℕ) (done : List (List SeenLine)) (current
     (r : ReadSoFar text done current rest number)
     → (callers : List (List SeenLine)) × Gives callers r.lines
 gives_so_far text rest done current number r = gives_current done current r.lines r.groups r.rising r.last r.begun
+
+-- ---- one more line
+
+module _ (text : List ℕ) (read : ReadLine) (is : IsRead text read) where
+  line_added : (old new : List (List SeenLine)) (current gone next : List SeenLine) → length old ≤ read.caller
+      → read.caller < 64 → length new ≡ read.caller
+      → ((lines : List SeenLine) → Groups old current lines → Groups new gone lines) → PushesRead read gone next
+      → AddsLine text old new current next
+  line_added old new current gone next later below len groups p = record {
+    line = seen_read read p.shown;
+    fits = is.fits p.shown p.fits p.spelt;
+    spelt = is.spelt p.shown p.spelt;
+    later = later;
+    below = below;
+    len = len;
+    some = omega (arith, ap length p.pushed, length_push gone (seen_read read p.shown));
+    groups = λ lines g.
+        groups_push new gone lines next (seen_read read p.shown) p.pushed (sym len) (groups lines g);
+  }
+
+  pub line_taken : {E : Type 0} (old new : List (List SeenLine)) (current gone next : List SeenLine) (least : ℕ)
+      (answer : Result Bool E) → length old ≤ read.caller → read.caller < 64 → length new ≡ read.caller
+      → ((lines : List SeenLine) → Groups old current lines → Groups new gone lines)
+      → IfOk answer (λ b. MatchBool b (PushesRead read gone next) (SpellsNoData read.word read.shown.now))
+      → IfOk answer (λ b. MatchBool b (AddsLine text old new current next) (IsNoLine text least))
+  line_taken old new current gone next least (Ok true) later below len groups p =
+      line_added old new current gone next later below len groups p
+  line_taken old new current gone next least (Ok false) later below len groups none = λ line fits low high e.
+      let shows = shows_data text read is line fits e in none line.shown shows.0 shows.1
+  line_taken old new current gone next least (Err e) later below len groups p = tt
 
 -- ---- faults
 

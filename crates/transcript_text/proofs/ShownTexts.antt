@@ -1,14 +1,20 @@
 -- Data are read from their spelling, and it is that of no other data.
-use Rattle.std.proofs.Common.{◌≡◌, ℕ, ◌<◌, ◌^◌, List, [], ◌∷◌, Some, None, refl, sym, ap, ◌∙◌, arith}
-use Rattle.std.specs.Prelude.{codes, decimal}
+use Rattle.std.proofs.Common.{◌≡◌, ℕ, ◌<◌, ◌^◌, Bool, true, false, List, [], ◌∷◌, length, Option, Some, None, Result, Ok, Err, refl, sym, ap, subst, ◌∙◌, arith}
+use Rattle.std.specs.Prelude.{codes, decimal, IfOk, IfSome, MatchBool}
+use Rattle.std.specs.Option.{is_some, option_map}
 use Rattle.hex.specs.Hex.{IsBytes}
 use Rattle.key_names.specs.declared.events.Word.{Word}
 use Rattle.key_names.specs.declared.events.Word.TheVariants.{Bits}
-use Rattle.key_names.specs.SeenLine.{Shown, no_data, bytes, count, bytes_or_none}
+use Rattle.key_names.specs.declared.lines.Data.{Data}
+use Rattle.key_names.specs.SeenLine.{Shown, no_data, bytes, count, bytes_or_none, shown_in}
 use Rattle.key_names.specs.Texts.ScriptFaults.{bytes_of}
 use Rattle.key_names.specs.Texts.Spelling.{hex}
 use Rattle.key_names.specs.Texts.TranscriptGrammar.{shown_text, ShownFits}
 use Rattle.key_names.proofs.Script.HexFields.{bytes_takes, bytes_again}
+use Rattle.transcript_text.specs.Gathered.{IsWithin}
+use Rattle.transcript_text.specs.Reading.{Reads}
+use Rattle.transcript_text.specs.Shows.{AppendsSpelt, NamesSpelt, KeepsSpelt, SpellsData, SpellsNoData}
+use Rattle.transcript_text.proofs.Keeping.{shown_in-bytes_from, bytes_from_within}
 
 pub shown_text-bytes : (shown : List ℕ) → shown_text (bytes_or_none shown) ≡ hex shown
 unfolding shown_text
@@ -55,3 +61,54 @@ unfolding shown_text
 reads_no_count word text is dash none no_data fits e = dash e
 reads_no_count word text is dash none (bytes shown) fits e = fits.0 is
 reads_no_count word text is dash none (count n) fits e = none n fits.1 e
+
+-- ---- data that are kept
+
+kept_shows : (text old new : List ℕ) (named : Data) (n : NamesSpelt text old new named)
+    → shown_in new named ≡ bytes_or_none n.appends.bytes
+kept_shows text old new named n = rw (n.named_is, n.appends.whole) (shown_in-bytes_from old n.appends.bytes)
+
+pub reads_kept : {E : Type 0} (word : Word) (text old new : List ℕ) (answer : Result (Option Data) E)
+    → (word ≡ Bits → ⊥) → IfOk answer (KeepsSpelt text old new)
+    → IfOk answer (λ named. Reads shown_text (ShownFits word) text (option_map (shown_in new) named))
+reads_kept word text old new (Ok None) not none = reads_no_bytes word text not (sym none)
+reads_kept word text old new (Ok (Some named)) not n =
+    subst (λ (shown : Shown). ShownFits word shown × (text ≡ shown_text shown)) (sym (kept_shows text old new named n))
+    (reads_bytes word text n.appends.bytes not (sym n.appends.spelt))
+reads_kept word text old new (Err e) not k = tt
+
+pub within_kept : {E : Type 0} (text old new : List ℕ) (answer : Result (Option Data) E)
+    → IfOk answer (KeepsSpelt text old new) → IfOk answer (λ named. IfSome named (IsWithin (length new)))
+within_kept text old new (Ok None) none = tt
+within_kept text old new (Ok (Some named)) n =
+    rw (n.named_is, n.appends.whole) (bytes_from_within old n.appends.bytes)
+within_kept text old new (Err e) k = tt
+
+-- ---- whether a text spells data
+
+spells_as : (word : Word) (text : List ℕ) (found : Option (List ℕ)) → (word ≡ Bits → ⊥) → found ≡ bytes_of text
+    → MatchBool (is_some found) (SpellsData word text) (SpellsNoData word text)
+spells_as word text None not is = reads_no_bytes word text not is
+spells_as word text (Some shown) not is =
+    let reads = reads_bytes word text shown not is in
+    record { shown = bytes_or_none shown; fits = reads.0; spelt = reads.1 }
+
+pub spells_found : {E : Type 0} (word : Word) (text : List ℕ) (answer : Result Bool E) → (word ≡ Bits → ⊥)
+    → IfOk answer (λ spells. spells ≡ is_some (bytes_of text))
+    → IfOk answer (λ spells. MatchBool spells (SpellsData word text) (SpellsNoData word text))
+spells_found word text (Ok spells) not is =
+    subst (λ (b : Bool). MatchBool b (SpellsData word text) (SpellsNoData word text)) (sym is)
+    (spells_as word text (bytes_of text) not refl)
+spells_found word text (Err e) not k = tt
+
+pub spells_dash : (word : Word) (text : List ℕ) → text ≡ codes "-" → SpellsData word text
+spells_dash word text is =
+    let reads = reads_dash word text [] refl is in record { shown = no_data; fits = reads.0; spelt = reads.1 }
+
+pub spells_count : (word : Word) (text : List ℕ) (found : Option ℕ) → word ≡ Bits → (text ≡ codes "-" → ⊥)
+    → Reads decimal (λ n. n < 2 ^ 32) text found
+    → MatchBool (is_some found) (SpellsData word text) (SpellsNoData word text)
+spells_count word text None is dash none = reads_no_count word text is dash none
+spells_count word text (Some n) is dash reads =
+    let all = reads_count word text n is reads.0 reads.1 in
+    record { shown = count n; fits = all.0; spelt = all.1 }

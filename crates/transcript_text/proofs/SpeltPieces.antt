@@ -1,11 +1,16 @@
 -- Digits of bytes, read piece by piece.
-use Rattle.std.proofs.Common.{◌≡◌, ℕ, zero, suc, ◌+◌, ◌-◌, ◌*◌, ◌/◌, ◌%◌, ◌<◌, Option, Some, None, List, [], ◌∷◌, ◌++◌, length, take, drop, refl, ap, sym, subst, ◌∙◌, append_assoc, append-nil, length-append, arith}
+use Rattle.std.proofs.Common.{◌≡◌, ℕ, true, false, zero, suc, ◌+◌, ◌-◌, ◌*◌, ◌/◌, ◌%◌, ◌<◌, ◌≤◌, Option, Some, None, List, [], ◌∷◌, ◌++◌, length, take, drop, refl, ap, sym, subst, ◌∙◌, append_assoc, append-nil, length-append, arith}
+use Rattle.std.specs.Option.{is_some, option_map}
 use Rattle.std.proofs.lemmas.List.{take-append-drop}
 use Rattle.hex.specs.Hex.{IsBytes, encode_with, encode_lower, lower_digits}
+use Rattle.hex.proofs.HexLemmas.{length-encode_with}
+use Rattle.key_names.specs.declared.lines.Data.TheVariants.{None as NoData, Bytes}
 use Rattle.key_names.specs.Texts.ScriptFaults.{bytes_of}
 use Rattle.key_names.specs.Texts.Spelling.{hex}
 use Rattle.key_names.proofs.Script.HexBytes.{encode_with-append, no_bytes}
 use Rattle.key_names.proofs.Script.HexFields.{bytes_takes, bytes_again}
+use Rattle.transcript_text.specs.Gathered.{bytes_from}
+use Rattle.transcript_text.specs.Shows.{AppendsSpelt, NamesSpelt}
 
 -- the text is the digits of these bytes, and then the rest; and if it is the digits of some bytes, so is the rest
 pub record SpeltSoFar (text bytes rest : List ℕ) : Type 0 where
@@ -131,3 +136,79 @@ pub spelt_whole : (text bytes rest : List ℕ) → SpeltSoFar text bytes rest �
     → Some bytes ≡ bytes_of text
 spelt_whole text bytes rest s done some =
     sym (again text bytes some (s.whole ∙ ap (λ r. encode_lower bytes ++ r) done ∙ append-nil (encode_lower bytes)) s.small)
+
+-- the same, where the bytes were appended
+pub record AppendedSoFar (text old new rest : List ℕ) : Type 0 where
+  pub bytes : List ℕ
+  pub whole : new ≡ old ++ bytes
+  pub so_far : SpeltSoFar text bytes rest
+
+-- the same, where they were not kept
+pub record PassedSoFar (text rest : List ℕ) : Type 0 where
+  pub bytes : List ℕ
+  pub so_far : SpeltSoFar text bytes rest
+
+-- ---- whether some bytes are spelt
+
+pub found_as : {A : Type 0} (items : A → List ℕ) (found : Option A) (text : List ℕ)
+    → option_map items found ≡ bytes_of text → is_some found ≡ is_some (bytes_of text)
+found_as items None text e = ap is_some e
+found_as items (Some x) text e = ap is_some e
+
+none_found : (found : Option (List ℕ)) → is_some found ≡ false → None ≡ found
+none_found None e = refl
+none_found (Some x) e = absurd cc
+
+some_found : (found : Option (List ℕ)) → is_some found ≡ true → (bytes : List ℕ) × (Some bytes ≡ found)
+some_found None e = absurd cc
+some_found (Some x) e = (x, refl)
+
+pub passes_piece : (text rest front behind : List ℕ) (k : ℕ) → PassedSoFar text rest → rest ≡ front ++ behind
+    → length front ≡ 2 * k → 0 < k → is_some (bytes_of front) ≡ true → PassedSoFar text behind
+passes_piece text rest front behind k s parts long some is =
+    let piece = some_found (bytes_of front) is in
+    record {
+      bytes = s.bytes ++ piece.0;
+      so_far = spelt_more text s.bytes rest front behind k s.so_far parts long some piece.0 (s.bytes ++ piece.0)
+          piece.1 refl;
+    }
+
+pub stops_at_piece : (text rest front behind : List ℕ) (k : ℕ) → PassedSoFar text rest → rest ≡ front ++ behind
+    → length front ≡ 2 * k → 0 < k → is_some (bytes_of front) ≡ false → false ≡ is_some (bytes_of text)
+stops_at_piece text rest front behind k s parts long some is =
+    ap is_some (spelt_nowhere text s.bytes rest front behind k s.so_far parts long some (none_found (bytes_of front) is))
+
+-- ---- the data that name what was appended
+
+pub names_none : (text old new : List ℕ) → AppendsSpelt text old new → length new ≤ length old
+    → NamesSpelt text old new NoData
+names_none text old new a same = record {
+  appends = a;
+  named_is = none (length old) a.bytes (omega (arith, same, ap length a.whole, length-append old a.bytes));
+}
+  where
+    none : (start : ℕ) (bytes : List ℕ) → length bytes ≡ 0 → NoData ≡ bytes_from start bytes
+    none start [] e = refl
+    none start (b ∷ bytes) e = absurd (omega arith)
+
+pub names_bytes : (text old new : List ℕ) (start len : ℕ) → AppendsSpelt text old new → start ≡ length old
+    → len ≡ length new - start → 0 < len → NamesSpelt text old new (Bytes start len)
+names_bytes text old new start len a from_here long some = record {
+  appends = a;
+  named_is = rw from_here (named (length old) len a.bytes
+      (omega (arith, long, from_here, ap length a.whole, length-append old a.bytes)) some);
+}
+  where
+    named : (start len : ℕ) (bytes : List ℕ) → len ≡ length bytes → 0 < len → Bytes start len ≡ bytes_from start bytes
+    named start len [] e some = absurd (omega arith)
+    named start len (b ∷ bytes) e some = ap (Bytes start) e
+
+-- there are no more bytes than digits
+pub spelt_short : (text old new : List ℕ) → AppendsSpelt text old new → length new ≤ length old + length text
+spelt_short text old new a =
+    let is = (bytes_takes text a.bytes a.spelt).0 in
+    omega (arith, ap length a.whole, length-append old a.bytes, ap length is, hex_long a.bytes)
+  where
+    hex_long : (bytes : List ℕ) → length bytes ≤ length (hex bytes)
+    hex_long [] = omega arith
+    hex_long (b ∷ bytes) = omega (arith, length-encode_with lower_digits (b ∷ bytes))

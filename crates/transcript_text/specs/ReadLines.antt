@@ -1,11 +1,11 @@
 -- A line and its fields, read.
-use Rattle.std.specs.Prelude.{ℕ, ◌≡◌, ◌<◌, ◌^◌, true, List, [], ◌∷◌, ◌++◌, codes, decimal}
-use Rattle.key_names.specs.SeenLine.{SeenLine}
+use Rattle.std.specs.Prelude.{ℕ, ◌≡◌, ◌<◌, ◌≤◌, ◌^◌, true, List, [], ◌∷◌, ◌++◌, length, codes, decimal}
+use Rattle.key_names.specs.SeenLine.{SeenLine, Shown}
 use Rattle.key_names.specs.Texts.Spelling.{spaced}
+use Rattle.key_names.specs.Texts.TranscriptGrammar.{line_text, shown_text, LineFits, ShownFits}
 use Rattle.transcript_text.specs.declared.line.Numbers.{Numbers}
 use Rattle.transcript_text.specs.declared.line.ReadLine.{ReadLine}
 use Rattle.transcript_text.specs.Reading.{lacks}
-use Rattle.transcript_text.specs.Shows.{seen_shows}
 
 abbrev pub numbers_text : Numbers → List ℕ
 numbers_text numbers = decimal numbers.caller ++ codes "." ++ decimal numbers.event
@@ -22,12 +22,33 @@ pub record IsSplit (line numbers word answer steps shown : List ℕ) : Type 0 wh
   pub third : lacks 32 answer ≡ true
   pub fourth : lacks 32 steps ≡ true
 
-abbrev pub seen_read : ReadLine → SeenLine
-seen_read read = record {
+-- the line that was read, where it shows this
+abbrev pub seen_read : ReadLine → Shown → SeenLine
+seen_read read shown = record {
   caller = read.caller;
   event = read.event;
   word = read.word;
   answer = read.answer;
   steps = read.steps.now;
-  shown = seen_shows read.shows;
+  shown = shown;
 }
+
+-- with data that its last field spells, the line fits a transcript
+abbrev pub FitsShowing : ReadLine → Type 0
+FitsShowing read = (shown : Shown) → ShownFits read.word shown → read.shown.now ≡ shown_text shown
+    → LineFits (seen_read read shown)
+
+-- the text is that of the line with data that its last field spells, and of no other line
+pub record IsRead (text : List ℕ) (read : ReadLine) : Type 0 where
+  pub fits : FitsShowing read
+  pub spelt : (shown : Shown) → read.shown.now ≡ shown_text shown → text ≡ line_text (seen_read read shown)
+  pub only : (line : SeenLine) → LineFits line → text ≡ line_text line
+      → (line ≡ seen_read read line.shown) × (read.shown.now ≡ shown_text line.shown)
+  pub short : length read.shown.now ≤ length text
+
+-- the line was put behind those from before, with data that its last field spells
+pub record PushesRead (read : ReadLine) (old new : List SeenLine) : Type 0 where
+  pub shown : Shown
+  pub fits : ShownFits read.word shown
+  pub spelt : read.shown.now ≡ shown_text shown
+  pub pushed : new ≡ old ++ seen_read read shown ∷ []

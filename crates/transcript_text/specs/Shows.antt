@@ -1,18 +1,33 @@
 -- What was read behind the steps of a line.
-use Rattle.std.specs.Prelude.{ℕ, ◌<◌, ◌^◌, List, [], length}
-use Rattle.key_names.specs.SeenLine.{Shown, count, bytes_or_none}
-use Rattle.transcript_text.specs.declared.data.Shows.{Shows}
-use Rattle.transcript_text.specs.declared.data.Shows.TheVariants.{Bytes, Count}
+use Rattle.std.specs.Prelude.{ℕ, ◌≡◌, ◌≢◌, ⊤, List, ◌++◌, length, Option, Some, None}
+use Rattle.key_names.specs.declared.events.Word.{Word}
+use Rattle.key_names.specs.declared.lines.Data.{Data}
+use Rattle.key_names.specs.SeenLine.{Shown}
+use Rattle.key_names.specs.Texts.ScriptFaults.{bytes_of}
+use Rattle.key_names.specs.Texts.TranscriptGrammar.{shown_text, ShownFits}
+use Rattle.transcript_text.specs.Gathered.{bytes_from}
 
-abbrev pub seen_shows : Shows → Shown
-seen_shows (Bytes shown) = bytes_or_none shown.items
-seen_shows (Count n) = count n
+-- the text spells bytes, which stand behind those from before
+pub record AppendsSpelt (text old new : List ℕ) : Type 0 where
+  pub bytes : List ℕ
+  pub spelt : bytes_of text ≡ Some bytes
+  pub whole : new ≡ old ++ bytes
 
--- the bytes
-abbrev pub bytes_read : Shows → List ℕ
-bytes_read (Bytes shown) = shown.items
-bytes_read (Count n) = []
+-- the same, and these data name them
+pub record NamesSpelt (text old new : List ℕ) (named : Data) : Type 0 where
+  pub appends : AppendsSpelt text old new
+  pub named_is : named ≡ bytes_from (length old) appends.bytes
 
--- the bytes fit a line
-abbrev pub IsShort : Shows → Type 0
-IsShort shows = length (bytes_read shows) < 2 ^ 32
+-- these data name the bytes that the text spells; there are none where it spells none
+abbrev pub KeepsSpelt : List ℕ → List ℕ → List ℕ → Option Data → Type 0
+KeepsSpelt text old new (Some named) = NamesSpelt text old new named
+KeepsSpelt text old new None = bytes_of text ≡ None
+
+-- the text spells data of a line with this word
+pub record SpellsData (word : Word) (text : List ℕ) : Type 0 where
+  pub shown : Shown
+  pub fits : ShownFits word shown
+  pub spelt : text ≡ shown_text shown
+
+abbrev pub SpellsNoData : Word → List ℕ → Type 0
+SpellsNoData word text = (shown : Shown) → ShownFits word shown → text ≢ shown_text shown

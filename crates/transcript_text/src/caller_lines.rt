@@ -1,11 +1,15 @@
 //! The lines of one caller, with their steps and the bytes that they show.
-ghost use Rattle.std.specs.Prelude.{◌≡◌, ◌==◌, ◌+◌, ◌<◌, ◌≤◌, ◌^◌, ◌∷◌, ◌++◌, [], Some, length, All, vec_len, vec_capacity, slice_get, slice_set, IfOk, OnOk};
+ghost use Rattle.std.specs.Prelude.{◌≡◌, ◌==◌, ◌+◌, ◌<◌, ◌≤◌, ◌^◌, ◌∷◌, ◌++◌, [], Some, length, All, vec_len, vec_capacity, slice_get, slice_set, IfOk, OnOk, MatchBool};
 ghost use Rattle.std.specs.List.{AllByRecursion};
 ghost use Rattle.key_names.specs.SeenLine.{seen_lines, shown_in};
 ghost use Rattle.key_names.specs.Texts.TranscriptGrammar.{LineFits};
 ghost use Rattle.transcript_text.specs.Gathered.{bytes_from, data_from, kept_line, IsWithin, LineWithin};
+ghost use Rattle.transcript_text.specs.ReadLines.{FitsShowing, PushesRead};
+ghost use Rattle.transcript_text.specs.Shows.{SpellsNoData};
 ghost use Rattle.transcript_text.specs.Views.{bytes_of, seen, seen_shown};
 
+use crate::data::keep_data;
+use crate::line::ReadLine;
 use crate::view::{LineView, Shown};
 use key_names::{Data, Line, Step, StepSpan};
 use std::alloc::{AllocError, Global};
@@ -182,6 +186,35 @@ impl CallerLines {
     {
         let kept = self.keep(line);
         self.lines.push_reserved(kept);
+    }
+
+    /// One more line, as it was read. The bytes that it shows are decoded where they are kept. Answers whether its last
+    /// field spells data; otherwise there is no line more.
+    pub(crate) fn push_read(
+        &mut self,
+        alloc: Global,
+        read: &ReadLine<'_>,
+    ) -> Result<bool, AllocError>
+        requires fits { FitsShowing read.now }
+        requires short { length read.now.shown.now < 2 ^ 32 }
+        ensures { IfOk result (λ is_line. MatchBool is_line (PushesRead read.now self.old.lines self.new.lines)
+            (SpellsNoData read.now.word read.now.shown.now)) }
+    {
+        self.lines.reserve(1)?;
+        self.steps.reserve(read.steps.len())?;
+        let Some(shown) = keep_data(alloc, &mut self.bytes, read.word, read.shown)? else {
+            return Ok(false);
+        };
+        let steps = keep_steps(&mut self.steps, read.steps);
+        self.lines.push_reserved(Line {
+            caller: read.caller,
+            event: read.event,
+            word: read.word,
+            answer: read.answer,
+            steps,
+            shown,
+        });
+        Ok(true)
     }
 
     /// Another line in the place of line `number`. It takes no memory.

@@ -4,6 +4,7 @@ ghost use Rattle.key_names.specs.SeenLine.{SeenLine};
 ghost use Rattle.key_names.specs.Texts.TranscriptGrammar.{IsTranscriptText};
 ghost use Rattle.transcript_text.specs.ReadTexts.{HasCount, IsLineOf, IsNoLine};
 
+use crate::data::spells_data;
 use crate::lexing::{cut, spells};
 use crate::line::line_of;
 use crate::reading::MOST_CALLERS;
@@ -19,13 +20,16 @@ fn caller_of(
 ) -> Result<Option<u32>, AllocError>
     ensures { IfOk result (λ caller. MatchOption caller (IsNoLine text.now least) (IsLineOf text.now least)) }
 {
-    let Some(read) = line_of(alloc, text, trace)? else {
+    let Some(read) = line_of(text, trace) else {
         return Ok(None);
     };
     if read.caller < least {
         return Ok(None);
     }
     if read.caller >= MOST_CALLERS {
+        return Ok(None);
+    }
+    if !spells_data(alloc, read.word, read.shown)? {
         return Ok(None);
     }
     Ok(Some(read.caller))
@@ -37,7 +41,7 @@ fn caller_of(
 ///
 /// # Errors
 ///
-/// `AllocError` where there is no memory for the bytes that one line shows.
+/// `AllocError` where there is no memory for some of the bytes that one line shows.
 pub fn count_lines(alloc: Global, text: &[u8]) -> Result<Option<u64>, AllocError>
     requires { length text.now ≤ 2 ^ 31 }
     ensures { IfOk result (λ count. MatchOption count

@@ -1,41 +1,21 @@
 //! What a line shows, read.
-ghost use Rattle.std.specs.Prelude.{◌≡◌, ◌↔◌, IsTrue, IfOk};
-ghost use Rattle.std.specs.Option.{option_map};
+ghost use Rattle.std.specs.Prelude.{◌≡◌, ◌<◌, ◌^◌, ◌↔◌, length, take, IsTrue, IfOk, IfSome, MatchBool};
+ghost use Rattle.std.specs.Option.{is_some, option_map};
+ghost use Rattle.key_names.specs.SeenLine.{shown_in};
 ghost use Rattle.key_names.specs.declared.events.Word.TheVariants.{Bits};
 ghost use Rattle.key_names.specs.Texts.ScriptFaults.{bytes_of as bytes_spelt};
 ghost use Rattle.key_names.specs.Texts.TranscriptGrammar.{shown_text, ShownFits};
+ghost use Rattle.transcript_text.specs.Gathered.{IsWithin};
 ghost use Rattle.transcript_text.specs.Reading.{Reads};
-ghost use Rattle.transcript_text.specs.Shows.{bytes_read, seen_shows};
-ghost use Rattle.transcript_text.specs.Views.{bytes_of, seen_shown};
+ghost use Rattle.transcript_text.specs.Shows.{AppendsSpelt, KeepsSpelt, SpellsData, SpellsNoData};
 
 use crate::lexing::{number_below, spells};
-use crate::view::Shown;
-use key_names::Word;
 use key_names::hexes::bytes_of;
+use key_names::{Data, Word};
 use std::alloc::{AllocError, Global};
 
 /// So many digits are decoded at a time.
 const PIECE_DIGITS: usize = 4096;
-
-/// What stands behind the steps of a line: bytes, none of them for a dash, or a number.
-#[derive(Drop)]
-pub(crate) enum Shows {
-    Bytes(Vec<u8>),
-    Count(u32),
-}
-
-impl Shows {
-    /// The same by reference.
-    pub(crate) fn view(&self) -> Shown<'_>
-        ensures shown { seen_shown result ≡ seen_shows self.now }
-        ensures bytes { bytes_of result ≡ bytes_read self.now }
-    {
-        match self {
-            Shows::Bytes(bytes) => Shown::Bytes(bytes),
-            Shows::Count(number) => Shown::Count(*number),
-        }
-    }
-}
 
 fn is_bits(word: Word) -> bool
     ensures { IsTrue result ↔ (word ≡ Bits) }
@@ -43,42 +23,105 @@ fn is_bits(word: Word) -> bool
     matches!(word, Word::Bits)
 }
 
-/// The bytes that a text of digits spells, a piece at a time, so that what a piece is decoded into is at hand.
-fn spelt_bytes(alloc: Global, text: &[u8]) -> Result<Option<Vec<u8>>, AllocError>
-    ensures { IfOk result (λ bytes. option_map (λ v. v.items) bytes ≡ bytes_spelt text.now) }
+/// Appends the bytes that a text of digits spells, a piece at a time, so that they are nowhere twice. Of a text that
+/// spells none, some may be appended.
+fn append_bytes(alloc: Global, kept: &mut Vec<u8>, text: &[u8]) -> Result<bool, AllocError>
+    ensures spelt { IfOk result (λ spells. MatchBool spells (AppendsSpelt text.now kept.old.items kept.new.items)
+        (bytes_spelt text.now ≡ None)) }
+    ensures before { take (length kept.old.items) kept.new.items ≡ kept.old.items }
 {
     if text.len() <= PIECE_DIGITS || text.len() % 2 != 0 {
-        return bytes_of(alloc, text);
+        let Some(bytes) = bytes_of(alloc, text)? else {
+            return Ok(false);
+        };
+        kept.extend_from_slice(&bytes)?;
+        return Ok(true);
     }
-    let mut bytes = Vec::with_capacity(alloc, text.len() / 2)?;
+    kept.reserve(text.len() / 2)?;
     let mut rest = text;
     while !rest.is_empty() {
         let (front, behind) = rest.split_at(rest.len().min(PIECE_DIGITS));
         let Some(piece) = bytes_of(alloc, front)? else {
-            return Ok(None);
+            return Ok(false);
         };
-        bytes.extend_from_slice(&piece)?;
+        kept.extend_from_slice(&piece)?;
         rest = behind;
     }
-    Ok(Some(bytes))
+    Ok(true)
 }
 
-/// What a text shows on a line with this word.
-pub(crate) fn shown_of(alloc: Global, word: Word, text: &[u8]) -> Result<Option<Shows>, AllocError>
-    ensures { IfOk result (λ shows. Reads shown_text (ShownFits word) text.now (option_map seen_shows shows)) }
+/// Whether a text of digits spells bytes, of which none is kept.
+fn spells_bytes(alloc: Global, text: &[u8]) -> Result<bool, AllocError>
+    ensures { IfOk result (λ spells. spells ≡ is_some (bytes_spelt text.now)) }
+{
+    if text.len() <= PIECE_DIGITS || text.len() % 2 != 0 {
+        return Ok(bytes_of(alloc, text)?.is_some());
+    }
+    let mut rest = text;
+    while !rest.is_empty() {
+        let (front, behind) = rest.split_at(rest.len().min(PIECE_DIGITS));
+        if bytes_of(alloc, front)?.is_none() {
+            return Ok(false);
+        }
+        rest = behind;
+    }
+    Ok(true)
+}
+
+/// Keeps the bytes that a text of digits spells, and gives the data of a line that shows them.
+fn keep_bytes(alloc: Global, kept: &mut Vec<u8>, text: &[u8]) -> Result<Option<Data>, AllocError>
+    requires { length text.now < 2 ^ 32 }
+    ensures data { IfOk result (KeepsSpelt text.now kept.old.items kept.new.items) }
+    ensures before { take (length kept.old.items) kept.new.items ≡ kept.old.items }
+{
+    let start = kept.len();
+    if !append_bytes(alloc, kept, text)? {
+        return Ok(None);
+    }
+    let len = kept.len() - start;
+    if len == 0 {
+        return Ok(Some(Data::None));
+    }
+    Ok(Some(Data::Bytes {
+        start: start as u64,
+        len: len as u32,
+    }))
+}
+
+/// The data that a text spells on a line with this word. Their bytes are kept behind those from before.
+pub(crate) fn keep_data(
+    alloc: Global,
+    kept: &mut Vec<u8>,
+    word: Word,
+    text: &[u8],
+) -> Result<Option<Data>, AllocError>
+    requires { length text.now < 2 ^ 32 }
+    ensures data { IfOk result (λ named. Reads shown_text (ShownFits word) text.now
+        (option_map (shown_in kept.new.items) named)) }
+    ensures within { IfOk result (λ named. IfSome named (IsWithin (length kept.new.items))) }
+    ensures before { take (length kept.old.items) kept.new.items ≡ kept.old.items }
 {
     if !is_bits(word) {
-        let found = spelt_bytes(alloc, text)?;
-        return match found {
-            Some(bytes) => Ok(Some(Shows::Bytes(bytes))),
-            None => Ok(None),
-        };
+        return keep_bytes(alloc, kept, text);
     }
     if spells(text, b"-") {
-        return Ok(Some(Shows::Bytes(Vec::new(alloc))));
+        return Ok(Some(Data::None));
     }
     match number_below(1 << 32, text) {
-        Some(number) => Ok(Some(Shows::Count(number as u32))),
+        Some(number) => Ok(Some(Data::Count(number as u32))),
         None => Ok(None),
     }
+}
+
+/// Whether a text spells data of a line with this word. None of them are kept.
+pub(crate) fn spells_data(alloc: Global, word: Word, text: &[u8]) -> Result<bool, AllocError>
+    ensures { IfOk result (λ spells. MatchBool spells (SpellsData word text.now) (SpellsNoData word text.now)) }
+{
+    if !is_bits(word) {
+        return spells_bytes(alloc, text);
+    }
+    if spells(text, b"-") {
+        return Ok(true);
+    }
+    Ok(number_below(1 << 32, text).is_some())
 }

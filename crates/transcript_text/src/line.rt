@@ -1,19 +1,14 @@
 //! One line, read.
-ghost use Rattle.std.specs.Prelude.{◌≡◌, List, ℕ, MatchOption, IfOk};
-ghost use Rattle.std.specs.Option.{option_map};
+ghost use Rattle.std.specs.Prelude.{◌≢◌, List, ℕ, MatchOption};
+ghost use Rattle.key_names.specs.SeenLine.{SeenLine};
 ghost use Rattle.key_names.specs.Texts.TranscriptGrammar.{line_text, LineFits};
-ghost use Rattle.transcript_text.specs.ReadLines.{IsSplit, numbers_text, NumbersFit, seen_read};
+ghost use Rattle.transcript_text.specs.ReadLines.{IsRead, IsSplit, numbers_text, NumbersFit};
 ghost use Rattle.transcript_text.specs.Reading.{Reads};
-ghost use Rattle.transcript_text.specs.Shows.{bytes_read};
-ghost use Rattle.transcript_text.specs.Views.{bytes_of, seen};
 
-use crate::data::{Shows, shown_of};
 use crate::lexing::{cut, cut_near, number_below};
 use crate::names::{answer_of, word_of};
 use crate::steps::steps_of;
-use crate::view::LineView;
 use key_names::{Answer, Step, Trace, Word};
-use std::alloc::{AllocError, Global};
 
 /// The caller's and the event's number.
 #[derive(Clone, Copy)]
@@ -32,32 +27,15 @@ struct Fields<'a> {
     shown: &'a [u8],
 }
 
-/// A line as it was read.
-#[derive(Drop)]
+/// A line as it was read, with the text of what it shows.
+#[derive(Clone, Copy)]
 pub(crate) struct ReadLine<'a> {
     pub(crate) caller: u32,
     pub(crate) event: u32,
     pub(crate) word: Word,
     pub(crate) answer: Answer,
     pub(crate) steps: &'a [Step],
-    pub(crate) shows: Shows,
-}
-
-impl<'a> ReadLine<'a> {
-    /// The line.
-    pub(crate) fn view(&self) -> LineView<'_>
-        ensures line { seen result ≡ seen_read self.now }
-        ensures bytes { bytes_of result.shown ≡ bytes_read self.now.shows }
-    {
-        LineView {
-            caller: self.caller,
-            event: self.event,
-            word: self.word,
-            answer: self.answer,
-            steps: self.steps,
-            shown: self.shows.view(),
-        }
-    }
+    pub(crate) shown: &'a [u8],
 }
 
 fn numbers_of(text: &[u8]) -> Option<Numbers>
@@ -89,38 +67,19 @@ fn fields_of(line: &[u8]) -> Option<Fields<'_>>
     })
 }
 
-/// The line that a text without its line feed spells. Its steps are put in the trace.
-pub(crate) fn line_of<'a>(
-    alloc: Global,
-    text: &[u8],
-    trace: &'a mut Trace,
-) -> Result<Option<ReadLine<'a>>, AllocError>
-    ensures { IfOk result (λ line. Reads line_text LineFits text.now (option_map seen_read line)) }
+/// The line that a text without its line feed spells, if its last field spells data. Its steps are put in the trace.
+pub(crate) fn line_of<'a>(text: &'a [u8], trace: &'a mut Trace) -> Option<ReadLine<'a>>
+    ensures { MatchOption result ((line : SeenLine) → LineFits line → text.now ≢ line_text line)
+        (IsRead text.now) }
 {
-    let Some(fields) = fields_of(text) else {
-        return Ok(None);
-    };
-    let Some(numbers) = numbers_of(fields.numbers) else {
-        return Ok(None);
-    };
-    let Some(word) = word_of(fields.word) else {
-        return Ok(None);
-    };
-    let Some(answer) = answer_of(fields.answer) else {
-        return Ok(None);
-    };
-    let Some(steps) = steps_of(fields.steps, trace) else {
-        return Ok(None);
-    };
-    let Some(shows) = shown_of(alloc, word, fields.shown)? else {
-        return Ok(None);
-    };
-    Ok(Some(ReadLine {
+    let fields = fields_of(text)?;
+    let numbers = numbers_of(fields.numbers)?;
+    Some(ReadLine {
         caller: numbers.caller,
         event: numbers.event,
-        word,
-        answer,
-        steps,
-        shows,
-    }))
+        word: word_of(fields.word)?,
+        answer: answer_of(fields.answer)?,
+        steps: steps_of(fields.steps, trace)?,
+        shown: fields.shown,
+    })
 }

@@ -7,7 +7,7 @@ ghost use Rattle.transcript_text.specs.ReadTexts.{AddsLine, Answers, IsNoLine, I
 
 use crate::caller_lines::CallerLines;
 use crate::error::TextError;
-use crate::grouping::{add_line, finish};
+use crate::grouping::{finish, go_on_to};
 use crate::lexing::{cut, spells};
 use crate::line::line_of;
 use crate::transcript::Transcript;
@@ -32,7 +32,7 @@ fn take_line(
         current.old.lines current.new.lines)
         (IsNoLine text.now (vec_len done.old))) }
 {
-    let Some(read) = line_of(alloc, text, trace)? else {
+    let Some(read) = line_of(text, trace) else {
         return Ok(false);
     };
     if read.caller >= MOST_CALLERS {
@@ -41,8 +41,8 @@ fn take_line(
     if (read.caller as usize) < done.len() {
         return Ok(false);
     }
-    add_line(alloc, done, current, &read)?;
-    Ok(true)
+    go_on_to(alloc, done, current, read.caller)?;
+    current.push_read(alloc, &read)
 }
 
 fn read_text(alloc: Global, text: &[u8]) -> Result<Transcript, TextError>

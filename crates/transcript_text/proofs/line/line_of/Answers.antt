@@ -1,55 +1,41 @@
-use Rattle.std.proofs.Common.{◌≡◌, sym, subst, ◌∙◌}
-use Rattle.key_names.specs.declared.events.Word.{Word}
-use Rattle.key_names.specs.Texts.TranscriptGrammar.{ShownFits}
-use Rattle.transcript_text.proofs.NameTexts.{same_word}
-use Rattle.transcript_text.specs.ReadLines.{seen_read}
-use Rattle.transcript_text.proofs.LineTexts.{line_splits, spells_line, made_line, numbers_in, numbers_fit}
+use Rattle.transcript_text.proofs.Answered.{matched_none}
+use Rattle.transcript_text.proofs.LineTexts.{line_splits, spells_line, is_read, numbers_in, numbers_fit}
 use Rattle.transcript_text.proofs.line.line_of.Goals as goal
 
-pub returns-in_default : goal.returns-in_default
-returns-in_default c = λ line fits e. c.in_default.ensures _ _ _ _ _ (line_splits c.args.text.now line fits e)
+pub returns-in_err-fields : goal.returns-in_err-fields
+returns-in_err-fields c = matched_none _ _ _ c.from_residual.ensures
+    (λ line fits e. c.in_err-fields.ensures _ _ _ _ _ (line_splits c.args.text.now line fits e))
 
-pub returns-in_default-numbers_of : goal.returns-in_default-numbers_of
-returns-in_default-numbers_of c = λ line fits e.
-    let f = c.in-Some.fields in
-    c.in_default-numbers_of.ensures (numbers_in line) (numbers_fit line fits)
-    (spells_line c.args.text.now _ _ _ _ _ c.in-Some.ensures line fits e).first
+pub returns-in_err-numbers : goal.returns-in_err-numbers
+returns-in_err-numbers c = matched_none _ _ _ c.from_residual-in_err-numbers.ensures (λ line fits e.
+    c.in_err-numbers.ensures (numbers_in line) (numbers_fit line fits)
+    (spells_line c.args.text.now _ _ _ _ _ c.in_ok-fields.ensures line fits e).first)
 
-pub returns-in_default-word_of : goal.returns-in_default-word_of
-returns-in_default-word_of c = λ line fits e.
-    c.in_default-word_of.ensures line.word tt (spells_line c.args.text.now _ _ _ _ _ c.in-Some.ensures line fits
-    e).second
+pub returns-in_err-word_of : goal.returns-in_err-word_of
+returns-in_err-word_of c = matched_none _ _ _ c.from_residual-in_err-word_of.ensures (λ line fits e.
+    c.in_err-word_of.ensures line.word tt
+    (spells_line c.args.text.now _ _ _ _ _ c.in_ok-fields.ensures line fits e).second)
 
-pub returns-in_default-answer_of : goal.returns-in_default-answer_of
-returns-in_default-answer_of c = λ line fits e.
-    c.in_default-answer_of.ensures line.answer tt (spells_line c.args.text.now _ _ _ _ _ c.in-Some.ensures line fits
-    e).third
+pub returns-in_err-answer_of : goal.returns-in_err-answer_of
+returns-in_err-answer_of c = matched_none _ _ _ c.from_residual-in_err-answer_of.ensures (λ line fits e.
+    c.in_err-answer_of.ensures line.answer tt
+    (spells_line c.args.text.now _ _ _ _ _ c.in_ok-fields.ensures line fits e).third)
 
-pub returns-in_default-steps_of : goal.returns-in_default-steps_of
-returns-in_default-steps_of c = λ line fits e.
-    c.in_default-steps_of.ensures line.steps (record { few = fits.few_steps; each = fits.steps })
-    (spells_line c.args.text.now _ _ _ _ _ c.in-Some.ensures line fits e).fourth
-
-pub returns-in_default-2 : goal.returns-in_default-2
-returns-in_default-2 c = λ line fits e.
-    let fields = spells_line c.args.text.now _ _ _ _ _ c.in-Some.ensures line fits e in
-    let none = rw c.in_default-2.is at c.in_ok-shows.ensures in
-    let word : line.word ≡ c.in-Some-word_of.word = same_word line.word c.in-Some-word_of.word (sym fields.second
-    ∙ c.in-Some-word_of.ensures.1) in
-    none line.shown (subst (λ (w : Word). ShownFits w line.shown) word fits.shown) fields.fifth
+pub returns-in_err-steps_of : goal.returns-in_err-steps_of
+returns-in_err-steps_of c = matched_none _ _ _ c.from_residual-in_err-steps_of.ensures (λ line fits e.
+    c.in_err-steps_of.ensures line.steps (record { few = fits.few_steps; each = fits.steps })
+    (spells_line c.args.text.now _ _ _ _ _ c.in_ok-fields.ensures line fits e).fourth)
 
 pub returns : goal.returns
 returns c =
-    let shown = rw c.in-Some-2.is at c.in_ok-shows.ensures in
-    made_line c.args.text.now _ _ _ _ _ c.in-Some.ensures
-    (seen_read (record {
-      caller = c.in-Some-numbers_of.numbers.caller;
-      event = c.in-Some-numbers_of.numbers.event;
-      word = c.in-Some-word_of.word;
-      answer = c.in-Some-answer_of.answer;
-      steps = c.in-Some-steps_of.steps;
-      shows = c.in-Some-2.shows;
-    }))
-    c.in-Some-numbers_of.ensures.1 c.in-Some-numbers_of.ensures.0 c.in-Some-word_of.ensures.1
-    c.in-Some-answer_of.ensures.1
-    c.in-Some-steps_of.ensures.1 c.in-Some-steps_of.ensures.0 shown.1 shown.0
+    is_read c.args.text.now _ _ _ _
+    (record {
+      caller = c.in_ok-numbers.numbers.caller;
+      event = c.in_ok-numbers.numbers.event;
+      word = c.in_ok-word_of.field-0;
+      answer = c.in_ok-answer_of.field-0;
+      steps = c.in_ok-steps_of.field-0;
+      shown = c.in_ok-fields.fields.shown;
+    })
+    c.in_ok-fields.ensures c.in_ok-numbers.ensures.1 c.in_ok-numbers.ensures.0 c.in_ok-word_of.ensures.1
+    c.in_ok-answer_of.ensures.1 c.in_ok-steps_of.ensures.1 c.in_ok-steps_of.ensures.0

@@ -1,27 +1,39 @@
-use Rattle.std.proofs.Common.{◌≡◌, ap, sym, refl, length, ◌∙◌, arith}
+use Rattle.std.proofs.Common.{◌≡◌, ap, arith}
+use Rattle.std.proofs.lemmas.List.{length-map}
 use Rattle.key_names.specs.SeenLine.{SeenLine}
-use Rattle.key_names.specs.Texts.TranscriptGrammar.{line_text}
-use Rattle.transcript_text.specs.ReadLines.{seen_read}
-use Rattle.transcript_text.proofs.LineTexts.{same_line, short_shows}
+use Rattle.transcript_text.specs.Grouping.{seen_callers}
+use Rattle.transcript_text.proofs.ReadingOn.{line_taken}
 use Rattle.transcript_text.proofs.reading.take_line.Goals as goal
 
 pub returns-then-read-ge-MOST_CALLERS : goal.returns-then-read-ge-MOST_CALLERS
 returns-then-read-ge-MOST_CALLERS c = λ line fits low high e.
-    let good = rw c.in-Some.is at c.in_ok-read.ensures in
-    let same : c.in-Some.read.caller ≡ line.caller =
-    ap (λ (l : SeenLine). l.caller) (same_line (seen_read c.in-Some.read) line good.0 fits (sym good.1 ∙ e)) in
+    let same : line.caller ≡ c.in-Some.read.caller =
+    ap (λ (l : SeenLine). l.caller) (c.in-Some.ensures.only line fits e).0 in
     omega (arith, same, high, c.if-read-ge-MOST_CALLERS.true)
 
 pub returns-then-read-len : goal.returns-then-read-len
 returns-then-read-len c = λ line fits low high e.
-    let good = rw c.in-Some.is at c.in_ok-read.ensures in
-    let same : c.in-Some.read.caller ≡ line.caller =
-    ap (λ (l : SeenLine). l.caller) (same_line (seen_read c.in-Some.read) line good.0 fits (sym good.1 ∙ e)) in
+    let same : line.caller ≡ c.in-Some.read.caller =
+    ap (λ (l : SeenLine). l.caller) (c.in-Some.ensures.only line fits e).0 in
     omega (arith, same, low, c.if-read-len.true, c.len.ensures)
 
-pub add_line-requires-clause-short : goal.add_line-requires-clause-short
-add_line-requires-clause-short c =
-    let good = rw c.in-Some.is at c.in_ok-read.ensures in
-    short_shows c.in-Some.read.shows (seen_read c.in-Some.read) refl
-    (let n : length c.args.text.now ≡ length (line_text (seen_read c.in-Some.read)) = ap length good.1 in
-    omega arith)
+pub returns : goal.returns
+returns c =
+    line_taken c.args.text.now c.in-Some.read c.in-Some.ensures (seen_callers c.args.done.now.items)
+    (seen_callers c.go_on_to.new.done.items) c.args.current.now.lines c.go_on_to.new.current.lines
+    c.push_read.new.self.lines _ c.push_read.result
+    (omega (
+      arith,
+      c.if-read-len.false,
+      c.len.ensures,
+      length-map c.args.done.now.items (λ x. x.lines),
+      c.args.done.now.ok.0,
+    ))
+    (omega (arith, c.if-read-ge-MOST_CALLERS.false))
+    (omega (
+      arith,
+      c.in_ok-go_on_to.ensures.len,
+      length-map c.go_on_to.new.done.items (λ x. x.lines),
+      c.go_on_to.new.done.ok.0,
+    ))
+    c.in_ok-go_on_to.ensures.groups c.push_read.ensures
