@@ -19,3 +19,4 @@ pub mod StepLists
 pub mod StepTexts
 pub mod WholeTexts
 pub mod HexDigits
+pub mod Fronts

@@ -138,7 +138,7 @@ spells_mark text lane rest place stamp mark cut before cut2 before2 fits e =
     (place_lacks_at mark.place fits.place) (sym cut2 ∙ behind.1) in
     record { lane_is = behind.0; place_is = parts.0; stamp_is = parts.1 }
 
-abbrev made_mark : LaneId → ℕ → ℕ → Mark
+abbrev pub made_mark : LaneId → ℕ → ℕ → Mark
 made_mark lane place stamp = record { lane = lane; place = place; stamp = stamp }
 
 pub same_mark : (a b : Mark) → MarkFits a → MarkFits b → mark_text a ≡ mark_text b → a ≡ b
@@ -176,7 +176,7 @@ same_step (Look m) (Visit b) f g e = absurd (no_mark 126 (decimal m) b (inr (ome
 same_step (Visit a) (Look n) f g e = absurd (no_mark 126 (decimal n) a (inr (omega arith)) (sym e))
 same_step (Visit a) (Visit b) f g e = ap Visit (same_mark a b f g e)
 
-heads : (x y : ℕ) (a b : List ℕ) → x ∷ a ≡ y ∷ b → x ≡ y
+pub heads : (x y : ℕ) (a b : List ℕ) → x ∷ a ≡ y ∷ b → x ≡ y
 heads x y a b e = cc
 
 -- a dash begins no step
@@ -188,6 +188,16 @@ no_step text (Visit mark) rest e =
     let same : 45 ≡ first_byte (lane_text mark.lane ++ 58 ∷ (place_text mark ++ rest)) =
     ap first_byte (e ∙ ap (λ (x : List ℕ). x ++ rest) (mark_text-parts mark)
     ∙ append_assoc (lane_text mark.lane) (58 ∷ place_text mark) rest) in
+    omega arith
+
+-- a tilde begins no visit
+pub no_mark_behind : (text other : List ℕ) (mark : Mark) → 126 ∷ text ≡ mark_text mark ++ other → ⊥
+unfolding first_byte
+no_mark_behind text other mark e =
+    let bounds = lane_begins mark.lane (58 ∷ (place_text mark ++ other)) in
+    let same : 126 ≡ first_byte (lane_text mark.lane ++ 58 ∷ (place_text mark ++ other)) =
+    ap first_byte (e ∙ ap (λ (x : List ℕ). x ++ other) (mark_text-parts mark)
+    ∙ append_assoc (lane_text mark.lane) (58 ∷ place_text mark) other) in
     omega arith
 
 -- ---- steps in a row
@@ -239,25 +249,6 @@ steps_behind (r ∷ read) (a ∷ b ∷ all) rest f g some e =
       spelt = more.spelt;
     }
 
--- ---- texts that spell no mark
-
-pub uncut_mark : (text : List ℕ) → lacks 58 text ≡ true → (mark : Mark) → MarkFits mark → text ≡ mark_text mark → ⊥
-uncut_mark text lack mark fits e =
-    not_lacking 58 (lane_text mark.lane) (place_text mark)
-    (subst (λ (x : List ℕ). lacks 58 x ≡ true) (e ∙ mark_text-parts mark) lack)
-
-pub uncut_place : (text lane rest : List ℕ) → text ≡ lane ++ 58 ∷ rest → lacks 58 lane ≡ true → lacks 64 rest ≡ true
-    → (mark : Mark) → MarkFits mark → text ≡ mark_text mark → ⊥
-uncut_place text lane rest cut before lack mark fits e =
-    let behind = place_behind text lane rest mark cut before fits e in
-    not_lacking 64 (decimal mark.place) (decimal mark.stamp) (subst (λ (x : List ℕ). lacks 64 x ≡ true) behind.1 lack)
-
-pub no_look : (digits : List ℕ) → ((n : ℕ) → n < 2 ^ 63 → digits ≡ decimal n → ⊥) → (step : Step) → StepFits step
-    → 126 ∷ digits ≡ step_text step → ⊥
-unfolding step_text
-no_look digits not (Look n) fits e = not n fits cc
-no_look digits not (Visit mark) fits e = no_mark 126 digits mark (inr (omega arith)) e
-
 pub begins_so : (byte : ℕ) (text : List ℕ) → 0 < length text → get_or text 0 0 ≡ byte
     → text ≡ byte ∷ take (length text - 1) (drop 1 text)
 begins_so byte [] some e = absurd (omega arith)
@@ -281,52 +272,6 @@ pub behind_read : (text rest : List ℕ) (read all : List Step) → StepsRead te
     → text ≡ steps_text all → StepsBehind read all rest
 behind_read text rest read all so_far fits e =
     steps_behind read all rest so_far.each fits.each (some_steps text all so_far.some e) (sym so_far.whole ∙ e)
-
-one_behind : (rest : List ℕ) (behind : List Step) → lacks 44 rest ≡ true → 0 < length behind
-    → AllByRecursion StepFits behind → rest ≡ steps_text behind
-    → (step : Step) × (behind ≡ step ∷ []) × StepFits step × (rest ≡ step_text step)
-unfolding steps_text
-one_behind rest [] lack some fits e = absurd (omega arith)
-one_behind rest (s ∷ []) lack some fits e = (s, refl, fits.0, e)
-one_behind rest (s ∷ t ∷ behind) lack some fits e =
-    let cut : rest ≡ step_text s ++ 44 ∷ steps_text (t ∷ behind) = e
-    ∙ append_assoc (step_text s) (codes ",") (steps_text (t ∷ behind)) in
-    absurd (not_lacking 44 (step_text s) (steps_text (t ∷ behind)) (subst (λ (x : List ℕ). lacks 44 x ≡ true) cut lack))
-
-more_behind : (rest front after : List ℕ) (behind : List Step) → rest ≡ front ++ 44 ∷ after → lacks 44 front ≡ true
-    → 0 < length behind
-    → AllByRecursion StepFits behind → rest ≡ steps_text behind → (step : Step)
-    × (StepFits step × (front ≡ step_text step) × (2 ≤ length behind))
-unfolding steps_text
-more_behind rest front after [] cut lack some fits e = absurd (omega arith)
-more_behind rest front after (s ∷ []) cut lack some fits e =
-    absurd (not_lacking 44 front after (subst (λ (x : List ℕ). lacks 44 x ≡ true) (sym e ∙ cut)
-    (step_lacks 44 comma_outside s fits.0)))
-more_behind rest front after (s ∷ t ∷ behind) cut lack some fits e =
-    let other : rest ≡ step_text s ++ 44 ∷ steps_text (t ∷ behind) = e
-    ∙ append_assoc (step_text s) (codes ",") (steps_text (t ∷ behind)) in
-    let parts = same_cut 44 front (step_text s) after (steps_text (t ∷ behind)) lack
-    (step_lacks 44 comma_outside s fits.0) (sym cut ∙ other) in
-    (s, (fits.0, parts.0, omega arith))
-
--- the last step is none
-pub no_last : (text rest : List ℕ) (read : List Step) → StepsRead text read rest → lacks 44 rest ≡ true
-    → ((step : Step) → StepFits step → rest ≡ step_text step → ⊥)
-    → (all : List Step) → StepsFit all → text ≡ steps_text all → ⊥
-no_last text rest read so_far lack not all fits e =
-    let b = behind_read text rest read all so_far fits e in
-    let one = one_behind rest b.behind lack b.some b.fits b.spelt in
-    not one.0 one.2 one.3
-
--- the next step is none
-pub no_next : (text rest front after : List ℕ) (read : List Step) → StepsRead text read rest
-    → rest ≡ front ++ 44 ∷ after → lacks 44 front ≡ true
-    → ((step : Step) → StepFits step → front ≡ step_text step → ⊥) → (all : List Step) → StepsFit all
-    → text ≡ steps_text all → ⊥
-no_next text rest front after read so_far cut lack not all fits e =
-    let b = behind_read text rest read all so_far fits e in
-    let more = more_behind rest front after b.behind cut lack b.some b.fits b.spelt in
-    not more.0 more.1.0 more.1.1
 
 -- there are too many steps
 pub too_many : (text rest : List ℕ) (read : List Step) → StepsRead text read rest → 20 ≤ length read

@@ -1,59 +1,65 @@
 //! Steps, read.
-ghost use Rattle.std.specs.Prelude.{◌≡◌, ◌<◌, ◌≤◌, ◌^◌, length};
+ghost use Rattle.std.specs.Prelude.{◌≡◌, ◌<◌, ◌≤◌, ◌^◌, length, MatchOption};
 ghost use Rattle.std.specs.List.{AllByRecursion};
 ghost use Rattle.std.specs.Option.{option_map};
 ghost use Rattle.key_names.specs.Texts.TranscriptGrammar.{lane_text, mark_text, step_text, steps_text, LaneFits, MarkFits, StepFits};
-ghost use Rattle.transcript_text.specs.Reading.{Reads, StepsFit};
+ghost use Rattle.transcript_text.specs.Reading.{IsFront, NoFront, Reads, StepsFit};
 
-use crate::lexing::{cut, cut_near, number_below, spells};
+use crate::lexing::{number_front, spells};
 use key_names::trace::MOST_STEPS;
 use key_names::{LaneId, Mark, Step, Trace};
 
 /// Generations, places and stamps are below this.
 const MOST_NUMBERS: u64 = 1 << 63;
 
-/// The lane that a text names.
-#[tactic(auto, unfolding(key_names::specs::Texts::TranscriptGrammar::lane_text))]
-fn lane_of(text: &[u8]) -> Option<LaneId>
-    ensures { Reads lane_text LaneFits text.now result }
+/// The lane that a text begins with, and what stands behind it.
+fn lane_front(text: &[u8]) -> Option<(LaneId, &[u8])>
+    ensures { MatchOption result (NoFront lane_text LaneFits text.now)
+        (λ both. IsFront lane_text LaneFits text.now both.0 both.1.now) }
 {
     match text {
-        [b'p'] => Some(LaneId::Pool),
-        [b'b'] => Some(LaneId::Base),
+        [] => None,
+        [b'p', rest @ ..] => Some((LaneId::Pool, rest)),
+        [b'b', rest @ ..] => Some((LaneId::Base, rest)),
         [b'c', digits @ ..] => {
-            let cpu = number_below(1 << 32, digits)?;
-            Some(LaneId::Cpu(cpu as u32))
+            let (cpu, rest) = number_front(1 << 32, digits)?;
+            Some((LaneId::Cpu(cpu as u32), rest))
         }
         _ => None,
     }
 }
 
-/// The visit that a text names.
-fn mark_of(text: &[u8]) -> Option<Mark>
-    ensures { Reads mark_text MarkFits text.now result }
+/// The visit that a text begins with, and what stands behind it.
+fn mark_front(text: &[u8]) -> Option<(Mark, &[u8])>
+    ensures { MatchOption result (NoFront mark_text MarkFits text.now)
+        (λ both. IsFront mark_text MarkFits text.now both.0 both.1.now) }
 {
-    let (lane, rest) = cut_near(b':', text)?;
-    let (place, stamp) = cut_near(b'@', rest)?;
-    Some(Mark {
-        lane: lane_of(lane)?,
-        place: number_below(MOST_NUMBERS, place)?,
-        stamp: number_below(MOST_NUMBERS, stamp)?,
-    })
+    let (lane, behind_lane) = lane_front(text)?;
+    let [b':', places @ ..] = behind_lane else {
+        return None;
+    };
+    let (place, behind_place) = number_front(MOST_NUMBERS, places)?;
+    let [b'@', stamps @ ..] = behind_place else {
+        return None;
+    };
+    let (stamp, rest) = number_front(MOST_NUMBERS, stamps)?;
+    Some((Mark { lane, place, stamp }, rest))
 }
 
-/// The step that a text names.
-#[tactic(auto, unfolding(key_names::specs::Texts::TranscriptGrammar::step_text))]
-fn step_of(text: &[u8]) -> Option<Step>
-    ensures { Reads step_text StepFits text.now result }
+/// The step that a text begins with, and what stands behind it.
+fn step_front(text: &[u8]) -> Option<(Step, &[u8])>
+    ensures { MatchOption result (NoFront step_text StepFits text.now)
+        (λ both. IsFront step_text StepFits text.now both.0 both.1.now) }
 {
     match text {
+        [] => None,
         [b'~', digits @ ..] => {
-            let generation = number_below(MOST_NUMBERS, digits)?;
-            Some(Step::Look(generation))
+            let (generation, rest) = number_front(MOST_NUMBERS, digits)?;
+            Some((Step::Look(generation), rest))
         }
         _ => {
-            let mark = mark_of(text)?;
-            Some(Step::Visit(mark))
+            let (mark, rest) = mark_front(text)?;
+            Some((Step::Visit(mark), rest))
         }
     }
 }
@@ -69,15 +75,12 @@ pub(crate) fn steps_of<'t>(text: &[u8], trace: &'t mut Trace) -> Option<&'t [Ste
     }
     let mut rest = text;
     for _ in 0..MOST_STEPS {
-        match cut(b',', rest) {
-            None => {
-                trace.push(step_of(rest)?);
-                return Some(trace.steps());
-            }
-            Some((front, behind)) => {
-                trace.push(step_of(front)?);
-                rest = behind;
-            }
+        let (step, behind) = step_front(rest)?;
+        trace.push(step);
+        match behind {
+            [] => return Some(trace.steps()),
+            [b',', next @ ..] => rest = next,
+            _ => return None,
         }
     }
     None
