@@ -15,7 +15,7 @@ use Rattle.key_names.specs.SeenLine.{Shown, no_data, bytes, count, SeenLine}
 use Rattle.key_names.specs.Texts.Spelling.{AllLower, is_lower_digit, word_text, spaced, hex}
 use Rattle.key_names.specs.Texts.TranscriptGrammar.{answer_text, steps_text, step_text, shown_text, line_text, StepFits, ShownFits, LineFits}
 use Rattle.transcript_text.specs.declared.line.Numbers.{Numbers}
-use Rattle.transcript_text.specs.Reading.{lacks, StepsFit}
+use Rattle.transcript_text.specs.Reading.{lacks, IsFront, NoFront, StepsFit}
 use Rattle.transcript_text.specs.declared.line.ReadLine.{ReadLine}
 use Rattle.transcript_text.specs.ReadLines.{numbers_text, NumbersFit, FitsShowing, IsSplit, IsRead, seen_read}
 use Rattle.transcript_text.proofs.Cutting.{lacks-append, lacks-decimal, not_lacking, same_cut}
@@ -31,18 +31,32 @@ dot numbers fits = lacks-decimal 46 numbers.caller (no_digit_below 46 (omega ari
 numbers_text-parts : (numbers : Numbers) → numbers_text numbers ≡ decimal numbers.caller ++ 46 ∷ decimal numbers.event
 numbers_text-parts numbers = append_assoc (decimal numbers.caller) (codes ".") (decimal numbers.event)
 
-pub uncut_numbers : (text : List ℕ) → lacks 46 text ≡ true → (numbers : Numbers) → NumbersFit numbers
-    → text ≡ numbers_text numbers → ⊥
-uncut_numbers text lack numbers fits e =
-    not_lacking 46 (decimal numbers.caller) (decimal numbers.event)
-    (subst (λ (x : List ℕ). lacks 46 x ≡ true) (e ∙ numbers_text-parts numbers) lack)
-
 pub spells_numbers : (text caller event : List ℕ) → text ≡ caller ++ 46 ∷ event → lacks 46 caller ≡ true
     → (numbers : Numbers) → NumbersFit numbers
     → text ≡ numbers_text numbers → (caller ≡ decimal numbers.caller) × (event ≡ decimal numbers.event)
 spells_numbers text caller event cut lack numbers fits e =
     same_cut 46 caller (decimal numbers.caller) event (decimal numbers.event) lack (dot numbers fits) (sym cut ∙ e
     ∙ numbers_text-parts numbers)
+
+module _ (text behind digits : List ℕ) (caller : ℕ) (front : IsFront decimal (λ n. n < 2 ^ 32) text caller behind)
+    (point : behind ≡ 46 ∷ digits) where
+  event_at : (numbers : Numbers) → NumbersFit numbers → text ≡ numbers_text numbers → digits ≡ decimal numbers.event
+  event_at numbers fits e =
+      let only = front.only numbers.caller (46 ∷ decimal numbers.event) fits.caller (λ d. omega arith)
+      (e ∙ numbers_text-parts numbers) in
+      let same : 46 ∷ digits ≡ 46 ∷ decimal numbers.event = sym point ∙ only.1 in
+      cc
+
+  pub no_event : NoFront decimal (λ n. n < 2 ^ 32) digits → (numbers : Numbers) → NumbersFit numbers
+      → text ≡ numbers_text numbers → ⊥
+  no_event none numbers fits e =
+      none numbers.event [] fits.event tt (event_at numbers fits e ∙ sym (append-nil (decimal numbers.event)))
+
+  pub more_behind : (event : ℕ) (rest : List ℕ) → IsFront decimal (λ n. n < 2 ^ 32) digits event rest
+      → (rest ≡ [] → ⊥) → (numbers : Numbers) → NumbersFit numbers → text ≡ numbers_text numbers → ⊥
+  more_behind event rest f some numbers fits e =
+      some (f.only numbers.event [] fits.event tt
+      (event_at numbers fits e ∙ sym (append-nil (decimal numbers.event)))).1
 
 -- ---- the five fields
 

@@ -9,7 +9,7 @@ ghost use Rattle.transcript_text.specs.Gathered.{IsWithin};
 ghost use Rattle.transcript_text.specs.Reading.{Reads};
 ghost use Rattle.transcript_text.specs.Shows.{AppendsSpelt, KeepsSpelt, SpellsData, SpellsNoData};
 
-use crate::lexing::{number_below, spells};
+use crate::lexing::{is_dash, number_below};
 use key_names::hexes::bytes_of;
 use key_names::{Data, Word};
 use std::alloc::{AllocError, Global};
@@ -101,11 +101,11 @@ pub(crate) fn keep_data(
     ensures within { IfOk result (λ named. IfSome named (IsWithin (length kept.new.items))) }
     ensures before { take (length kept.old.items) kept.new.items ≡ kept.old.items }
 {
+    if is_dash(text) {
+        return Ok(Some(Data::None));
+    }
     if !is_bits(word) {
         return keep_bytes(alloc, kept, text);
-    }
-    if spells(text, b"-") {
-        return Ok(Some(Data::None));
     }
     match number_below(1 << 32, text) {
         Some(number) => Ok(Some(Data::Count(number as u32))),
@@ -117,11 +117,11 @@ pub(crate) fn keep_data(
 pub(crate) fn spells_data(alloc: Global, word: Word, text: &[u8]) -> Result<bool, AllocError>
     ensures { IfOk result (λ spells. MatchBool spells (SpellsData word text.now) (SpellsNoData word text.now)) }
 {
+    if is_dash(text) {
+        return Ok(true);
+    }
     if !is_bits(word) {
         return spells_bytes(alloc, text);
-    }
-    if spells(text, b"-") {
-        return Ok(true);
     }
     Ok(number_below(1 << 32, text).is_some())
 }

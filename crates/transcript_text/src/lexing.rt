@@ -1,5 +1,5 @@
 //! Texts cut at a byte, and numbers.
-ghost use Rattle.std.specs.Prelude.{◌≡◌, ◌<◌, ◌≤◌, ◌^◌, ◌∷◌, ◌++◌, ◌↔◌, true, length, IsTrue, MatchOption, decimal};
+ghost use Rattle.std.specs.Prelude.{◌≡◌, ◌<◌, ◌≤◌, ◌^◌, ◌∷◌, ◌++◌, ◌↔◌, true, length, IsTrue, MatchOption, codes, decimal};
 ghost use Rattle.transcript_text.specs.Reading.{lacks, IsDigits, IsFront, NoFront, Reads};
 
 use event_script::numbers::number_up_to;
@@ -17,6 +17,13 @@ pub(crate) fn spells(text: &[u8], name: &[u8]) -> bool
     ensures { IsTrue result ↔ (text.now ≡ name.now) }
 {
     text.len() == name.len() && text == name
+}
+
+/// Whether a text is the dash that stands for nothing.
+pub(crate) fn is_dash(text: &[u8]) -> bool
+    ensures { IsTrue result ↔ (text.now ≡ codes "-") }
+{
+    matches!(text, [b'-'])
 }
 
 /// What stands before the first of these bytes, and what stands behind it.

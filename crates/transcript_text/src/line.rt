@@ -5,7 +5,7 @@ ghost use Rattle.key_names.specs.Texts.TranscriptGrammar.{line_text, LineFits};
 ghost use Rattle.transcript_text.specs.ReadLines.{IsRead, IsSplit, numbers_text, NumbersFit};
 ghost use Rattle.transcript_text.specs.Reading.{Reads};
 
-use crate::lexing::{cut, cut_near, number_below};
+use crate::lexing::{cut, cut_near, number_front};
 use crate::names::{answer_of, word_of};
 use crate::steps::steps_of;
 use key_names::{Answer, Step, Trace, Word};
@@ -41,9 +41,14 @@ pub(crate) struct ReadLine<'a> {
 fn numbers_of(text: &[u8]) -> Option<Numbers>
     ensures { Reads numbers_text NumbersFit text.now result }
 {
-    let (caller, event) = cut_near(b'.', text)?;
-    let caller = number_below(1 << 32, caller)?;
-    let event = number_below(1 << 32, event)?;
+    let (caller, behind) = number_front(1 << 32, text)?;
+    let [b'.', digits @ ..] = behind else {
+        return None;
+    };
+    let (event, rest) = number_front(1 << 32, digits)?;
+    if !rest.is_empty() {
+        return None;
+    }
     Some(Numbers {
         caller: caller as u32,
         event: event as u32,

@@ -27,10 +27,14 @@ pub(crate) fn word_of(text: &[u8]) -> Option<Word>
     words::word_of(text)
 }
 
-/// The answer that a text is.
+/// The answer that a text is. Most lines have the first one, which is seen without a call.
+#[tactic(auto, unfolding(key_names::specs::Texts::TranscriptGrammar::answer_text))]
 pub(crate) fn answer_of(text: &[u8]) -> Option<Answer>
     ensures { Reads answer_text (λ _. ⊤) text.now result }
 {
+    if let [b'o', b'k'] = text {
+        return Some(Answer::Ok);
+    }
     for answer in &ANSWERS {
         if spells(text, answer_name(*answer)) {
             return Some(*answer);

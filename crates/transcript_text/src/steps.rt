@@ -5,7 +5,7 @@ ghost use Rattle.std.specs.Option.{option_map};
 ghost use Rattle.key_names.specs.Texts.TranscriptGrammar.{lane_text, mark_text, step_text, steps_text, LaneFits, MarkFits, StepFits};
 ghost use Rattle.transcript_text.specs.Reading.{IsFront, NoFront, Reads, StepsFit};
 
-use crate::lexing::{number_front, spells};
+use crate::lexing::{is_dash, number_front};
 use key_names::trace::MOST_STEPS;
 use key_names::{LaneId, Mark, Step, Trace};
 
@@ -70,7 +70,7 @@ pub(crate) fn steps_of<'t>(text: &[u8], trace: &'t mut Trace) -> Option<&'t [Ste
     ensures { Reads steps_text StepsFit text.now (option_map (λ steps. steps.now) result) }
 {
     trace.clear();
-    if spells(text, b"-") {
+    if is_dash(text) {
         return Some(trace.steps());
     }
     let mut rest = text;

@@ -13,9 +13,9 @@ returns-then-not-is_bits-clause-within c =
     within_kept c.args.text.now c.args.kept.now.items c.keep_bytes.new.kept.items c.keep_bytes.result
     c.keep_bytes.ensures.data
 
-pub returns-then-spells-clause-data : goal.returns-then-spells-clause-data
-returns-then-spells-clause-data c =
-    reads_dash c.args.word c.args.text.now [] refl (c.spells.ensures.0 c.if-spells.true)
+pub returns-then-is_dash-clause-data : goal.returns-then-is_dash-clause-data
+returns-then-is_dash-clause-data c =
+    reads_dash c.args.word c.args.text.now [] refl (c.is_dash.ensures.0 c.if-is_dash.true)
 
 pub returns-in-Some-clause-data : goal.returns-in-Some-clause-data
 returns-in-Some-clause-data c =
@@ -25,4 +25,4 @@ returns-in-Some-clause-data c =
 pub returns-in-None-clause-data : goal.returns-in-None-clause-data
 returns-in-None-clause-data c =
     reads_no_count c.args.word c.args.text.now (c.is_bits.ensures.0 c.if-not-is_bits.false)
-    (λ e. both_ways _ c.if-spells.false (c.spells.ensures.1 e)) c.in-None.ensures
+    (λ e. both_ways _ c.if-is_dash.false (c.is_dash.ensures.1 e)) c.in-None.ensures

@@ -1,21 +1,18 @@
+use Rattle.std.proofs.Common.{arith}
 use Rattle.transcript_text.specs.ReadLines.{numbers_text, NumbersFit}
 use Rattle.transcript_text.proofs.Answered.{reads_none}
-use Rattle.transcript_text.proofs.LineTexts.{uncut_numbers, spells_numbers}
+use Rattle.transcript_text.proofs.LineTexts.{no_event, more_behind}
+use Rattle.transcript_text.proofs.StepTexts.{begins_so}
 use Rattle.transcript_text.proofs.line.numbers_of.Goals as goal
-
-pub returns-in_err-caller : goal.returns-in_err-caller
-returns-in_err-caller c = reads_none numbers_text NumbersFit c.args.text.now _ c.from_residual.ensures
-    (uncut_numbers c.args.text.now c.in_err-caller.ensures)
-
-pub returns-in_err-caller-2 : goal.returns-in_err-caller-2
-returns-in_err-caller-2 c =
-    reads_none numbers_text NumbersFit c.args.text.now _ c.from_residual-in_err-caller-2.ensures (λ numbers fits e.
-    c.in_err-caller-2.ensures numbers.caller fits.caller
-    (spells_numbers c.args.text.now c.in_ok-caller.caller.now c.in_ok-caller.event.now c.in_ok-caller.ensures.0
-    c.in_ok-caller.ensures.1 numbers fits e).0)
 
 pub returns-in_err-event : goal.returns-in_err-event
 returns-in_err-event c =
-    reads_none numbers_text NumbersFit c.args.text.now _ c.from_residual-in_err-event.ensures (λ numbers fits e.
-    c.in_err-event.ensures numbers.event fits.event (spells_numbers c.args.text.now c.in_ok-caller.caller.now
-    c.in_ok-caller.event.now c.in_ok-caller.ensures.0 c.in_ok-caller.ensures.1 numbers fits e).1)
+    reads_none numbers_text NumbersFit c.args.text.now _ c.from_residual-in_err-event.ensures
+    (no_event c.args.text.now c.in_ok-caller.behind.now _ c.in_ok-caller.caller c.in_ok-caller.ensures
+    (begins_so 46 c.in_ok-caller.behind.now (omega arith) (omega arith)) c.in_err-event.ensures)
+
+pub returns-then-not-is_empty : goal.returns-then-not-is_empty
+returns-then-not-is_empty c =
+    more_behind c.args.text.now c.in_ok-caller.behind.now _ c.in_ok-caller.caller c.in_ok-caller.ensures
+    (begins_so 46 c.in_ok-caller.behind.now (omega arith) (omega arith)) c.in_ok-event.event c.in_ok-event.rest.now
+    c.in_ok-event.ensures (λ e. let none = rw e at c.if-not-is_empty.ensures in absurd cc)

@@ -8,10 +8,10 @@ use Rattle.transcript_text.proofs.Fronts.{no_next_front, no_comma}
 use Rattle.transcript_text.proofs.StepTexts.{reads_none_at_all, reads_last, too_many}
 use Rattle.transcript_text.proofs.steps.steps_of.Goals as goal
 
-pub returns-then-spells : goal.returns-then-spells
-returns-then-spells c =
+pub returns-then-is_dash : goal.returns-then-is_dash
+returns-then-is_dash c =
     reads_none_at_all c.args.text.now c.steps.result.now (c.steps.ensures.steps ∙ c.clear.ensures)
-    (c.spells.ensures.0 c.if-spells.true)
+    (c.is_dash.ensures.0 c.if-is_dash.true)
 
 pub returns-in_err-step : goal.returns-in_err-step
 returns-in_err-step c =
