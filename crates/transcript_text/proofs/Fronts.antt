@@ -1,6 +1,6 @@
 -- What a text begins with is read in one way, where no digit follows.
-use Rattle.std.proofs.Common.{◌≡◌, ℕ, zero, suc, ◌+◌, ◌^◌, ◌<◌, ◌≤◌, ◌⊎◌, inl, inr, List, [], ◌∷◌, ◌++◌, length, get_or, take, drop, refl, sym, ap, subst, ◌∙◌, append_assoc, append-nil, arith}
-use Rattle.std.specs.Prelude.{codes, decimal}
+use Rattle.std.proofs.Common.{◌≡◌, ℕ, zero, suc, ◌+◌, ◌^◌, ◌<◌, ◌≤◌, ◌⊎◌, inl, inr, List, [], ◌∷◌, ◌++◌, length, get_or, take, drop, refl, sym, ap, subst, ◌∙◌, append_assoc, arith}
+use Rattle.std.specs.Prelude.{decimal}
 use Rattle.std.specs.Char.{digit_value}
 use Rattle.std.specs.List.{flat_map, AllByRecursion}
 use Rattle.std.specs.Str.Parse.{AllDigits, digits_value}
@@ -17,7 +17,7 @@ use Rattle.key_names.specs.declared.names.Step.TheVariants.{Look, Visit}
 use Rattle.key_names.specs.Texts.TranscriptGrammar.{lane_text, mark_text, step_text, steps_text, LaneFits, MarkFits, StepFits}
 use Rattle.transcript_text.specs.Reading.{EndsNumber, IsDigits, IsFront, NoFront, StepsFit}
 use Rattle.transcript_text.proofs.StepLists.{next_text, steps_text-cons}
-use Rattle.transcript_text.proofs.StepTexts.{StepsBehind, StepsRead, behind_read, heads, no_mark_behind, made_mark}
+use Rattle.transcript_text.proofs.StepTexts.{StepsRead, behind_read, heads, no_mark_behind}
 
 same_digits : (a b x y : List ℕ) → AllDigits 10 a → AllDigits 10 b → EndsNumber x → EndsNumber y → a ++ x ≡ b ++ y
     → (a ≡ b) × (x ≡ y)

@@ -12,7 +12,7 @@ use Rattle.key_names.specs.declared.events.Answer.{Answer}
 use Rattle.key_names.specs.declared.events.Word.{Word}
 use Rattle.key_names.specs.declared.names.Step.{Step}
 use Rattle.key_names.specs.SeenLine.{Shown, no_data, bytes, count, SeenLine}
-use Rattle.key_names.specs.Texts.Spelling.{AllLower, is_lower_digit, word_text, spaced, hex}
+use Rattle.key_names.specs.Texts.Spelling.{AllLower, is_lower_digit, word_text, spaced}
 use Rattle.key_names.specs.Texts.TranscriptGrammar.{answer_text, steps_text, step_text, shown_text, line_text, StepFits, ShownFits, LineFits}
 use Rattle.transcript_text.specs.declared.line.Numbers.{Numbers}
 use Rattle.transcript_text.specs.Reading.{lacks, IsFront, NoFront, StepsFit}

@@ -1,5 +1,5 @@
 -- Data are read from their spelling, and it is that of no other data.
-use Rattle.std.proofs.Common.{◌≡◌, ℕ, ◌<◌, ◌^◌, Bool, true, false, List, [], ◌∷◌, length, Option, Some, None, Result, Ok, Err, refl, sym, ap, subst, ◌∙◌, arith}
+use Rattle.std.proofs.Common.{◌≡◌, ℕ, ◌<◌, ◌^◌, Bool, List, [], ◌∷◌, length, Option, Some, None, Result, Ok, Err, refl, sym, ap, subst, ◌∙◌, arith}
 use Rattle.std.specs.Prelude.{codes, decimal, IfOk, IfSome, MatchBool}
 use Rattle.std.specs.Option.{is_some, option_map}
 use Rattle.hex.specs.Hex.{IsBytes}
@@ -13,7 +13,7 @@ use Rattle.key_names.specs.Texts.TranscriptGrammar.{shown_text, ShownFits}
 use Rattle.key_names.proofs.Script.HexFields.{bytes_takes, bytes_again}
 use Rattle.transcript_text.specs.Gathered.{IsWithin}
 use Rattle.transcript_text.specs.Reading.{Reads}
-use Rattle.transcript_text.specs.Shows.{AppendsSpelt, NamesSpelt, KeepsSpelt, SpellsData, SpellsNoData}
+use Rattle.transcript_text.specs.Shows.{NamesSpelt, KeepsSpelt, SpellsData, SpellsNoData}
 use Rattle.transcript_text.proofs.Keeping.{shown_in-bytes_from, bytes_from_within}
 
 pub shown_text-bytes : (shown : List ℕ) → shown_text (bytes_or_none shown) ≡ hex shown

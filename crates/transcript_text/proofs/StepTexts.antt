@@ -138,7 +138,7 @@ spells_mark text lane rest place stamp mark cut before cut2 before2 fits e =
     (place_lacks_at mark.place fits.place) (sym cut2 ∙ behind.1) in
     record { lane_is = behind.0; place_is = parts.0; stamp_is = parts.1 }
 
-abbrev pub made_mark : LaneId → ℕ → ℕ → Mark
+abbrev made_mark : LaneId → ℕ → ℕ → Mark
 made_mark lane place stamp = record { lane = lane; place = place; stamp = stamp }
 
 pub same_mark : (a b : Mark) → MarkFits a → MarkFits b → mark_text a ≡ mark_text b → a ≡ b

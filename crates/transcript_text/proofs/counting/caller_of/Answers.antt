@@ -1,4 +1,4 @@
-use Rattle.std.proofs.Common.{◌≡◌, ap, refl, sym, ◌∙◌, arith}
+use Rattle.std.proofs.Common.{◌≡◌, ap, refl, arith}
 use Rattle.key_names.specs.SeenLine.{SeenLine}
 use Rattle.transcript_text.specs.ReadLines.{seen_read}
 use Rattle.transcript_text.proofs.LineTexts.{shows_data}

@@ -1,4 +1,4 @@
-use Rattle.std.proofs.Common.{◌∙◌, sym, arith}
+use Rattle.std.proofs.Common.{arith}
 use Rattle.transcript_text.proofs.SpeltPieces.{names_none, names_bytes, spelt_short}
 use Rattle.transcript_text.proofs.data.keep_bytes.Goals as goal
 
