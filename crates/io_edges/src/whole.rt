@@ -85,9 +85,10 @@ pub fn put_all<K: Sink>(sink: &mut K, piece: &[u8]) -> Result<(), Failed>
     ensures cause { OnErr result (Rose (K.faults sink.old) (K.faults sink.new)) }
     ensures never_falls { K.faults sink.old ≤ K.faults sink.new }
 {
-    let mut at = 0;
-    while at < piece.len() {
-        at += sink.put(&piece[at..])?;
+    let mut rest = piece;
+    while !rest.is_empty() {
+        let count = sink.put(rest)?;
+        (_, rest) = rest.split_at(count);
     }
     Ok(())
 }
