@@ -33,6 +33,16 @@ const FORK: &[u8] = b"rngtranscript 1
 end
 ";
 
+/// Numbers of every length.
+const NUMBERS: &[u8] = b"rngtranscript 1
+0.0 read ok ~0,~9,~10,~99,~100,~999,~1000,~9999,~10000,~99999,~100000,~999999,~1000000,~9999999,~10000000 -
+0.1 read ok ~99999999,~100000000,~999999999,~1000000000,~9999999999,~10000000000,~99999999999,~100000000000,~999999999999,~1000000000000,~9999999999999,~10000000000000,~99999999999999,~100000000000000,~999999999999999 -
+0.2 read ok ~1000000000000000,~9999999999999999,~10000000000000000,~99999999999999999,~100000000000000000,~999999999999999999,~1000000000000000000,~9223372036854775807,~7,~57,~357,~1357,~24680 -
+0.3 read ok ~246801,~1234567,~12345678,~123456789,~1234567890,~12030405,~70000000,~10010203,~90909,~101,~1001,~10101,~100001,~1000100,~2020 -
+0.4 bits ok c0:1234@5678901 4294967295
+end
+";
+
 fn sink(alloc: Global, step: usize, failing: u64) -> Result<MemSink, AllocError>
     requires { 0 < step }
 {
@@ -192,7 +202,7 @@ fn again(rt: &impl Abort, alloc: Global, text: &[u8]) -> Result<Vec<u8>, AllocEr
 
 #[test]
 fn published_texts_are_read_and_written_again(rt: HostRuntime) -> Result<(), Fail> {
-    for text in [BEFORE_READINESS, FORK, b"rngtranscript 1\nend\n"] {
+    for text in [BEFORE_READINESS, FORK, NUMBERS, b"rngtranscript 1\nend\n"] {
         assert_eq!(rt; again(&rt, rt.alloc(), text)?.as_slice(), text);
     }
     Ok(())

@@ -1,35 +1,43 @@
 -- The last digits of a number in decimal.
-use Rattle.std.proofs.Common.{ℕ, ◌≡◌, ◌+◌, ◌≤◌, ◌<◌, ◌^◌, ◌/◌, ◌%◌, ◌++◌, ◌∷◌, [], List, ap, ◌∙◌, arith}
+use Rattle.std.proofs.Common.{ℕ, zero, suc, ◌≡◌, ◌+◌, ◌-◌, ◌*◌, ◌≤◌, ◌<◌, ◌^◌, ◌/◌, ◌%◌, ◌++◌, Bool, true, ◌&&◌, T, eqb, List, get_or, ap, sym, ◌∙◌, inl, inr, eq-zero-or-pos, eqb→eq, append_assoc, arith}
 use Rattle.std.specs.Prelude.{decimal}
-use Rattle.std.proofs.lemmas.List.{append_assoc}
-use Rattle.std.proofs.lemmas.Fmt.{decimal_step, decimal_digit}
-use Rattle.transcript_text.specs.Heads.{four_digits}
+use lib.Ieee.Fits.{and_l, and_r}
+use Rattle.itoa.proofs.Decimal.{decimal_pair, decimal_four}
+use Rattle.transcript_text.specs.Heads.{two_digits}
+use Rattle.transcript_text.specs.declared.line_buffer.TheConstants.{PAIRS}
 
--- two digits
-pub below_100 : (n : ℕ) → 10 ≤ n → n < 100 → decimal n ≡ (48 + n / 10) ∷ (48 + n % 10) ∷ []
-below_100 n some few = decimal_step n some (omega arith)
-    ∙ ap (λ (ds : List ℕ). ds ++ (48 + n % 10) ∷ []) (decimal_digit (n / 10) (omega arith))
+abbrev are_pairs : ℕ → Bool
+are_pairs zero = true
+are_pairs (suc p) =
+    (eqb (get_or PAIRS (2 * p) 0) (48 + p / 10) && eqb (get_or PAIRS (2 * p + 1) 0) (48 + p % 10)) && are_pairs p
 
--- a number is what stands before its last digit, and that digit
-step : (n m d : ℕ) → 10 ≤ n → n < 2 ^ 64 → m ≡ n / 10 → d ≡ n % 10 → decimal n ≡ decimal m ++ (48 + d) ∷ []
-step n m d some few front end = decimal_step n some few
-    ∙ ap (λ (k : ℕ). decimal k ++ (48 + n % 10) ∷ []) (omega (arith, front))
-    ∙ ap (λ (k : ℕ). decimal m ++ (48 + k) ∷ []) (omega (arith, end))
+below : (n p : ℕ) → T (are_pairs n) → p < n
+    → (get_or PAIRS (2 * p) 0 ≡ 48 + p / 10) × (get_or PAIRS (2 * p + 1) 0 ≡ 48 + p % 10)
+below zero p t h = absurd (omega arith)
+below (suc n) p t h =
+    elim (eq-zero-or-pos (n - p)) [
+      | inl z ↦
+          let e : p ≡ n = omega arith in
+          let a = and_l _ (are_pairs n) t in
+          rw e (eqb→eq _ _ (and_l _ _ a), eqb→eq _ _ (and_r _ _ a))
+      | inr g ↦ below n p (and_r _ (are_pairs n) t) (omega arith)
+    ]
 
--- a digit more
-more : (n m d : ℕ) (ds : List ℕ) → 10 ≤ n → n < 2 ^ 64 → m ≡ n / 10 → d ≡ n % 10 →
-    decimal n ++ ds ≡ decimal m ++ (48 + d) ∷ ds
-more n m d ds some few front end = ap (λ (xs : List ℕ). xs ++ ds) (step n m d some few front end)
-    ∙ append_assoc (decimal m) ((48 + d) ∷ []) ds
+-- what stands in the table
+pub pair_at : (p : ℕ) → p < 100 → (get_or PAIRS (2 * p) 0 ≡ 48 + p / 10) × (get_or PAIRS (2 * p + 1) 0 ≡ 48 + p % 10)
+pair_at p h = below 100 p tt h
+
+-- a number with more than two digits ends in its last two
+pub last_two : (n : ℕ) (text : List ℕ) → 100 ≤ n → n < 2 ^ 64
+    → (text ++ decimal (n / 100)) ++ two_digits (n % 100) ≡ text ++ decimal n
+last_two n text many few = append_assoc text (decimal (n / 100)) (two_digits (n % 100))
+    ∙ ap (λ (ds : List ℕ). text ++ ds) (sym (decimal_pair n many few))
 
 -- a number with more than four digits ends in its last four
-pub last_four : (n : ℕ) → 10000 ≤ n → n < 2 ^ 64 → decimal n ≡ decimal (n / 10000) ++ four_digits (n % 10000)
-last_four n many few =
-    let low = n % 10000 in
-    let ones = (48 + low % 10) ∷ [] in
-    let tens = (48 + low / 10 % 10) ∷ ones in
-    let hundreds = (48 + low / 100 % 10) ∷ tens in
-    step n (n / 10) (low % 10) (omega arith) few (omega arith) (omega arith)
-    ∙ more (n / 10) (n / 100) (low / 10 % 10) ones (omega arith) (omega arith) (omega arith) (omega arith)
-    ∙ more (n / 100) (n / 1000) (low / 100 % 10) tens (omega arith) (omega arith) (omega arith) (omega arith)
-    ∙ more (n / 1000) (n / 10000) (low / 1000) hundreds (omega arith) (omega arith) (omega arith) (omega arith)
+pub last_four : (n : ℕ) (text : List ℕ) → 10000 ≤ n → n < 2 ^ 64
+    → ((text ++ decimal (n / 10000)) ++ two_digits (n % 10000 / 100)) ++ two_digits (n % 10000 % 100)
+    ≡ text ++ decimal n
+last_four n text many few =
+    append_assoc (text ++ decimal (n / 10000)) (two_digits (n % 10000 / 100)) (two_digits (n % 10000 % 100))
+    ∙ append_assoc text (decimal (n / 10000)) (two_digits (n % 10000 / 100) ++ two_digits (n % 10000 % 100))
+    ∙ ap (λ (ds : List ℕ). text ++ ds) (sym (decimal_four n many few))

@@ -12,6 +12,6 @@ head_text caller event word answer steps =
     decimal caller ++ codes "." ++ decimal event ++ codes " " ++ word_text word ++ codes " "
     ++ answer_text answer ++ codes " " ++ steps_text steps ++ codes " "
 
--- the four last digits of a number
-abbrev pub four_digits : ℕ → List ℕ
-four_digits n = (48 + n / 1000) ∷ (48 + n / 100 % 10) ∷ (48 + n / 10 % 10) ∷ (48 + n % 10) ∷ []
+-- the two digits of a number below 100
+abbrev pub two_digits : ℕ → List ℕ
+two_digits n = (48 + n / 10) ∷ (48 + n % 10) ∷ []

@@ -1,43 +1,45 @@
 //! A line up to its data.
-ghost use Rattle.std.specs.Prelude.{◌≡◌, ◌+◌, ◌≤◌, ◌++◌, [], length};
-ghost use Rattle.key_names.specs.Texts.TranscriptGrammar.{lane_text, step_text, steps_text};
+ghost use Rattle.std.specs.Prelude.{◌≡◌, ◌+◌, ◌≤◌, ◌++◌, [], codes, length};
+ghost use Rattle.key_names.specs.Texts.TranscriptGrammar.{answer_text, lane_text, step_text, steps_text};
 ghost use Rattle.transcript_text.specs.Heads.{head_text};
 
 use crate::fields::answer_name;
 use crate::line_buffer::Piece;
 use crate::view::LineView;
-use key_names::{LaneId, Step};
+use key_names::{Answer, LaneId, Step};
 
+/// A lane, and the colon behind it.
+#[inline(always)]
 #[tactic(auto, unfolding(key_names::specs::Texts::TranscriptGrammar::lane_text))]
 fn append_lane(piece: &mut Piece, lane: LaneId)
-    requires { length piece.old + 21 ≤ 4096 }
-    ensures text { piece.new ≡ piece.old ++ lane_text lane }
-    ensures short { length piece.new ≤ length piece.old + 21 }
+    requires { length piece.old + 22 ≤ 4096 }
+    ensures text { piece.new ≡ piece.old ++ (lane_text lane ++ codes ":") }
+    ensures short { length piece.new ≤ length piece.old + 22 }
 {
     match lane {
-        LaneId::Pool => piece.push(b'p'),
-        LaneId::Base => piece.push(b'b'),
+        LaneId::Pool => piece.append(b"p:"),
+        LaneId::Base => piece.append(b"b:"),
         LaneId::Cpu(cpu) => {
             piece.push(b'c');
-            piece.append_number(cpu as u64);
+            piece.append_small(cpu as u64);
+            piece.push(b':');
         }
     }
 }
 
 #[tactic(auto, unfolding(key_names::specs::Texts::TranscriptGrammar::step_text))]
-fn append_step(piece: &mut Piece, step: Step)
+fn append_step(piece: &mut Piece, step: &Step)
     requires { length piece.old + 63 ≤ 4096 }
-    ensures text { piece.new ≡ piece.old ++ step_text step }
+    ensures text { piece.new ≡ piece.old ++ step_text step.now }
     ensures short { length piece.new ≤ length piece.old + 63 }
 {
-    match step {
+    match *step {
         Step::Look(generation) => {
             piece.push(b'~');
-            piece.append_number(generation);
+            piece.append_small(generation);
         }
         Step::Visit(mark) => {
             append_lane(piece, mark.lane);
-            piece.push(b':');
             piece.append_number(mark.place);
             piece.push(b'@');
             piece.append_number(mark.stamp);
@@ -56,11 +58,29 @@ fn append_steps(piece: &mut Piece, steps: &[Step])
         piece.push(b'-');
         return;
     };
-    append_step(piece, *first);
+    append_step(piece, first);
     for step in rest {
         piece.push(b',');
-        append_step(piece, *step);
+        append_step(piece, step);
     }
+}
+
+/// An answer, and the spaces around it.
+#[inline(always)]
+#[tactic(auto, unfolding(key_names::specs::Texts::TranscriptGrammar::answer_text))]
+fn append_answer(piece: &mut Piece, answer: Answer)
+    requires { length piece.old + 10 ≤ 4096 }
+    ensures text { piece.new ≡ piece.old ++ (codes " " ++ answer_text answer ++ codes " ") }
+    ensures short { length piece.new ≤ length piece.old + 10 }
+{
+    // The answer of most lines.
+    if let Answer::Ok = answer {
+        piece.append(b" ok ");
+        return;
+    }
+    piece.push(b' ');
+    piece.append_word(answer_name(answer));
+    piece.push(b' ');
 }
 
 /// The line up to the space before its data.
@@ -72,14 +92,12 @@ pub(crate) fn append_head(piece: &mut Piece, line: LineView<'_>)
         line.entry.steps.now }
     ensures short { length piece.new ≤ 1400 }
 {
-    piece.append_number(line.caller as u64);
+    piece.append_small(line.caller as u64);
     piece.push(b'.');
     piece.append_number(line.event as u64);
     piece.push(b' ');
     piece.append_word(line.word.text());
-    piece.push(b' ');
-    piece.append_word(answer_name(line.answer));
-    piece.push(b' ');
+    append_answer(piece, line.answer);
     append_steps(piece, line.steps);
     piece.push(b' ');
 }

@@ -1,13 +1,17 @@
 //! A piece of text that is put in one go.
 ghost use Rattle.std.specs.Prelude.{◌≡◌, ◌+◌, ◌*◌, ◌<◌, ◌≤◌, ◌∷◌, ◌++◌, [], length, decimal, slice_index};
 ghost use Rattle.hex.specs.Hex.{encode_lower, lower_digits};
-ghost use Rattle.transcript_text.specs.Heads.{four_digits};
+ghost use Rattle.transcript_text.specs.Heads.{two_digits};
 
 use itoa::Buffer;
 use std::marker::Model;
 
 /// The most bytes of a piece.
 pub(crate) const MOST_BYTES: usize = 4096;
+
+/// The two digits of each number below 100.
+static PAIRS: [u8; 200] =
+    *b"00010203040506070809101112131415161718192021222324252627282930313233343536373839404142434445464748495051525354555657585960616263646566676869707172737475767778798081828384858687888990919293949596979899";
 
 /// At most 4,096 bytes of text, on the stack.
 #[derive(Drop)]
@@ -75,19 +79,15 @@ impl Piece {
         self.len = end;
     }
 
-    // The four last digits of a number.
+    // The two digits of a number below 100.
     #[inline(always)]
-    fn append_four(&mut self, number: u32)
-        requires small { number < 10000 }
-        requires room { length self.old + 4 ≤ 4096 }
-        ensures { self.new ≡ self.old ++ four_digits number }
+    fn append_pair(&mut self, number: u32)
+        requires small { number < 100 }
+        requires room { length self.old + 2 ≤ 4096 }
+        ensures { self.new ≡ self.old ++ two_digits number }
     {
-        self.append(&[
-            b'0' + (number / 1000) as u8,
-            b'0' + (number / 100 % 10) as u8,
-            b'0' + (number / 10 % 10) as u8,
-            b'0' + (number % 10) as u8,
-        ]);
+        let from = 2 * number as usize;
+        self.append(&[PAIRS[from], PAIRS[from + 1]]);
     }
 
     #[inline(always)]
@@ -101,7 +101,22 @@ impl Piece {
             self.push(b'0' + number as u8);
             return;
         }
-        self.append(&[b'0' + (number / 10) as u8, b'0' + (number % 10) as u8]);
+        self.append_pair(number);
+    }
+
+    #[inline(always)]
+    fn append_below_10000(&mut self, number: u32)
+        requires small { number < 10000 }
+        requires room { length self.old + 4 ≤ 4096 }
+        ensures text { self.new ≡ self.old ++ decimal number }
+        ensures short { length (decimal number) ≤ 4 }
+    {
+        if number < 100 {
+            self.append_below_100(number);
+            return;
+        }
+        self.append_below_100(number / 100);
+        self.append_pair(number % 100);
     }
 
     pub(crate) fn append_number(&mut self, number: u64)
@@ -109,18 +124,33 @@ impl Piece {
         ensures text { self.new ≡ self.old ++ decimal number }
         ensures short { length (decimal number) ≤ 20 }
     {
-        // Numbers of one or two digits, and of five or six, are most of a transcript.
-        if number < 100 {
-            self.append_below_100(number as u32);
+        if number < 10_000 {
+            self.append_below_10000(number as u32);
             return;
         }
-        if number >= 10_000 && number < 1_000_000 {
-            self.append_below_100((number / 10_000) as u32);
-            self.append_four((number % 10_000) as u32);
+        if number < 100_000_000 {
+            let last_four = (number % 10_000) as u32;
+            self.append_below_10000((number / 10_000) as u32);
+            self.append_pair(last_four / 100);
+            self.append_pair(last_four % 100);
             return;
         }
         let mut digits = Buffer::new();
         self.append(digits.format(number).as_bytes());
+    }
+
+    /// A number that mostly has one digit.
+    #[inline(always)]
+    pub(crate) fn append_small(&mut self, number: u64)
+        requires { length self.old + 20 ≤ 4096 }
+        ensures text { self.new ≡ self.old ++ decimal number }
+        ensures short { length (decimal number) ≤ 20 }
+    {
+        if number < 10 {
+            self.push(b'0' + number as u8);
+            return;
+        }
+        self.append_number(number);
     }
 
     /// A word of a few bytes, copied without a call.
