@@ -21,6 +21,17 @@ pub line_is : (line : LineView) (head : List ℕ)
 unfolding line_text head_text
 line_is line head e = rw e (simp append_assoc)
 
+-- the head of a line and what it shows, looked up one after the other
+pub line_of_parts : (line again : LineView) (head : List ℕ) (found : Option SeenLine)
+    → head ≡ head_text line.caller line.event line.word line.answer line.steps.now
+    → found ≡ Some (seen line) → found ≡ Some (seen again)
+    → (head ++ shown_text (seen_shown again.shown)) ++ codes "\n" ≡ whole_line (seen line)
+line_of_parts line again head found e first second =
+    let both : Some (seen line) ≡ Some (seen again) = sym first ∙ second in
+    let same : seen line ≡ seen again = cc in
+    ap (λ (text : List ℕ). text ++ codes "\n")
+    (ap (λ (l : SeenLine). head ++ shown_text l.shown) (sym same) ∙ line_is line head e)
+
 pub next_line : (lines : List SeenLine) (i : ℕ) (line : SeenLine) → slice_get lines i ≡ Some line
     → text_of (drop i lines) ≡ whole_line line ++ text_of (drop (i + 1) lines)
 next_line lines i line at = ap text_of (drop_from_get lines i line at)

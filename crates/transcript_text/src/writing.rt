@@ -4,16 +4,16 @@ ghost use Rattle.std.specs.Io.KnownBytes.{Appends};
 ghost use Rattle.hex.specs.Hex.{encode_lower};
 ghost use Rattle.io_edges.specs.Faults.{Rose};
 ghost use Rattle.io_edges.specs.Pieces.{AppendsPrefix};
-ghost use Rattle.key_names.specs.Texts.TranscriptGrammar.{shown_text, line_text, transcript_text};
+ghost use Rattle.key_names.specs.Texts.TranscriptGrammar.{shown_text, transcript_text};
 ghost use Rattle.transcript_text.specs.Lines.{text_of};
 ghost use Rattle.transcript_text.specs.Putting.{PutSoFar};
-ghost use Rattle.transcript_text.specs.Views.{seen, seen_shown};
+ghost use Rattle.transcript_text.specs.Views.{seen_shown};
 
 use crate::caller_lines::CallerLines;
 use crate::head::append_head;
 use crate::line_buffer::Piece;
 use crate::transcript::Transcript;
-use crate::view::{LineView, Shown};
+use crate::view::Shown;
 use io_edges::{Failed, Sink, put_all};
 
 /// Puts the piece, and leaves it empty.
@@ -102,18 +102,18 @@ fn end_line<K: Sink>(sink: &mut K, piece: &mut Piece) -> Result<(), Failed>
     put_piece(sink, piece)
 }
 
-/// Puts a line. The piece is empty before and after.
-fn put_line<K: Sink>(sink: &mut K, piece: &mut Piece, line: LineView<'_>) -> Result<(), Failed>
-    requires empty { piece.old ≡ [] }
-    requires few { length line.steps.now ≤ 20 }
-    ensures whole { OnOk result (Appends (K.held sink.old) (K.held sink.new) (line_text (seen line.entry) ++ codes "\n")) }
+/// Puts what is in the piece, what a line shows, and the line's end. The piece is empty behind it.
+fn put_data<K: Sink>(sink: &mut K, piece: &mut Piece, shown: Shown<'_>) -> Result<(), Failed>
+    requires room { length piece.old ≤ 2048 }
+    ensures whole { OnOk result (Appends (K.held sink.old) (K.held sink.new)
+        ((piece.old ++ shown_text (seen_shown shown.entry)) ++ codes "\n")) }
     ensures emptied { OnOk result (piece.new ≡ []) }
-    ensures prefix { AppendsPrefix (K.held sink.old) (K.held sink.new) (line_text (seen line.entry) ++ codes "\n") }
+    ensures prefix { AppendsPrefix (K.held sink.old) (K.held sink.new)
+        ((piece.old ++ shown_text (seen_shown shown.entry)) ++ codes "\n") }
     ensures cause { OnErr result (Rose (K.faults sink.old) (K.faults sink.new)) }
     ensures never_falls { K.faults sink.old ≤ K.faults sink.new }
 {
-    append_head(piece, line);
-    put_shown(sink, piece, line.shown)?;
+    put_shown(sink, piece, shown)?;
     end_line(sink, piece)
 }
 
@@ -127,7 +127,9 @@ fn put_lines<K: Sink>(sink: &mut K, piece: &mut Piece, lines: &CallerLines) -> R
     ensures never_falls { K.faults sink.old ≤ K.faults sink.new }
 {
     for number in 0..lines.len() {
-        put_line(sink, piece, lines.line(number))?;
+        append_head(piece, lines.line(number));
+        // What it shows is looked up only here, and so not kept while the head is written.
+        put_data(sink, piece, lines.line(number).shown)?;
     }
     Ok(())
 }
