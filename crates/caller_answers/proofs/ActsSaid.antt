@@ -45,19 +45,19 @@ module _ (kept : KeptLists) (set : Setting) (reached : Reached) where
         subst (λ x. IsActSaid kept set (includes reached bound.point) bound.act bound.line.steps x) is said_here
 
   -- one act more is written
-  pub acts_written : (acts : List ActLine) (i : ℕ) (a : ActLine) → i < length acts → a ≡ get_or acts i a →
-      (old mid new : List Said) (one : Said) →
-      Written (map (act_write kept set reached) (map seen_act (take i acts))) old mid →
-      one ≡ (act_write kept set reached (seen_act a)).said → IsPut a.line.event one mid new →
-      Written (map (act_write kept set reached) (map seen_act (take (i + 1) acts))) old new
-  acts_written acts i a low is old mid new one before one_is put =
-      let here = subst (λ x. IsPut a.line.event x mid new) one_is put in
+  pub acts_written : {Noted : Type 0} (IsNoted : ℕ → Said → Noted → Type 0) (acts : List ActLine) (i : ℕ) (a : ActLine) →
+      i < length acts → a ≡ get_or acts i a → (old mid new : List Noted) (one : Said) →
+      Written IsNoted (map (act_write kept set reached) (map seen_act (take i acts))) old mid →
+      one ≡ (act_write kept set reached (seen_act a)).said → IsPut IsNoted a.line.event one mid new →
+      Written IsNoted (map (act_write kept set reached) (map seen_act (take (i + 1) acts))) old new
+  acts_written IsNoted acts i a low is old mid new one before one_is put =
+      let here = subst (λ x. IsPut IsNoted a.line.event x mid new) one_is put in
       let w = act_write kept set reached in
       let so_far = map seen_act (take i acts) in
       let e : map w so_far ++ w (seen_act a) ∷ [] ≡ map w (map seen_act (take (i + 1) acts)) =
       sym (map-append w so_far (seen_act a ∷ [])) ∙ ap (map w) (mapped_more acts i a low is seen_act so_far refl) in
-      subst (λ ws. Written ws old new) e
-      (written_more (map w so_far) (w (seen_act a) ∷ []) old mid new before (new, here, refl))
+      subst (λ ws. Written IsNoted ws old new) e
+      (written_more IsNoted (map w so_far) (w (seen_act a) ∷ []) old mid new before (new, here, refl))
 
 -- ---- a vread
 
@@ -89,16 +89,16 @@ module _ (kept : KeptLists) (set : Setting) (n flags : ℕ) (line : SeenLine) (a
         let e : said.f.course.reached ≡ course.reached = ap (λ x. x.course.reached) same ∙ ap (λ x. x.reached) (sym course_is) in
         undone (subst (λ r. AllByRecursion (ActDone kept set r) acts) e said.done)
 
-    pub vread_done : (t : VStates) (old mid new : List Said) → t ≡ with_state s f.state →
-        AllByRecursion (ActDone kept set course.reached) acts →
-        Written (map (act_write kept set course.reached) acts) old mid →
-        IsPut line.event (record { answer = course.answer; shows = Served course.served }) mid new →
-        (writes : List Write) × VreadSaid kept set n flags line acts s t writes × Written writes old new
-    vread_done t old mid new t_is done written put =
+    pub vread_done : {Noted : Type 0} (IsNoted : ℕ → Said → Noted → Type 0) (t : VStates) (old mid new : List Noted) →
+        t ≡ with_state s f.state → AllByRecursion (ActDone kept set course.reached) acts →
+        Written IsNoted (map (act_write kept set course.reached) acts) old mid →
+        IsPut IsNoted line.event (record { answer = course.answer; shows = Served course.served }) mid new →
+        (writes : List Write) × VreadSaid kept set n flags line acts s t writes × Written IsNoted writes old new
+    vread_done IsNoted t old mid new t_is done written put =
         let P : Course → Type 0 = λ x. AllByRecursion (ActDone kept set x.reached) acts in
         let W : Course → List Write = λ x. map (act_write kept set x.reached) acts
         ++ write line (record { answer = x.answer; shows = Served x.served }) ∷ [] in
-        let all = written_more (map (act_write kept set course.reached) acts) _ old mid new written (new, put, refl) in (
+        let all = written_more IsNoted (map (act_write kept set course.reached) acts) _ old mid new written (new, put, refl) in (
           W course,
           record {
             f = f;

@@ -8,11 +8,12 @@ use Rattle.caller_answers.specs.Writes.{Write, Written}
 use Rattle.caller_answers.specs.CallSays.{VStates, first_states, with_state, CallSaid, CallsSaid}
 use Rattle.caller_answers.proofs.Going.{taken_more}
 
-pub written_more : (writes more : List Write) (old mid new : List Said) → Written writes old mid → Written more mid new →
-    Written (writes ++ more) old new
-written_more [] more old mid new is later = subst (λ said. Written more said new) is later
-written_more (w ∷ writes) more old mid new put later =
-    (put.0, put.1, written_more writes more put.0 mid new put.2 later)
+module _ {Noted : Type 0} (IsNoted : ℕ → Said → Noted → Type 0) where
+  pub written_more : (writes more : List Write) (old mid new : List Noted) → Written IsNoted writes old mid →
+      Written IsNoted more mid new → Written IsNoted (writes ++ more) old new
+  written_more [] more old mid new is later = subst (λ notes. Written IsNoted more notes new) is later
+  written_more (w ∷ writes) more old mid new put later =
+      (put.0, put.1, written_more writes more put.0 mid new put.2 later)
 
 some_same : {X : Type 0} (x y : X) → Some x ≡ Some y → x ≡ y
 some_same x y e = cc
@@ -51,10 +52,11 @@ module _ (kept : KeptLists) where
   )
 
   module _ (sets : List Setting) (calls : List Call) where
-    -- the first calls are said, and what they say is put
-    abbrev pub SoFar : ℕ → VStates → List Said → Type 0
-    SoFar n here said = (writes : List Write) × CallsSaid kept (take n sets) (take n calls) first_states here writes
-        × Written writes [] said
+    -- the first calls are said, and what they say is noted
+    abbrev pub SoFar : {Noted : Type 0} → (ℕ → Said → Noted → Type 0) → ℕ → VStates → List Noted → Type 0
+    SoFar IsNoted n here notes =
+        (writes : List Write) × CallsSaid kept (take n sets) (take n calls) first_states here writes
+        × Written IsNoted writes [] notes
 
     -- the rest of the calls can be said
     abbrev pub Left : ℕ → VStates → Type 0
@@ -62,17 +64,18 @@ module _ (kept : KeptLists) where
 
     module _ (n : ℕ) (low : n < length sets) (low' : n < length calls) (set : Setting) (call : Call)
         (set_is : set ≡ get_or sets n set) (call_is : call ≡ get_or calls n call) (here : VStates) where
-      pub so_far_more : (next : VStates) (said more : List Said) → SoFar n here said →
-          (writes : List Write) × CallSaid kept set call here next writes × Written writes said more →
-          SoFar (n + 1) next more
-      so_far_more next said more before one =
+      pub so_far_more : {Noted : Type 0} (IsNoted : ℕ → Said → Noted → Type 0) (next : VStates) (notes more : List Noted) →
+          SoFar IsNoted n here notes →
+          (writes : List Write) × CallSaid kept set call here next writes × Written IsNoted writes notes more →
+          SoFar IsNoted (n + 1) next more
+      so_far_more IsNoted next notes more before one =
           let a = length-take-le n sets (omega arith) in
           let b = length-take-le n calls (omega arith) in
           let P : List Setting → List Call → Type 0 = λ xs ys. CallsSaid kept xs ys first_states next (before.0 ++ one.0) in
           let calls_said = subst (λ ys. P (take (n + 1) sets) ys) (sym (taken_more calls n call low' call_is))
           (subst (λ xs. P xs (take n calls ++ call ∷ [])) (sym (taken_more sets n set low set_is))
           (snoc (take n sets) (take n calls) set call first_states here next before.0 one.0 (a ∙ sym b) before.1 one.1)) in
-          (before.0 ++ one.0, calls_said, written_more before.0 one.0 [] said more before.2 one.2)
+          (before.0 ++ one.0, calls_said, written_more IsNoted before.0 one.0 [] notes more before.2 one.2)
 
       -- the next of those that are left
       next_left : Left n here → (at : VStates) × (one : List Write) × CallSaid kept set call here at one × Left (n + 1) at

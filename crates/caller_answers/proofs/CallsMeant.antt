@@ -20,7 +20,7 @@ use Rattle.list_replay.specs.Kept.{Keeps}
 use Rattle.told_entries.specs.Filled.{CallsFill}
 use Rattle.vread_course.specs.declared.inside.Reached.{Reached}
 use Rattle.caller_answers.specs.declared.said.Said.{Said}
-use Rattle.caller_answers.specs.Said.{SaysIt, IsSaid, AreCallsOf}
+use Rattle.caller_answers.specs.Said.{NotedAt, SaysIt, IsSaid, AreCallsOf}
 use Rattle.caller_answers.specs.Writes.{Write, Written}
 use Rattle.caller_answers.specs.CallSays.{VStates, first_states, act_write, CallSaid, CallsSaid}
 use Rattle.caller_answers.proofs.CallMeant.{standing, CallLooks, IsSaidIn, HasDeeds, call_meant}
@@ -59,27 +59,27 @@ calls_numbered kept set (call ∷ calls) s t writes said =
 -- ---- what calls mean
 
 module _ (kept : KeptLists) (book : Lists) (keeps : Keeps kept book) (lawful : LawfulLanes book) where
-  pub record CallsMeant (set : Setting) (calls : List Call) (s : VStates) (writes : List Write) : Type 0 where
+  pub record CallsMeant (At : ℕ → Said → Type 0) (set : Setting) (calls : List Call) (s : VStates) (writes : List Write) : Type 0 where
     pub ms : List CallMeaning
     pub follows : CallsMean (standing set s) calls ms
     pub deeds : EachLine (HasDeeds book) calls ms
-    pub says : (said : List Said) → AllByRecursion (IsSaidIn said) writes → EachLine (SaysIt said) calls ms
+    pub says : AllByRecursion (IsSaidIn At) writes → EachLine (SaysIt At) calls ms
 
-  pub calls_meant : (set : Setting) (calls : List Call) (s t : VStates) (writes : List Write) →
+  pub calls_meant : (At : ℕ → Said → Type 0) (set : Setting) (calls : List Call) (s t : VStates) (writes : List Write) →
       AllByRecursion CallLooks calls → CallsFill book set calls →
-      CallsSaid kept (settings_from set calls) calls s t writes → CallsMeant set calls s writes
-  calls_meant set [] s t writes looks fill said = record { ms = []; follows = tt; deeds = tt; says = λ to all. tt }
-  calls_meant set (call ∷ calls) s t writes looks fill said =
-      let one = call_meant kept book keeps lawful set s said.0 said.1 call looks.0 fill.0 said.3 in
-      let more = calls_meant (setting_after_call set call) calls said.0 t said.2 looks.1 fill.1 said.4 in
+      CallsSaid kept (settings_from set calls) calls s t writes → CallsMeant At set calls s writes
+  calls_meant At set [] s t writes looks fill said = record { ms = []; follows = tt; deeds = tt; says = λ all. tt }
+  calls_meant At set (call ∷ calls) s t writes looks fill said =
+      let one = call_meant kept book keeps lawful At set s said.0 said.1 call looks.0 fill.0 said.3 in
+      let more = calls_meant At (setting_after_call set call) calls said.0 t said.2 looks.1 fill.1 said.4 in
       let P : CallerState → Type 0 = λ b. CallsMean b calls more.ms in
-      let Q : List Said → List Write → Type 0 = λ to ws. AllByRecursion (IsSaidIn to) ws in record {
+      let Q : List Write → Type 0 = λ ws. AllByRecursion (IsSaidIn At) ws in record {
         ms = one.m ∷ more.ms;
         follows = (one.before, one.means, subst P (sym one.after) more.follows);
         deeds = (one.deeds, more.deeds);
-        says = λ to all.
-            let parts = each_parts (IsSaidIn to) said.1 said.2 (subst (Q to) said.5 all) in
-            (one.says to parts.0, more.says to parts.1);
+        says = λ all.
+            let parts = each_parts (IsSaidIn At) said.1 said.2 (subst Q said.5 all) in
+            (one.says parts.0, more.says parts.1);
       }
 
   pub meant_calls : (set : Setting) (calls : List Call) (ms : List CallMeaning) (s : VStates) →
@@ -123,12 +123,14 @@ calls_look events lines calls of =
 
 module _ (kept : KeptLists) (book : Lists) (set : Setting) (events : List Event) (lines : List SeenLine)
     (calls : List Call) (settings : List Setting) (keeps : Keeps kept book) (lawful : LawfulLanes book)
-    (of : AreCallsOf events lines calls) (found : settings ≡ settings_from set calls) where
-  pub said_is : (t : VStates) (writes : List Write) (said : List Said) → CallsFill book set calls →
-      CallsSaid kept settings calls first_states t writes → Written writes [] said → IsSaid book set calls said
-  said_is t writes said fill calls_said written =
+    (of : AreCallsOf events lines calls) (found : settings ≡ settings_from set calls)
+    {Noted : Type 0} (IsNoted : ℕ → Said → Noted → Type 0) where
+  said_is : (t : VStates) (writes : List Write) (notes : List Noted) → CallsFill book set calls →
+      CallsSaid kept settings calls first_states t writes → Written IsNoted writes [] notes →
+      IsSaid book set calls (NotedAt IsNoted notes)
+  said_is t writes notes fill calls_said written =
       let here = subst (λ sets. CallsSaid kept sets calls first_states t writes) found calls_said in
-      let meant = calls_meant kept book keeps lawful set calls first_states t writes (calls_look events lines calls of)
+      let meant = calls_meant kept book keeps lawful (NotedAt IsNoted notes) set calls first_states t writes (calls_look events lines calls of)
       fill here in
       let differ = distinct_from of.caller 0 [] events lines of.fit tt tt in
       let P : List Call → Type 0 = λ cs. Distinct (numbers cs) in
@@ -136,10 +138,10 @@ module _ (kept : KeptLists) (book : Lists) (set : Setting) (events : List Event)
       (subst P (sym of.are) differ) in record {
         meanings = meant.ms;
         mean = record { follows = meant.follows; deeds = meant.deeds };
-        says = meant.says said (all_there writes [] said written all_differ);
+        says = meant.says (all_there IsNoted writes [] notes written all_differ);
       }
 
-  pub is_said : (ms : List CallMeaning) → CallerMeans book set calls ms →
+  is_said : (ms : List CallMeaning) → CallerMeans book set calls ms →
       (t : VStates) × (writes : List Write) × CallsSaid kept settings calls first_states t writes
   is_said ms means =
       let said = meant_calls kept book keeps lawful set calls ms first_states (calls_look events lines calls of)
@@ -147,18 +149,18 @@ module _ (kept : KeptLists) (book : Lists) (set : Setting) (events : List Event)
       let P : List Setting → Type 0 = λ sets. (t : VStates) × (writes : List Write)
       × CallsSaid kept sets calls first_states t writes in subst P (sym found) said
 
-  abbrev Said_ : Option (Vec Said) → Type 0
+  abbrev Said_ : Option (Vec Noted) → Type 0
   Said_ o = MatchOption o
       ((t : VStates) (writes : List Write) → CallsSaid kept settings calls first_states t writes → ⊥)
-      (λ said. (t : VStates) × (writes : List Write) × CallsSaid kept settings calls first_states t writes
-      × Written writes [] said.items)
+      (λ notes. (t : VStates) × (writes : List Write) × CallsSaid kept settings calls first_states t writes
+      × Written IsNoted writes [] notes.items)
 
-  pub option_said : CallsFill book set calls → (o : Option (Vec Said)) → Said_ o →
-      IfSome o (λ said. IsSaid book set calls said.items)
+  pub option_said : CallsFill book set calls → (o : Option (Vec Noted)) → Said_ o →
+      IfSome o (λ notes. IsSaid book set calls (NotedAt IsNoted notes.items))
   option_said fill None h = tt
-  option_said fill (Some said) h = said_is h.0 h.1 said.items fill h.2 h.3
+  option_said fill (Some notes) h = said_is h.0 h.1 notes.items fill h.2 h.3
 
-  pub option_is_said : (ms : List CallMeaning) → CallerMeans book set calls ms → (o : Option (Vec Said)) → Said_ o →
+  pub option_is_said : (ms : List CallMeaning) → CallerMeans book set calls ms → (o : Option (Vec Noted)) → Said_ o →
       IsSome o
   option_is_said ms means None h = let said = is_said ms means in absurd (h said.0 said.1 said.2)
-  option_is_said ms means (Some said) h = refl
+  option_is_said ms means (Some notes) h = refl

@@ -10,6 +10,7 @@ use Rattle.key_names.specs.IsTranscript.{LinesFit}
 use Rattle.key_names.specs.SeenLine.{SeenLine}
 use Rattle.key_names.proofs.Lists.Each.{each_append, each_weaker}
 use Rattle.caller_answers.specs.declared.said.Said.{Said}
+use Rattle.caller_answers.specs.Said.{NotedAt}
 use Rattle.caller_answers.specs.Writes.{Write, Written}
 use Rattle.caller_answers.proofs.CallMeant.{IsSaidIn}
 
@@ -27,19 +28,26 @@ each_mapped : {A : Type 0} (f : A → ℕ) (P : ℕ → Type 0) (xs : List A) �
 each_mapped f P [] all = tt
 each_mapped f P (x ∷ xs) all = (all.0, each_mapped f P xs all.1)
 
-stays : (writes : List Write) (old new : List Said) (k : ℕ) (x : Said) → Written writes old new →
-    AllByRecursion (λ w. Differs k w.event) writes → slice_get old k ≡ Some x → slice_get new k ≡ Some x
-stays [] old new k x is others here = ap (λ said. slice_get said k) is ∙ here
-stays (w ∷ writes) old new k x put others here =
-    stays writes put.0 new k x put.2 others.1 (put.1.others k x (λ e. others.0 (sym e)) here)
+module _ {Noted : Type 0} (IsNoted : ℕ → Said → Noted → Type 0) where
+  stays : (writes : List Write) (old new : List Noted) (k : ℕ) (x : Noted) → Written IsNoted writes old new →
+      AllByRecursion (λ w. Differs k w.event) writes → slice_get old k ≡ Some x → slice_get new k ≡ Some x
+  stays [] old new k x is others here = ap (λ notes. slice_get notes k) is ∙ here
+  stays (w ∷ writes) old new k x put others here =
+      stays writes put.0 new k x put.2 others.1 (put.1.others k x (λ e. others.0 (sym e)) here)
 
-pub all_there : (writes : List Write) (old new : List Said) → Written writes old new →
-    Distinct (map (λ w. w.event) writes) → AllByRecursion (IsSaidIn new) writes
-all_there [] old new is distinct = tt
-all_there (w ∷ writes) old new put distinct = (
-  stays writes put.0 new w.event w.said put.2 (each_mapped (λ w. w.event) (Differs w.event) writes distinct.0) put.1.here,
-  all_there writes put.0 new put.2 distinct.1,
-)
+  pub all_there : (writes : List Write) (old new : List Noted) → Written IsNoted writes old new →
+      Distinct (map (λ w. w.event) writes) → AllByRecursion (IsSaidIn (NotedAt IsNoted new)) writes
+  all_there [] old new is distinct = tt
+  all_there (w ∷ writes) old new put distinct =
+      let here = put.1.here in (
+        record {
+          note = here.note;
+          is = stays writes put.0 new w.event here.note put.2
+              (each_mapped (λ w. w.event) (Differs w.event) writes distinct.0) here.is;
+          noted = here.noted;
+        },
+        all_there writes put.0 new put.2 distinct.1,
+      )
 
 -- ---- the numbers of calls
 

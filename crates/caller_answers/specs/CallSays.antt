@@ -80,11 +80,13 @@ module _ (kept : KeptLists) (set : Setting) where
   CallSaid (unbound bound) old new writes = UnboundSaid bound old new writes
   CallSaid (ending line) old new writes = EndingSaid line old new writes
 
-  -- whether a call is said, and what was said becomes
-  abbrev pub IsCallSaid : Call → VStates → VStates → List Said → List Said → Bool → Type 0
-  IsCallSaid call old new said said' true =
-      (writes : List Write) × CallSaid call old new writes × Written writes said said'
-  IsCallSaid call old new said said' false = (t : VStates) (writes : List Write) → CallSaid call old t writes → ⊥
+-- whether a call is said, and what the notes become
+module _ {Noted : Type 0} (IsNoted : ℕ → Said → Noted → Type 0) (kept : KeptLists) (set : Setting) where
+  abbrev pub IsCallSaid : Call → VStates → VStates → List Noted → List Noted → Bool → Type 0
+  IsCallSaid call old new notes notes' true =
+      (writes : List Write) × CallSaid kept set call old new writes × Written IsNoted writes notes notes'
+  IsCallSaid call old new notes notes' false =
+      (t : VStates) (writes : List Write) → CallSaid kept set call old t writes → ⊥
 
 module _ (kept : KeptLists) where
   -- the calls are said one after another, each with the setting that it finds

@@ -19,18 +19,29 @@ shown_by Nothing = no_data
 shown_by (Count n) = count n
 shown_by (Served recipe) = bytes_or_none (bytes_made recipe)
 
+-- at an event's number stands a note of what is said of it
+pub record NotedAt {Noted : Type 0} (IsNoted : ℕ → Said → Noted → Type 0) (notes : List Noted) (event : ℕ)
+    (one : Said) : Type 0 where
+  pub note : Noted
+  pub is : slice_get notes event ≡ Some note
+  pub noted : IsNoted event one note
+
+-- a note that is all that is said
+abbrev pub itself : ℕ → ℕ → Said → Said → Type 0
+itself caller event said noted = noted ≡ said
+
 -- the answer and the data of a line are said at its event's number
-pub record SaysIt (said : List Said) (line : SeenLine) (m : LineMeaning) : Type 0 where
+pub record SaysIt (At : ℕ → Said → Type 0) (line : SeenLine) (m : LineMeaning) : Type 0 where
   pub one : Said
-  pub is : slice_get said line.event ≡ Some one
+  pub is : At line.event one
   pub answer : m.answer ≡ one.answer
   pub shown : m.shown ≡ shown_by one.shows
 
 -- the calls mean what they may, and what is said is what they mean
-pub record IsSaid (lists : Lists) (set : Setting) (calls : List Call) (said : List Said) : Type 0 where
+pub record IsSaid (lists : Lists) (set : Setting) (calls : List Call) (At : ℕ → Said → Type 0) : Type 0 where
   pub meanings : List CallMeaning
   pub mean : CallerMeans lists set calls meanings
-  pub says : EachLine (SaysIt said) calls meanings
+  pub says : EachLine (SaysIt At) calls meanings
 
 -- the calls are those of events with a line each, and no look is 2^63 or more
 pub record AreCallsOf (events : List Event) (lines : List SeenLine) (calls : List Call) : Type 0 where

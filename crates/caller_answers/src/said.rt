@@ -1,4 +1,7 @@
-//! What the replay made of a line.
+//! What is said of a line, and what is noted of it.
+ghost use Rattle.std.specs.Prelude.{◌≡◌, ℕ};
+ghost use Rattle.caller_answers.specs.declared.said.Said.{Said as SaidOfLine};
+
 use key_names::Answer;
 use vread_course::served::Served;
 
@@ -15,4 +18,48 @@ pub enum Shows {
 pub struct Said {
     pub answer: Answer,
     pub shows: Shows,
+}
+
+/// How what is said of a line is noted: whole, or no more of it than who asks needs.
+pub trait Note {
+    type Noted: Drop;
+
+    /// This is a note of what is said of the event of this caller. Both are known by their numbers.
+    ghost IsNoted: { Self → ℕ → ℕ → SaidOfLine → Self.Noted → Type 0 };
+
+    fn note(&self, caller: u32, event: u32, said: Said) -> Self::Noted
+        ensures { IsNoted self.now caller event said result };
+}
+
+/// How what is said of a caller's lines is noted.
+#[derive(Drop)]
+pub struct Noting<'a, N: Note> {
+    pub how: &'a N,
+    /// The caller's number.
+    pub caller: u32,
+}
+
+impl<N: Note> Noting<'_, N> {
+    /// Notes what is said of an event.
+    #[inline(always)]
+    pub fn note(&self, event: u32, said: Said) -> N::Noted
+        ensures { N.IsNoted self.now.how.now self.now.caller event said result }
+    {
+        self.how.note(self.caller, event, said)
+    }
+}
+
+/// Notes all that is said.
+#[derive(Drop)]
+pub struct Whole;
+
+impl Note for Whole {
+    type Noted = Said;
+
+    ghost IsNoted = { λ _ _ _ said noted. noted ≡ said };
+
+    #[inline(always)]
+    fn note(&self, _caller: u32, _event: u32, said: Said) -> Said {
+        said
+    }
 }

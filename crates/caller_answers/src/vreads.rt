@@ -8,30 +8,38 @@ ghost use Rattle.caller_answers.specs.CallSays.{ActDone, act_write};
 
 use crate::events::{act_said, unused};
 use crate::met::Room;
-use crate::said::Said;
+use crate::said::{Note, Noting, Said};
 use line_forms::setting::Setting;
 use line_orders::called::ActLine;
 use list_replay::Lists;
 use std::alloc::AllocError;
 use vread_course::inside::{Inside, Reached};
 
-/// Puts what is said of an event at its number.
+/// Notes what is said of an event at its number.
 ///
 /// # Errors
 ///
 /// `AllocError` where there is no memory for it.
-pub fn put_said(said: &mut Vec<Said>, event: u32, one: Said) -> Result<(), AllocError>
-    ensures { IfOk result (λ _. IsPut event one said.old.items said.new.items) }
+#[inline(always)]
+pub fn put_said<N: Note>(
+    noting: &Noting<'_, N>,
+    noted: &mut Vec<N::Noted>,
+    event: u32,
+    said: Said,
+) -> Result<(), AllocError>
+    ensures { IfOk result (λ _. IsPut (N.IsNoted noting.now.how.now noting.now.caller) event said
+        noted.old.items noted.new.items) }
 {
-    let event = event as usize;
-    if event == said.len() {
-        said.push(one)?;
+    let place = event as usize;
+    let one = noting.note(event, said);
+    if place == noted.len() {
+        noted.push(one)?;
         return Ok(());
     }
-    while said.len() <= event {
-        said.push(unused())?;
+    while noted.len() <= place {
+        noted.push(noting.note(noted.len() as u32, unused()))?;
     }
-    said[event] = one;
+    noted[place] = one;
     Ok(())
 }
 
@@ -46,29 +54,31 @@ pub fn inside_of(acts: &[ActLine<'_>]) -> Inside
     inside
 }
 
-/// Says of each act what it says, by the points that the `vread` came to. Answers whether all have the steps that they
+/// Notes what is said of each act, by the points that the `vread` came to. Answers whether all have the steps that they
 /// may have.
 ///
 /// # Errors
 ///
 /// `AllocError` where there is no memory for it.
-pub fn acts_said(
+pub fn acts_said<N: Note>(
     room: &mut Room,
     lists: &Lists,
     set: &Setting,
     reached: Reached,
     acts: &[ActLine<'_>],
-    said: &mut Vec<Said>,
+    noting: &Noting<'_, N>,
+    noted: &mut Vec<N::Noted>,
 ) -> Result<bool, AllocError>
     ensures { IfOk result (λ stand. MatchBool stand
         (AllByRecursion (ActDone lists.now set.now reached) (map seen_act acts.now)
-        × Written (map (act_write lists.now set.now reached) (map seen_act acts.now)) said.old.items said.new.items)
+        × Written (N.IsNoted noting.now.how.now noting.now.caller)
+        (map (act_write lists.now set.now reached) (map seen_act acts.now)) noted.old.items noted.new.items)
         (AllByRecursion (ActDone lists.now set.now reached) (map seen_act acts.now) → ⊥)) }
 {
     for bound in acts {
         let done = reached.includes(bound.point);
         match act_said(room, lists, set, done, bound.act, bound.line.steps)? {
-            Some(one) => put_said(said, bound.line.event, one)?,
+            Some(said) => put_said(noting, noted, bound.line.event, said)?,
             None => return Ok(false),
         }
     }

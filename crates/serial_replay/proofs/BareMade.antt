@@ -6,7 +6,7 @@ use Rattle.std.specs.List.{AllByRecursion}
 use Rattle.std.proofs.lemmas.List.{length-map}
 use Rattle.key_names.specs.declared.names.Step.{Step}
 use Rattle.key_names.specs.BaseList.{base_after}
-use Rattle.key_names.specs.Book.{Book, lists_of, list_at}
+use Rattle.key_names.specs.Book.{Book, lists_of}
 use Rattle.key_names.specs.Calls.{Call, alone, vread_call, unbound, ending, BoundAct}
 use Rattle.key_names.specs.Deeds.{deeds_of}
 use Rattle.key_names.specs.History.{LooksStand}
@@ -25,33 +25,33 @@ use Rattle.caller_answers.specs.Said.{SaysIt}
 use Rattle.serial_replay.specs.declared.remake.Made.{Made}
 use Rattle.serial_replay.specs.declared.remake.Remade.{Remade}
 use Rattle.serial_replay.specs.declared.remake.Remade.TheVariants.{Made as MadeAll, No}
-use Rattle.serial_replay.specs.Remade.{made_by, StepsFit, IsEarly, AllMade, IsRemade}
+use Rattle.serial_replay.specs.Remade.{said_of_caller, made_by, StepsFit, IsEarly, AllMade, IsRemade}
 
-module _ (said : List Said) where
-  line_says : (line : SeenLine) (m : LineMeaning) → SaysIt said (bare line) m → SaysIt said line m
+module _ (at : ℕ → Said → Type 0) where
+  line_says : (line : SeenLine) (m : LineMeaning) → SaysIt at (bare line) m → SaysIt at line m
   line_says line m s = record { one = s.one; is = s.is; answer = s.answer; shown = s.shown }
 
-  acts_say : (acts : List BoundAct) (ms : List LineMeaning) → EachAct (SaysIt said) (map bare_act acts) ms →
-      EachAct (SaysIt said) acts ms
+  acts_say : (acts : List BoundAct) (ms : List LineMeaning) → EachAct (SaysIt at) (map bare_act acts) ms →
+      EachAct (SaysIt at) acts ms
   acts_say [] [] all = tt
   acts_say [] (m ∷ ms) all = absurd all
   acts_say (bound ∷ acts) [] all = absurd all
   acts_say (bound ∷ acts) (m ∷ ms) all = (line_says bound.line m all.0, acts_say acts ms all.1)
 
-  call_says : (call : Call) (m : CallMeaning) → EachOfCall (SaysIt said) (bare_call call) m → EachOfCall (SaysIt said) call m
+  call_says : (call : Call) (m : CallMeaning) → EachOfCall (SaysIt at) (bare_call call) m → EachOfCall (SaysIt at) call m
   call_says (alone event line) m s = line_says line m.own s
   call_says (vread_call n flags line acts) m s = (line_says line m.own s.0, acts_say acts m.acts s.1)
   call_says (unbound bound) m s = line_says bound.line m.own s
   call_says (ending line) m s = line_says line m.own s
 
-  calls_say : (calls : List Call) (ms : List CallMeaning) → EachLine (SaysIt said) (map bare_call calls) ms →
-      EachLine (SaysIt said) calls ms
+  calls_say : (calls : List Call) (ms : List CallMeaning) → EachLine (SaysIt at) (map bare_call calls) ms →
+      EachLine (SaysIt at) calls ms
   calls_say [] [] all = tt
   calls_say [] (m ∷ ms) all = absurd all
   calls_say (call ∷ calls) [] all = absurd all
   calls_say (call ∷ calls) (m ∷ ms) all = (call_says call m all.0, calls_say calls ms all.1)
 
-callers_say : (saids : ℕ → List Said) (c : ℕ) (callers : List (List Call)) (mss : List (List CallMeaning)) →
+callers_say : (saids : ℕ → ℕ → Said → Type 0) (c : ℕ) (callers : List (List Call)) (mss : List (List CallMeaning)) →
     EachCaller (λ c calls ms. EachLine (SaysIt (saids c)) calls ms) c (map (map bare_call) callers) mss →
     EachCaller (λ c calls ms. EachLine (SaysIt (saids c)) calls ms) c callers mss
 callers_say saids c [] [] all = tt
@@ -76,10 +76,11 @@ module _ (script : Script) (t : List (List SeenLine)) where
   fails_both data_clause early f = absurd early
   fails_both looks_clause early f = absurd early
 
-  pub all_made : (m : Made) → AllMade script bares m → AllMade script t m
-  all_made m a =
+  pub all_made : {Noted : Type 0} (IsNoted : ℕ → ℕ → Said → Noted → Type 0) (m : Made Noted) →
+      AllMade IsNoted script bares m → AllMade IsNoted script t m
+  all_made IsNoted m a =
       let other = steps_make_the_book script bares t (same_bare t) a.made in
-      let saids : ℕ → List Said = list_at (made_by m) in
+      let saids : ℕ → ℕ → Said → Type 0 = said_of_caller IsNoted (made_by m) in
       let says : EachCaller (λ c calls ms. EachLine (SaysIt (saids c)) calls ms) 0 (script_calls script t) a.made.meanings =
       callers_say saids 0 (script_calls script t) a.made.meanings
       (subst (λ (calls : List (List Call)).
@@ -101,9 +102,10 @@ module _ (script : Script) (t : List (List SeenLine)) where
         );
       }
 
-  pub remade_of_bare : (r : Remade) → IsRemade script bares r → IsRemade script t r
-  remade_of_bare (MadeAll m) a = all_made m a
-  remade_of_bare (No number) f = record {
+  pub remade_of_bare : {Noted : Type 0} (IsNoted : ℕ → ℕ → Said → Noted → Type 0) (r : Remade Noted) →
+      IsRemade IsNoted script bares r → IsRemade IsNoted script t r
+  remade_of_bare IsNoted (MadeAll m) a = all_made IsNoted m a
+  remade_of_bare IsNoted (No number) f = record {
     clause = f.clause;
     is = f.is;
     early = f.early;

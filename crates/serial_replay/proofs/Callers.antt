@@ -31,13 +31,13 @@ caller_means lists settings c (calls ∷ callers) (ms ∷ mss) all (suc d) low =
     (caller_means lists settings (suc c) callers mss all.1 d (omega arith))
 
 -- what all callers mean and say
-pub record SaidByAll (lists : Lists) (settings : ℕ → Setting) (saids : ℕ → List Said) (c : ℕ)
+pub record SaidByAll (lists : Lists) (settings : ℕ → Setting) (saids : ℕ → ℕ → Said → Type 0) (c : ℕ)
     (callers : List (List Call)) : Type 0 where
   pub mss : List (List CallMeaning)
   pub means : EachCaller (λ c calls ms. CallerMeans lists (settings c) calls ms) c callers mss
   pub says : EachCaller (λ c calls ms. EachLine (SaysIt (saids c)) calls ms) c callers mss
 
-pub said_by_all : (lists : Lists) (settings : ℕ → Setting) (saids : ℕ → List Said) (c : ℕ) (callers : List (List Call)) →
+pub said_by_all : (lists : Lists) (settings : ℕ → Setting) (saids : ℕ → ℕ → Said → Type 0) (c : ℕ) (callers : List (List Call)) →
     ((d : ℕ) → d < length callers → IsSaid lists (settings (c + d)) (list_at callers d) (saids (c + d))) →
     SaidByAll lists settings saids c callers
 said_by_all lists settings saids c [] each = record { mss = []; means = tt; says = tt }

@@ -93,7 +93,7 @@ module _ (script : Script) (t : List (List SeenLine)) (parts : Parts) (stand : P
           ((gathered.fills (book_of marks lists lists.callers) (book_with lists.callers)).1
           (subst (Fills told) (sym back) fills))
 
-      module _ (saids : ℕ → List Said) (said : SaidByAll lists (start_setting calls) saids 0 calls) where
+      module _ (saids : ℕ → ℕ → Said → Type 0) (said : SaidByAll lists (start_setting calls) saids 0 calls) where
         abbrev states : List (List (List VEntry))
         states = map state_lists said.mss
 

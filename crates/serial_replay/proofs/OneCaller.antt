@@ -17,7 +17,7 @@ use Rattle.line_orders.specs.Called.{seen_call, seen_calls}
 use Rattle.line_orders.specs.Settings.{settings_from}
 use Rattle.line_orders.proofs.SettingsFound.{list_found}
 use Rattle.caller_answers.specs.declared.said.Said.{Said}
-use Rattle.caller_answers.specs.Said.{CallInRange, IsSaid}
+use Rattle.caller_answers.specs.Said.{NotedAt, CallInRange, IsSaid}
 use Rattle.serial_replay.specs.Remade.{CallersStand, said_lists}
 use Rattle.serial_replay.proofs.Callers.{CallsOf, calls_of_caller}
 
@@ -63,27 +63,29 @@ module _ (callers : List (Vec Called)) (settings : List (Vec Setting)) (c : ℕ)
         ∙ ap (settings_from (start_setting (seen_calls callers) c)) (sym here)
 
 -- one caller more is said
-module _ (lists : Lists) (callers : List (List Call)) (said : List (Vec Said)) (n : ℕ) (more : Vec Said)
-    (long : length said ≡ n) where
-  abbrev SaidAt : List (Vec Said) → ℕ → Type 0
-  SaidAt all c = IsSaid lists (start_setting callers c) (list_at callers c) (list_at (said_lists all) c)
+module _ {Noted : Type 0} (IsNoted : ℕ → ℕ → Said → Noted → Type 0) (lists : Lists) (callers : List (List Call))
+    (said : List (Vec Noted)) (n : ℕ) (more : Vec Noted) (long : length said ≡ n) where
+  abbrev IsSaidBy : ℕ → List Noted → Type 0
+  IsSaidBy c notes = IsSaid lists (start_setting callers c) (list_at callers c) (NotedAt (IsNoted c) notes)
+
+  abbrev SaidAt : List (Vec Noted) → ℕ → Type 0
+  SaidAt all c = IsSaidBy c (list_at (said_lists all) c)
 
   lists_more : said_lists (said ++ more ∷ []) ≡ said_lists said ++ more.items ∷ []
-  lists_more = map-append (λ (s : Vec Said). s.items) said (more ∷ [])
+  lists_more = map-append (λ (s : Vec Noted). s.items) said (more ∷ [])
 
   lists_long : length (said_lists said) ≡ n
-  lists_long = length-map said (λ (s : Vec Said). s.items) ∙ long
+  lists_long = length-map said (λ (s : Vec Noted). s.items) ∙ long
 
   pub said_more : ((c : ℕ) → c < n → SaidAt said c) →
-      IsSaid lists (start_setting callers n) (list_at callers n) more.items → (c : ℕ) → c < n + 1 →
-      SaidAt (said ++ more ∷ []) c
+      IsSaidBy n more.items → (c : ℕ) → c < n + 1 → SaidAt (said ++ more ∷ []) c
   said_more before here c low = dite (ℕ_discrete c n)
-      (λ e. subst (IsSaid lists (start_setting callers c) (list_at callers c))
-      (sym (ap (λ (ss : List (List Said)). list_at ss c) lists_more
+      (λ e. subst (IsSaidBy c)
+      (sym (ap (λ (ss : List (List Noted)). list_at ss c) lists_more
       ∙ ap (list_at (said_lists said ++ more.items ∷ [])) (e ∙ sym lists_long)
       ∙ list_last (said_lists said) more.items))
-      (subst (λ m. IsSaid lists (start_setting callers m) (list_at callers m) more.items) (sym e) here))
-      (λ ne. subst (IsSaid lists (start_setting callers c) (list_at callers c))
-      (sym (ap (λ (ss : List (List Said)). list_at ss c) lists_more
+      (subst (λ m. IsSaidBy m more.items) (sym e) here))
+      (λ ne. subst (IsSaidBy c)
+      (sym (ap (λ (ss : List (List Noted)). list_at ss c) lists_more
       ∙ list_front (said_lists said) more.items c (let l = lists_long in omega arith)))
       (before c (omega arith)))

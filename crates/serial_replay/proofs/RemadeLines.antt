@@ -33,7 +33,7 @@ use Rattle.caller_answers.specs.declared.said.Said.{Said}
 use Rattle.caller_answers.specs.Said.{CallInRange, IsSaid, SaysIt}
 use Rattle.caller_answers.proofs.CallsRange.{all_in_range}
 use Rattle.serial_replay.specs.declared.remake.Made.{Made}
-use Rattle.serial_replay.specs.Remade.{StepsFit, CallersStand, MeansSome, AllMeanSome, AllSaid, made_by, AllMade}
+use Rattle.serial_replay.specs.Remade.{StepsFit, CallersStand, MeansSome, AllMeanSome, AllSaid, said_of_caller, made_by, AllMade}
 use Rattle.serial_replay.specs.Remade.{FailsEarly}
 use Rattle.serial_replay.specs.Seen.{seen_behind, MayLook, reseeds_in}
 use Rattle.serial_replay.proofs.Callers.{caller_means, SaidByAll, said_by_all}
@@ -105,29 +105,32 @@ module _ (script : Script) (t : List (List SeenLine)) (parts : Parts) (stand : P
         all_fill = subst (AllCallsFill lists) (sym stand.calls)
             (lines_fill script t parts stand told gathered lists fills lawful)
 
-        module _ (m : Made) (all : AllSaid lists (seen_calls parts.calls.items) m.callers.items) where
-          said : SaidByAll lists (start_setting calls) (list_at (made_by m)) 0 calls
+        module _ {Noted : Type 0} (IsNoted : ℕ → ℕ → Said → Noted → Type 0) (m : Made Noted)
+            (all : AllSaid IsNoted lists (seen_calls parts.calls.items) m.callers.items) where
+          abbrev at : ℕ → ℕ → Said → Type 0
+          at = said_of_caller IsNoted (made_by m)
+
+          said : SaidByAll lists (start_setting calls) at 0 calls
           said =
-              let each : AllSaid lists calls m.callers.items =
-              subst (λ cs. AllSaid lists cs m.callers.items) stand.calls all in
-              said_by_all lists (start_setting calls) (list_at (made_by m)) 0 calls (λ d low.
-              subst (λ n. IsSaid lists (start_setting calls n) (list_at calls d) (list_at (made_by m) n)) (omega arith)
-              (each.each d low))
+              let each : AllSaid IsNoted lists calls m.callers.items =
+              subst (λ cs. AllSaid IsNoted lists cs m.callers.items) stand.calls all in
+              said_by_all lists (start_setting calls) at 0 calls (λ d low.
+              subst (λ n. IsSaid lists (start_setting calls n) (list_at calls d) (at n)) (omega arith) (each.each d low))
 
           long : length (made_by m) ≡ length t
           long =
-              length-map m.callers.items (λ (s : Vec Said). s.items) ∙ all.long ∙ ap length stand.calls
+              length-map m.callers.items (λ (s : Vec Noted). s.items) ∙ all.long ∙ ap length stand.calls
               ∙ calls_long script.callers t ∙ sym (callers_long 0 script.callers t stand.lines)
 
           pub all_made : (reseeds : ℕ) → reseeds ≡ reseeds_in kept.base.items →
               (IsTrue m.looks_stand ↔ AllByRecursion (Along (seen_behind kept) (MayLook reseeds) None) (caller_orders calls)) →
-              AllMade script t m
+              AllMade IsNoted script t m
           all_made reseeds is looks =
               let both = looks_stand kept lists (keeps lists fills lawful) reseeds is (caller_orders calls) in
-              let of = of_lists script t parts stand told gathered lists fills lawful (list_at (made_by m)) said in record {
+              let of = of_lists script t parts stand told gathered lists fills lawful at said in record {
                 made = of.made;
                 long = long;
-                says = subst (λ mss. EachCaller (λ c calls' ms. EachLine (SaysIt (list_at (made_by m) c)) calls' ms) 0 calls mss)
+                says = subst (λ mss. EachCaller (λ c calls' ms. EachLine (SaysIt (at c)) calls' ms) 0 calls mss)
                     (sym of.meanings) said.says;
                 looks = of.looks m.looks_stand ((λ h. both.0 (looks.0 h)), (λ h. looks.1 (both.1 h)));
               }

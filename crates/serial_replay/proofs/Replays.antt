@@ -10,7 +10,7 @@ use Rattle.key_names.specs.IsTranscript.{MadeBook, AnswersStand, DataStand, IsTr
 use Rattle.key_names.specs.IsTranscript.{lines_clause, marks_clause, forms_clause, answers_clause, data_clause, looks_clause}
 use Rattle.key_names.proofs.Unique.UniqueBook.{book_is_unique}
 use Rattle.caller_answers.specs.declared.said.Said.{Said}
-use Rattle.caller_answers.specs.Said.{shown_by}
+use Rattle.caller_answers.specs.Said.{shown_by, itself}
 use Rattle.serial_replay.specs.declared.remake.Made.{Made}
 use Rattle.serial_replay.specs.Agreement.{Agrees, SameAnswer, SameShown, AllAgree}
 use Rattle.serial_replay.specs.Remade.{AllMade, FailsEarly, IsEarly, made_by}
@@ -105,14 +105,14 @@ same_callers saids (u ∷ us) (v ∷ vs) e a b x y =
     (λ c low. b (suc c) (omega arith)) (λ c low. x (suc c) (omega arith)) (λ c low. y (suc c) (omega arith)) in
     λ i. one i ∷ more i
 
-module _ (script : Script) (t : List (List SeenLine)) (m : Made) (of : AllMade script (map (map bare) t) m) where
+module _ (script : Script) (t : List (List SeenLine)) (m : Made Said) (of : AllMade itself script (map (map bare) t) m) where
   -- what is made of lines with the same steps
-  made_for : (v : List (List SeenLine)) → SameSteps t v → AllMade script v m
-  made_for v same = all_made script v m (subst (λ (u : List (List SeenLine)). AllMade script u m) same of)
+  made_for : (v : List (List SeenLine)) → SameSteps t v → AllMade itself script v m
+  made_for v same = all_made script v itself m (subst (λ (u : List (List SeenLine)). AllMade itself script u m) same of)
 
   -- of a lawful transcript all agrees
   module _ (v : List (List SeenLine)) (same : SameSteps t v) (is : IsTranscript script v) where
-    a : AllMade script v m
+    a : AllMade itself script v m
     a = made_for v same
 
     other : MadeBook script v
@@ -141,7 +141,7 @@ module _ (script : Script) (t : List (List SeenLine)) (m : Made) (of : AllMade s
   is_the_transcript long kinds stand =
       let u : List (List SeenLine) = said_into (made_by m) t in
       let same : SameSteps t u = same_steps (made_by m) t in
-      let a : AllMade script u m = made_for u same in
+      let a : AllMade itself script u m = made_for u same in
       let answers : AllAgree SameAnswer (made_by m) u = all_agree SameAnswer (λ line s. refl) (made_by m) t long kinds in
       let shown : AllAgree SameShown (made_by m) u = all_agree SameShown (λ line s. refl) (made_by m) t long kinds in record {
         same = same;
@@ -163,7 +163,7 @@ module _ (script : Script) (t : List (List SeenLine)) (m : Made) (of : AllMade s
       }
 
 -- where looks do not stand
-pub looks_stop : (script : Script) (t : List (List SeenLine)) (m : Made) → AllMade script t m → (IsTrue m.looks_stand → ⊥) →
+pub looks_stop : (script : Script) (t : List (List SeenLine)) (m : Made Said) → AllMade itself script t m → (IsTrue m.looks_stand → ⊥) →
     StopsAt script t 7
 looks_stop script t m a fall = record {
   clause = looks_clause;

@@ -1,5 +1,5 @@
 -- A number is shown by the line of bits alone, and bytes by other lines.
-use Rattle.std.proofs.Common.{◌≡◌, ℕ, suc, Bool, true, false, List, [], ◌∷◌, ◌++◌, refl, sym, subst, ap, arith}
+use Rattle.std.proofs.Common.{◌≡◌, ℕ, suc, Bool, true, false, List, [], ◌∷◌, ◌++◌, refl, sym, subst, ap, ◌∙◌}
 use Rattle.std.specs.Prelude.{◌≢◌, MatchBool, if◌then◌else◌}
 use Rattle.std.specs.List.{AllByRecursion}
 use Rattle.key_names.specs.declared.events.Event.{Event}
@@ -11,7 +11,6 @@ use Rattle.key_names.specs.declared.events.InsideAct.TheVariants.{Wipe as WipeAc
 use Rattle.key_names.specs.declared.events.Word.{Word}
 use Rattle.key_names.specs.declared.events.Word.TheVariants.{Bits as BitsWord, Vread as VreadWord, Inside as InsideWord, End as EndWord}
 use Rattle.key_names.specs.Answers.{shown_of, bits_read, served_bytes}
-use Rattle.key_names.specs.Book.{list_at}
 use Rattle.key_names.specs.Calls.{Setting, Call, alone, vread_call, unbound, ending, BoundAct, has_vread, calls_from, calls_of}
 use Rattle.key_names.specs.Calls.{all_calls}
 use Rattle.key_names.specs.Deeds.{Deed, looked, at_pool, at_base, at_cpu, nothing_there}
@@ -30,12 +29,12 @@ use Rattle.key_names.specs.Book.{lists_of}
 use Rattle.serial_replay.proofs.Callers.{each_caller}
 use Rattle.key_names.proofs.Lists.Each.{each_append}
 use Rattle.caller_answers.specs.declared.said.Said.{Said}
-use Rattle.caller_answers.specs.Said.{SaysIt}
+use Rattle.caller_answers.specs.Said.{shown_by, SaysIt, itself}
 use Rattle.serial_replay.specs.declared.remake.Made.{Made}
-use Rattle.serial_replay.specs.Agreement.{Agrees, AllAgree}
-use Rattle.serial_replay.specs.Remade.{AllMade, made_by}
+use Rattle.serial_replay.specs.Agreement.{AllAgree}
+use Rattle.serial_replay.specs.Remade.{said_of_caller, AllMade, made_by}
 use Rattle.serial_replay.specs.Written.{IsFor, MayShow}
-use Rattle.serial_replay.proofs.Agreement.{callers_both}
+use Rattle.serial_replay.proofs.Agreement.{all_both, Any, all_any}
 
 -- words
 
@@ -135,15 +134,15 @@ acts_kind set reached (bound ∷ acts) (m ∷ ms) words means =
     go false none = kind_of bound.line InsideWord no_data m.shown words.0 (ap (λ (x : LineMeaning). x.shown) none) tt
 
 -- acts that have no meanings are none
-none_kind : (said : List Said) (acts : List BoundAct) (ms : List LineMeaning) → ms ≡ [] → EachAct (SaysIt said) acts ms →
+none_kind : (at : ℕ → Said → Type 0) (acts : List BoundAct) (ms : List LineMeaning) → ms ≡ [] → EachAct (SaysIt at) acts ms →
     EachAct Kind acts ms
-none_kind said [] [] none says = tt
-none_kind said [] (m ∷ ms) none says = absurd says
-none_kind said (bound ∷ acts) [] none says = absurd says
-none_kind said (bound ∷ acts) (m ∷ ms) none says = cc
+none_kind at [] [] none says = tt
+none_kind at [] (m ∷ ms) none says = absurd says
+none_kind at (bound ∷ acts) [] none says = absurd says
+none_kind at (bound ∷ acts) (m ∷ ms) none says = cc
 
-module _ (said : List Said) (n flags : ℕ) (line : SeenLine) (acts : List BoundAct) (m : CallMeaning)
-    (word : line.word ≡ VreadWord) (words : AllByRecursion ActWord acts) (says : EachAct (SaysIt said) acts m.acts) where
+module _ (at : ℕ → Said → Type 0) (n flags : ℕ) (line : SeenLine) (acts : List BoundAct) (m : CallMeaning)
+    (word : line.word ≡ VreadWord) (words : AllByRecursion ActWord acts) (says : EachAct (SaysIt at) acts m.acts) where
   by_call : ByVgetrandom n flags acts m → Kind line m.own × EachAct Kind acts m.acts
   by_call b = (
     kind_of line VreadWord (ending_shown b.outcome.ending) m.own.shown word b.shown
@@ -155,7 +154,7 @@ module _ (said : List Said) (n flags : ℕ) (line : SeenLine) (acts : List Bound
   by_copy rest b = (
     kind_of line VreadWord (bytes_or_none (copy_bytes (current_state m.before) 0 n)) m.own.shown word b.shown
         (bytes_kind VreadWord (λ e. cc) (copy_bytes (current_state m.before) 0 n)),
-    none_kind said acts m.acts b.no_acts says,
+    none_kind at acts m.acts b.no_acts says,
   )
 
   vread_kind : VreadMeans n flags acts m → Kind line m.own × EachAct Kind acts m.acts
@@ -173,27 +172,27 @@ module _ (said : List Said) (n flags : ℕ) (line : SeenLine) (acts : List Bound
           local look.0 look.1 (serves_locally (published_by look.0) (current_state m.before) n) look.3
       ways false called = by_call called
 
-call_kind : (said : List Said) (call : Call) (m : CallMeaning) → WordIs call → EachOfCall (SaysIt said) call m →
+call_kind : (at : ℕ → Said → Type 0) (call : Call) (m : CallMeaning) → WordIs call → EachOfCall (SaysIt at) call m →
     Means call m → EachOfCall Kind call m
-call_kind said (alone event line) m word says a =
+call_kind at (alone event line) m word says a =
     kind_of line (event_word event) (shown_of event m.own.deeds) m.own.shown word a.shown (event_kind event m.own.deeds)
-call_kind said (vread_call n flags line acts) m word says v =
-    vread_kind said n flags line acts m word.0 word.1 says.1 v
-call_kind said (unbound bound) m word says u =
+call_kind at (vread_call n flags line acts) m word says v =
+    vread_kind at n flags line acts m word.0 word.1 says.1 v
+call_kind at (unbound bound) m word says u =
     kind_of bound.line InsideWord no_data m.own.shown word (ap (λ (x : LineMeaning). x.shown) u.own) tt
-call_kind said (ending line) m word says e = kind_of line EndWord no_data m.own.shown word e.shown tt
+call_kind at (ending line) m word says e = kind_of line EndWord no_data m.own.shown word e.shown tt
 
-calls_kind : (said : List Said) (s : CallerState) (calls : List Call) (ms : List CallMeaning) →
-    AllByRecursion WordIs calls → EachLine (SaysIt said) calls ms → CallsMean s calls ms → EachLine Kind calls ms
-calls_kind said s [] [] words says means = tt
-calls_kind said s [] (m ∷ ms) words says means = absurd says
-calls_kind said s (call ∷ calls) [] words says means = absurd says
-calls_kind said s (call ∷ calls) (m ∷ ms) words says means = (
-  call_kind said call m words.0 says.0 means.1,
-  calls_kind said m.after calls ms words.1 says.1 means.2,
+calls_kind : (at : ℕ → Said → Type 0) (s : CallerState) (calls : List Call) (ms : List CallMeaning) →
+    AllByRecursion WordIs calls → EachLine (SaysIt at) calls ms → CallsMean s calls ms → EachLine Kind calls ms
+calls_kind at s [] [] words says means = tt
+calls_kind at s [] (m ∷ ms) words says means = absurd says
+calls_kind at s (call ∷ calls) [] words says means = absurd says
+calls_kind at s (call ∷ calls) (m ∷ ms) words says means = (
+  call_kind at call m words.0 says.0 means.1,
+  calls_kind at m.after calls ms words.1 says.1 means.2,
 )
 
-callers_kind : (saids : ℕ → List Said) (states : ℕ → CallerState) (c : ℕ) (ess : List (List Event))
+callers_kind : (saids : ℕ → ℕ → Said → Type 0) (states : ℕ → CallerState) (c : ℕ) (ess : List (List Event))
     (t : List (List SeenLine)) (mss : List (List CallMeaning)) →
     EachCaller (λ c events lines. LinesFit c 0 events lines) c ess t →
     EachCaller (λ c calls ms. EachLine (SaysIt (saids c)) calls ms) c (all_calls ess t) mss →
@@ -209,20 +208,18 @@ callers_kind saids states c (es ∷ ess) (lines ∷ t) (ms ∷ mss) fit says mea
   callers_kind saids states (suc c) ess t mss fit.1 says.1 means.1,
 )
 
-pub all_kinds : (script : Script) (t : List (List SeenLine)) (m : Made) → AllMade script t m →
+pub all_kinds : (script : Script) (t : List (List SeenLine)) (m : Made Said) → AllMade itself script t m →
     AllAgree MayShow (made_by m) t
 all_kinds script t m a =
     let calls : List (List Call) = script_calls script t in
-    let saids : ℕ → List Said = list_at (made_by m) in
+    let saids : ℕ → ℕ → Said → Type 0 = said_of_caller itself (made_by m) in
     let states : ℕ → CallerState = λ c. caller_start (start_setting calls c) in
     let means : EachCaller (λ c calls ms. CallsMean (states c) calls ms) 0 calls a.made.meanings =
     each_caller (λ c cs ms. CallerMeans (lists_of a.made.book) (start_setting calls c) cs ms)
     (λ c cs ms. CallsMean (states c) cs ms) (λ c cs ms h. h.follows) 0 calls a.made.meanings a.made.forms.callers in
-    let both = callers_both MayShow Kind
-    (λ said line m s. (
-      (λ h. subst (IsFor line.word) s.shown h),
-      (λ h. subst (IsFor line.word) (sym s.shown) h),
-    ))
-    saids 0 script.callers t a.made.meanings a.made.lines a.says in
-    let kinds = both.0 (callers_kind saids states 0 script.callers t a.made.meanings a.made.lines a.says means) in
-    λ d low. subst (λ n. AllByRecursion (Agrees MayShow (saids n)) (list_at t d)) (omega arith) (kinds d low)
+    let both = all_both itself MayShow Kind Any
+    (λ c said line m is s.
+    let one : m.shown ≡ shown_by s.is.note.shows = s.shown ∙ ap (λ (x : Said). shown_by x.shows) (sym s.is.noted) in
+    ((λ h. subst (IsFor line.word) one h), (λ h. subst (IsFor line.word) (sym one) h)))
+    script t a.made.meanings (made_by m) a.made.lines (all_any 0 t) a.says in
+    both.0 (callers_kind saids states 0 script.callers t a.made.meanings a.made.lines a.says means)

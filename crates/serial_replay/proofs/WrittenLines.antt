@@ -92,8 +92,8 @@ lines_at [] c = refl
 lines_at (lines ∷ t) zero = refl
 lines_at (lines ∷ t) (suc c) = lines_at t c
 
-pub said_at : (said : List (Vec Said)) (c : ℕ) (v : Vec Said) → c < length said → v ≡ get_or said c v →
+pub said_at : {Noted : Type 0} (said : List (Vec Noted)) (c : ℕ) (v : Vec Noted) → c < length said → v ≡ get_or said c v →
     v.items ≡ list_at (said_lists said) c
 said_at [] c v low is = absurd (omega arith)
-said_at (s ∷ said) zero v low is = ap (λ (x : Vec Said). x.items) is
+said_at (s ∷ said) zero v low is = ap (λ x. x.items) is
 said_at (s ∷ said) (suc c) v low is = said_at said c v (omega arith) is

@@ -6,10 +6,10 @@ use Rattle.key_names.specs.SeenLine.{SeenLine}
 use Rattle.caller_answers.specs.declared.said.Said.{Said}
 use Rattle.caller_answers.specs.Said.{shown_by}
 
--- what is said at the line's number is so of the line
-pub record Agrees (Same : SeenLine → Said → Type 0) (said : List Said) (line : SeenLine) : Type 0 where
-  pub one : Said
-  pub is : slice_get said line.event ≡ Some one
+-- what is noted at the line's number is so of the line
+pub record Agrees {Noted : Type 0} (Same : SeenLine → Noted → Type 0) (notes : List Noted) (line : SeenLine) : Type 0 where
+  pub one : Noted
+  pub is : slice_get notes line.event ≡ Some one
   pub same : Same line one
 
 abbrev pub SameAnswer : SeenLine → Said → Type 0
@@ -19,5 +19,5 @@ abbrev pub SameShown : SeenLine → Said → Type 0
 SameShown line one = line.shown ≡ shown_by one.shows
 
 -- of the lines of each caller
-abbrev pub AllAgree : (SeenLine → Said → Type 0) → List (List Said) → List (List SeenLine) → Type 0
-AllAgree Same saids t = (c : ℕ) → c < length t → AllByRecursion (Agrees Same (list_at saids c)) (list_at t c)
+abbrev pub AllAgree : {Noted : Type 0} → (SeenLine → Noted → Type 0) → List (List Noted) → List (List SeenLine) → Type 0
+AllAgree Same notes t = (c : ℕ) → c < length t → AllByRecursion (Agrees Same (list_at notes c)) (list_at t c)

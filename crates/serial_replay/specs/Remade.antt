@@ -14,7 +14,7 @@ use Rattle.line_orders.specs.Settings.{AreSettings}
 use Rattle.key_names.specs.IsTranscript.{lines_clause, marks_clause, forms_clause, answers_clause, data_clause}
 use Rattle.key_names.specs.IsTranscript.{looks_clause}
 use Rattle.caller_answers.specs.declared.said.Said.{Said}
-use Rattle.caller_answers.specs.Said.{SaysIt, IsSaid}
+use Rattle.caller_answers.specs.Said.{NotedAt, SaysIt, IsSaid}
 use Rattle.serial_replay.specs.declared.remake.Made.{Made}
 use Rattle.serial_replay.specs.declared.remake.Remade.{Remade}
 use Rattle.serial_replay.specs.declared.remake.Remade.TheVariants.{Made as MadeAll, No}
@@ -50,25 +50,30 @@ abbrev pub AllMeanSome : Lists → List (List Call) → Type 0
 AllMeanSome lists callers =
     (c : ℕ) → c < length callers → MeansSome lists (start_setting callers c) (list_at callers c)
 
-abbrev pub said_lists : List (Vec Said) → List (List Said)
-said_lists callers = map (λ said. said.items) callers
+abbrev pub said_lists : {Noted : Type 0} → List (Vec Noted) → List (List Noted)
+said_lists callers = map (λ notes. notes.items) callers
 
-pub record AllSaid (lists : Lists) (callers : List (List Call)) (said : List (Vec Said)) : Type 0 where
-  pub long : length said ≡ length callers
-  pub each : (c : ℕ) → c < length callers →
-      IsSaid lists (start_setting callers c) (list_at callers c) (list_at (said_lists said) c)
-
--- what was made of each caller's lines
-abbrev pub made_by : Made → List (List Said)
+-- what was noted of each caller's lines
+abbrev pub made_by : {Noted : Type 0} → Made Noted → List (List Noted)
 made_by m = said_lists m.callers.items
 
--- the steps make a book, each line's answer and data are said at its event's number, and whether the looks stand
-pub record AllMade (script : Script) (t : List (List SeenLine)) (m : Made) : Type 0 where
-  pub made : MadeBook script t
-  pub long : length (made_by m) ≡ length t
-  pub says : EachCaller (λ c calls ms. EachLine (SaysIt (list_at (made_by m) c)) calls ms) 0 (script_calls script t)
-      made.meanings
-  pub looks : IsTrue m.looks_stand ↔ SeenStands script t (lists_of made.book)
+module _ {Noted : Type 0} (IsNoted : ℕ → ℕ → Said → Noted → Type 0) where
+  -- what is said of a caller's events, by the notes of all callers
+  abbrev pub said_of_caller : List (List Noted) → ℕ → ℕ → Said → Type 0
+  said_of_caller notes c = NotedAt (IsNoted c) (list_at notes c)
+
+  pub record AllSaid (lists : Lists) (callers : List (List Call)) (notes : List (Vec Noted)) : Type 0 where
+    pub long : length notes ≡ length callers
+    pub each : (c : ℕ) → c < length callers →
+        IsSaid lists (start_setting callers c) (list_at callers c) (said_of_caller (said_lists notes) c)
+
+  -- the steps make a book, each line's answer and data are noted at its event's number, and whether the looks stand
+  pub record AllMade (script : Script) (t : List (List SeenLine)) (m : Made Noted) : Type 0 where
+    pub made : MadeBook script t
+    pub long : length (made_by m) ≡ length t
+    pub says : EachCaller (λ c calls ms. EachLine (SaysIt (said_of_caller (made_by m) c)) calls ms) 0 (script_calls script t)
+        made.meanings
+    pub looks : IsTrue m.looks_stand ↔ SeenStands script t (lists_of made.book)
 
 -- the clause of this number is the first that fails, and one before the answers
 pub record FailsEarly (script : Script) (t : List (List SeenLine)) (number : ℕ) : Type 0 where
@@ -77,6 +82,7 @@ pub record FailsEarly (script : Script) (t : List (List SeenLine)) (number : ℕ
   pub early : IsEarly clause
   pub fails : FirstFails script t clause
 
-abbrev pub IsRemade : Script → List (List SeenLine) → Remade → Type 0
-IsRemade script t (MadeAll m) = AllMade script t m
-IsRemade script t (No number) = FailsEarly script t number
+abbrev pub IsRemade : {Noted : Type 0} → (ℕ → ℕ → Said → Noted → Type 0) → Script → List (List SeenLine) → Remade Noted →
+    Type 0
+IsRemade IsNoted script t (MadeAll m) = AllMade IsNoted script t m
+IsRemade IsNoted script t (No number) = FailsEarly script t number

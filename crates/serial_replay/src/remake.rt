@@ -1,5 +1,5 @@
 //! Every answer and all data of a transcript, made anew from its words and steps.
-ghost use Rattle.std.specs.Prelude.{◌≡◌, List, length, IfOk, IfSome, IsSome, map};
+ghost use Rattle.std.specs.Prelude.{◌≡◌, ◌≤◌, List, length, IfOk, IfSome, IsSome, map};
 ghost use Rattle.std.specs.List.{AllByRecursion};
 ghost use Rattle.key_names.specs.Book.{Lists as BookLists, LawfulLanes, list_at};
 ghost use Rattle.key_names.specs.IsTranscript.{start_setting};
@@ -15,7 +15,7 @@ ghost use Rattle.serial_replay.specs.Remade.{IsRemade, CallersStand, StepsFit, A
 
 use crate::looks::Looks;
 use caller_answers::calls::caller_said;
-use caller_answers::said::Said;
+use caller_answers::said::{Note, Noting};
 use event_script::Script;
 use line_forms::setting::Setting;
 use line_orders::along::all_may_follow;
@@ -29,55 +29,62 @@ use std::alloc::{AllocError, Global};
 use told_entries::gather::gather;
 use transcript_text::Transcript;
 
-/// What was made of each caller's lines, by the numbers of their events, and whether the looks of the transcript stand.
+/// What was noted of each caller's lines, by the numbers of their events, and whether the looks of the transcript stand.
 #[derive(Drop)]
-pub struct Made {
-    pub callers: Vec<Vec<Said>>,
+pub struct Made<T: Drop> {
+    pub callers: Vec<Vec<T>>,
     pub looks_stand: bool,
 }
 
 #[derive(Drop)]
-pub enum Remade {
-    Made(Made),
+pub enum Remade<T: Drop> {
+    Made(Made<T>),
     /// The first of the clauses 2, 3 and 4 that fails.
     No(u8),
 }
 
-// What each caller's lines say, if the steps of all are forms.
-fn all_said(
+// Notes of what each caller's lines say, if the steps of all are forms.
+fn all_said<N: Note>(
     alloc: Global,
     calls: &[Vec<Called<'_>>],
     settings: &[Vec<Setting>],
     kept: &Lists,
-) -> Result<Option<Vec<Vec<Said>>>, AllocError>
+    how: &N,
+) -> Result<Option<Vec<Vec<N::Noted>>>, AllocError>
+    requires few { length calls.now ≤ 64 }
     requires long { length settings.now ≡ length calls.now }
     requires in_range { AllByRecursion (AllByRecursion CallInRange) (seen_calls calls.now) }
     ensures some { (script : ScriptLines) (t : List (List SeenLine)) (lists : BookLists) →
         CallersStand script t (seen_calls calls.now) settings.now → Keeps kept.now lists → LawfulLanes lists →
         AllCallsFill lists (seen_calls calls.now) →
-        IfOk result (λ o. IfSome o (λ said. AllSaid lists (seen_calls calls.now) said.items)) }
+        IfOk result (λ o. IfSome o (λ noted. AllSaid (N.IsNoted how.now) lists (seen_calls calls.now) noted.items)) }
     ensures only { (script : ScriptLines) (t : List (List SeenLine)) (lists : BookLists) →
         CallersStand script t (seen_calls calls.now) settings.now → Keeps kept.now lists → LawfulLanes lists →
         AllMeanSome lists (seen_calls calls.now) → IfOk result (λ o. IsSome o) }
 {
     let mut callers = Vec::new(alloc);
     for (caller, caller_calls) in calls.iter().enumerate() {
-        match caller_said(alloc, caller_calls, &settings[caller], kept)? {
-            Some(said) => callers.push(said)?,
+        let noting = Noting {
+            how,
+            caller: caller as u32,
+        };
+        match caller_said(alloc, caller_calls, &settings[caller], kept, &noting)? {
+            Some(noted) => callers.push(noted)?,
             None => return Ok(None),
         }
     }
     Ok(Some(callers))
 }
 
-fn of_lines(
+fn of_lines<N: Note>(
     alloc: Global,
     script: &Script,
     lines: &[Vec<BareLine<'_>>],
-) -> Result<Remade, AllocError>
+    how: &N,
+) -> Result<Remade<N::Noted>, AllocError>
     requires well { WellFormed script.now }
     requires fit { StepsFit (seen_callers lines.now) }
-    ensures { IfOk result (λ remade. IsRemade script.now (seen_callers lines.now) remade) }
+    ensures { IfOk result (λ remade. IsRemade (N.IsNoted how.now) script.now (seen_callers lines.now) remade) }
 {
     let parts = match begin(alloc, script, lines)? {
         Begun::No(clause) => return Ok(Remade::No(clause)),
@@ -90,7 +97,7 @@ fn of_lines(
     let Some(kept) = replay_lists(alloc, &told)? else {
         return Ok(Remade::No(4));
     };
-    let Some(callers) = all_said(alloc, &parts.calls, &settings, &kept)? else {
+    let Some(callers) = all_said(alloc, &parts.calls, &settings, &kept, how)? else {
         return Ok(Remade::No(4));
     };
     let looks_stand = all_may_follow(alloc, &parts.orders, &Looks::of(&kept))?;
@@ -100,17 +107,22 @@ fn of_lines(
     }))
 }
 
-/// Makes every answer and all data of a transcript anew, from its words and steps alone.
+/// Makes every answer and all data of a transcript anew, from its words and steps alone, and notes of them what is asked.
 ///
 /// # Errors
 ///
 /// `AllocError` where there is no memory for it.
-pub fn remake(alloc: Global, script: &Script, t: &Transcript) -> Result<Remade, AllocError>
+pub fn remake<N: Note>(
+    alloc: Global,
+    script: &Script,
+    t: &Transcript,
+    how: &N,
+) -> Result<Remade<N::Noted>, AllocError>
     requires { WellFormed script.now }
-    ensures made { IfOk result (λ remade. IsRemade script.now t.now remade) }
-    ensures of_steps { IfOk result (λ remade. IsRemade script.now (map (map bare) t.now) remade) }
+    ensures made { IfOk result (λ remade. IsRemade (N.IsNoted how.now) script.now t.now remade) }
+    ensures of_steps { IfOk result (λ remade. IsRemade (N.IsNoted how.now) script.now (map (map bare) t.now) remade) }
 {
     let _callers = t.callers();
     let lines = bare_callers(alloc, t)?;
-    of_lines(alloc, script, &lines)
+    of_lines(alloc, script, &lines, how)
 }

@@ -12,7 +12,7 @@ ghost use Rattle.serial_replay.specs.Replayed.{IsReplay};
 ghost use Rattle.serial_replay.specs.Written.{bytes_said, said_of, lines_said, said_into, IsFor, MayShow};
 
 use crate::remake::{Remade, remake};
-use caller_answers::said::{Said, Shows};
+use caller_answers::said::{Said, Shows, Whole};
 use event_script::Script;
 use std::alloc::{AllocError, Global};
 use transcript_text::{CallerLines, LineView, Shown, Transcript};
@@ -156,7 +156,7 @@ pub fn replay(alloc: Global, script: &Script, steps: &Transcript) -> Result<Repl
     requires { WellFormed script.now }
     ensures { IfOk result (λ replayed. IsReplay script.now steps.now replayed) }
 {
-    let made = match remake(alloc, script, steps)? {
+    let made = match remake(alloc, script, steps, &Whole)? {
         Remade::No(clause) => return Ok(Replayed::No(clause)),
         Remade::Made(made) => made,
     };

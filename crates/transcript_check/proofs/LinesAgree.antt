@@ -4,7 +4,7 @@ use Rattle.std.specs.Prelude.{◌↔◌, slice_get}
 use Rattle.std.specs.List.{AllByRecursion}
 use Rattle.key_names.specs.SeenLine.{SeenLine}
 use Rattle.line_orders.proofs.Fronts.{found_dropped}
-use Rattle.caller_answers.specs.declared.said.Said.{Said}
+use Rattle.transcript_check.specs.declared.compare.Same.{Same}
 
 -- one more agrees
 pub one_more : {X : Type 0} (P : X → Type 0) (xs : List X) (n : ℕ) (x : X) → slice_get xs n ≡ Some x → P x →
@@ -17,6 +17,6 @@ one_more {X = X} P xs n x is here rest =
     )
 
 -- what was judged of this caller's lines is so of those at its number
-pub moved : (Q : List Said → List SeenLine → Type 0) (s s' : List Said) (ls ls' : List SeenLine) → s ≡ s' → ls ≡ ls' →
+pub moved : (Q : List Same → List SeenLine → Type 0) (s s' : List Same) (ls ls' : List SeenLine) → s ≡ s' → ls ≡ ls' →
     Q s ls → Q s' ls'
 moved Q s s' ls ls' e e' q = subst (Q s') e' (subst (λ x. Q x ls) e q)

@@ -19,12 +19,14 @@ use Rattle.key_names.proofs.Values.PrintedNamed.{transcript_prints_named}
 use Rattle.key_names.proofs.Transcripts.TranscriptLaws.{transcript_is_lawful}
 use Rattle.key_names.proofs.Unique.UniqueBook.{first_fail_is_unique}
 use Rattle.serial_replay.specs.declared.remake.Made.{Made}
-use Rattle.serial_replay.specs.Agreement.{SameAnswer, SameShown, AllAgree}
+use Rattle.serial_replay.specs.Agreement.{AllAgree}
 use Rattle.serial_replay.specs.Remade.{AllMade, FailsEarly, made_by}
-use Rattle.serial_replay.proofs.Agreement.{answers_both, data_both}
 use Rattle.transcript_check.specs.declared.check.Verdict.{Verdict}
 use Rattle.transcript_check.specs.declared.check.Verdict.TheVariants.{Yes, No}
+use Rattle.transcript_check.specs.declared.compare.Same.{Same}
+use Rattle.transcript_check.specs.Compared.{IsCompared}
 use Rattle.transcript_check.specs.Judged.{IsSound, FailsFirst, IsJudged}
+use Rattle.transcript_check.proofs.Compared.{AnswerSame, DataSame, answers_same, data_same}
 
 -- looks that stand never fall
 
@@ -84,18 +86,18 @@ module _ (script : Script) (t : List (List SeenLine)) (well : WellFormed script)
   pub early : (number : ℕ) → FailsEarly script t number → FailsFirst script t number
   early number f = record { clause = f.clause; is = f.is; fails = f.fails }
 
-  module _ (m : Made) (a : AllMade script t m) where
+  module _ (m : Made Same) (a : AllMade (IsCompared t) script t m) where
     abbrev Answers : Type 0
-    Answers = AllAgree SameAnswer (made_by m) t
+    Answers = AllAgree AnswerSame (made_by m) t
 
     abbrev Data : Type 0
-    Data = AllAgree SameShown (made_by m) t
+    Data = AllAgree DataSame (made_by m) t
 
     answers : AnswersStand script t a.made.meanings ↔ Answers
-    answers = answers_both script t a.made.meanings (made_by m) a.made.lines a.says
+    answers = answers_same script t a.made.meanings (made_by m) a.made.lines a.says
 
     shown : DataStand script t a.made.meanings ↔ Data
-    shown = data_both script t a.made.meanings (made_by m) a.made.lines a.says
+    shown = data_same script t a.made.meanings (made_by m) a.made.lines a.says
 
     pub other_answers : (Answers → ⊥) → FailsFirst script t 5
     other_answers differ = record {

@@ -4,7 +4,7 @@ ghost use Rattle.key_names.specs.Texts.ScriptGrammar.{WellFormed};
 ghost use Rattle.key_names.specs.IsTranscript.{IsTranscript, FirstFails, Clause, clause_number};
 ghost use Rattle.transcript_check.specs.Judged.{IsJudged};
 
-use crate::compare::{Answers, Data, all_agree};
+use crate::compare::{Answers, Compare, Data, all_agree};
 use event_script::Script;
 use serial_replay::remake::{Remade, remake};
 use std::alloc::{AllocError, Global};
@@ -23,7 +23,7 @@ fn judge(alloc: Global, script: &Script, t: &Transcript) -> Result<Verdict, Allo
     requires { WellFormed script.now }
     ensures { IfOk result (λ verdict. IsJudged script.now t.now verdict) }
 {
-    let made = match remake(alloc, script, t)? {
+    let made = match remake(alloc, script, t, &Compare { t })? {
         Remade::No(clause) => return Ok(Verdict::No(clause)),
         Remade::Made(made) => made,
     };

@@ -1,24 +1,40 @@
 //! Lines compared with what was made of them, part by part.
-ghost use Rattle.std.specs.Prelude.{◌≡◌, ◌↔◌, IsTrue, length};
+ghost use Rattle.std.specs.Prelude.{◌≡◌, ◌↔◌, IsTrue, Some, length, slice_get, MatchOption};
 ghost use Rattle.std.specs.List.{AllByRecursion};
+ghost use Rattle.key_names.specs.Book.{list_at};
 ghost use Rattle.key_names.specs.SeenLine.{SeenLine, no_data, count, bytes_or_none};
 ghost use Rattle.transcript_text.specs.Views.{seen, seen_shown};
 ghost use Rattle.vread_course.specs.Recipe.{bytes_made};
-ghost use Rattle.caller_answers.specs.declared.said.Said.{Said as MadeOfLine};
+ghost use Rattle.caller_answers.specs.Said.{shown_by};
 ghost use Rattle.serial_replay.specs.Agreement.{Agrees, SameAnswer, SameShown, AllAgree};
 ghost use Rattle.serial_replay.specs.Remade.{said_lists};
+ghost use Rattle.transcript_check.specs.declared.compare.Same.{Same as IsLineSame};
+ghost use Rattle.transcript_check.specs.Compared.{IsCompared};
 
-use caller_answers::said::{Said, Shows};
+use caller_answers::said::{Note, Said, Shows};
 use transcript_text::{CallerLines, LineView, Shown, Transcript};
 use vread_course::served::Served;
+
+/// Whether the parts of a line are as they are said.
+#[derive(Clone, Copy, Drop)]
+pub(crate) struct Same {
+    pub answer: bool,
+    pub shown: bool,
+}
+
+/// Notes whether the lines of a transcript are as they are said.
+#[derive(Drop)]
+pub(crate) struct Compare<'a> {
+    pub t: &'a Transcript,
+}
 
 /// A part of a line.
 pub(crate) trait Part {
     /// The part of the line is as it is said.
-    ghost Same: { Self → SeenLine → MadeOfLine → Type 0 };
+    ghost IsSame: { Self → IsLineSame → Type 0 };
 
-    fn is_same(&self, line: LineView<'_>, said: &Said) -> bool
-        ensures { IsTrue result ↔ Same self.now (seen line.entry) said.now };
+    fn is_same(&self, same: Same) -> bool
+        ensures { IsTrue result ↔ IsSame self.now same };
 }
 
 /// A line's answer.
@@ -56,40 +72,91 @@ fn shows_bytes(shown: Shown<'_>, served: &Served) -> bool
     }
 }
 
-impl Part for Answers {
-    ghost Same = { λ _ line said. SameAnswer line said };
-
-    fn is_same(&self, line: LineView<'_>, said: &Said) -> bool {
-        line.answer == said.answer
+fn is_shown(shown: Shown<'_>, shows: &Shows) -> bool
+    ensures { IsTrue result ↔ (seen_shown shown.entry ≡ shown_by shows.now) }
+{
+    match shows {
+        Shows::Nothing => shows_nothing(shown),
+        Shows::Count(number) => shows_count(shown, *number),
+        Shows::Served(served) => shows_bytes(shown, served),
     }
 }
 
-impl Part for Data {
-    ghost Same = { λ _ line said. SameShown line said };
+fn compared(line: LineView<'_>, said: &Said) -> Same
+    ensures answer { IsTrue result.answer ↔ SameAnswer (seen line.entry) said.now }
+    ensures shown { IsTrue result.shown ↔ SameShown (seen line.entry) said.now }
+{
+    Same {
+        answer: line.answer == said.answer,
+        shown: is_shown(line.shown, &said.shows),
+    }
+}
 
-    fn is_same(&self, line: LineView<'_>, said: &Said) -> bool {
-        match &said.shows {
-            Shows::Nothing => shows_nothing(line.shown),
-            Shows::Count(number) => shows_count(line.shown, *number),
-            Shows::Served(served) => shows_bytes(line.shown, served),
+impl Compare<'_> {
+    // The line of an event, if the transcript has it.
+    fn line(&self, caller: u32, event: u32) -> Option<LineView<'_>>
+        ensures { MatchOption result
+            ((line : SeenLine) → slice_get (list_at self.now.t.now caller) event ≡ Some line → ⊥)
+            (λ line. slice_get (list_at self.now.t.now caller) event ≡ Some (seen line)) }
+    {
+        if caller >= self.t.callers() {
+            return None;
+        }
+        let lines = self.t.caller(caller);
+        if event as usize >= lines.len() {
+            return None;
+        }
+        Some(lines.line(event as usize))
+    }
+}
+
+impl Note for Compare<'_> {
+    type Noted = Same;
+
+    ghost IsNoted = { λ compare caller event said same. IsCompared compare.t.now caller event said same };
+
+    #[inline(always)]
+    fn note(&self, caller: u32, event: u32, said: Said) -> Same {
+        match self.line(caller, event) {
+            Some(line) => compared(line, &said),
+            None => Same {
+                answer: true,
+                shown: true,
+            },
         }
     }
 }
 
-fn agrees<P: Part>(part: &P, line: LineView<'_>, said: &[Said]) -> bool
-    ensures { IsTrue result ↔ Agrees (P.Same part.now) said.now (seen line.entry) }
+impl Part for Answers {
+    ghost IsSame = { λ _ same. IsTrue same.answer };
+
+    fn is_same(&self, same: Same) -> bool {
+        same.answer
+    }
+}
+
+impl Part for Data {
+    ghost IsSame = { λ _ same. IsTrue same.shown };
+
+    fn is_same(&self, same: Same) -> bool {
+        same.shown
+    }
+}
+
+fn agrees<P: Part>(part: &P, line: LineView<'_>, noted: &[Same]) -> bool
+    ensures { IsTrue result ↔ Agrees (λ _. P.IsSame part.now) noted.now (seen line.entry) }
 {
-    match said.get(line.event as usize) {
-        Some(one) => part.is_same(line, one),
+    match noted.get(line.event as usize) {
+        Some(same) => part.is_same(*same),
         None => false,
     }
 }
 
-fn lines_agree<P: Part>(part: &P, lines: &CallerLines, said: &[Said]) -> bool
-    ensures { IsTrue result ↔ AllByRecursion (Agrees (P.Same part.now) said.now) lines.now.lines }
+fn lines_agree<P: Part>(part: &P, lines: &CallerLines, noted: &[Same]) -> bool
+    ensures { IsTrue result ↔ AllByRecursion (Agrees (λ _. P.IsSame part.now) noted.now) lines.now.lines }
 {
     for number in 0..lines.len() {
-        if !agrees(part, lines.line(number), said) {
+        if !agrees(part, lines.line(number), noted) {
             return false;
         }
     }
@@ -97,12 +164,12 @@ fn lines_agree<P: Part>(part: &P, lines: &CallerLines, said: &[Said]) -> bool
 }
 
 /// Whether this part of each line is as it was made.
-pub(crate) fn all_agree<P: Part>(part: &P, t: &Transcript, said: &[Vec<Said>]) -> bool
-    requires { length said.now ≡ length t.now }
-    ensures { IsTrue result ↔ AllAgree (P.Same part.now) (said_lists said.now) t.now }
+pub(crate) fn all_agree<P: Part>(part: &P, t: &Transcript, noted: &[Vec<Same>]) -> bool
+    requires { length noted.now ≡ length t.now }
+    ensures { IsTrue result ↔ AllAgree (λ _. P.IsSame part.now) (said_lists noted.now) t.now }
 {
     for caller in 0..t.callers() {
-        if !lines_agree(part, t.caller(caller), &said[caller as usize]) {
+        if !lines_agree(part, t.caller(caller), &noted[caller as usize]) {
             return false;
         }
     }

@@ -4,7 +4,7 @@ use Rattle.caller_answers.specs.CallSays.{IsCallSaid}
 use Rattle.caller_answers.proofs.calls.call_said.Goals as goal
 
 pub returns-in-Alone : goal.returns-in-Alone
-returns-in-Alone c =
-    subst (λ call. IfOk c.alone_call.result (IsCallSaid c.args.lists.now c.args.set.now (seen_call call)
-    c.args.states.now c.alone_call.new.states c.args.said.now.items c.alone_call.new.said.items))
+returns-in-Alone g c =
+    subst (λ call. IfOk c.alone_call.result (IsCallSaid (g.N.Note.IsNoted c.args.noting.now.how.now c.args.noting.now.caller) c.args.lists.now c.args.set.now (seen_call call)
+    c.args.states.now c.alone_call.new.states c.args.noted.now.items c.alone_call.new.noted.items))
     (sym c.in-Alone.is) c.alone_call.ensures

@@ -9,7 +9,7 @@ use Rattle.caller_answers.proofs.CallLoop.{SoFar, Left, so_far_more, left_more, 
 use Rattle.caller_answers.proofs.calls.calls_said.Goals as goal
 
 pub call_said-requires : goal.call_said-requires
-call_said-requires c =
+call_said-requires g c =
     let first : c.into_iter-call-iterator.result.a.rest.now ≡ c.args.calls.now = cc in
     let second : c.into_iter-call-iterator.result.b.rest.now ≡ c.args.settings.now =
     rw c.into_iter-call-iterator.ensures.into_iter_gives c.zip-call-items.ensures.second.0 in
@@ -20,7 +20,7 @@ call_said-requires c =
     seen_call CallInRange c.requires.in_range
 
 pub returns-then-not-branch : goal.returns-then-not-branch
-returns-then-not-branch c = λ t writes said.
+returns-then-not-branch g c = λ t writes said.
     let first : c.into_iter-call-iterator.result.a.rest.now ≡ c.args.calls.now = cc in
     let second : c.into_iter-call-iterator.result.b.rest.now ≡ c.args.settings.now =
     rw c.into_iter-call-iterator.ensures.into_iter_gives c.zip-call-items.ensures.second.0 in
@@ -29,8 +29,8 @@ returns-then-not-branch c = λ t writes said.
     (c.in-Some.call, c.in-Some.set) c.in-Some.is c.next.ensures.steps in
     let n = length c.loop-call.yielded in
     let low' : n < length (map seen_call c.args.calls.now) = rw length-map turn.0 in
-    let unsaid = subst (IsCallSaid c.args.lists.now c.in-Some.set.now (seen_call c.in-Some.call.now) c.loop-call.states
-    c.call_said.new.states c.loop-call.said.items c.call_said.new.said.items) c.if-not-branch.true
+    let unsaid = subst (IsCallSaid (g.N.Note.IsNoted c.args.noting.now.how.now c.args.noting.now.caller) c.args.lists.now c.in-Some.set.now (seen_call c.in-Some.call.now) c.loop-call.states
+    c.call_said.new.states c.loop-call.noted.items c.call_said.new.noted.items) c.if-not-branch.true
     c.in_ok-call_said.ensures in
     none_left c.args.lists.now c.args.settings.now (map seen_call c.args.calls.now) n turn.1 low' c.in-Some.set.now
     (seen_call c.in-Some.call.now) (turn.3 c.in-Some.set.now)
@@ -38,7 +38,7 @@ returns-then-not-branch c = λ t writes said.
     c.loop-call.states unsaid (c.loop-call.invariant.left t writes said)
 
 pub loop-call-preserved : goal.loop-call-preserved
-loop-call-preserved c =
+loop-call-preserved g c =
     let first : c.into_iter-call-iterator.result.a.rest.now ≡ c.args.calls.now = cc in
     let second : c.into_iter-call-iterator.result.b.rest.now ≡ c.args.settings.now =
     rw c.into_iter-call-iterator.ensures.into_iter_gives c.zip-call-items.ensures.second.0 in
@@ -48,15 +48,15 @@ loop-call-preserved c =
     let n = length c.loop-call.yielded in
     let low' : n < length (map seen_call c.args.calls.now) = rw length-map turn.0 in
     let call_is = sym (mapped_at c.args.calls.now n c.in-Some.call.now turn.0 (turn.2 c.in-Some.call.now) seen_call) in
-    let one = subst (IsCallSaid c.args.lists.now c.in-Some.set.now (seen_call c.in-Some.call.now) c.loop-call.states
-    c.call_said.new.states c.loop-call.said.items c.call_said.new.said.items) c.if-not-branch.false
+    let one = subst (IsCallSaid (g.N.Note.IsNoted c.args.noting.now.how.now c.args.noting.now.caller) c.args.lists.now c.in-Some.set.now (seen_call c.in-Some.call.now) c.loop-call.states
+    c.call_said.new.states c.loop-call.noted.items c.call_said.new.noted.items) c.if-not-branch.false
     c.in_ok-call_said.ensures in
     let more = sym (length_push c.loop-call.yielded (c.in-Some.call, c.in-Some.set)) in record {
-      so_far = subst (λ k. SoFar c.args.lists.now c.args.settings.now (map seen_call c.args.calls.now) k
-          c.call_said.new.states c.call_said.new.said.items) more
+      so_far = subst (λ k. SoFar c.args.lists.now c.args.settings.now (map seen_call c.args.calls.now)
+          (g.N.Note.IsNoted c.args.noting.now.how.now c.args.noting.now.caller) k c.call_said.new.states c.call_said.new.noted.items) more
           (so_far_more c.args.lists.now c.args.settings.now (map seen_call c.args.calls.now) n turn.1 low' c.in-Some.set.now
-          (seen_call c.in-Some.call.now) (turn.3 c.in-Some.set.now) call_is c.loop-call.states c.call_said.new.states
-          c.loop-call.said.items c.call_said.new.said.items c.loop-call.invariant.so_far one);
+          (seen_call c.in-Some.call.now) (turn.3 c.in-Some.set.now) call_is c.loop-call.states
+          (g.N.Note.IsNoted c.args.noting.now.how.now c.args.noting.now.caller) c.call_said.new.states c.loop-call.noted.items c.call_said.new.noted.items c.loop-call.invariant.so_far one);
       left = λ t writes said.
           subst (λ k. Left c.args.lists.now c.args.settings.now (map seen_call c.args.calls.now) k c.call_said.new.states)
           more
@@ -66,7 +66,7 @@ loop-call-preserved c =
     }
 
 pub returns : goal.returns
-returns c =
+returns g c =
     let first : c.into_iter-call-iterator.result.a.rest.now ≡ c.args.calls.now = cc in
     let second : c.into_iter-call-iterator.result.b.rest.now ≡ c.args.settings.now =
     rw c.into_iter-call-iterator.ensures.into_iter_gives c.zip-call-items.ensures.second.0 in

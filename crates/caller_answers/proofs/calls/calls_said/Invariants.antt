@@ -6,8 +6,9 @@ use Rattle.caller_answers.proofs.CallLoop.{SoFar, Left}
 use Rattle.caller_answers.proofs.calls.calls_said.Given as goal
 
 abbrev pub invariant-loop-call : goal.invariant-loop-call
-invariant-loop-call l = record {
-  so_far : SoFar l.lists l.settings (map seen_call l.calls) (length l.yielded) l.states l.said.items;
+invariant-loop-call g l = record {
+  so_far : SoFar l.lists l.settings (map seen_call l.calls)
+      (g.N.Note.IsNoted l.noting.how.now l.noting.caller) (length l.yielded) l.states l.noted.items;
   left : (t : VStates) (writes : List Write) →
       CallsSaid l.lists l.settings (map seen_call l.calls) first_states t writes →
       Left l.lists l.settings (map seen_call l.calls) (length l.yielded) l.states;

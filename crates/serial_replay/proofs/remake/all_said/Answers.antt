@@ -7,12 +7,12 @@ use Rattle.key_names.specs.IsTranscript.{start_setting, CallerMeans}
 use Rattle.line_orders.specs.declared.called.Called.{Called}
 use Rattle.line_orders.specs.Called.{seen_call, seen_calls}
 use Rattle.told_entries.specs.Filled.{CallsFill}
-use Rattle.caller_answers.specs.Said.{CallInRange, IsSaid}
+use Rattle.caller_answers.specs.Said.{NotedAt, CallInRange, IsSaid}
 use Rattle.serial_replay.proofs.OneCaller.{here, among, range_of, calls_of, settings_are, said_more}
 use Rattle.serial_replay.proofs.remake.all_said.Goals as goal
 
 pub caller_said-requires : goal.caller_said-requires
-caller_said-requires c = record {
+caller_said-requires g c = record {
   in_range = subst (λ (calls : List Called). AllByRecursion CallInRange (map seen_call calls)) (sym c.deref.ensures.value)
       (range_of c.args.calls.now c.args.settings.now c.loop-caller.caller c.index-calls-caller.result
       c.index-settings-caller.result c.loop-caller-test.true c.index-calls-caller.is c.requires.long
@@ -20,7 +20,7 @@ caller_said-requires c = record {
 }
 
 pub returns-in-None-clause-only : goal.returns-in-None-clause-only
-returns-in-None-clause-only c = λ script t lists stand keeps lawful means.
+returns-in-None-clause-only g c = λ script t lists stand keeps lawful means.
     let calls : List Call = map seen_call c.index-calls-caller.result.items in
     let n : ℕ = c.loop-caller.caller in
     let of = calls_of c.args.calls.now c.args.settings.now n c.index-calls-caller.result c.index-settings-caller.result
@@ -34,20 +34,20 @@ returns-in-None-clause-only c = λ script t lists stand keeps lawful means.
     let same : map seen_call c.index-calls-caller.result.items ≡ list_at (seen_calls c.args.calls.now) n =
     here c.args.calls.now c.args.settings.now n c.index-calls-caller.result c.index-settings-caller.result
     c.loop-caller-test.true c.index-calls-caller.is c.requires.long c.index-settings-caller.is in
-    let only = rw (c.in-None.is, c.deref.ensures.value, c.deref-in-loop-caller.ensures.value) at c.in_ok-said.ensures.only in
+    let only = rw (c.in-None.is, c.deref.ensures.value, c.deref-in-loop-caller.ensures.value) at c.in_ok-noted.ensures.only in
     only lists (start_setting (seen_calls c.args.calls.now) n) of.events of.lines one.ms keeps lawful of.are found
     (subst (λ (cs : List Call). CallerMeans lists (start_setting (seen_calls c.args.calls.now) n) cs one.ms) (sym same)
     one.means)
 
 pub loop-caller-preserved : goal.loop-caller-preserved
-loop-caller-preserved c =
+loop-caller-preserved g c =
     let n : ℕ = c.loop-caller.caller in
     let same : map seen_call c.index-calls-caller.result.items ≡ list_at (seen_calls c.args.calls.now) n =
     here c.args.calls.now c.args.settings.now n c.index-calls-caller.result c.index-settings-caller.result
     c.loop-caller-test.true c.index-calls-caller.is c.requires.long c.index-settings-caller.is in
-    let some = rw (c.in-Some.is, c.deref.ensures.value, c.deref-in-loop-caller.ensures.value) at c.in_ok-said.ensures.some in
+    let some = rw (c.in-Some.is, c.deref.ensures.value, c.deref-in-loop-caller.ensures.value) at c.in_ok-noted.ensures.some in
     record {
-      long = ap length c.in_ok-push-in-Some.ensures.items ∙ length_push c.loop-caller.callers.items c.in-Some.said
+      long = ap length c.in_ok-push-in-Some.ensures.items ∙ length_push c.loop-caller.callers.items c.in-Some.noted
           ∙ ap (λ m. m + 1) c.loop-caller.invariant.long;
       each = λ script t lists stand keeps lawful fill.
           let of = calls_of c.args.calls.now c.args.settings.now n c.index-calls-caller.result
@@ -63,8 +63,8 @@ loop-caller-preserved c =
           let said = some lists start of.events of.lines keeps lawful of.are found
           (subst (λ (cs : List Call). CallsFill lists start cs) (sym same) (fill n low)) in
           rw c.in_ok-push-in-Some.ensures.items
-          (said_more lists (seen_calls c.args.calls.now) c.loop-caller.callers.items n c.in-Some.said
+          (said_more (g.N.Note.IsNoted c.args.how.now) lists (seen_calls c.args.calls.now) c.loop-caller.callers.items n c.in-Some.noted
           c.loop-caller.invariant.long
           (λ k k_low. c.loop-caller.invariant.each script t lists stand keeps lawful fill k k_low)
-          (subst (λ (cs : List Call). IsSaid lists start cs c.in-Some.said.items) same said));
+          (subst (λ (cs : List Call). IsSaid lists start cs (NotedAt (g.N.Note.IsNoted c.args.how.now n) c.in-Some.noted.items)) same said));
     }

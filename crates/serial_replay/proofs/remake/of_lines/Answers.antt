@@ -8,19 +8,19 @@ use Rattle.serial_replay.proofs.RemadeLines.{few_calls, few_orders, forks_rise, 
 use Rattle.serial_replay.proofs.remake.of_lines.Goals as goal
 
 pub all_settings-requires-clause-few : goal.all_settings-requires-clause-few
-all_settings-requires-clause-few c =
+all_settings-requires-clause-few g c =
     let stand = rw c.in-Stands.is at c.in_ok-clause.ensures in
     rw c.deref.ensures.value
     (few_calls c.args.script.now (seen_callers c.args.lines.now) c.in-Stands.parts stand c.requires.well)
 
 pub all_settings-requires-clause-rise : goal.all_settings-requires-clause-rise
-all_settings-requires-clause-rise c =
+all_settings-requires-clause-rise g c =
     let stand = rw c.in-Stands.is at c.in_ok-clause.ensures in
     rw c.deref-2.ensures.value
     (forks_rise c.args.script.now (seen_callers c.args.lines.now) c.in-Stands.parts stand c.requires.well)
 
 pub returns-in_default-2 : goal.returns-in_default-2
-returns-in_default-2 c =
+returns-in_default-2 g c =
     let t : List (List SeenLine) = seen_callers c.args.lines.now in
     let stand = rw c.in-Stands.is at c.in_ok-clause.ensures in
     let are = rw c.deref.ensures.value at c.in_ok-settings.ensures in
@@ -29,14 +29,20 @@ returns-in_default-2 c =
     are (tables_of c.in-Some.told) gathered
     (λ lists fills lawful. rw c.in_default-2.is at (c.in_ok-kept.ensures.only lists fills lawful))
 
+pub all_said-requires-clause-few : goal.all_said-requires-clause-few
+all_said-requires-clause-few g c =
+    let stand = rw c.in-Stands.is at c.in_ok-clause.ensures in
+    rw c.deref-4.ensures.value
+    (few_calls c.args.script.now (seen_callers c.args.lines.now) c.in-Stands.parts stand c.requires.well)
+
 pub all_said-requires-clause-in_range : goal.all_said-requires-clause-in_range
-all_said-requires-clause-in_range c =
+all_said-requires-clause-in_range g c =
     let stand = rw c.in-Stands.is at c.in_ok-clause.ensures in
     rw c.deref-4.ensures.value
     (in_range c.args.script.now (seen_callers c.args.lines.now) c.in-Stands.parts stand c.requires.well)
 
 pub returns-in_default-3 : goal.returns-in_default-3
-returns-in_default-3 c =
+returns-in_default-3 g c =
     let t : List (List SeenLine) = seen_callers c.args.lines.now in
     let stand = rw c.in-Stands.is at c.in_ok-clause.ensures in
     let are = rw c.deref.ensures.value at c.in_ok-settings.ensures in
@@ -51,14 +57,14 @@ returns-in_default-3 c =
     let never : false ≡ true = only c.args.script.now t lists there keeps lanes means in cc)
 
 pub all_may_follow-requires : goal.all_may_follow-requires
-all_may_follow-requires c =
+all_may_follow-requires g c =
     let stand = rw c.in-Stands.is at c.in_ok-clause.ensures in
     record {
       few = few_orders c.args.script.now (seen_callers c.args.lines.now) c.in-Stands.parts stand c.requires.well;
     }
 
 pub returns : goal.returns
-returns c =
+returns g c =
     let t : List (List SeenLine) = seen_callers c.args.lines.now in
     let stand = rw c.in-Stands.is at c.in_ok-clause.ensures in
     let are = rw c.deref.ensures.value at c.in_ok-settings.ensures in
@@ -75,6 +81,6 @@ returns c =
     (all_rise 0 c.args.script.now.callers t c.requires.well.above)) in
     all_made c.args.script.now t c.in-Stands.parts stand c.requires.well c.in_ok-settings.settings.items c.requires.fit are
     (tables_of c.in-Some.told) gathered c.in-Some-2.kept
-    (λ ls fills lawful. rw c.in-Some-2.is at (c.in_ok-kept.ensures.only ls fills lawful)) lists.0 lists.1 lists.2
+    (λ ls fills lawful. rw c.in-Some-2.is at (c.in_ok-kept.ensures.only ls fills lawful)) lists.0 lists.1 lists.2 (g.N.Note.IsNoted c.args.how.now)
     (record { callers = c.in-Some-3.callers; looks_stand = c.in_ok-looks_stand.looks_stand }) said c.of.result.reseeds
     c.of.ensures.reseeds looks

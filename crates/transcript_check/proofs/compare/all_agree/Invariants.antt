@@ -7,4 +7,4 @@ use Rattle.transcript_check.proofs.compare.all_agree.Given as goal
 
 abbrev pub invariant-loop-caller : goal.invariant-loop-caller
 invariant-loop-caller g l = (c : ℕ) → c < l.caller →
-    AllByRecursion (Agrees (g.P.Part.Same l.part) (list_at (said_lists l.said) c)) (list_at l.t c)
+    AllByRecursion (Agrees (λ _. g.P.Part.IsSame l.part) (list_at (said_lists l.noted) c)) (list_at l.t c)

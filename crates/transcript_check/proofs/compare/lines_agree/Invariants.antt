@@ -6,5 +6,5 @@ use Rattle.transcript_check.proofs.compare.lines_agree.Given as goal
 
 abbrev pub invariant-loop-number : goal.invariant-loop-number
 invariant-loop-number g l =
-    AllByRecursion (Agrees (g.P.Part.Same l.part) l.said) l.lines.lines
-    ↔ AllByRecursion (Agrees (g.P.Part.Same l.part) l.said) (drop l.number l.lines.lines)
+    AllByRecursion (Agrees (λ _. g.P.Part.IsSame l.part) l.noted) l.lines.lines
+    ↔ AllByRecursion (Agrees (λ _. g.P.Part.IsSame l.part) l.noted) (drop l.number l.lines.lines)

@@ -1,0 +1,101 @@
+-- Lines that are compared with what is said of them, each at its place.
+use Rattle.std.proofs.Common.{◌≡◌, ℕ, zero, suc, ◌+◌, ◌≤◌, Some, List, [], ◌∷◌, length, refl, sym, subst, ap, ◌∙◌, arith}
+use Rattle.std.specs.Prelude.{◌↔◌, IsTrue, slice_get}
+use Rattle.std.specs.List.{AllByRecursion}
+use Rattle.key_names.specs.declared.events.Event.{Event}
+use Rattle.key_names.specs.Book.{list_at}
+use Rattle.key_names.specs.IsTranscript.{LinesFit, EachCaller, HasLines, AnswersStand, DataStand, script_calls, EachLine}
+use Rattle.key_names.specs.Meaning.{CallMeaning}
+use Rattle.key_names.specs.SeenLine.{SeenLine}
+use Rattle.key_names.specs.Texts.ScriptGrammar.{Script}
+use Rattle.caller_answers.specs.Said.{SaysIt}
+use Rattle.serial_replay.specs.Agreement.{AllAgree}
+use Rattle.serial_replay.specs.Remade.{said_of_caller}
+use Rattle.serial_replay.proofs.Agreement.{AllAre, all_both}
+use Rattle.transcript_check.specs.declared.compare.Same.{Same}
+use Rattle.transcript_check.specs.Compared.{IsCompared}
+
+some_same : {X : Type 0} (x y : X) → Some x ≡ Some y → x ≡ y
+some_same x y e = cc
+
+-- ---- the line of an event
+
+pub none_behind : {X : Type 0} (xs : List X) (n : ℕ) (x : X) → length xs ≤ n → slice_get xs n ≡ Some x → ⊥
+none_behind [] n x high is = cc
+none_behind (y ∷ xs) zero x high is = absurd (omega arith)
+none_behind (y ∷ xs) (suc n) x high is = none_behind xs n x (omega arith) is
+
+pub none_of_another : {X : Type 0} (t : List (List X)) (c n : ℕ) (x : X) → length t ≤ c →
+    slice_get (list_at t c) n ≡ Some x → ⊥
+none_of_another [] c n x high is = none_behind [] n x (omega arith) is
+none_of_another (xs ∷ t) zero n x high is = absurd (omega arith)
+none_of_another (xs ∷ t) (suc c) n x high is = none_of_another t c n x (omega arith) is
+
+-- ---- each line has its place
+
+abbrev Placed : List (List SeenLine) → ℕ → SeenLine → Type 0
+Placed t c line = slice_get (list_at t c) line.event ≡ Some line
+
+lines_placed : (c n : ℕ) (es : List Event) (lines all : List SeenLine) → LinesFit c n es lines →
+    ((k : ℕ) (line : SeenLine) → slice_get lines k ≡ Some line → slice_get all (n + k) ≡ Some line) →
+    AllByRecursion (λ line. slice_get all line.event ≡ Some line) lines
+lines_placed c n [] [] all fit among = tt
+lines_placed c n [] (line ∷ []) all fit among =
+    (here line fit.event (among 0 line refl), tt)
+  where
+    here : (line : SeenLine) → line.event ≡ n → slice_get all (n + 0) ≡ Some line → slice_get all line.event ≡ Some line
+    here line at is = ap (slice_get all) (omega (arith, at)) ∙ is
+lines_placed c n [] (line ∷ more ∷ lines) all fit among = absurd fit
+lines_placed c n (e ∷ es) [] all fit among = tt
+lines_placed c n (e ∷ es) (line ∷ lines) all fit among = (
+  here line fit.0.event (among 0 line refl),
+  lines_placed c (suc n) es lines all fit.1 (λ k more is. ap (slice_get all) (omega arith) ∙ among (suc k) more is),
+)
+  where
+    here : (line : SeenLine) → line.event ≡ n → slice_get all (n + 0) ≡ Some line → slice_get all line.event ≡ Some line
+    here line at is = ap (slice_get all) (omega (arith, at)) ∙ is
+
+callers_placed : (t : List (List SeenLine)) (c : ℕ) (ess : List (List Event)) (rest : List (List SeenLine)) →
+    EachCaller (λ c events lines. LinesFit c 0 events lines) c ess rest →
+    ((d : ℕ) → list_at rest d ≡ list_at t (c + d)) → AllAre (Placed t) c rest
+callers_placed t c [] [] fit among = tt
+callers_placed t c [] (lines ∷ rest) fit among = absurd fit
+callers_placed t c (es ∷ ess) [] fit among = tt
+callers_placed t c (es ∷ ess) (lines ∷ rest) fit among = (
+  subst (λ (all : List SeenLine). AllByRecursion (λ line. slice_get all line.event ≡ Some line) lines)
+      (among 0 ∙ ap (list_at t) (omega arith)) (lines_placed c 0 es lines lines fit.0 (λ k line is. ap (slice_get lines) (omega arith) ∙ is)),
+  callers_placed t (suc c) ess rest fit.1 (λ d. among (suc d) ∙ ap (list_at t) (omega arith)),
+)
+
+-- ---- what is noted of all lines
+
+abbrev pub AnswerSame : SeenLine → Same → Type 0
+AnswerSame line same = IsTrue same.answer
+
+abbrev pub DataSame : SeenLine → Same → Type 0
+DataSame line same = IsTrue same.shown
+
+module _ (script : Script) (t : List (List SeenLine)) (mss : List (List CallMeaning)) (notes : List (List Same))
+    (lines : HasLines script t)
+    (says : EachCaller (λ c calls ms. EachLine (SaysIt (said_of_caller (IsCompared t) notes c)) calls ms) 0 (script_calls script t)
+    mss) where
+  placed : AllAre (Placed t) 0 t
+  placed = callers_placed t 0 script.callers t lines (λ d. ap (list_at t) (omega arith))
+
+  pub answers_same : AnswersStand script t mss ↔ AllAgree AnswerSame notes t
+  answers_same = all_both (IsCompared t) AnswerSame (λ line m. line.answer ≡ m.answer) (Placed t)
+      (λ c ns line m is s. (
+        (λ e. s.is.noted.answer.1 (λ other found.
+            ap (λ (l : SeenLine). l.answer) (some_same other line (sym found ∙ is)) ∙ e ∙ s.answer)),
+        (λ h. s.is.noted.answer.0 h line is ∙ sym s.answer),
+      ))
+      script t mss notes lines placed says
+
+  pub data_same : DataStand script t mss ↔ AllAgree DataSame notes t
+  data_same = all_both (IsCompared t) DataSame (λ line m. line.shown ≡ m.shown) (Placed t)
+      (λ c ns line m is s. (
+        (λ e. s.is.noted.shown.1 (λ other found.
+            ap (λ (l : SeenLine). l.shown) (some_same other line (sym found ∙ is)) ∙ e ∙ s.shown)),
+        (λ h. s.is.noted.shown.0 h line is ∙ sym s.shown),
+      ))
+      script t mss notes lines placed says

@@ -1,0 +1,16 @@
+-- What is noted of a line that is compared with what is said of it.
+use Rattle.std.specs.Prelude.{ℕ, ◌≡◌, ◌↔◌, IsTrue, Some, List, slice_get}
+use Rattle.key_names.specs.Book.{list_at}
+use Rattle.key_names.specs.SeenLine.{SeenLine}
+use Rattle.caller_answers.specs.declared.said.Said.{Said}
+use Rattle.serial_replay.specs.Agreement.{SameAnswer, SameShown}
+use Rattle.transcript_check.specs.declared.compare.Same.{Same}
+
+-- the line of an event, where there is one, has the part that is said
+abbrev pub SameThere : (SeenLine → Said → Type 0) → List (List SeenLine) → ℕ → ℕ → Said → Type 0
+SameThere Part t caller event said =
+    (line : SeenLine) → slice_get (list_at t caller) event ≡ Some line → Part line said
+
+pub record IsCompared (t : List (List SeenLine)) (caller event : ℕ) (said : Said) (same : Same) : Type 0 where
+  pub answer : IsTrue same.answer ↔ SameThere SameAnswer t caller event said
+  pub shown : IsTrue same.shown ↔ SameThere SameShown t caller event said
