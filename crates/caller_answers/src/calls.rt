@@ -41,8 +41,8 @@ fn alone_call<N: Note>(
     noted: &mut Vec<N::Noted>,
 ) -> Result<bool, AllocError>
     requires { StateInRange event.now }
-    ensures { IfOk result (IsCallSaid (N.IsNoted noting.now.how.now noting.now.caller) lists.now set.now (alone event.now (seen_bare line.entry)) states.old states.new
-        noted.old.items noted.new.items) }
+    ensures { IfOk result (IsCallSaid (N.IsNoted noting.now.how.now noting.now.caller) lists.now set.now
+        (alone event.now (seen_bare line.entry)) states.old states.new noted.old.items noted.new.items) }
 {
     let Some(one) = alone_said(room, lists, set, event, line.steps)? else {
         return Ok(false);
@@ -96,7 +96,8 @@ fn unbound_call<N: Note>(
     noted: &mut Vec<N::Noted>,
 ) -> Result<bool, AllocError>
     ensures { IfOk result (λ stands. (kept : KeptLists) (set : CallSetting) (s : VStates) →
-        IsCallSaid (N.IsNoted noting.now.how.now noting.now.caller) kept set (unbound (seen_act bound.now)) s s noted.old.items noted.new.items stands) }
+        IsCallSaid (N.IsNoted noting.now.how.now noting.now.caller) kept set (unbound (seen_act bound.now)) s s
+        noted.old.items noted.new.items stands) }
 {
     if !bound.line.steps.is_empty() {
         return Ok(false);
@@ -114,8 +115,9 @@ fn ending_call<N: Note>(
     noting: &Noting<'_, N>,
     noted: &mut Vec<N::Noted>,
 ) -> Result<bool, AllocError>
-    ensures { IfOk result (λ stands. (s : VStates) → IsCallSaid (N.IsNoted noting.now.how.now noting.now.caller) lists.now set.now (ending (seen_bare line.entry)) s s
-        noted.old.items noted.new.items stands) }
+    ensures { IfOk result (λ stands. (s : VStates) →
+        IsCallSaid (N.IsNoted noting.now.how.now noting.now.caller) lists.now set.now
+        (ending (seen_bare line.entry)) s s noted.old.items noted.new.items stands) }
 {
     if !end_stands(room, lists, set, line.steps)? {
         return Ok(false);
@@ -143,8 +145,8 @@ fn call_said<N: Note>(
     noted: &mut Vec<N::Noted>,
 ) -> Result<bool, AllocError>
     requires { CallInRange (seen_call call.now) }
-    ensures { IfOk result (IsCallSaid (N.IsNoted noting.now.how.now noting.now.caller) lists.now set.now (seen_call call.now) states.old states.new
-        noted.old.items noted.new.items) }
+    ensures { IfOk result (IsCallSaid (N.IsNoted noting.now.how.now noting.now.caller) lists.now set.now
+        (seen_call call.now) states.old states.new noted.old.items noted.new.items) }
 {
     match call {
         Called::Alone { event, line } => alone_call(
@@ -198,8 +200,8 @@ fn calls_said<N: Note>(
     Ok(Some(noted))
 }
 
-/// Notes of what each line of a caller says, by the numbers of its events; nothing where some line's steps are no form of its
-/// call.
+/// Notes of what each line of a caller says, by the numbers of its events; nothing where some line's steps are no form
+/// of its call.
 ///
 /// # Errors
 ///

@@ -24,9 +24,10 @@ pub struct Said {
 pub trait Note {
     type Noted: Drop;
 
-    /// This is a note of what is said of the event of this caller. Both are known by their numbers.
+    /// This is a note of what is said of an event, by the numbers of the caller and of the event.
     ghost IsNoted: { Self → ℕ → ℕ → SaidOfLine → Self.Noted → Type 0 };
 
+    /// Notes what is said of this event of this caller.
     fn note(&self, caller: u32, event: u32, said: Said) -> Self::Noted
         ensures { IsNoted self.now caller event said result };
 }

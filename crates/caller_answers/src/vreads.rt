@@ -36,6 +36,7 @@ pub fn put_said<N: Note>(
         noted.push(one)?;
         return Ok(());
     }
+    // Of those between it is not said yet what they say.
     while noted.len() <= place {
         noted.push(noting.note(noted.len() as u32, unused()))?;
     }

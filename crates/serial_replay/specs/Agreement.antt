@@ -7,7 +7,8 @@ use Rattle.caller_answers.specs.declared.said.Said.{Said}
 use Rattle.caller_answers.specs.Said.{shown_by}
 
 -- what is noted at the line's number is so of the line
-pub record Agrees {Noted : Type 0} (Same : SeenLine → Noted → Type 0) (notes : List Noted) (line : SeenLine) : Type 0 where
+pub record Agrees {Noted : Type 0} (Same : SeenLine → Noted → Type 0) (notes : List Noted)
+    (line : SeenLine) : Type 0 where
   pub one : Noted
   pub is : slice_get notes line.event ≡ Some one
   pub same : Same line one

@@ -82,7 +82,7 @@ pub record FailsEarly (script : Script) (t : List (List SeenLine)) (number : ℕ
   pub early : IsEarly clause
   pub fails : FirstFails script t clause
 
-abbrev pub IsRemade : {Noted : Type 0} → (ℕ → ℕ → Said → Noted → Type 0) → Script → List (List SeenLine) → Remade Noted →
-    Type 0
+abbrev pub IsRemade : {Noted : Type 0} → (ℕ → ℕ → Said → Noted → Type 0) → Script → List (List SeenLine) →
+    Remade Noted → Type 0
 IsRemade IsNoted script t (MadeAll m) = AllMade IsNoted script t m
 IsRemade IsNoted script t (No number) = FailsEarly script t number

@@ -29,7 +29,8 @@ use std::alloc::{AllocError, Global};
 use told_entries::gather::gather;
 use transcript_text::Transcript;
 
-/// What was noted of each caller's lines, by the numbers of their events, and whether the looks of the transcript stand.
+/// What was noted of each caller's lines, by the numbers of their events, and whether the looks of the transcript
+/// stand.
 #[derive(Drop)]
 pub struct Made<T: Drop> {
     pub callers: Vec<Vec<T>>,
@@ -107,7 +108,8 @@ fn of_lines<N: Note>(
     }))
 }
 
-/// Makes every answer and all data of a transcript anew, from its words and steps alone, and notes of them what is asked.
+/// Makes every answer and all data of a transcript anew, from its words and steps alone, and notes of them what is
+/// asked.
 ///
 /// # Errors
 ///

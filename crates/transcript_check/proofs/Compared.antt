@@ -36,24 +36,21 @@ none_of_another (xs ∷ t) (suc c) n x high is = none_of_another t c n x (omega 
 abbrev Placed : List (List SeenLine) → ℕ → SeenLine → Type 0
 Placed t c line = slice_get (list_at t c) line.event ≡ Some line
 
+first_placed : (n : ℕ) (all : List SeenLine) (line : SeenLine) → line.event ≡ n → slice_get all (n + 0) ≡ Some line →
+    slice_get all line.event ≡ Some line
+first_placed n all line at is = ap (slice_get all) (omega (arith, at)) ∙ is
+
 lines_placed : (c n : ℕ) (es : List Event) (lines all : List SeenLine) → LinesFit c n es lines →
     ((k : ℕ) (line : SeenLine) → slice_get lines k ≡ Some line → slice_get all (n + k) ≡ Some line) →
     AllByRecursion (λ line. slice_get all line.event ≡ Some line) lines
 lines_placed c n [] [] all fit among = tt
-lines_placed c n [] (line ∷ []) all fit among =
-    (here line fit.event (among 0 line refl), tt)
-  where
-    here : (line : SeenLine) → line.event ≡ n → slice_get all (n + 0) ≡ Some line → slice_get all line.event ≡ Some line
-    here line at is = ap (slice_get all) (omega (arith, at)) ∙ is
+lines_placed c n [] (line ∷ []) all fit among = (first_placed n all line fit.event (among 0 line refl), tt)
 lines_placed c n [] (line ∷ more ∷ lines) all fit among = absurd fit
 lines_placed c n (e ∷ es) [] all fit among = tt
 lines_placed c n (e ∷ es) (line ∷ lines) all fit among = (
-  here line fit.0.event (among 0 line refl),
+  first_placed n all line fit.0.event (among 0 line refl),
   lines_placed c (suc n) es lines all fit.1 (λ k more is. ap (slice_get all) (omega arith) ∙ among (suc k) more is),
 )
-  where
-    here : (line : SeenLine) → line.event ≡ n → slice_get all (n + 0) ≡ Some line → slice_get all line.event ≡ Some line
-    here line at is = ap (slice_get all) (omega (arith, at)) ∙ is
 
 callers_placed : (t : List (List SeenLine)) (c : ℕ) (ess : List (List Event)) (rest : List (List SeenLine)) →
     EachCaller (λ c events lines. LinesFit c 0 events lines) c ess rest →

@@ -1,4 +1,4 @@
-//! Lines compared with what was made of them, part by part.
+//! Lines compared with what is made of them, as soon as it is made, and whether all agree, part by part.
 ghost use Rattle.std.specs.Prelude.{◌≡◌, ◌↔◌, IsTrue, Some, length, slice_get, MatchOption};
 ghost use Rattle.std.specs.List.{AllByRecursion};
 ghost use Rattle.key_names.specs.Book.{list_at};
