@@ -9,3 +9,4 @@ pub mod LoadSteps
 pub mod LoadTexts
 pub mod Loads
 pub mod LoadExamples
+pub mod ShortLines

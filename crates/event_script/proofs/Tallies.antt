@@ -12,7 +12,7 @@ use Rattle.key_names.specs.declared.events.Event.TheVariants.{Fork}
 use Rattle.key_names.specs.Texts.ScriptGrammar.{InRange, acts_after, bytes_read, is_fork_of, times_forked}
 use Rattle.key_names.specs.Texts.ScriptFaults.{Draft, blocks_of, has_orphan, is_past_limits, with_event}
 use Rattle.key_names.proofs.Script.Drafts.{forks_of, lengths, no_orphan, orphanless, reads, times_with, total_block, total_split}
-use Rattle.event_script.specs.Tally.{Tallied, fork_in}
+use Rattle.event_script.specs.Tally.{Tallied, fork_in, is_over}
 
 -- the flags behind an event
 abbrev pub marked : List Bool → Option ℕ → List Bool
@@ -44,6 +44,12 @@ marks_with version cpus c before with e forked range long small is sum = is ∙ 
 length_marked : (forked : List Bool) (child : Option ℕ) → length (marked forked child) ≡ length forked
 length_marked forked None = refl
 length_marked forked (Some child) = length-set forked child true
+
+-- the limits, by what is counted
+pub limits_are : (d : Draft) (e : Event) (count read acts : ℕ) (forked : List Bool) →
+    Tallied (blocks_of d) d.events count read acts forked
+    → is_over count (read + bytes_read e) (acts_after acts e) ≡ is_past_limits d e
+limits_are d e count read acts forked t = rw (t.count_is, t.read_is, t.acts_are) refl
 
 pub tallied_event : (d : Draft) (e : Event) (count read acts : ℕ) (forked : List Bool) →
     Tallied (blocks_of d) d.events count read acts forked

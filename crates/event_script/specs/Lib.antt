@@ -6,3 +6,4 @@ pub mod ScriptViews
 pub mod LoadScript
 pub mod ByteWords
 pub mod WordLengths
+pub mod ShortLines

@@ -1,5 +1,8 @@
 -- What a line says, as the definitions see it.
+use Rattle.std.specs.Prelude.{ℕ, List, Result}
+use Rattle.key_names.specs.declared.faults.FaultKind.{FaultKind}
 use Rattle.key_names.specs.Texts.ScriptFaults as faults
+use Rattle.key_names.specs.Texts.ScriptFaults.{◌>>=◌, line_of, said}
 use Rattle.event_script.specs.declared.line.Said.{Said}
 use Rattle.event_script.specs.declared.line.Said.TheVariants.{Event, Caller, End}
 
@@ -7,3 +10,7 @@ abbrev pub said_as : Said → faults.Said
 said_as (Event event) = faults.SaysEvent event
 said_as (Caller c) = faults.SaysCaller c
 said_as End = faults.SaysEnd
+
+-- what the first of the lines says
+abbrev pub said_first : ℕ → ℕ → List (List ℕ) → Result faults.Said FaultKind
+said_first version cpus lines = line_of lines >>= said version cpus

@@ -1,5 +1,5 @@
 -- What is counted of the events so far.
-use Rattle.std.specs.Prelude.{◌≡◌, ℕ, ◌<◌, ◌≤◌, Bool, false, nat_lt, Option, Some, None, List, [], ◌∷◌, ◌++◌, fold, length, map, slice_index_or, sum_by}
+use Rattle.std.specs.Prelude.{◌≡◌, ℕ, ◌<◌, ◌≤◌, Bool, false, ◌||◌, nat_le, nat_lt, Option, Some, None, List, [], ◌∷◌, ◌++◌, fold, length, map, slice_index_or, sum_by}
 use Rattle.std.specs.Global.{Vec}
 use Rattle.key_names.specs.declared.events.Event.{Event}
 use Rattle.key_names.specs.declared.events.Event.TheVariants.{Fork}
@@ -12,6 +12,10 @@ blocks_in done events = map (λ block. block.items) done ++ events ∷ []
 abbrev pub fork_in : Event → Option ℕ
 fork_in (Fork child) = Some child
 fork_in _ = None
+
+-- so many events, bytes that they read, and acts that wait leave no room for one more event of theirs
+abbrev pub is_over : ℕ → ℕ → ℕ → Bool
+is_over count read acts = nat_le 65536 count || nat_lt 16777216 read || nat_lt 8 acts
 
 pub record Tallied (blocks : List (List Event)) (last : List Event) (count read acts : ℕ) (forked : List Bool)
     : Type 0 where

@@ -2,7 +2,7 @@
 
 ghost use Rattle.std.specs.Prelude.{◌≡◌, ◌<◌, ◌≤◌, ◌+◌, [], IfOk, map, vec_len};
 ghost use Rattle.std.specs.List.{list_any};
-ghost use Rattle.event_script.specs.Tally.{Tallied, blocks_in, fork_in};
+ghost use Rattle.event_script.specs.Tally.{Tallied, blocks_in, fork_in, is_over};
 ghost use Rattle.event_script.specs.Views.{Gives};
 ghost use Rattle.key_names.specs.Texts.ScriptFaults.{SaysEvent, SaysCaller, GoesOn, after, blocks_of, has_orphan, is_bad_fork, is_past_limits};
 ghost use Rattle.key_names.specs.Texts.ScriptGrammar.{InRange, acts_after};
@@ -91,13 +91,13 @@ impl Draft {
         }
     }
 
-    /// Whether there is no room for one more event, or for its acts and read bytes.
-    fn is_past_limits(&self, event: &Event) -> bool
-        ensures { result ≡ is_past_limits (draft_as self.now) event.now }
+    /// Whether there is no room for one more event, that reads so many bytes and behind which so many acts wait.
+    fn is_past_limits(&self, bytes: u32, acts: u32) -> bool
+        ensures { result ≡ is_over self.now.event_count (self.now.bytes_read + bytes) acts }
     {
         self.event_count >= MOST_EVENTS
-            || self.bytes_read + u64::from(bytes_read(event)) > MOST_READ
-            || waiting_after(self.acts, event) > MOST_ACTS
+            || self.bytes_read + u64::from(bytes) > MOST_READ
+            || acts > MOST_ACTS
     }
 
     /// One more event of the last block.
@@ -109,11 +109,11 @@ impl Draft {
         if self.is_bad_fork(&event) {
             return Err(LineError::Kind(FaultKind::BadFork));
         }
-        if self.is_past_limits(&event) {
-            return Err(LineError::Kind(FaultKind::TooMany));
-        }
         let bytes = bytes_read(&event);
         let acts = waiting_after(self.acts, &event);
+        if self.is_past_limits(bytes, acts) {
+            return Err(LineError::Kind(FaultKind::TooMany));
+        }
         let child = fork_of(&event);
         self.events.push(event)?;
         self.event_count += 1;

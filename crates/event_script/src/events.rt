@@ -17,7 +17,7 @@ use key_names::{Event, FaultKind, Word};
 use std::alloc::Global;
 
 /// The last moment, in milliseconds.
-const LAST_MOMENT: u64 = (1 << 40) - 1;
+pub(crate) const LAST_MOMENT: u64 = (1 << 40) - 1;
 
 /// An event without fields.
 fn plain(event: Event, rest: Option<&[u8]>) -> Result<Event, FaultKind>

@@ -24,6 +24,7 @@ mod reading;
 pub mod reads;
 pub mod script;
 pub mod script_error;
+mod short;
 pub mod words;
 
 pub use script::{Script, read, read_front};

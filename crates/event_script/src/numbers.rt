@@ -10,7 +10,7 @@ use crate::fields::cut;
 use key_names::FaultKind;
 
 /// So many digits are the number of a `u64`, whatever they are.
-const SAFE_DIGITS: usize = 19;
+pub(crate) const SAFE_DIGITS: usize = 19;
 
 /// The value of a few decimal digits.
 fn value_of(digits: &[u8]) -> Option<u64>

@@ -2,9 +2,10 @@
 
 ghost use Rattle.std.specs.Prelude.{◌≡◌, ℕ, ◌<◌, ◌≤◌, ◌+◌, ◌∷◌, [], IfOk, MatchResult, length};
 ghost use Rattle.std.specs.Bool.{OnFalse};
-ghost use Rattle.key_names.specs.Texts.ScriptFaults.{at_line, behind, behind_first, behind_line, cpus_by, cpus_in, line_of, nothing_behind, parts, script_from, script_of, script_of_draft, start_in, version_in, version_of};
+ghost use Rattle.key_names.specs.Texts.ScriptFaults.{SaidInRange, after, at_line, behind, behind_first, cpus_by, cpus_in, line_of, nothing_behind, parts, script_from, script_of, script_of_draft, start_in, version_in, version_of};
 ghost use Rattle.key_names.specs.Texts.ScriptGrammar.{most_cpus};
 ghost use Rattle.event_script.specs.Drafts.{draft_as};
+ghost use Rattle.event_script.specs.Says.{said_as, said_first};
 ghost use Rattle.event_script.specs.ScriptViews.{GivesScript, next_as, script_error};
 ghost use Rattle.event_script.specs.Views.{Gives, Tells};
 
@@ -14,6 +15,7 @@ use crate::fields::{cut, spells, two};
 use crate::line::{Said, has_bad_byte, line_says};
 use crate::numbers::number_up_to;
 use crate::script_error::ScriptError;
+use crate::short::{short_event, short_line};
 use key_names::{FaultKind, ScriptFault};
 use std::alloc::Global;
 
@@ -73,16 +75,35 @@ fn cpus_of(version: u32, line: &[u8]) -> Result<u32, FaultKind>
     }
 }
 
-/// What a line adds to a script, and whether more lines may follow.
-fn take_line(alloc: Global, draft: &mut Draft, line: &[u8]) -> Result<bool, LineError>
-    requires some { 0 < draft.old.cpus }
-    requires few { draft.old.cpus ≤ 256 }
-    ensures next { Gives (λ more. next_as more (draft_as draft.new)) result
-        (behind_line (draft_as draft.old) line.now) }
+/// What the first line of a text says, and what stands behind the line.
+fn next_said(
+    alloc: Global,
+    version: u32,
+    cpus: u32,
+    text: &[u8],
+) -> Result<(Said, &[u8]), LineError>
+    requires some { 0 < cpus }
+    requires few { cpus ≤ 256 }
+    ensures value { Gives (λ both. said_as both.0) result (said_first version cpus (parts 10 text.now)) }
+    ensures range { IfOk result (λ both. SaidInRange version cpus (said_as both.0)) }
+    ensures rest { IfOk result (λ both. parts 10 both.1.now ≡ behind (parts 10 text.now)) }
+    ensures shorter { IfOk result (λ both. length both.1.now < length text.now) }
+{
+    if let Some((word, numbers, rest)) = short_line(text) {
+        return Ok((Said::Event(short_event(word, numbers)), rest));
+    }
+    let (line, rest) = first_line(text)?;
+    Ok((line_says(alloc, version, cpus, line)?, rest))
+}
+
+/// What is said in a line is added to a script. Answers whether more lines may follow.
+fn add_said(alloc: Global, draft: &mut Draft, said: Said) -> Result<bool, LineError>
+    requires { SaidInRange draft.old.version draft.old.cpus (said_as said) }
+    ensures next { Gives (λ more. next_as more (draft_as draft.new)) result (after (draft_as draft.old) (said_as said)) }
     ensures same { draft.new.cpus ≡ draft.old.cpus }
     ensures kept { IfOk result (λ more. OnFalse more (draft_as draft.new ≡ draft_as draft.old)) }
 {
-    match line_says(alloc, draft.version, draft.cpus, line)? {
+    match said {
         Said::Event(event) => {
             draft.add_event(event)?;
             Ok(true)
@@ -174,8 +195,8 @@ fn read_line<'a>(
     ensures rest { IfOk result (λ both. parts 10 both.1.now ≡ behind (parts 10 text.now)) }
     ensures shorter { IfOk result (λ both. length both.1.now < length text.now) }
 {
-    let (line, rest) = first_line(text)?;
-    let more = take_line(alloc, draft, line)?;
+    let (said, rest) = next_said(alloc, draft.version, draft.cpus, text)?;
+    let more = add_said(alloc, draft, said)?;
     Ok((more, rest))
 }
 

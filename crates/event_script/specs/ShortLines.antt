@@ -1,0 +1,30 @@
+-- Lines of a word and at most two numbers.
+use Rattle.std.specs.Prelude.{ℕ, ◌^◌, ◌<◌, ◌≤◌, ⊤, List, [], ◌∷◌, ◌++◌}
+use Rattle.std.specs.Fmt.{decimal}
+use Rattle.key_names.specs.declared.events.Word.{Word}
+use Rattle.key_names.specs.declared.events.Word.TheVariants.{At, Bits, Irq, Read, Vread, Kread, Uread, Int8, Int16, Int32, Int64, Reseed, Tick}
+use Rattle.event_script.specs.declared.short.Numbers.{Numbers}
+use Rattle.event_script.specs.declared.short.Numbers.TheVariants.{None, One, Two}
+
+-- what stands between a word and the line end
+abbrev pub behind_word : Numbers → List ℕ
+behind_word None = []
+behind_word (One a) = 32 ∷ decimal a
+behind_word (Two a b) = 32 ∷ (decimal a ++ 32 ∷ decimal b)
+
+-- an event has this word and these numbers, whatever the version and the CPUs
+abbrev pub IsShort : Word → Numbers → Type 0
+IsShort Bits None = ⊤
+IsShort Int8 None = ⊤
+IsShort Int16 None = ⊤
+IsShort Int32 None = ⊤
+IsShort Int64 None = ⊤
+IsShort Reseed None = ⊤
+IsShort Tick None = ⊤
+IsShort At (One moment) = moment < 2 ^ 40
+IsShort Kread (One len) = len ≤ 1048576
+IsShort Uread (One len) = len ≤ 1048576
+IsShort Irq (Two v1 v2) = (v1 < 2 ^ 64) × (v2 < 2 ^ 64)
+IsShort Read (Two len flags) = (len ≤ 1048576) × (flags < 2 ^ 32)
+IsShort Vread (Two len flags) = (len ≤ 1048576) × (flags < 2 ^ 32)
+IsShort _ _ = ⊥

@@ -1,0 +1,248 @@
+//! Events of a word and at most two numbers, read where they stand.
+//!
+//! Most lines of a long script say such events. They are looked at once, byte by byte, and neither their line end nor
+//! their fields are searched for first. `None` says nothing of a text: its first line is then read by its fields, as
+//! each line with a fault is.
+
+ghost use Rattle.std.specs.Prelude.{◌≡◌, ℕ, ◌≤◌, ◌∷◌, ◌++◌, IfSome, length, take};
+ghost use Rattle.std.specs.Bool.{OnTrue};
+ghost use Rattle.std.specs.Fmt.{decimal};
+ghost use Rattle.std.specs.Str.Parse.{AllDigits, digits_value};
+ghost use Rattle.key_names.specs.Texts.ScriptGrammar.{InRange, event_fields};
+ghost use Rattle.key_names.specs.Texts.Spelling.{spaced, word_text};
+ghost use Rattle.event_script.specs.declared.short.Numbers.TheVariants.{None, One, Two};
+ghost use Rattle.event_script.specs.ShortLines.{IsShort, behind_word};
+
+use crate::amounts::{MOST_FLAGS, MOST_LEN};
+use crate::events::LAST_MOMENT;
+use crate::numbers::SAFE_DIGITS;
+use key_names::{Event, Word};
+
+/// The numbers behind a word.
+#[derive(Clone, Copy)]
+pub(crate) enum Numbers {
+    None,
+    One(u64),
+    Two(u64, u64),
+}
+
+/// The word in front of a text, and what stands behind it.
+fn word_in_front(text: &[u8]) -> Option<(Word, &[u8])>
+    ensures { IfSome result (λ both. text.now ≡ word_text both.0 ++ both.1.now) }
+{
+    Some(match text {
+        [b'a', b't', left @ ..] => (Word::At, left),
+        [b'i', b'r', b'q', left @ ..] => (Word::Irq, left),
+        [b'r', b'e', b'a', b'd', left @ ..] => (Word::Read, left),
+        [b'v', b'r', b'e', b'a', b'd', left @ ..] => (Word::Vread, left),
+        [b'k', b'r', b'e', b'a', b'd', left @ ..] => (Word::Kread, left),
+        [b'u', b'r', b'e', b'a', b'd', left @ ..] => (Word::Uread, left),
+        [b'i', b'n', b't', b'8', left @ ..] => (Word::Int8, left),
+        [b'i', b'n', b't', b'1', b'6', left @ ..] => (Word::Int16, left),
+        [b'i', b'n', b't', b'3', b'2', left @ ..] => (Word::Int32, left),
+        [b'i', b'n', b't', b'6', b'4', left @ ..] => (Word::Int64, left),
+        [b'b', b'i', b't', b's', left @ ..] => (Word::Bits, left),
+        [b't', b'i', b'c', b'k', left @ ..] => (Word::Tick, left),
+        [b'r', b'e', b's', b'e', b'e', b'd', left @ ..] => (Word::Reseed, left),
+        _ => return None,
+    })
+}
+
+/// The number that the first digits of a text spell, so many of them, and what stands behind them.
+fn cut_number(value: u64, len: usize, text: &[u8]) -> Option<(u64, &[u8])>
+    requires digits { AllDigits 10 (take len text.now) }
+    requires value { value ≡ digits_value 10 (take len text.now) }
+    requires within { len ≤ length text.now }
+    ensures { IfSome result (λ both. text.now ≡ decimal both.0 ++ both.1.now) }
+{
+    if len == 0 {
+        return None;
+    }
+    if len > 1 && text[0] == b'0' {
+        return None;
+    }
+    Some((value, &text[len..]))
+}
+
+/// The number in front of a text of which so many digits are read, and what stands behind it: at most one digit more.
+fn one_digit_more(value: u64, len: usize, text: &[u8]) -> Option<(u64, &[u8])>
+    requires digits { AllDigits 10 (take len text.now) }
+    requires value { value ≡ digits_value 10 (take len text.now) }
+    requires within { len ≤ length text.now }
+    ensures { IfSome result (λ both. text.now ≡ decimal both.0 ++ both.1.now) }
+{
+    if len == text.len() {
+        return None;
+    }
+    let Some(digit) = char::from(text[len]).to_digit(10) else {
+        return cut_number(value, len, text);
+    };
+    let Some(tens) = value.checked_mul(10) else {
+        return None;
+    };
+    let Some(next) = tens.checked_add(u64::from(digit)) else {
+        return None;
+    };
+    cut_number(next, len + 1, text)
+}
+
+/// The number in front of a text, and what stands behind its digits.
+fn number_in_front(text: &[u8]) -> Option<(u64, &[u8])>
+    ensures { IfSome result (λ both. text.now ≡ decimal both.0 ++ both.1.now) }
+{
+    let front = &text[..text.len().min(SAFE_DIGITS)];
+    let mut value: u64 = 0;
+    let mut len: usize = 0;
+    for byte in front {
+        let Some(digit) = char::from(*byte).to_digit(10) else {
+            return cut_number(value, len, text);
+        };
+        value = value * 10 + u64::from(digit);
+        len += 1;
+    }
+    one_digit_more(value, len, text)
+}
+
+/// The number in front of a line end, behind a first number, and what stands behind the line end.
+fn second_in_front(first: u64, text: &[u8]) -> Option<(Numbers, &[u8])>
+    ensures { IfSome result (λ both.
+        32 ∷ (decimal first ++ 32 ∷ text.now) ≡ behind_word both.0 ++ 10 ∷ both.1.now) }
+{
+    match number_in_front(text) {
+        Some((second, [b'\n', rest @ ..])) => Some((Numbers::Two(first, second), rest)),
+        _ => None,
+    }
+}
+
+/// One or two numbers in front of a line end, and what stands behind the line end.
+fn some_in_front(text: &[u8]) -> Option<(Numbers, &[u8])>
+    ensures { IfSome result (λ both. 32 ∷ text.now ≡ behind_word both.0 ++ 10 ∷ both.1.now) }
+{
+    match number_in_front(text) {
+        Some((first, [b'\n', rest @ ..])) => Some((Numbers::One(first), rest)),
+        Some((first, [b' ', more @ ..])) => second_in_front(first, more),
+        _ => None,
+    }
+}
+
+/// What stands between a word and the line end, if it is numbers, and what stands behind the line end.
+fn numbers_in_front(text: &[u8]) -> Option<(Numbers, &[u8])>
+    ensures { IfSome result (λ both. text.now ≡ behind_word both.0 ++ 10 ∷ both.1.now) }
+{
+    match text {
+        [b'\n', rest @ ..] => Some((Numbers::None, rest)),
+        [b' ', fields @ ..] => some_in_front(fields),
+        _ => None,
+    }
+}
+
+/// Whether a word and numbers say an event.
+fn is_short(word: Word, numbers: Numbers) -> bool
+    ensures { OnTrue result (IsShort word numbers) }
+{
+    match numbers {
+        Numbers::None => matches!(
+            word,
+            Word::Bits
+                | Word::Int8
+                | Word::Int16
+                | Word::Int32
+                | Word::Int64
+                | Word::Reseed
+                | Word::Tick
+        ),
+        Numbers::One(first) => match word {
+            Word::At => first <= LAST_MOMENT,
+            Word::Kread | Word::Uread => first <= MOST_LEN,
+            _ => false,
+        },
+        Numbers::Two(first, second) => match word {
+            Word::Irq => true,
+            Word::Read | Word::Vread => first <= MOST_LEN && second <= MOST_FLAGS,
+            _ => false,
+        },
+    }
+}
+
+/// The word and the numbers of the first line, if they say an event, and what stands behind the line.
+pub(crate) fn short_line(text: &[u8]) -> Option<(Word, Numbers, &[u8])>
+    ensures spelt { IfSome result (λ all. text.now ≡ word_text all.0 ++ (behind_word all.1 ++ 10 ∷ all.2.now)) }
+    ensures short { IfSome result (λ all. IsShort all.0 all.1) }
+{
+    let Some((word, left)) = word_in_front(text) else {
+        return None;
+    };
+    let Some((numbers, rest)) = numbers_in_front(left) else {
+        return None;
+    };
+    if is_short(word, numbers) {
+        Some((word, numbers, rest))
+    } else {
+        None
+    }
+}
+
+fn with_none(word: Word) -> Event
+    requires { IsShort word None }
+    ensures spelt { spaced (event_fields result) ≡ word_text word ++ behind_word None }
+    ensures range { (version cpus : ℕ) → InRange version cpus result }
+{
+    match word {
+        Word::Bits => Event::Bits,
+        Word::Int8 => Event::Int8,
+        Word::Int16 => Event::Int16,
+        Word::Int32 => Event::Int32,
+        Word::Int64 => Event::Int64,
+        Word::Reseed => Event::Reseed,
+        Word::Tick => Event::Tick,
+        _ => unreachable!(),
+    }
+}
+
+fn with_one(word: Word, first: u64) -> Event
+    requires { IsShort word (One first) }
+    ensures spelt { spaced (event_fields result) ≡ word_text word ++ behind_word (One first) }
+    ensures range { (version cpus : ℕ) → InRange version cpus result }
+{
+    match word {
+        Word::At => Event::At { moment: first },
+        Word::Kread => Event::Kread { len: first as u32 },
+        Word::Uread => Event::Uread { len: first as u32 },
+        _ => unreachable!(),
+    }
+}
+
+fn with_two(word: Word, first: u64, second: u64) -> Event
+    requires { IsShort word (Two first second) }
+    ensures spelt { spaced (event_fields result) ≡ word_text word ++ behind_word (Two first second) }
+    ensures range { (version cpus : ℕ) → InRange version cpus result }
+{
+    match word {
+        Word::Irq => Event::Irq {
+            v1: first,
+            v2: second,
+        },
+        Word::Read => Event::Read {
+            len: first as u32,
+            flags: second as u32,
+        },
+        Word::Vread => Event::Vread {
+            len: first as u32,
+            flags: second as u32,
+        },
+        _ => unreachable!(),
+    }
+}
+
+/// The event that a word and numbers say.
+pub(crate) fn short_event(word: Word, numbers: Numbers) -> Event
+    requires { IsShort word numbers }
+    ensures spelt { spaced (event_fields result) ≡ word_text word ++ behind_word numbers }
+    ensures range { (version cpus : ℕ) → InRange version cpus result }
+{
+    match numbers {
+        Numbers::None => with_none(word),
+        Numbers::One(first) => with_one(word, first),
+        Numbers::Two(first, second) => with_two(word, first, second),
+    }
+}
