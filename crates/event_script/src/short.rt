@@ -13,10 +13,14 @@ ghost use Rattle.key_names.specs.Texts.Spelling.{spaced, word_text};
 ghost use Rattle.event_script.specs.declared.short.Numbers.TheVariants.{None, One, Two};
 ghost use Rattle.event_script.specs.ShortLines.{IsShort, behind_word};
 
-use crate::amounts::{MOST_FLAGS, MOST_LEN};
+use crate::amounts::{MOST_BITS, MOST_FLAGS, MOST_LEN};
 use crate::events::LAST_MOMENT;
 use crate::numbers::SAFE_DIGITS;
 use key_names::{Event, Word};
+
+/// The bytes of the longest word that is read here. A shorter text is left to the fields, so that its length is looked
+/// at once for all words.
+const LONGEST_WORD: usize = 6;
 
 /// The numbers behind a word.
 #[derive(Clone, Copy)]
@@ -30,6 +34,9 @@ pub(crate) enum Numbers {
 fn word_in_front(text: &[u8]) -> Option<(Word, &[u8])>
     ensures { IfSome result (λ both. text.now ≡ word_text both.0 ++ both.1.now) }
 {
+    if text.len() < LONGEST_WORD {
+        return None;
+    }
     Some(match text {
         [b'a', b't', left @ ..] => (Word::At, left),
         [b'i', b'r', b'q', left @ ..] => (Word::Irq, left),
@@ -41,7 +48,10 @@ fn word_in_front(text: &[u8]) -> Option<(Word, &[u8])>
         [b'i', b'n', b't', b'1', b'6', left @ ..] => (Word::Int16, left),
         [b'i', b'n', b't', b'3', b'2', left @ ..] => (Word::Int32, left),
         [b'i', b'n', b't', b'6', b'4', left @ ..] => (Word::Int64, left),
+        [b'd', b'r', b'e', b'a', b'd', left @ ..] => (Word::Dread, left),
         [b'b', b'i', b't', b's', left @ ..] => (Word::Bits, left),
+        [b'd', b'r', b'o', b'p', left @ ..] => (Word::Drop, left),
+        [b'c', b'r', b'e', b'd', b'i', b't', left @ ..] => (Word::Credit, left),
         [b't', b'i', b'c', b'k', left @ ..] => (Word::Tick, left),
         [b'r', b'e', b's', b'e', b'e', b'd', left @ ..] => (Word::Reseed, left),
         _ => return None,
@@ -150,15 +160,18 @@ fn is_short(word: Word, numbers: Numbers) -> bool
                 | Word::Int64
                 | Word::Reseed
                 | Word::Tick
+                | Word::Drop
         ),
         Numbers::One(first) => match word {
             Word::At => first <= LAST_MOMENT,
+            Word::Credit => first <= MOST_BITS,
             Word::Kread | Word::Uread => first <= MOST_LEN,
             _ => false,
         },
         Numbers::Two(first, second) => match word {
             Word::Irq => true,
             Word::Read | Word::Vread => first <= MOST_LEN && second <= MOST_FLAGS,
+            Word::Dread => first <= MOST_LEN && second <= 1,
             _ => false,
         },
     }
@@ -195,6 +208,7 @@ fn with_none(word: Word) -> Event
         Word::Int64 => Event::Int64,
         Word::Reseed => Event::Reseed,
         Word::Tick => Event::Tick,
+        Word::Drop => Event::Drop,
         _ => unreachable!(),
     }
 }
@@ -206,6 +220,7 @@ fn with_one(word: Word, first: u64) -> Event
 {
     match word {
         Word::At => Event::At { moment: first },
+        Word::Credit => Event::Credit { bits: first as u32 },
         Word::Kread => Event::Kread { len: first as u32 },
         Word::Uread => Event::Uread { len: first as u32 },
         _ => unreachable!(),
@@ -229,6 +244,10 @@ fn with_two(word: Word, first: u64, second: u64) -> Event
         Word::Vread => Event::Vread {
             len: first as u32,
             flags: second as u32,
+        },
+        Word::Dread => Event::Dread {
+            len: first as u32,
+            flag: second as u32,
         },
         _ => unreachable!(),
     }
