@@ -1,7 +1,11 @@
 -- What goes along the orders of callers, from each parent to its children.
-use Rattle.std.proofs.Common.{◌≡◌, ℕ, zero, suc, ◌+◌, ◌<◌, ◌≤◌, Option, Some, None, List, [], ◌∷◌, ◌++◌, length, take, drop, min, get_or, map, refl, sym, subst, ap, ◌∙◌, arith, append_assoc}
+use Rattle.std.proofs.Common.{◌≡◌, ℕ, Bool, true, false, zero, suc, ◌+◌, ◌<◌, ◌≤◌, Option, Some, None, List, [], ◌∷◌, ◌++◌, length, take, drop, min, get_or, map, eq-eqb, refl, sym, subst, ap, ◌∙◌, arith, append_assoc}
 use Rattle.std.specs.Prelude.{slice_get}
+use Rattle.std.specs.Prelude.{◌==◌, ◌||◌}
+use Rattle.std.specs.Bool.{OnTrue}
 use Rattle.std.specs.List.{fold, AllByRecursion}
+use Rattle.std.proofs.Math.Bool.{or-true}
+use Rattle.std.proofs.lemmas.Bool.{OnTrue_at}
 use Rattle.std.specs.Global.{Vec}
 use mathlib.Core.Logic.{dite}
 use native.Mathlib.Decide.{ℕ_discrete}
@@ -14,10 +18,26 @@ use Rattle.key_names.specs.History.{ancestors_steps, inherited_steps, orders_fro
 use Rattle.key_names.specs.CallerOrders.{start_of}
 use Rattle.key_names.proofs.History.CallerOrders.{order_is_start_and_own, start_is_a_front}
 use Rattle.line_orders.specs.declared.order.Fork.{Fork}
-use Rattle.line_orders.specs.Orders.{all_forks, front_in}
+use Rattle.line_orders.specs.Orders.{all_forks, front_in, is_parent_in}
 use Rattle.line_orders.specs.Along.{Along, AreAlong, begin_in, kept_at}
 use Rattle.line_orders.proofs.Carried.{get_front}
 use Rattle.line_orders.proofs.Forks.{AtParent, at_parent, rises, steps_before}
+
+-- the parent of a caller's fork forks it
+parent_forks : (c : ℕ) (forks : List Fork) (fork : Fork) → front_in c forks ≡ Some fork →
+    is_parent_in fork.parent forks ≡ true
+parent_forks c [] fork is = cc
+parent_forks c (first ∷ forks) fork is = by (first.child == c) refl (λ rest. parent_forks c forks fork rest)
+  where
+    by : (b : Bool) → (first.child == c) ≡ b →
+        (front_in c forks ≡ Some fork → is_parent_in fork.parent forks ≡ true) →
+        is_parent_in fork.parent (first ∷ forks) ≡ true
+    by true at rest =
+        let same : first ≡ fork = cc in
+        ap (λ b. b || is_parent_in fork.parent forks) (eq-eqb first.parent fork.parent (ap (λ f. f.parent) same))
+    by false at rest =
+        let here : front_in c forks ≡ Some fork = cc in
+        ap (λ b. (first.parent == fork.parent) || b) (rest here) ∙ or-true (first.parent == fork.parent)
 
 take_drop : {X : Type 0} (n : ℕ) (xs : List X) → take n xs ++ drop n xs ≡ xs
 take_drop zero xs = refl
@@ -61,12 +81,13 @@ module _ (after : Option ℕ → Step → Option ℕ) (May : Option ℕ → Step
     abbrev begun : ℕ → Option ℕ
     begun c = fold after None (start_of callers c)
 
-    -- what is kept of a caller whose steps may all follow
+    -- the steps of a caller may all follow, and what is kept of it where it forks another
     pub record KeptOf (c : ℕ) (kept : List (Vec (Option ℕ))) : Type 0 where
       pub stands : Along after May None (start_of callers c ++ calls_steps (list_at callers c))
       pub values : Vec (Option ℕ)
       pub here : slice_get kept c ≡ Some values
-      pub along : AreAlong after (fold after None (start_of callers c)) (calls_steps (list_at callers c)) values.items
+      pub along : is_parent_in c (all_forks 0 callers) ≡ true →
+          AreAlong after (fold after None (start_of callers c)) (calls_steps (list_at callers c)) values.items
 
     -- what a caller begins with, and that all steps before it may follow
     pub record Begins (c : ℕ) (kept : List (Vec (Option ℕ))) (forks : List Fork) : Type 0 where
@@ -79,9 +100,10 @@ module _ (after : Option ℕ → Step → Option ℕ) (May : Option ℕ → Step
       started o = inherited_steps (ancestors_steps callers c) o
 
       -- behind the parent's front of n steps
-      behind : (p n : ℕ) → p < c → start_of callers c ≡ start_of callers p ++ take n (own p) → n ≤ length (own p) →
+      behind : (p n : ℕ) → p < c → is_parent_in p (all_forks 0 callers) ≡ true →
+          start_of callers c ≡ start_of callers p ++ take n (own p) → n ≤ length (own p) →
           (kept_at (slice_get kept p) n ≡ begun c) × Along after May None (start_of callers c)
-      behind p n low shape short =
+      behind p n low forks shape short =
           let k : KeptOf p kept = each p low in
           let parts : Along after May None (start_of callers p) × Along after May (begun p) (own p) =
           along_parts None (start_of callers p) (own p) k.stands in
@@ -89,7 +111,7 @@ module _ (after : Option ℕ → Step → Option ℕ) (May : Option ℕ → Step
           (along_parts (begun p) (take n (own p)) (drop n (own p))
           (subst (Along after May (begun p)) (sym (take_drop n (own p))) parts.1)).0 in
           let value : kept_at (slice_get kept p) n ≡ fold after (begun p) (take n (own p)) =
-          rw (k.here, k.along n short) refl in (
+          rw (k.here, k.along forks n short) refl in (
             value ∙ sym (fold-append after None (start_of callers p) (take n (own p)))
                 ∙ sym (ap (λ (s : List Step). fold after None s) shape),
             subst (λ (s : List Step). Along after May None s) (sym shape)
@@ -120,7 +142,8 @@ module _ (after : Option ℕ → Step → Option ℕ) (May : Option ℕ → Step
           (let e : min n (length (own p)) ≡ n =
           sym (length-take n (own p)) ∙ ap (λ (s : List Step). length s) front ∙ sym f.steps in omega arith) in
           let found : (kept_at (slice_get kept p) n ≡ begun c) × Along after May None (start_of callers c) =
-          behind p n low shape short in record {
+          behind p n low (subst (λ q. is_parent_in q (all_forks 0 callers) ≡ true) fork_is
+          (parent_forks c (all_forks 0 callers) f.fork f.here)) shape short in record {
             value = ap (begin_in kept) f.here ∙ ap (λ m. kept_at (slice_get kept m) n) fork_is ∙ found.0;
             stands = found.1;
           }
@@ -188,15 +211,18 @@ module _ (after : Option ℕ → Step → Option ℕ) (May : Option ℕ → Step
         (subst (Along after May (fold after None (start_of callers c))) (sym steps_are) (own_follow after May callers c among all))
 
     pub now_kept : (values : Vec (Option ℕ)) (more : List (Vec (Option ℕ))) → slice_get more c ≡ Some values →
-        Along after May start own.items → AreAlong after start own.items values.items → KeptOf after May callers c more
+        Along after May start own.items → OnTrue (is_parent_in c forks) (AreAlong after start own.items values.items) →
+        KeptOf after May callers c more
     now_kept values more here follow along = record {
       stands = along_both after May None (start_of callers c) (calls_steps (list_at callers c)) all_begins.stands
           (subst (Along after May (fold after None (start_of callers c))) steps_are
           (subst (λ v. Along after May v own.items) begun_at follow));
       values = values;
       here = here;
-      along = subst (λ (steps : List Step). AreAlong after (fold after None (start_of callers c)) steps values.items) steps_are
-          (subst (λ v. AreAlong after v own.items values.items) begun_at along);
+      along = λ parent. subst (λ (steps : List Step).
+          AreAlong after (fold after None (start_of callers c)) steps values.items) steps_are
+          (subst (λ v. AreAlong after v own.items values.items) begun_at
+          (OnTrue_at (ap (is_parent_in c) forks_are ∙ parent) along));
     }
 
   pub still_kept : (p : ℕ) (kept : List (Vec (Option ℕ))) (one : Vec (Option ℕ)) → p < length kept →

@@ -1,5 +1,6 @@
 -- The forks among callers' calls, and how many steps of a parent come before its child's.
-use Rattle.std.specs.Prelude.{ℕ, suc, ◌+◌, ◌==◌, Option, Some, None, List, [], ◌∷◌, ◌++◌, length, if◌then◌else◌}
+use Rattle.std.specs.Prelude.{ℕ, Bool, suc, ◌+◌, ◌==◌, Option, Some, None, List, [], ◌∷◌, ◌++◌, length, if◌then◌else◌}
+use Rattle.std.specs.List.{list_any}
 use Rattle.key_names.specs.declared.events.Event.TheVariants.{Fork as ForkEvent}
 use Rattle.key_names.specs.Calls.{Call, alone}
 use Rattle.key_names.specs.History.{call_steps, through_visit}
@@ -25,3 +26,7 @@ all_forks p (calls ∷ callers) = forks_in p 0 0 calls ++ all_forks (suc p) call
 abbrev pub front_in : ℕ → List Fork → Option Fork
 front_in c [] = None
 front_in c (fork ∷ forks) = if fork.child == c then Some fork else front_in c forks
+
+-- a caller forks another
+abbrev pub is_parent_in : ℕ → List Fork → Bool
+is_parent_in p forks = list_any (λ fork. fork.parent == p) forks

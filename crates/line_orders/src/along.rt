@@ -1,6 +1,7 @@
 //! What goes along the orders of callers: it begins with nothing, each step changes it, and a child begins with what its
 //! parent had at the fork.
-ghost use Rattle.std.specs.Prelude.{◌≡◌, ◌↔◌, ◌+◌, ◌<◌, ◌≤◌, ℕ, IsTrue, IfOk, Option, Some, None, List, map, length, MatchOption};
+ghost use Rattle.std.specs.Prelude.{◌≡◌, ◌↔◌, ◌+◌, ◌<◌, ◌≤◌, ℕ, IsTrue, IfOk, Option, Some, None, List, map, length};
+ghost use Rattle.std.specs.Bool.{OnTrue};
 ghost use Rattle.std.specs.List.{AllByRecursion};
 ghost use Rattle.key_names.specs.declared.names.Step.{Step};
 ghost use Rattle.key_names.specs.History.{caller_orders, calls_steps};
@@ -8,7 +9,7 @@ ghost use Rattle.key_names.specs.Calls.{Call};
 ghost use Rattle.line_orders.specs.Orders.{all_forks, front_in};
 ghost use Rattle.line_orders.specs.Along.{Along, AreAlong, begin_in};
 
-use crate::order::{Orders, front_of};
+use crate::order::{Orders, front_of, is_parent};
 use key_names::Step;
 use std::alloc::{AllocError, Global};
 
@@ -27,29 +28,54 @@ pub trait Carry {
         ensures { result ≡ after self.now carried step };
 }
 
-// What is carried behind each front of some steps, the empty one first; or nothing where a step may not follow.
+// Whether each of some steps may follow what is carried to it.
+fn may_go<C: Carry>(carry: &C, start: Option<u64>, steps: &[Step]) -> bool
+    ensures { IsTrue result ↔ Along (C.after carry.now) (C.MayFollow carry.now) start steps.now }
+{
+    let mut carried = start;
+    for step in steps {
+        if !carry.may_follow(carried, *step) {
+            return false;
+        }
+        carried = carry.after(carried, *step);
+    }
+    true
+}
+
+// What is carried behind each front of some steps that may all follow, the empty one first.
 fn along<C: Carry>(
     alloc: Global,
     carry: &C,
     start: Option<u64>,
     steps: &[Step],
-) -> Result<Option<Vec<Option<u64>>>, AllocError>
-    ensures { IfOk result (λ kept. MatchOption kept
-        (Along (C.after carry.now) (C.MayFollow carry.now) start steps.now → ⊥)
-        (λ kept. Along (C.after carry.now) (C.MayFollow carry.now) start steps.now
-        × AreAlong (C.after carry.now) start steps.now kept.items)) }
+) -> Result<Vec<Option<u64>>, AllocError>
+    ensures { IfOk result (λ kept. AreAlong (C.after carry.now) start steps.now kept.items) }
 {
     let mut kept = Vec::with_capacity(alloc, steps.len() + 1)?;
     let mut carried = start;
     for step in steps {
-        if !carry.may_follow(carried, *step) {
-            return Ok(None);
-        }
         kept.push(carried)?;
         carried = carry.after(carried, *step);
     }
     kept.push(carried)?;
-    Ok(Some(kept))
+    Ok(kept)
+}
+
+// What is kept of a caller: what is carried along its steps, where it forks another, and otherwise nothing.
+fn kept_of<C: Carry>(
+    alloc: Global,
+    carry: &C,
+    start: Option<u64>,
+    steps: &[Step],
+    is_parent: bool,
+) -> Result<Vec<Option<u64>>, AllocError>
+    ensures { IfOk result (λ kept. OnTrue is_parent (AreAlong (C.after carry.now) start steps.now kept.items)) }
+{
+    if is_parent {
+        along(alloc, carry, start, steps)
+    } else {
+        Ok(Vec::new(alloc))
+    }
 }
 
 // What a child begins with, of what its ancestors carried.
@@ -82,10 +108,11 @@ pub fn all_may_follow<C: Carry>(
     let mut kept = Vec::with_capacity(alloc, orders.own.len())?;
     for (caller, own) in orders.own.iter().enumerate() {
         let start = start_of(orders, &kept, caller as u32);
-        match along(alloc, carry, start, own)? {
-            Some(carried) => kept.push(carried)?,
-            None => return Ok(false),
+        if !may_go(carry, start, own) {
+            return Ok(false);
         }
+        let is_parent = is_parent(&orders.forks, caller as u32);
+        kept.push(kept_of(alloc, carry, start, own, is_parent)?)?;
     }
     Ok(true)
 }

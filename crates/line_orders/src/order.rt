@@ -3,7 +3,7 @@ ghost use Rattle.std.specs.Prelude.{◌≡◌, ◌<◌, ◌≤◌, ◌^◌, ◌+
 ghost use Rattle.key_names.specs.History.{is_mark, through_visit, steps_at_point, cut_behind_visits, cut_behind_rekey};
 ghost use Rattle.key_names.specs.History.{call_steps, calls_steps, vread_steps};
 ghost use Rattle.line_orders.specs.Called.{seen_act, seen_call, seen_calls};
-ghost use Rattle.line_orders.specs.Orders.{fork_here, forks_in, all_forks, front_in};
+ghost use Rattle.line_orders.specs.Orders.{fork_here, forks_in, all_forks, front_in, is_parent_in};
 
 use crate::called::{ActLine, Called};
 use key_names::{Event, Step};
@@ -193,4 +193,11 @@ pub fn front_of(forks: &[Fork], child: u32) -> Option<Fork>
         }
     }
     None
+}
+
+/// Whether a caller forks another.
+pub(crate) fn is_parent(forks: &[Fork], caller: u32) -> bool
+    ensures { result ≡ is_parent_in caller forks.now }
+{
+    forks.iter().any(|fork| fork.parent == caller)
 }

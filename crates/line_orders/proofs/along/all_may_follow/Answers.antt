@@ -5,28 +5,34 @@ use Rattle.line_orders.proofs.Carried.{get_last}
 use Rattle.line_orders.proofs.AlongOrders.{all_follow, owns_long, must_follow, now_kept, kept_more_callers}
 use Rattle.line_orders.proofs.along.all_may_follow.Goals as goal
 
-pub returns-in-None : goal.returns-in-None
-returns-in-None g c = λ callers owns forks rise.
-    let stops = rw (c.in-None.is, c.deref-in-loop-caller.ensures.value) at c.in_ok-carried.ensures in (
-      (λ h. cc),
-      (λ all. absurd (stops
+pub returns-then-not-may_go : goal.returns-then-not-may_go
+returns-then-not-may_go g c = λ callers owns forks rise.
+    let stops = rw c.deref-in-loop-caller.ensures.value at c.if-not-may_go.ensures in (
+      (λ h. absurd cc),
+      (λ all.
+          let false_is = stops.1
           (must_follow (g.C.Carry.after c.args.carry.now) (g.C.Carry.MayFollow c.args.carry.now) callers
           c.args.orders.now.own.items c.args.orders.now.forks.items c.loop-caller.kept.items c.loop-caller.caller
           c.own-item.result c.start_of-start.result owns forks rise
           (rw (← c.deref-own-items.ensures.value) c.loop-caller-test.true)
           (rw (← c.deref-own-items.ensures.value) c.own-item.is)
           (c.loop-caller.invariant.each callers owns forks rise)
-          (rw (← c.deref.ensures.value) c.start_of-start.ensures) all))),
+          (rw (← c.deref.ensures.value) c.start_of-start.ensures) all) in cc),
     )
 
 pub loop-caller-preserved : goal.loop-caller-preserved
 loop-caller-preserved g c =
-    let goes = rw (c.in-Some.is, c.deref-in-loop-caller.ensures.value) at c.in_ok-carried.ensures in record {
-      long = ap length c.in_ok-push-in-Some.ensures.items ∙ length_push c.loop-caller.kept.items c.in-Some.carried
+    let follows = rw c.deref-in-loop-caller.ensures.value at c.if-not-may_go.ensures in
+    let kept = rw (
+      c.deref-in-loop-caller-3.ensures.value,
+      c.is_parent-is_parent.ensures,
+      c.deref-in-loop-caller-2.ensures.value,
+    ) at c.in_ok-kept_of.ensures in record {
+      long = ap length c.in_ok-push.ensures.items ∙ length_push c.loop-caller.kept.items c.in_ok-kept_of.field-0
           ∙ ap (λ n. n + 1) c.loop-caller.invariant.long;
-      each = λ callers owns forks rise. rw c.in_ok-push-in-Some.ensures.items
+      each = λ callers owns forks rise. rw c.in_ok-push.ensures.items
           (kept_more_callers (g.C.Carry.after c.args.carry.now) (g.C.Carry.MayFollow c.args.carry.now) callers
-          c.loop-caller.caller c.loop-caller.kept.items c.in-Some.carried c.loop-caller.invariant.long
+          c.loop-caller.caller c.loop-caller.kept.items c.in_ok-kept_of.field-0 c.loop-caller.invariant.long
           (c.loop-caller.invariant.each callers owns forks rise)
           (now_kept (g.C.Carry.after c.args.carry.now) (g.C.Carry.MayFollow c.args.carry.now) callers
           c.args.orders.now.own.items c.args.orders.now.forks.items c.loop-caller.kept.items c.loop-caller.caller
@@ -35,9 +41,9 @@ loop-caller-preserved g c =
           (rw (← c.deref-own-items.ensures.value) c.own-item.is)
           (c.loop-caller.invariant.each callers owns forks rise)
           (rw (← c.deref.ensures.value) c.start_of-start.ensures)
-          c.in-Some.carried (c.loop-caller.kept.items ++ c.in-Some.carried ∷ [])
-          (ap (slice_get (c.loop-caller.kept.items ++ c.in-Some.carried ∷ [])) (sym c.loop-caller.invariant.long)
-          ∙ get_last c.loop-caller.kept.items c.in-Some.carried) goes.0 goes.1));
+          c.in_ok-kept_of.field-0 (c.loop-caller.kept.items ++ c.in_ok-kept_of.field-0 ∷ [])
+          (ap (slice_get (c.loop-caller.kept.items ++ c.in_ok-kept_of.field-0 ∷ [])) (sym c.loop-caller.invariant.long)
+          ∙ get_last c.loop-caller.kept.items c.in_ok-kept_of.field-0) (follows.0 refl) kept));
     }
 
 pub returns : goal.returns

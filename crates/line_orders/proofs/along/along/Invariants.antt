@@ -1,13 +1,10 @@
-use Rattle.std.proofs.Common.{◌≡◌, ℕ, ◌<◌, Some, length, take, drop}
-use Rattle.std.specs.Prelude.{◌↔◌, slice_get}
+use Rattle.std.proofs.Common.{◌≡◌, ℕ, ◌<◌, Some, length, take}
+use Rattle.std.specs.Prelude.{slice_get}
 use Rattle.std.specs.List.{fold}
-use Rattle.line_orders.specs.Along.{Along}
 use Rattle.line_orders.proofs.along.along.Given as goal
 
 abbrev pub invariant-loop-step : goal.invariant-loop-step
 invariant-loop-step g l = record {
-  rest : Along (g.C.Carry.after l.carry) (g.C.Carry.MayFollow l.carry) l.fn.start l.steps
-      ↔ Along (g.C.Carry.after l.carry) (g.C.Carry.MayFollow l.carry) l.carried (drop l.step-index l.steps);
   here : l.carried ≡ fold (g.C.Carry.after l.carry) l.fn.start (take l.step-index l.steps);
   long : length l.kept.items ≡ l.step-index;
   kept : (n : ℕ) → n < l.step-index → slice_get l.kept.items n
