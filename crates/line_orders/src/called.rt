@@ -68,7 +68,7 @@ pub fn caller_calls<'a>(
     ensures { IfOk result (λ calls. map seen_call calls.items ≡ calls_of events.now (map seen_bare lines.now)) }
 {
     let end = vreads_end(events);
-    let mut calls = Vec::new(alloc);
+    let mut calls = Vec::with_capacity(alloc, lines.len())?;
     let mut waiting = Vec::new(alloc);
     for (number, event) in events.iter().enumerate() {
         let line = lines[number];

@@ -139,7 +139,7 @@ pub(crate) fn replay_base(
 {
     let mut base = Base::start();
     let mut least = 0;
-    let mut kept = Vec::new(alloc);
+    let mut kept = Vec::with_capacity(alloc, told.base.len())?;
     for (place, one) in told.base.iter().enumerate() {
         let entry = close(&base, *one, pool);
         let named = root_of(entry);

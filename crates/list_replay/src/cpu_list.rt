@@ -248,8 +248,9 @@ fn replay_cpu(
         cpu: Cpu::start(),
         fills: LastFills::none(),
     };
-    let mut kept = Vec::new(alloc);
-    for (place, one) in told.cpus[cpu].iter().enumerate() {
+    let rows = &told.cpus[cpu];
+    let mut kept = Vec::with_capacity(alloc, rows.len())?;
+    for (place, one) in rows.iter().enumerate() {
         let entry = lane.close(one.entry);
         let Some(handed) = handed(base, cpu as u32, place as u64, entry) else {
             return Ok(None);

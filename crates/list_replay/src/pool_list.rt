@@ -148,7 +148,7 @@ pub(crate) fn replay_pool(
     ensures none { IfOk result (λ o. AllMixed (tables_of told.now) → IsSome o) }
 {
     let mut lane = Lane::start();
-    let mut kept = Vec::new(alloc);
+    let mut kept = Vec::with_capacity(alloc, told.pool.len())?;
     for one in &told.pool {
         let before = lane.pool.bits();
         let Some(root) = visit(&mut lane, one, dumps) else {

@@ -19,10 +19,10 @@ never p = cc
 pub loop-place-init : goal.loop-place-init
 loop-place-init c = record {
   items = c.deref-one-items.ensures.value
-      ∙ lane_is c.args.told.now.cpus.items c.args.cpu c.index.result.now c.requires.cpu c.index.ensures;
+      ∙ lane_is c.args.told.now.cpus.items c.args.cpu c.index-rows.result.now c.requires.cpu c.index-rows.ensures;
   behind = cpu_next (closed (tables_of c.args.told.now)) c.args.cpu 0 start no_fills [] c.start.result c.none.result
-      c.new-kept.result.items (cpu_begin (closed (tables_of c.args.told.now)) c.args.cpu) c.start.ensures c.none.ensures
-      c.new-kept.ensures.items;
+      c.in_ok-kept.kept.items (cpu_begin (closed (tables_of c.args.told.now)) c.args.cpu) c.start.ensures c.none.ensures
+      c.in_ok-kept.ensures.items;
 }
 
 pub handed-requires : goal.handed-requires
