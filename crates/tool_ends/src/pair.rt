@@ -18,7 +18,7 @@ const MOST_LINES: u64 = 65_600;
 /// Line feeds are counted in so many bytes at once.
 const ROW_BYTES: usize = 64;
 
-/// So many rows are counted in lanes of eight bits, which hold up to 255.
+/// So many bytes are counted in lanes of eight bits, which hold up to 255: as many rows.
 const PIECE_BYTES: usize = 255 * ROW_BYTES;
 
 /// Why an input was not read as a script and a transcript.
