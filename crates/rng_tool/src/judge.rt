@@ -112,13 +112,16 @@ fn say<K: Sink>(
 }
 
 // What an input calls for.
-fn answer<K: Sink>(alloc: Global, judge: Judge, input: &[u8], sink: &mut K) -> Status
-    ensures ends { WritesEnds (JudgeCalls judge input.now) result (K.held sink.old) (K.held sink.new) }
+fn answer<K: Sink>(alloc: Global, judge: Judge, input: Vec<u8>, sink: &mut K) -> Status
+    ensures ends { WritesEnds (JudgeCalls judge input.items) result (K.held sink.old) (K.held sink.new) }
     ensures cut { result ≡ Status.WriteFault → Rose (K.faults sink.old) (K.faults sink.new) }
     ensures silent { result ≡ Status.NoMemory → sink.new ≡ sink.old }
     ensures never_falls { K.faults sink.old ≤ K.faults sink.new }
 {
-    match read_pair(alloc, input) {
+    let found = read_pair(alloc, &input);
+    // Both are there without their texts, which may be long.
+    drop(input);
+    match found {
         Ok((script, t)) => say(alloc, judge, &script, &t, sink),
         Err(why) => put_refusal(why, sink),
     }
@@ -143,5 +146,5 @@ pub(crate) fn judge_input<S: Source, K: Sink>(
         Err(ReadError::Fault) => return Status::ReadFault,
         Err(ReadError::NoMemory) => return Status::NoMemory,
     };
-    answer(alloc, judge, &input, sink)
+    answer(alloc, judge, input, sink)
 }

@@ -5,10 +5,12 @@ use Rattle.rng_tool.proofs.judge.answer.Goals as goal
 
 pub returns-in-Ok-clause-ends : goal.returns-in-Ok-clause-ends
 returns-in-Ok-clause-ends g c =
-    wider _ (JudgeCalls c.args.judge c.args.input.now)
-    (pair_said c.args.judge c.args.input.now _ _ c.in-Ok.ensures.read) _ _ _ c.say.ensures.ends
+    let read = rw c.deref.ensures.value at c.in-Ok.ensures.read in
+    wider _ (JudgeCalls c.args.judge c.args.input.items)
+    (pair_said c.args.judge c.args.input.items _ _ read) _ _ _ c.say.ensures.ends
 
 pub returns-in-Err-clause-ends : goal.returns-in-Err-clause-ends
 returns-in-Err-clause-ends g c =
-    wider _ (JudgeCalls c.args.judge c.args.input.now)
-    (none_said c.args.judge c.args.input.now c.in-Err.why c.in-Err.ensures.not_read) _ _ _ c.put_refusal.ensures.ends
+    let not_read = rw c.deref.ensures.value at c.in-Err.ensures.not_read in
+    wider _ (JudgeCalls c.args.judge c.args.input.items)
+    (none_said c.args.judge c.args.input.items c.in-Err.why not_read) _ _ _ c.put_refusal.ensures.ends
