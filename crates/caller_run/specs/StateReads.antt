@@ -1,5 +1,5 @@
 -- A read out of a caller's current state, and what it was lent for that.
-use Rattle.std.specs.Prelude.{◌≡◌, ℕ, ◌≤◌, ◌^◌, List, length}
+use Rattle.std.specs.Prelude.{◌≡◌, ◌≤◌, ◌^◌, List, length}
 use Rattle.std.specs.List.{AllByRecursion}
 use Rattle.key_names.specs.declared.names.Step.{Step}
 use Rattle.lane_table.specs.declared.lanes.Lanes.{Lanes}

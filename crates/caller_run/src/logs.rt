@@ -36,29 +36,6 @@ pub(crate) fn most_shown(event: &Event) -> u32
     }
 }
 
-/// The most bytes that the line of one of the events shows.
-pub(crate) fn longest_shown(events: &[Event]) -> u32
-    ensures { All (λ event. most_shown event ≤ result) events.now }
-{
-    let mut most = 0;
-    for event in events {
-        most = most.max(most_shown(event));
-    }
-    most
-}
-
-// How many bytes the lines of the events show together at most.
-fn all_shown(events: &[Event]) -> u64
-    requires { length events.now ≤ 65536 }
-    ensures { result ≡ sum_by most_shown events.now }
-{
-    let mut sum = 0;
-    for event in events {
-        sum += u64::from(most_shown(event));
-    }
-    sum
-}
-
 // How many bytes an event reads inside a vread.
 fn read_inside(event: &Event) -> u32
     ensures { result ≡ read_inside event.now }
@@ -72,37 +49,61 @@ fn read_inside(event: &Event) -> u32
     }
 }
 
-/// How many bytes the events read inside vreads.
-pub(crate) fn all_inside(events: &[Event]) -> u64
-    requires { length events.now ≤ 65536 }
-    ensures { result ≡ sum_by read_inside events.now }
-{
-    let mut sum = 0;
-    for event in events {
-        sum += u64::from(read_inside(event));
+/// How much room the lines of some events and their reads need at most, in bytes.
+#[derive(Clone, Copy)]
+pub(crate) struct Needs {
+    /// What all lines show.
+    pub(crate) shown: u64,
+    /// What the line that shows most shows.
+    pub(crate) longest: u32,
+    /// What is read inside vreads.
+    pub(crate) inside: u64,
+}
+
+impl Needs {
+    /// What these events need.
+    pub(crate) fn of(events: &[Event]) -> Needs
+        requires { length events.now ≤ 65536 }
+        ensures shown { result.shown ≡ sum_by most_shown events.now }
+        ensures longest { All (λ event. most_shown event ≤ result.longest) events.now }
+        ensures inside { result.inside ≡ sum_by read_inside events.now }
+    {
+        let mut shown = 0;
+        let mut longest = 0;
+        let mut inside = 0;
+        for event in events {
+            let most = most_shown(event);
+            shown += u64::from(most);
+            longest = longest.max(most);
+            inside += u64::from(read_inside(event));
+        }
+        Needs {
+            shown,
+            longest,
+            inside,
+        }
     }
-    sum
 }
 
 impl Log {
-    /// A log with room for what these events leave, and for a last line.
+    /// A log with room for the lines of so many events, which show so many bytes together, and for a last line.
     ///
     /// # Errors
     ///
     /// `AllocError` where there is no memory for it.
-    pub(crate) fn for_events(alloc: Global, events: &[Event]) -> Result<Log, AllocError>
-        requires { length events.now ≤ 65536 }
+    pub(crate) fn for_events(alloc: Global, events: usize, shown: u64) -> Result<Log, AllocError>
+        requires { events ≤ 65536 }
         ensures lines { IfOk result (λ log. log.lines.lines ≡ []) }
-        ensures line_room { IfOk result (λ log. log.lines.line_room ≡ length events.now + 1) }
-        ensures step_room { IfOk result (λ log. log.lines.step_room ≡ 20 * (length events.now + 1)) }
-        ensures byte_room { IfOk result (λ log. log.lines.byte_room ≡ sum_by most_shown events.now) }
+        ensures line_room { IfOk result (λ log. log.lines.line_room ≡ events + 1) }
+        ensures step_room { IfOk result (λ log. log.lines.step_room ≡ 20 * (events + 1)) }
+        ensures byte_room { IfOk result (λ log. log.lines.byte_room ≡ shown) }
         ensures acts { IfOk result (λ log. log.acts.items ≡ []) }
         ensures act_room { IfOk result (λ log. 8 ≤ vec_capacity log.acts) }
     {
-        let lines = events.len() + 1;
+        let lines = events + 1;
         let steps = MOST_STEPS as usize * lines;
         Ok(Log {
-            lines: CallerLines::with_room(alloc, lines, steps, all_shown(events) as usize)?,
+            lines: CallerLines::with_room(alloc, lines, steps, shown as usize)?,
             acts: Vec::with_capacity(alloc, MOST_ACTS)?,
             trace: Box::new(alloc, Trace::empty())?,
         })

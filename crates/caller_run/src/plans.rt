@@ -6,7 +6,7 @@ ghost use Rattle.caller_run.specs.Plans.{HaveSlots, IsPlanFor, IsReady, lines_in
 ghost use Rattle.caller_run.specs.Plots.{plot};
 ghost use Rattle.caller_run.specs.Ways.{IsNewSheet};
 
-use crate::logs::{Log, all_inside, longest_shown};
+use crate::logs::{Log, Needs};
 use crate::rooms::{Room, Sheet};
 use event_script::Script;
 use key_names::Event;
@@ -26,10 +26,11 @@ impl Sheet {
         requires { length events.now ≤ 65536 }
         ensures { IfOk result (λ sheet. IsNewSheet sheet events.now) }
     {
+        let needs = Needs::of(events);
         Ok(Sheet {
-            log: Log::for_events(alloc, events)?,
-            served: vec![in alloc; 0; longest_shown(events) as usize]?,
-            inside: vec![in alloc; 0; all_inside(events) as usize]?,
+            log: Log::for_events(alloc, events.len(), needs.shown)?,
+            served: vec![in alloc; 0; needs.longest as usize]?,
+            inside: vec![in alloc; 0; needs.inside as usize]?,
         })
     }
 

@@ -1,9 +1,4 @@
-use Rattle.std.proofs.Common.{List, [], sym, subst, ap, refl}
-use Rattle.key_names.specs.declared.names.Step.{Step}
-use Rattle.key_names.specs.declared.entries.BaseEntry.TheVariants.{End}
-use Rattle.key_names.specs.Forms.{BaseOnly}
-use Rattle.rng_core.specs.Makes.{Makes}
-use Rattle.rng_core.specs.Traces.{moment}
+use Rattle.std.proofs.Common.{[], sym, subst, ap}
 use Rattle.lane_table.specs.Calls.{view}
 use Rattle.caller_run.specs.Says.{shown_by}
 use Rattle.caller_run.specs.Standing.{RunEnded}

@@ -1,4 +1,4 @@
-use Rattle.std.proofs.Common.{rules, length, ap, arith}
+use Rattle.std.proofs.Common.{rules}
 use Rattle.caller_run.proofs.Events.OwnSites.{own_hands, lent_hands, given_hands, at_fork}
 use Rattle.caller_run.proofs.caller.Caller.fork.Goals as goal
 

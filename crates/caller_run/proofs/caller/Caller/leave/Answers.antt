@@ -1,4 +1,4 @@
-use Rattle.std.proofs.Common.{rules, refl}
+use Rattle.std.proofs.Common.{rules}
 use Rattle.caller_run.proofs.Events.OwnSites.{has_left}
 use Rattle.caller_run.proofs.caller.Caller.leave.Goals as goal
 

@@ -1,4 +1,4 @@
-use Rattle.std.proofs.Common.{refl, arith}
+use Rattle.std.proofs.Common.{refl}
 use Rattle.caller_run.specs.Forest.{forks}
 use Rattle.caller_run.specs.Plots.{plot}
 use Rattle.caller_run.specs.Ways.{kids_of}
