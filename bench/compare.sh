@@ -134,17 +134,45 @@ ratio() {
     awk -v name="$1" -v a="$2" -v b="$3" -v limit="$4" 'BEGIN { printf "%-52s %6.2f  (%s)\n", name, a / b, limit }'
 }
 
-# beside_plain NAME SCRIPT: `rng run` beside plain_core, which writes the same transcript: the ratio of instructions, and
-# for each way out that of the median wall seconds and of the median processor seconds of 15 runs in turn.
-beside_plain() {
-    "$room/plain_core" <"$2" >"$room/plain" && "$program" run <"$2" | cmp - "$room/plain" >&2
+# The whole runs that are held against other programs, each with its script.
+whole_runs() {
+    cat <<END
+a load's mix:$room/small_events
+interrupts:$room/interrupts
+integers of 64 bits:$room/integers
+vreads of 16 bytes:$room/vreads
+reads of 16 bytes:$room/reads
+ticks:$room/ticks
+credits read:$room/bits
+moments:$room/moments
+16 reads of 1 MiB:$room/large_reads
+a script of 16 MiB:$room/long_script
+END
+}
+
+# beside NAME SCRIPT OTHER: `rng run` beside another program: the ratio of instructions, and for each way out that of the
+# median wall seconds and of the median processor seconds of 15 runs in turn.
+beside() {
     printf '%-34s %6s' "$1" "$(echo "$(instructions "$program" run <"$2")" \
-        "$(instructions "$room/plain_core" <"$2")" | awk '{ printf "%.2f", $1 / $2 }')"
+        "$(instructions "$3" <"$2")" | awk '{ printf "%.2f", $1 / $2 }')"
     for out in null pipe "$room/file"; do
-        "$room/interleaved" 15 "$2" "$out" "$program" run -- "$room/plain_core" |
+        "$room/interleaved" 15 "$2" "$out" "$program" run -- "$3" |
             awk '{ printf "   %4.2f %4.2f", $1 / $2, $3 / $4 }'
     done
     echo
+}
+
+# beside_plain NAME SCRIPT: beside plain_core, which writes the same transcript.
+beside_plain() {
+    "$room/plain_core" <"$2" >"$room/plain" && "$program" run <"$2" | cmp - "$room/plain" >&2
+    beside "$1" "$2" "$room/plain_core"
+}
+
+# beside_kernel NAME SCRIPT: beside the kernel's own code, which writes the answers and bytes of the same transcript.
+beside_kernel() {
+    "$kernel" <"$2" >"$room/plain" &&
+        "$program" run <"$2" | awk '/^0/ && $2 != "end" { print $3, $NF }' | cmp - "$room/plain" >&2
+    beside "$1" "$2" "$kernel"
 }
 
 for name in plain_core interleaved; do
@@ -224,17 +252,17 @@ printf '%-52s %12s\n' "the least seconds of five runs of two events" \
     "seconds of 16 reads of 1 MiB" "$(of_run %e "$room/large_reads")" \
     "seconds of $events small events" "$(of_run %e "$room/small_events")"
 
-echo "rng run to plain_core: instructions; wall and processor seconds to /dev/null, a pipe, a file"
-beside_plain "a load's mix" "$room/small_events"
-beside_plain 'interrupts' "$room/interrupts"
-beside_plain 'integers of 64 bits' "$room/integers"
-beside_plain 'vreads of 16 bytes' "$room/vreads"
-beside_plain 'reads of 16 bytes' "$room/reads"
-beside_plain 'ticks' "$room/ticks"
-beside_plain 'credits read' "$room/bits"
-beside_plain 'moments' "$room/moments"
-beside_plain '16 reads of 1 MiB' "$room/large_reads"
-beside_plain 'a script of 16 MiB' "$room/long_script"
+what='instructions; wall and processor seconds to /dev/null, a pipe, a file'
+echo "rng run to plain_core: $what"
+whole_runs | while IFS=: read -r name text; do beside_plain "$name" "$text"; done
+
+kernel=tools/kernel/out/harness
+if [ -x "$kernel" ]; then
+    echo "rng run to the kernel's own code in user space, which writes no steps: $what"
+    whole_runs | while IFS=: read -r name text; do beside_kernel "$name" "$text"; done
+else
+    echo "beside the kernel's own code: not measured, since tools/kernel/run has not made $kernel"
+fi
 
 echo "nanoseconds of each, by the least of five"
 printf '%-52s %12s\n' "BLAKE2s of a sample, many at once" "$(nanoseconds bulk $((16 * samples)))" \
