@@ -9,6 +9,8 @@
 pub mod calls;
 mod events;
 mod met;
+mod notes;
 pub mod said;
 mod states;
 mod vreads;
+mod walk;

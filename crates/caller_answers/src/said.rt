@@ -32,24 +32,6 @@ pub trait Note {
         ensures { IsNoted self.now caller event said result };
 }
 
-/// How what is said of a caller's lines is noted.
-#[derive(Drop)]
-pub struct Noting<'a, N: Note> {
-    pub how: &'a N,
-    /// The caller's number.
-    pub caller: u32,
-}
-
-impl<N: Note> Noting<'_, N> {
-    /// Notes what is said of an event.
-    #[inline(always)]
-    pub fn note(&self, event: u32, said: Said) -> N::Noted
-        ensures { N.IsNoted self.now.how.now self.now.caller event said result }
-    {
-        self.how.note(self.caller, event, said)
-    }
-}
-
 /// Notes all that is said.
 #[derive(Drop)]
 pub struct Whole;

@@ -1,51 +1,32 @@
 //! A `vread` with the acts inside it.
-ghost use Rattle.std.specs.Prelude.{◌≡◌, ◌≢◌, Bool, true, false, IfOk, MatchBool, map};
+ghost use Rattle.std.specs.Prelude.{◌≡◌, ◌^◌, ◌≤◌, IfOk, MatchBool, map};
 ghost use Rattle.std.specs.List.{AllByRecursion};
+ghost use Rattle.key_names.specs.Calls.{vread_call};
 ghost use Rattle.line_orders.specs.Called.{seen_act};
+ghost use Rattle.line_orders.specs.Seen.{seen_bare};
 ghost use Rattle.vread_course.specs.Inside.{inside_of};
-ghost use Rattle.caller_answers.specs.Writes.{IsPut, Written};
-ghost use Rattle.caller_answers.specs.CallSays.{ActDone, act_write};
+ghost use Rattle.caller_answers.specs.Writes.{Written};
+ghost use Rattle.caller_answers.specs.CallSays.{ActDone, act_write, IsCallSaid};
 
-use crate::events::{act_said, unused};
-use crate::met::Room;
-use crate::said::{Note, Noting, Said};
+use crate::events::act_said;
+use crate::met::{put_met, put_seen};
+use crate::said::{Note, Said, Shows};
+use crate::walk::Walk;
 use line_forms::setting::Setting;
+use line_orders::bare::BareLine;
 use line_orders::called::ActLine;
-use list_replay::Lists;
 use std::alloc::AllocError;
 use vread_course::inside::{Inside, Reached};
 
-/// Notes what is said of an event at its number.
-///
-/// # Errors
-///
-/// `AllocError` where there is no memory for it.
-#[inline(always)]
-pub fn put_said<N: Note>(
-    noting: &Noting<'_, N>,
-    noted: &mut Vec<N::Noted>,
-    event: u32,
-    said: Said,
-) -> Result<(), AllocError>
-    ensures { IfOk result (λ _. IsPut (N.IsNoted noting.now.how.now noting.now.caller) event said
-        noted.old.items noted.new.items) }
-{
-    let place = event as usize;
-    let one = noting.note(event, said);
-    if place == noted.len() {
-        noted.push(one)?;
-        return Ok(());
-    }
-    // Of those between it is not said yet what they say.
-    while noted.len() <= place {
-        noted.push(noting.note(noted.len() as u32, unused()))?;
-    }
-    noted[place] = one;
-    Ok(())
+/// The bytes that a `vread` asks for, and its flags.
+#[derive(Clone, Copy)]
+pub struct Asked {
+    pub len: u32,
+    pub flags: u32,
 }
 
-/// What the acts inside a `vread` do to its state.
-pub fn inside_of(acts: &[ActLine<'_>]) -> Inside
+// What the acts inside a `vread` do to its state.
+fn inside_of(acts: &[ActLine<'_>]) -> Inside
     ensures { result ≡ inside_of (map seen_act acts.now) }
 {
     let mut inside = Inside::none();
@@ -55,33 +36,80 @@ pub fn inside_of(acts: &[ActLine<'_>]) -> Inside
     inside
 }
 
-/// Notes what is said of each act, by the points that the `vread` came to. Answers whether all have the steps that they
-/// may have.
-///
-/// # Errors
-///
-/// `AllocError` where there is no memory for it.
-pub fn acts_said<N: Note>(
-    room: &mut Room,
-    lists: &Lists,
-    set: &Setting,
-    reached: Reached,
-    acts: &[ActLine<'_>],
-    noting: &Noting<'_, N>,
-    noted: &mut Vec<N::Noted>,
-) -> Result<bool, AllocError>
-    ensures { IfOk result (λ stand. MatchBool stand
-        (AllByRecursion (ActDone lists.now set.now reached) (map seen_act acts.now)
-        × Written (N.IsNoted noting.now.how.now noting.now.caller)
-        (map (act_write lists.now set.now reached) (map seen_act acts.now)) noted.old.items noted.new.items)
-        (AllByRecursion (ActDone lists.now set.now reached) (map seen_act acts.now) → ⊥)) }
-{
-    for bound in acts {
-        let done = reached.includes(bound.point);
-        match act_said(room, lists, set, done, bound.act, bound.line.steps)? {
-            Some(said) => put_said(noting, noted, bound.line.event, said)?,
-            None => return Ok(false),
+impl<N: Note> Walk<'_, N> {
+    // Notes what is said of each act, by the points that the `vread` came to. Answers whether all have the steps that
+    // they may have.
+    fn acts(
+        &mut self,
+        set: &Setting,
+        reached: Reached,
+        acts: &[ActLine<'_>],
+    ) -> Result<bool, AllocError>
+        ensures lists { self.new.lists ≡ self.old.lists }
+        ensures states { self.new.states ≡ self.old.states }
+        ensures notes { self.new.notes ≡ record self.old.notes { noted = self.new.notes.noted } }
+        ensures said { IfOk result (λ stand. MatchBool stand
+            (AllByRecursion (ActDone self.old.lists.now set.now reached) (map seen_act acts.now)
+            × Written (N.IsNoted self.old.notes.how.now self.old.notes.caller)
+            (map (act_write self.old.lists.now set.now reached) (map seen_act acts.now))
+            self.old.notes.noted.items self.new.notes.noted.items)
+            (AllByRecursion (ActDone self.old.lists.now set.now reached) (map seen_act acts.now) → ⊥)) }
+    {
+        for bound in acts {
+            let done = reached.includes(bound.point);
+            match act_said(
+                &mut self.room,
+                self.lists,
+                set,
+                done,
+                bound.act,
+                bound.line.steps,
+            )? {
+                Some(said) => self.notes.put(bound.line.event, said)?,
+                None => return Ok(false),
+            }
         }
+        Ok(true)
     }
-    Ok(true)
+
+    /// A `vread`; whether its steps, and those of the acts inside it, are those of one.
+    ///
+    /// # Errors
+    ///
+    /// `AllocError` where there is no memory for it.
+    pub fn vread(
+        &mut self,
+        set: &Setting,
+        asked: Asked,
+        line: BareLine<'_>,
+        acts: &[ActLine<'_>],
+    ) -> Result<bool, AllocError>
+        requires short { asked.len ≤ 2 ^ 20 }
+        ensures lists { self.new.lists ≡ self.old.lists }
+        ensures notes { self.new.notes ≡ record self.old.notes { noted = self.new.notes.noted } }
+        ensures said { IfOk result (IsCallSaid (N.IsNoted self.old.notes.how.now self.old.notes.caller)
+            self.old.lists.now set.now (vread_call asked.len asked.flags (seen_bare line.entry) (map seen_act acts.now))
+            self.old.states self.new.states self.old.notes.noted.items self.new.notes.noted.items) }
+    {
+        put_met(&mut self.room.met, self.lists, line.steps)?;
+        put_seen(&mut self.room.seen, set.cpu(), &self.room.met)?;
+        let inside = inside_of(acts);
+        let Some(course) = self
+            .states
+            .follow(asked.len, asked.flags, inside, &self.room.seen)
+        else {
+            return Ok(false);
+        };
+        if !self.acts(set, course.reached, acts)? {
+            return Ok(false);
+        }
+        self.notes.put(
+            line.event,
+            Said {
+                answer: course.answer,
+                shows: Shows::Served(course.served),
+            },
+        )?;
+        Ok(true)
+    }
 }

@@ -15,7 +15,7 @@ ghost use Rattle.serial_replay.specs.Remade.{IsRemade, CallersStand, StepsFit, A
 
 use crate::looks::Looks;
 use caller_answers::calls::caller_said;
-use caller_answers::said::{Note, Noting};
+use caller_answers::said::Note;
 use event_script::Script;
 use line_forms::setting::Setting;
 use line_orders::along::all_may_follow;
@@ -65,11 +65,14 @@ fn all_said<N: Note>(
 {
     let mut callers = Vec::new(alloc);
     for (caller, caller_calls) in calls.iter().enumerate() {
-        let noting = Noting {
+        match caller_said(
+            alloc,
+            caller_calls,
+            &settings[caller],
+            kept,
             how,
-            caller: caller as u32,
-        };
-        match caller_said(alloc, caller_calls, &settings[caller], kept, &noting)? {
+            caller as u32,
+        )? {
             Some(noted) => callers.push(noted)?,
             None => return Ok(None),
         }

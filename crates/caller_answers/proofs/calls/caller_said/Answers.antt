@@ -9,9 +9,9 @@ returns g c = record {
   some = λ book set events lines keeps lawful of found fill.
       IfOk-weaker c.calls_said.result _ _
       (option_said c.args.lists.now book set events lines (map seen_call c.args.calls.now) c.args.settings.now keeps lawful
-      of found (g.N.Note.IsNoted c.args.noting.now.how.now c.args.noting.now.caller) fill) c.calls_said.ensures;
+      of found (g.N.Note.IsNoted c.args.how.now c.args.caller) fill) c.calls_said.ensures;
   only = λ book set events lines ms keeps lawful of found means.
       IfOk-weaker c.calls_said.result _ _
       (option_is_said c.args.lists.now book set events lines (map seen_call c.args.calls.now) c.args.settings.now keeps
-      lawful of found (g.N.Note.IsNoted c.args.noting.now.how.now c.args.noting.now.caller) ms means) c.calls_said.ensures;
+      lawful of found (g.N.Note.IsNoted c.args.how.now c.args.caller) ms means) c.calls_said.ensures;
 }

@@ -1,4 +1,4 @@
-use Rattle.std.proofs.Common.{List, length, map}
+use Rattle.std.proofs.Common.{◌≡◌, List, length, map}
 use Rattle.line_orders.specs.Called.{seen_call}
 use Rattle.caller_answers.specs.Writes.{Write}
 use Rattle.caller_answers.specs.CallSays.{VStates, first_states, CallsSaid}
@@ -7,9 +7,12 @@ use Rattle.caller_answers.proofs.calls.calls_said.Given as goal
 
 abbrev pub invariant-loop-call : goal.invariant-loop-call
 invariant-loop-call g l = record {
-  so_far : SoFar l.lists l.settings (map seen_call l.calls)
-      (g.N.Note.IsNoted l.noting.how.now l.noting.caller) (length l.yielded) l.states l.noted.items;
+  lists : l.walk.lists.now ≡ l.lists;
+  how : l.walk.notes.how.now ≡ l.how;
+  caller : l.walk.notes.caller ≡ l.caller;
+  so_far : SoFar l.lists l.settings (map seen_call l.calls) (g.N.Note.IsNoted l.how l.caller) (length l.yielded)
+      l.walk.states l.walk.notes.noted.items;
   left : (t : VStates) (writes : List Write) →
       CallsSaid l.lists l.settings (map seen_call l.calls) first_states t writes →
-      Left l.lists l.settings (map seen_call l.calls) (length l.yielded) l.states;
+      Left l.lists l.settings (map seen_call l.calls) (length l.yielded) l.walk.states;
 }
