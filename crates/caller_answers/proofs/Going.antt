@@ -1,6 +1,5 @@
 -- Going along lists from the front.
-use Rattle.std.proofs.Common.{◌≡◌, ℕ, zero, suc, ◌+◌, ◌<◌, List, [], ◌∷◌, ◌++◌, length, get_or, take, map, refl, sym, subst, ap, ◌∙◌, arith, Some}
-use Rattle.std.specs.Prelude.{slice_get}
+use Rattle.std.proofs.Common.{◌≡◌, ℕ, zero, suc, ◌+◌, ◌<◌, List, [], ◌∷◌, ◌++◌, length, get_or, take, map, refl, sym, subst, ap, ◌∙◌, arith}
 use Rattle.std.specs.List.{AllByRecursion}
 use Rattle.std.proofs.lemmas.List.{take_more, map-append, length-map, get_or-map}
 use Rattle.key_names.proofs.Lists.Each.{each_more}
@@ -34,9 +33,3 @@ module _ {A : Type 0} (xs : List A) (i : ℕ) (x : A) (low : i < length xs) (is 
   -- what holds of each mapped element holds of this
   pub each_mapped_at : {B : Type 0} (f : A → B) (P : B → Type 0) → AllByRecursion P (map f xs) → P (f x)
   each_mapped_at f P all = subst P (mapped_at f) (each_at P (map f xs) i (f x) all (rw length-map low))
-
-pub found_in_front : {A : Type 0} (xs ys : List A) (k : ℕ) (x : A) → slice_get xs k ≡ Some x →
-    slice_get (xs ++ ys) k ≡ Some x
-found_in_front [] ys k x is = cc
-found_in_front (z ∷ xs) ys zero x is = is
-found_in_front (z ∷ xs) ys (suc k) x is = found_in_front xs ys k x is
