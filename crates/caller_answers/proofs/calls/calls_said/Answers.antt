@@ -61,16 +61,18 @@ loop-call-preserved g c =
       how = rw c.in_ok-call.ensures.notes c.loop-call.invariant.how;
       caller = rw c.in_ok-call.ensures.notes c.loop-call.invariant.caller;
       so_far = subst (λ k. SoFar c.args.lists.now c.args.settings.now (map seen_call c.args.calls.now)
-          (g.N.Note.IsNoted c.args.how.now c.args.caller) k c.call.new.self.states c.call.new.self.notes.noted.items) more
+          (g.N.Note.IsNoted c.args.how.now c.args.caller) k c.call.new.self.states
+          c.call.new.self.notes.noted.items) more
           (so_far_more c.args.lists.now c.args.settings.now (map seen_call c.args.calls.now) n turn.1 low' c.in-Some.set.now
           (seen_call c.in-Some.call.now) (turn.3 c.in-Some.set.now) call_is c.loop-call.walk.states
-          (g.N.Note.IsNoted c.args.how.now c.args.caller) c.call.new.self.states c.loop-call.walk.notes.noted.items c.call.new.self.notes.noted.items c.loop-call.invariant.so_far one);
+          (g.N.Note.IsNoted c.args.how.now c.args.caller) c.call.new.self.states
+          c.loop-call.walk.notes.noted.items c.call.new.self.notes.noted.items c.loop-call.invariant.so_far one);
       left = λ t writes said.
           subst (λ k. Left c.args.lists.now c.args.settings.now (map seen_call c.args.calls.now) k c.call.new.self.states)
           more
           (left_more c.args.lists.now c.args.settings.now (map seen_call c.args.calls.now) n turn.1 low' c.in-Some.set.now
-          (seen_call c.in-Some.call.now) (turn.3 c.in-Some.set.now) call_is c.loop-call.walk.states c.call.new.self.states one.0
-          one.1 (c.loop-call.invariant.left t writes said));
+          (seen_call c.in-Some.call.now) (turn.3 c.in-Some.set.now) call_is c.loop-call.walk.states
+          c.call.new.self.states one.0 one.1 (c.loop-call.invariant.left t writes said));
     }
 
 pub returns : goal.returns
