@@ -3,12 +3,11 @@ ghost use Rattle.std.specs.Prelude.{◌≡◌, IfErr, IfOk};
 ghost use Rattle.irq_feed.specs.Rule.{MayPush, Pushed};
 ghost use Rattle.irq_feed.specs.Passes.{known, IsFeeder, IsPassOf};
 
+use crate::intake::Intake;
 use crate::queue::{FeedPass, FeedQueue};
 use crate::samples::{Feeds, Sample};
 use crossbeam_utils::Backoff;
 use io_edges::Gate;
-use lane_table::Lanes;
-use rng_core::Setting;
 use std::sync::Wait;
 use std::sync::atomic::{AtomicU32, Ordering};
 use std::thread::{Promise, PromisedHandle, Scope, SpawnError};
@@ -23,11 +22,7 @@ pub(crate) struct Fed {
 /// What the worker and all feeders of a call share.
 #[derive(Drop)]
 pub(crate) struct Call<'a, G: Gate> {
-    pub(crate) lanes: &'a Lanes,
-    pub(crate) set: Setting,
-    pub(crate) feeds: &'a Feeds,
-    pub(crate) queue: &'a FeedQueue,
-    pub(crate) gate: &'a G,
+    pub(crate) intake: &'a Intake<'a, G>,
     pub(crate) feeders: Feeders,
     /// The feeder whose closure the worker calls itself, if any.
     pub(crate) handed_back: AtomicU32,
@@ -56,24 +51,22 @@ fn push<R: Wait>(rt: &R, queue: &FeedQueue, feeder: &mut FeedPass, sample: Sampl
 /// would take them out.
 pub(crate) fn push_all<R: Wait, G: Gate>(
     rt: &R,
-    queue: &FeedQueue,
-    feeds: &Feeds,
+    feeder: &Feeder,
     gate: &G,
     handed_back: &AtomicU32,
-    number: u32,
     mut pass: FeedPass,
 ) -> Fed
-    requires { IsFeeder queue.now feeds.now number 0 pass }
-    ensures { IsFeeder queue.now feeds.now number result.pushed result.pass }
+    requires { IsFeeder feeder.now.queue.now feeder.now.feeds.now feeder.now.number 0 pass }
+    ensures { IsFeeder feeder.now.queue.now feeder.now.feeds.now feeder.now.number result.pushed result.pass }
 {
-    if handed_back.load(Ordering::SeqCst) == number {
+    if handed_back.load(Ordering::SeqCst) == feeder.number {
         return Fed { pass, pushed: 0 };
     }
-    let each = feeds.each();
+    let each = feeder.feeds.each();
     for index in 0..each {
-        gate.before(rt, number, index);
-        let sample = feeds.sample(number, index);
-        push(rt, queue, &mut pass, sample);
+        gate.before(rt, feeder.number, index);
+        let sample = feeder.feeds.sample(feeder.number, index);
+        push(rt, feeder.queue, &mut pass, sample);
     }
     Fed { pass, pushed: each }
 }
@@ -108,12 +101,26 @@ impl Feeders {
     }
 }
 
-/// What a feeder's thread promises: the pass that it gives back is the feeder's, with as many samples pushed as it says.
+/// A feeder. What its thread promises: the pass that it gives back is the feeder's, with as many samples pushed as it says.
 #[derive(Drop)]
 pub(crate) struct Feeder<'a> {
     pub(crate) queue: &'a FeedQueue,
     pub(crate) feeds: &'a Feeds,
     pub(crate) number: u32,
+}
+
+impl<'a> Feeder<'a> {
+    pub(crate) fn of(queue: &'a FeedQueue, feeds: &'a Feeds, number: u32) -> Feeder<'a>
+        ensures queue { result.queue.now ≡ queue.now }
+        ensures feeds { result.feeds.now ≡ feeds.now }
+        ensures number { result.number ≡ number }
+    {
+        Feeder {
+            queue,
+            feeds,
+            number,
+        }
+    }
 }
 
 impl<'a> Promise<Fed> for Feeder<'a> {

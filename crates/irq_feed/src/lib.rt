@@ -13,6 +13,7 @@
 #![tactic(auto)]
 
 mod feeder;
+mod intake;
 mod known;
 mod mixed;
 mod queue;
@@ -21,6 +22,7 @@ mod samples;
 mod table_feed;
 mod worker;
 
+pub use intake::Intake;
 pub use mixed::Mixed;
 pub use queue::{FeedPass, FeedQueue};
 pub use run::feed;

@@ -10,13 +10,12 @@ ghost use Rattle.irq_feed.specs.Mixing.{Mixes, Put};
 ghost use Rattle.irq_feed.specs.Fed.{AllMixed, CanMix, CanStart, CanTakeBack, Front, HasDrained, HasRoom, is_direct, mixed_in};
 
 use crate::feeder::{Call, Fed, Feeder, Feeders, NOBODY, push_all};
+use crate::intake::Intake;
 use crate::mixed::Mixed;
-use crate::queue::{FeedPass, FeedQueue};
-use crate::samples::Feeds;
-use crate::worker::{drain, mix_directly};
+use crate::queue::FeedPass;
+use crate::worker::{Hand, drain, mix_directly};
 use io_edges::{Gate, NoMemory};
-use lane_table::{Lanes, Pass};
-use rng_core::Setting;
+use lane_table::Pass;
 use std::alloc::Global;
 use std::sync::Wait;
 use std::sync::atomic::{AtomicU32, Ordering};
@@ -38,75 +37,61 @@ use std::thread::{Scope, Threads};
 pub fn feed<'a, R: Threads + Wait + Sync, G: Gate>(
     rt: &R,
     alloc: Global,
-    lanes: &'a Lanes,
+    intake: &Intake<'a, G>,
     pass: &mut Pass,
-    set: Setting,
-    feeds: &'a Feeds,
-    queue: &'a FeedQueue,
     worker: FeedPass,
-    gate: &'a G,
 ) -> Result<(Mixed, FeedPass), NoMemory>
-    requires has { HoldsLanes lanes.now set.caller [] pass.old }
-    requires cpu { set.cpu < lanes.now.cpus }
-    requires moment { set.now < 2 ^ 40 }
-    requires new { AreNew queue.now feeds.now worker }
-    ensures has { HoldsLanes lanes.now set.caller [] pass.new }
-    ensures all { IfOk result (λ r. AllMixed feeds.now r.1 r.0) }
-    ensures calls { IfOk result (λ r. Mixes set 0 (mixed_in r.0) (view pass.old) (view pass.new)) }
-    ensures entries { IfOk result (λ r. Put set (mixed_in r.0) (view pass.old) (view pass.new)) }
-    ensures worker { IfOk result (λ r. IsPassOf queue.now r.1 × (next_number r.1 ≡ feeds.now.feeders)) }
+    requires has { HoldsLanes intake.now.lanes.now intake.now.set.caller [] pass.old }
+    requires cpu { intake.now.set.cpu < intake.now.lanes.now.cpus }
+    requires moment { intake.now.set.now < 2 ^ 40 }
+    requires new { AreNew intake.now.queue.now intake.now.feeds.now worker }
+    ensures has { HoldsLanes intake.now.lanes.now intake.now.set.caller [] pass.new }
+    ensures all { IfOk result (λ r. AllMixed intake.now.feeds.now r.1 r.0) }
+    ensures calls { IfOk result (λ r. Mixes intake.now.set 0 (mixed_in r.0) (view pass.old) (view pass.new)) }
+    ensures entries { IfOk result (λ r. Put intake.now.set (mixed_in r.0) (view pass.old) (view pass.new)) }
+    ensures worker { IfOk result (λ r. IsPassOf intake.now.queue.now r.1 × (next_number r.1 ≡ intake.now.feeds.now.feeders)) }
     ensures err { OnErr result (pass.new ≡ pass.old) }
 {
-    feed_by(
-        rt,
-        alloc,
-        lanes,
-        pass,
-        set,
-        feeds,
-        queue,
-        worker,
-        gate,
-        Feeders::InThreads,
-    )
+    feed_by(rt, alloc, intake, pass, worker, Feeders::InThreads)
 }
 
 /// The same, where the feeders run so.
 pub(crate) fn feed_by<'a, R: Threads + Wait + Sync, G: Gate>(
     rt: &R,
     alloc: Global,
-    lanes: &'a Lanes,
+    intake: &Intake<'a, G>,
     pass: &mut Pass,
-    set: Setting,
-    feeds: &'a Feeds,
-    queue: &'a FeedQueue,
     worker: FeedPass,
-    gate: &'a G,
     feeders: Feeders,
 ) -> Result<(Mixed, FeedPass), NoMemory>
-    requires has { HoldsLanes lanes.now set.caller [] pass.old }
-    requires cpu { set.cpu < lanes.now.cpus }
-    requires moment { set.now < 2 ^ 40 }
-    requires new { AreNew queue.now feeds.now worker }
-    ensures has { HoldsLanes lanes.now set.caller [] pass.new }
-    ensures all { IfOk result (λ r. AllMixed feeds.now r.1 r.0) }
-    ensures calls { IfOk result (λ r. Mixes set 0 (mixed_in r.0) (view pass.old) (view pass.new)) }
-    ensures entries { IfOk result (λ r. Put set (mixed_in r.0) (view pass.old) (view pass.new)) }
-    ensures worker { IfOk result (λ r. IsPassOf queue.now r.1 × (next_number r.1 ≡ feeds.now.feeders)) }
+    requires has { HoldsLanes intake.now.lanes.now intake.now.set.caller [] pass.old }
+    requires cpu { intake.now.set.cpu < intake.now.lanes.now.cpus }
+    requires moment { intake.now.set.now < 2 ^ 40 }
+    requires new { AreNew intake.now.queue.now intake.now.feeds.now worker }
+    ensures has { HoldsLanes intake.now.lanes.now intake.now.set.caller [] pass.new }
+    ensures all { IfOk result (λ r. AllMixed intake.now.feeds.now r.1 r.0) }
+    ensures calls { IfOk result (λ r. Mixes intake.now.set 0 (mixed_in r.0) (view pass.old) (view pass.new)) }
+    ensures entries { IfOk result (λ r. Put intake.now.set (mixed_in r.0) (view pass.old) (view pass.new)) }
+    ensures worker { IfOk result (λ r. IsPassOf intake.now.queue.now r.1 × (next_number r.1 ≡ intake.now.feeds.now.feeders)) }
     ensures err { OnErr result (pass.new ≡ pass.old) }
 {
-    let mixed = Mixed::with_room(alloc, feeds)?;
+    let mixed = Mixed::with_room(alloc, intake.feeds)?;
     let call = Call {
-        lanes,
-        set,
-        feeds,
-        queue,
-        gate,
+        intake,
         feeders,
         handed_back: AtomicU32::new(NOBODY),
     };
-    let (worker, mut mixed) = drain_feeders(rt, &call, pass, worker, mixed);
-    mix_rest(rt, &call, pass, &mut mixed);
+    let hand = Hand {
+        worker,
+        mixed,
+        owed: 0,
+    };
+    let Hand {
+        worker,
+        mut mixed,
+        ..
+    } = drain_feeders(rt, &call, pass, hand);
+    mix_rest(rt, intake, pass, &mut mixed);
     Ok((mixed, worker))
 }
 
@@ -115,34 +100,36 @@ fn drain_feeders<R: Threads + Wait + Sync, G: Gate>(
     rt: &R,
     call: &Call<G>,
     pass: &mut Pass,
-    worker: FeedPass,
-    mixed: Mixed,
-) -> (FeedPass, Mixed)
-    requires mix { CanMix call.now.lanes.now call.now.set pass.old }
-    requires start { CanStart call.now.queue.now call.now.feeds.now 0 0 worker mixed }
-    ensures mix { CanMix call.now.lanes.now call.now.set pass.new }
-    ensures drained { HasDrained call.now.queue.now call.now.feeds.now result.0 result.1 }
-    ensures irqs { Mixes call.now.set 0 (mixed_in result.1) (view pass.old) (view pass.new) }
+    hand: Hand,
+) -> Hand
+    requires mix { CanMix call.now.intake.now.lanes.now call.now.intake.now.set pass.old }
+    requires start { CanStart call.now.intake.now.queue.now call.now.intake.now.feeds.now 0 hand.owed hand.worker
+        hand.mixed }
+    ensures mix { CanMix call.now.intake.now.lanes.now call.now.intake.now.set pass.new }
+    ensures drained { HasDrained call.now.intake.now.queue.now call.now.intake.now.feeds.now result.worker result.mixed }
+    ensures irqs { Mixes call.now.intake.now.set 0 (mixed_in result.mixed) (view pass.old) (view pass.new) }
 {
-    let (back, worker, mixed) = thread::scope(
+    let (back, hand) = thread::scope(
         thread::scope_env(),
         rt,
-        move |scope| -> (&mut Pass, FeedPass, Mixed)
-            requires { IsSync R.row × CanMix call.now.lanes.now call.now.set pass.now
-                × CanStart call.now.queue.now call.now.feeds.now 0 0 worker mixed }
+        move |scope| -> (&mut Pass, Hand)
+            requires { IsSync R.row × CanMix call.now.intake.now.lanes.now call.now.intake.now.set pass.now
+                × CanStart call.now.intake.now.queue.now call.now.intake.now.feeds.now 0 hand.owed hand.worker
+                hand.mixed }
             ensures pass { result.0.ghost_name ≡ pass.entry.ghost_name }
-            ensures mix { CanMix call.entry.now.lanes.now call.entry.now.set result.0.now }
-            ensures drained { HasDrained call.entry.now.queue.now call.entry.now.feeds.now result.1 result.2 }
-            ensures irqs { Mixes call.entry.now.set 0 (mixed_in result.2) (view pass.entry.now) (view result.0.now) }
+            ensures mix { CanMix call.entry.now.intake.now.lanes.now call.entry.now.intake.now.set result.0.now }
+            ensures drained { HasDrained call.entry.now.intake.now.queue.now call.entry.now.intake.now.feeds.now
+                result.1.worker result.1.mixed }
+            ensures irqs { Mixes call.entry.now.intake.now.set 0 (mixed_in result.1.mixed) (view pass.entry.now)
+                (view result.0.now) }
         {
-            let mut worker = worker;
-            let mut mixed = mixed;
-            start_rest(rt, scope, call, pass, &mut worker, &mut mixed, 0, 0);
-            (pass, worker, mixed)
+            let mut hand = hand;
+            start_rest(rt, scope, call, pass, &mut hand, 0);
+            (pass, hand)
         },
     );
     let _ = back;
-    (worker, mixed)
+    hand
 }
 
 // Starts the feeders from this number on, and mixes all samples that come through the queue.
@@ -151,111 +138,104 @@ fn start_rest<'s, E, R: Threads + Wait + Sync, G: Gate>(
     scope: &Scope<'s, E>,
     call: &'s Call<'s, G>,
     pass: &mut Pass,
-    worker: &mut FeedPass,
-    mixed: &mut Mixed,
+    hand: &mut Hand,
     number: u32,
-    owed: u32,
 )
-    requires mix { CanMix call.now.lanes.now call.now.set pass.old }
-    requires start { CanStart call.now.queue.now call.now.feeds.now number owed worker.old mixed.old }
-    ensures mix { CanMix call.now.lanes.now call.now.set pass.new }
-    ensures drained { HasDrained call.now.queue.now call.now.feeds.now worker.new mixed.new }
-    ensures irqs { Mixes call.now.set 0 (mixed_in mixed.new) (view pass.old) (view pass.new) }
+    requires mix { CanMix call.now.intake.now.lanes.now call.now.intake.now.set pass.old }
+    requires start { CanStart call.now.intake.now.queue.now call.now.intake.now.feeds.now number hand.old.owed hand.old.worker
+        hand.old.mixed }
+    ensures mix { CanMix call.now.intake.now.lanes.now call.now.intake.now.set pass.new }
+    ensures drained { HasDrained call.now.intake.now.queue.now call.now.intake.now.feeds.now hand.new.worker
+        hand.new.mixed }
+    ensures irqs { Mixes call.now.intake.now.set 0 (mixed_in hand.new.mixed) (view pass.old) (view pass.new) }
 {
-    if number == call.feeds.feeders() {
-        drain(rt, call, pass, worker, mixed, owed);
-        call.queue.learn(worker);
+    let intake = call.intake;
+    let (queue, feeds, gate) = (intake.queue, intake.feeds, intake.gate);
+    if number == feeds.feeders() {
+        drain(rt, intake, pass, hand);
+        queue.learn(&mut hand.worker);
         return;
     }
-    let (queue, feeds, gate) = (call.queue, call.feeds, call.gate);
     let handed_back = &call.handed_back;
-    let theirs = queue.next(worker);
-    let promise = Feeder {
-        queue,
-        feeds,
-        number,
-    };
+    let theirs = queue.next(&mut hand.worker);
+    let promise = Feeder::of(queue, feeds, number);
     match call.feeders.start(
         scope,
         promise,
         move || -> Fed
             requires { IsSync R.row × IsFeeder queue.now feeds.now number 0 theirs }
             ensures { IsFeeder queue.entry.now feeds.entry.now number result.pushed result.pass }
-        { push_all(rt, queue, feeds, gate, handed_back, number, theirs) },
+        {
+            let feeder = Feeder::of(queue, feeds, number);
+            push_all(rt, &feeder, gate, handed_back, theirs)
+        },
     ) {
         Ok(handle) => {
-            mixed.direct[number as usize] = false;
-            let owed = owed + feeds.each();
-            start_rest(rt, scope, call, pass, worker, mixed, number + 1, owed);
+            hand.mixed.direct[number as usize] = false;
+            hand.owed += feeds.each();
+            start_rest(rt, scope, call, pass, hand, number + 1);
             let fed = handle.join(rt);
-            queue.take_in(worker, fed.pass);
+            queue.take_in(&mut hand.worker, fed.pass);
         }
         Err(refused) => {
             handed_back.store(number, Ordering::SeqCst);
             let fed = (refused.value)();
             handed_back.store(NOBODY, Ordering::SeqCst);
-            let owed = take_back(call, worker, mixed, number, owed, fed);
-            start_rest(rt, scope, call, pass, worker, mixed, number + 1, owed);
+            take_back(intake, hand, number, fed);
+            start_rest(rt, scope, call, pass, hand, number + 1);
         }
     }
 }
 
 // Takes in the pass of a feeder that got no thread, and notes that its samples are the worker's.
-fn take_back<G: Gate>(
-    call: &Call<G>,
-    worker: &mut FeedPass,
-    mixed: &mut Mixed,
-    number: u32,
-    owed: u32,
-    fed: Fed,
-) -> u32
-    requires start { CanTakeBack call.now.queue.now call.now.feeds.now number owed worker.old mixed.old }
-    requires fed { IsFeeder call.now.queue.now call.now.feeds.now number fed.pushed fed.pass }
-    ensures start { CanStart call.now.queue.now call.now.feeds.now (number + 1) result worker.new mixed.new }
-    ensures none { mixed_in mixed.new ≡ mixed_in mixed.old }
+fn take_back<G: Gate>(intake: &Intake<G>, hand: &mut Hand, number: u32, fed: Fed)
+    requires start { CanTakeBack intake.now.queue.now intake.now.feeds.now number hand.old.owed hand.old.worker
+        hand.old.mixed }
+    requires fed { IsFeeder intake.now.queue.now intake.now.feeds.now number fed.pushed fed.pass }
+    ensures start { CanStart intake.now.queue.now intake.now.feeds.now (number + 1) hand.new.owed hand.new.worker
+        hand.new.mixed }
+    ensures none { mixed_in hand.new.mixed ≡ mixed_in hand.old.mixed }
 {
-    call.queue.take_in(worker, fed.pass);
+    intake.queue.take_in(&mut hand.worker, fed.pass);
     let direct = fed.pushed == 0;
-    mixed.direct[number as usize] = direct;
-    if direct {
-        owed
-    } else {
-        owed + call.feeds.each()
+    hand.mixed.direct[number as usize] = direct;
+    if !direct {
+        hand.owed += intake.feeds.each();
     }
 }
 
 // Mixes the samples of all feeders that got no thread, feeder by feeder.
-fn mix_rest<R: Wait, G: Gate>(rt: &R, call: &Call<G>, pass: &mut Pass, mixed: &mut Mixed)
-    requires mix { CanMix call.now.lanes.now call.now.set pass.old }
-    requires front { Front call.now.feeds.now 0 (mixed_in mixed.old) mixed.old }
-    ensures mix { CanMix call.now.lanes.now call.now.set pass.new }
-    ensures all { Front call.now.feeds.now call.now.feeds.now.feeders (mixed_in mixed.old) mixed.new }
-    ensures irqs { (v : View) → Mixes call.now.set 0 (mixed_in mixed.old) v (view pass.old)
-        → Mixes call.now.set 0 (mixed_in mixed.new) v (view pass.new) }
+fn mix_rest<R: Wait, G: Gate>(rt: &R, intake: &Intake<G>, pass: &mut Pass, mixed: &mut Mixed)
+    requires mix { CanMix intake.now.lanes.now intake.now.set pass.old }
+    requires front { Front intake.now.feeds.now 0 (mixed_in mixed.old) mixed.old }
+    ensures mix { CanMix intake.now.lanes.now intake.now.set pass.new }
+    ensures all { Front intake.now.feeds.now intake.now.feeds.now.feeders (mixed_in mixed.old) mixed.new }
+    ensures irqs { (v : View) → Mixes intake.now.set 0 (mixed_in mixed.old) v (view pass.old)
+        → Mixes intake.now.set 0 (mixed_in mixed.new) v (view pass.new) }
 {
-    for number in 0..call.feeds.feeders() {
-        mix_if_direct(rt, call, pass, mixed, number);
+    for number in 0..intake.feeds.feeders() {
+        mix_if_direct(rt, intake, pass, mixed, number);
     }
 }
 
 // Mixes the samples of a feeder, where it got no thread.
 fn mix_if_direct<R: Wait, G: Gate>(
     rt: &R,
-    call: &Call<G>,
+    intake: &Intake<G>,
     pass: &mut Pass,
     mixed: &mut Mixed,
     number: u32,
 )
-    requires mix { CanMix call.now.lanes.now call.now.set pass.old }
-    requires near { (number < call.now.feeds.now.feeders) × (number < 16) }
-    requires room { is_direct mixed.old number ≡ true → HasRoom call.now.feeds.now mixed.old }
-    ensures mix { CanMix call.now.lanes.now call.now.set pass.new }
-    ensures front { (through : List Sample) → Front call.now.feeds.now number through mixed.old
-        → Front call.now.feeds.now (number + 1) through mixed.new }
-    ensures irqs { (v : View) → Mixes call.now.set 0 (mixed_in mixed.old) v (view pass.old)
-        → Mixes call.now.set 0 (mixed_in mixed.new) v (view pass.new) }
+    requires mix { CanMix intake.now.lanes.now intake.now.set pass.old }
+    requires near { (number < intake.now.feeds.now.feeders) × (number < 16) }
+    requires room { is_direct mixed.old number ≡ true → HasRoom intake.now.feeds.now mixed.old }
+    ensures mix { CanMix intake.now.lanes.now intake.now.set pass.new }
+    ensures front { (through : List Sample) → Front intake.now.feeds.now number through mixed.old
+        → Front intake.now.feeds.now (number + 1) through mixed.new }
+    ensures irqs { (v : View) → Mixes intake.now.set 0 (mixed_in mixed.old) v (view pass.old)
+        → Mixes intake.now.set 0 (mixed_in mixed.new) v (view pass.new) }
 {
     if mixed.direct(number) {
-        mix_directly(rt, call, pass, mixed, number);
+        mix_directly(rt, intake, pass, mixed, number);
     }
 }

@@ -2,6 +2,7 @@
 ghost use Rattle.std.specs.Prelude.{◌≡◌, ◌≤◌, ◌*◌, ◌/◌, min, IfOk};
 ghost use Rattle.irq_feed.specs.TableFeed.{IsFed, first_setting};
 
+use crate::intake::Intake;
 use crate::queue::FeedQueue;
 use crate::run::feed;
 use crate::samples::Feeds;
@@ -81,10 +82,14 @@ pub fn feed_on_new_table<R: Threads + Wait + Sync, G: Gate>(
     let feeds = Feeds::of(alloc, start, feeders, each)?;
     let (queue, worker) = FeedQueue::of(alloc, &feeds)?;
     let (lanes, mut pass) = Lanes::start(alloc, 1, 0)?;
-    let set = first_setting();
-    let (mixed, _worker) = feed(
-        rt, alloc, &lanes, &mut pass, set, &feeds, &queue, worker, gate,
-    )?;
+    let intake = Intake {
+        lanes: &lanes,
+        set: first_setting(),
+        feeds: &feeds,
+        queue: &queue,
+        gate,
+    };
+    let (mixed, _worker) = feed(rt, alloc, &intake, &mut pass, worker)?;
     let _visits = lanes.close(pass);
     Ok(sums(mixed.len()))
 }

@@ -2,7 +2,7 @@
 
 use crate::feeder::Feeders;
 use crate::run::feed_by;
-use crate::{FeedQueue, Feeds};
+use crate::{FeedQueue, Feeds, Intake};
 use io_edges::Gate;
 use lane_table::Lanes;
 use rng_core::Setting;
@@ -39,18 +39,14 @@ fn feeders_without_threads_are_mixed_in_order(rt: HostRuntime) -> Result<(), Fai
     };
     let (lanes, mut pass) = Lanes::start(alloc, 1, 0)?;
     let (queue, worker) = FeedQueue::of(alloc, &feeds)?;
-    let (mixed, _worker) = feed_by(
-        &rt,
-        alloc,
-        &lanes,
-        &mut pass,
-        SET,
-        &feeds,
-        &queue,
-        worker,
-        &gate,
-        Feeders::Nowhere,
-    )?;
+    let intake = Intake {
+        lanes: &lanes,
+        set: SET,
+        feeds: &feeds,
+        queue: &queue,
+        gate: &gate,
+    };
+    let (mixed, _worker) = feed_by(&rt, alloc, &intake, &mut pass, worker, Feeders::Nowhere)?;
     assert_eq!(rt; mixed.len(), 15);
     for i in 0..mixed.len() {
         assert_eq!(rt; mixed.get(i), (i / 5, i % 5));

@@ -8,7 +8,7 @@ ghost use Rattle.irq_feed.specs.Passes.{known, IsPassOf};
 ghost use Rattle.irq_feed.specs.Mixing.{Interrupted, Mixes};
 ghost use Rattle.irq_feed.specs.Fed.{HasRoom, mixed_in};
 
-use crate::feeder::Call;
+use crate::intake::Intake;
 use crate::mixed::Mixed;
 use crate::queue::{FeedPass, FeedQueue};
 use crate::samples::Sample;
@@ -18,6 +18,15 @@ use key_names::Trace;
 use lane_table::{Lanes, Pass};
 use rng_core::{Setting, Site, irq};
 use std::sync::Wait;
+
+/// What the worker has in hand.
+#[derive(Drop)]
+pub(crate) struct Hand {
+    pub(crate) worker: FeedPass,
+    pub(crate) mixed: Mixed,
+    /// How many samples of the feeders that were started come through the queue.
+    pub(crate) owed: u32,
+}
 
 fn pop<R: Wait>(rt: &R, queue: &FeedQueue, worker: &mut FeedPass) -> Sample
     requires { IsPassOf queue.now worker.old × IsWorker (known worker.old) }
@@ -68,56 +77,49 @@ fn mix<R: Wait>(
     mixed.samples.push_reserved(sample);
 }
 
-/// Takes this many samples out of the queue, and makes an interrupt of each.
-pub(crate) fn drain<R: Wait, G: Gate>(
-    rt: &R,
-    call: &Call<G>,
-    pass: &mut Pass,
-    worker: &mut FeedPass,
-    mixed: &mut Mixed,
-    count: u32,
-)
-    requires has { HoldsLanes call.now.lanes.now call.now.set.caller [] pass.old }
-    requires set { (call.now.set.cpu < call.now.lanes.now.cpus) × (call.now.set.now < 2 ^ 40) }
-    requires worker { IsPassOf call.now.queue.now worker.old × IsWorker (known worker.old) }
-    requires none { (mixed_in mixed.old ≡ []) × (known worker.old ≡ with_taken (known worker.old) []) }
-    requires room { (count ≤ 160000) × (count ≤ vec_capacity mixed.old.samples) }
-    ensures has { HoldsLanes call.now.lanes.now call.now.set.caller [] pass.new }
-    ensures worker { IsPassOf call.now.queue.now worker.new }
-    ensures taken { known worker.new ≡ with_taken (known worker.old) (mixed_in mixed.new) }
-    ensures count { length (mixed_in mixed.new) ≡ count }
-    ensures direct { mixed.new.direct ≡ mixed.old.direct }
-    ensures room { vec_capacity mixed.new.samples ≡ vec_capacity mixed.old.samples }
-    ensures irqs { Mixes call.now.set 0 (mixed_in mixed.new) (view pass.old) (view pass.new) }
+/// Takes the samples out of the queue that are to come through it, and makes an interrupt of each.
+pub(crate) fn drain<R: Wait, G: Gate>(rt: &R, intake: &Intake<G>, pass: &mut Pass, hand: &mut Hand)
+    requires has { HoldsLanes intake.now.lanes.now intake.now.set.caller [] pass.old }
+    requires set { (intake.now.set.cpu < intake.now.lanes.now.cpus) × (intake.now.set.now < 2 ^ 40) }
+    requires worker { IsPassOf intake.now.queue.now hand.old.worker × IsWorker (known hand.old.worker) }
+    requires none { (mixed_in hand.old.mixed ≡ []) × (known hand.old.worker ≡ with_taken (known hand.old.worker) []) }
+    requires room { (hand.old.owed ≤ 160000) × (hand.old.owed ≤ vec_capacity hand.old.mixed.samples) }
+    ensures has { HoldsLanes intake.now.lanes.now intake.now.set.caller [] pass.new }
+    ensures worker { IsPassOf intake.now.queue.now hand.new.worker }
+    ensures taken { known hand.new.worker ≡ with_taken (known hand.old.worker) (mixed_in hand.new.mixed) }
+    ensures count { length (mixed_in hand.new.mixed) ≡ hand.old.owed }
+    ensures direct { hand.new.mixed.direct ≡ hand.old.mixed.direct }
+    ensures room { vec_capacity hand.new.mixed.samples ≡ vec_capacity hand.old.mixed.samples }
+    ensures irqs { Mixes intake.now.set 0 (mixed_in hand.new.mixed) (view pass.old) (view pass.new) }
 {
-    for _taken in 0..count {
-        let sample = pop(rt, call.queue, worker);
-        mix(rt, call.lanes, pass, &call.set, mixed, sample);
+    for _taken in 0..hand.owed {
+        let sample = pop(rt, intake.queue, &mut hand.worker);
+        mix(rt, intake.lanes, pass, &intake.set, &mut hand.mixed, sample);
     }
 }
 
 /// Mixes the samples of a feeder that got no thread.
 pub(crate) fn mix_directly<R: Wait, G: Gate>(
     rt: &R,
-    call: &Call<G>,
+    intake: &Intake<G>,
     pass: &mut Pass,
     mixed: &mut Mixed,
     number: u32,
 )
-    requires has { HoldsLanes call.now.lanes.now call.now.set.caller [] pass.old }
-    requires set { (call.now.set.cpu < call.now.lanes.now.cpus) × (call.now.set.now < 2 ^ 40) }
-    requires room { HasRoom call.now.feeds.now mixed.old }
-    ensures has { HoldsLanes call.now.lanes.now call.now.set.caller [] pass.new }
-    ensures mixed { mixed_in mixed.new ≡ mixed_in mixed.old ++ first_samples call.now.feeds.now number call.now.feeds.now.each }
+    requires has { HoldsLanes intake.now.lanes.now intake.now.set.caller [] pass.old }
+    requires set { (intake.now.set.cpu < intake.now.lanes.now.cpus) × (intake.now.set.now < 2 ^ 40) }
+    requires room { HasRoom intake.now.feeds.now mixed.old }
+    ensures has { HoldsLanes intake.now.lanes.now intake.now.set.caller [] pass.new }
+    ensures mixed { mixed_in mixed.new ≡ mixed_in mixed.old ++ first_samples intake.now.feeds.now number intake.now.feeds.now.each }
     ensures direct { mixed.new.direct ≡ mixed.old.direct }
     ensures room { vec_capacity mixed.new.samples ≡ vec_capacity mixed.old.samples }
-    ensures irqs { Mixes call.now.set (length (mixed_in mixed.old))
-        (first_samples call.now.feeds.now number call.now.feeds.now.each) (view pass.old) (view pass.new) }
+    ensures irqs { Mixes intake.now.set (length (mixed_in mixed.old))
+        (first_samples intake.now.feeds.now number intake.now.feeds.now.each) (view pass.old) (view pass.new) }
 {
-    let each = call.feeds.each();
+    let each = intake.feeds.each();
     for index in 0..each {
-        call.gate.before(rt, number, index);
-        let sample = call.feeds.sample(number, index);
-        mix(rt, call.lanes, pass, &call.set, mixed, sample);
+        intake.gate.before(rt, number, index);
+        let sample = intake.feeds.sample(number, index);
+        mix(rt, intake.lanes, pass, &intake.set, mixed, sample);
     }
 }

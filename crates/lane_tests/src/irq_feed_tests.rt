@@ -3,7 +3,7 @@ ghost use Rattle.std.specs.Prelude.{IfOk, ◌≡◌, ◌*◌, length};
 ghost use Rattle.irq_feed.specs.Fed.{mixed_in};
 
 use io_edges::{Gate, NoMemory, OpenGate};
-use irq_feed::{FeedQueue, FeedSums, Feeds, Mixed, feed, feed_on_new_table};
+use irq_feed::{FeedQueue, FeedSums, Feeds, Intake, Mixed, feed, feed_on_new_table};
 use lane_table::Lanes;
 use rng_core::Setting;
 use std::alloc::Global;
@@ -109,9 +109,14 @@ fn mixed_of<R: Threads + Wait + Sync, G: Gate>(
 {
     let (lanes, mut pass) = Lanes::start(alloc, 1, 0)?;
     let (queue, worker) = FeedQueue::of(alloc, feeds)?;
-    let (mixed, _worker) = feed(
-        rt, alloc, &lanes, &mut pass, SET, feeds, &queue, worker, gate,
-    )?;
+    let intake = Intake {
+        lanes: &lanes,
+        set: SET,
+        feeds,
+        queue: &queue,
+        gate,
+    };
+    let (mixed, _worker) = feed(rt, alloc, &intake, &mut pass, worker)?;
     Ok(mixed)
 }
 

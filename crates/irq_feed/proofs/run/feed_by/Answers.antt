@@ -11,7 +11,7 @@ drain_feeders-worker-requires-clause-start g c κs within =
 
 pub returns-clause-all : goal.returns-clause-all
 returns-clause-all g c =
-    all_mixed _ _ c.drain_feeders-worker.result.0 _ _ c.drain_feeders-worker.ensures.drained c.mix_rest.ensures.all
+    all_mixed _ _ c.drain_feeders-worker.result.worker _ _ c.drain_feeders-worker.ensures.drained c.mix_rest.ensures.all
 
 pub returns-clause-entries : goal.returns-clause-entries
 returns-clause-entries g c = puts _ 0 _ _ _ (c.mix_rest.ensures.irqs _ c.drain_feeders-worker.ensures.irqs)

@@ -5,7 +5,7 @@ use Rattle.irq_feed.proofs.run.mix_if_direct.Goals as goal
 
 pub returns-then-direct-clause-front : goal.returns-then-direct-clause-front
 returns-then-direct-clause-front g c = λ through h.
-    mixes_one c.args.call.now.feeds.now c.args.number through c.args.mixed.now c.requires.near.0 h
+    mixes_one c.args.intake.now.feeds.now c.args.number through c.args.mixed.now c.requires.near.0 h
     c.mix_directly.new.mixed (sym c.direct.ensures ∙ c.if-direct.true) c.mix_directly.ensures.direct
     c.mix_directly.ensures.mixed c.mix_directly.ensures.room
 

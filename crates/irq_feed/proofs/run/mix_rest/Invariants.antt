@@ -6,8 +6,8 @@ use Rattle.irq_feed.proofs.run.mix_rest.Given as goal
 
 abbrev pub invariant-loop-number : goal.invariant-loop-number
 invariant-loop-number g l = record {
-  can : CanMix l.call.lanes.now l.call.set l.pass;
-  front : Front l.call.feeds.now l.number (mixed_in l.initial.mixed) l.mixed;
-  irqs : (v : View) → Mixes l.call.set 0 (mixed_in l.initial.mixed) v (view l.initial.pass)
-      → Mixes l.call.set 0 (mixed_in l.mixed) v (view l.pass);
+  can : CanMix l.intake.lanes.now l.intake.set l.pass;
+  front : Front l.intake.feeds.now l.number (mixed_in l.initial.mixed) l.mixed;
+  irqs : (v : View) → Mixes l.intake.set 0 (mixed_in l.initial.mixed) v (view l.initial.pass)
+      → Mixes l.intake.set 0 (mixed_in l.mixed) v (view l.pass);
 }

@@ -11,7 +11,7 @@ pub close-visits-requires-clause-whole : goal.close-visits-requires-clause-whole
 close-visits-requires-clause-whole g c =
     whole_share (mixed_in c.in_ok-mixed.mixed) (view c.in_ok-lanes.pass) (view c.feed.new.pass)
     (subst (λ (s : Setting). Mixes s 0 (mixed_in c.in_ok-mixed.mixed) (view c.in_ok-lanes.pass) (view c.feed.new.pass))
-    c.first_setting-set.ensures c.in_ok-mixed.ensures.calls)
+    c.first_setting.ensures c.in_ok-mixed.ensures.calls)
     (ap (λ (m : Seated). m.0) c.in_ok-lanes.ensures.seat)
 
 pub returns : goal.returns
@@ -21,6 +21,6 @@ returns g c =
     subst (λ (n : ℕ). Ended (n + 2) w) c.in_ok-lanes.ensures.table.0 c.close-visits.ensures.ended in
     is_fed _ _ _ _ _ c.in_ok-mixed.mixed _ (view c.in_ok-lanes.pass) w c.in_ok-feeds.ensures c.in_ok-mixed.ensures.all
     (subst (λ (s : Setting). Mixes s 0 (mixed_in c.in_ok-mixed.mixed) (view c.in_ok-lanes.pass) w)
-    c.first_setting-set.ensures c.in_ok-mixed.ensures.calls)
+    c.first_setting.ensures c.in_ok-mixed.ensures.calls)
     (ap (λ (m : Seated). m.0) c.in_ok-lanes.ensures.seat) ended
     (c.sums.ensures.samples ∙ c.len.ensures) (c.sums.ensures.dumps ∙ ap (λ n. n / 1024) c.len.ensures) c.sums.ensures.bits

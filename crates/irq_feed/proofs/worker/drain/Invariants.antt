@@ -10,11 +10,11 @@ use Rattle.irq_feed.proofs.worker.drain.Given as goal
 
 abbrev pub invariant-loop-taken : goal.invariant-loop-taken
 invariant-loop-taken g l = record {
-  has : HoldsLanes l.call.lanes.now l.call.set.caller [] l.pass;
-  worker : IsPassOf l.call.queue.now l.worker;
-  taken : known l.worker ≡ with_taken (known l.initial.worker) (mixed_in l.mixed);
-  count : length (mixed_in l.mixed) ≡ l._taken;
-  direct : l.mixed.direct ≡ l.initial.mixed.direct;
-  room : vec_capacity l.mixed.samples ≡ vec_capacity l.initial.mixed.samples;
-  irqs : Mixes l.call.set 0 (mixed_in l.mixed) (view l.initial.pass) (view l.pass);
+  has : HoldsLanes l.intake.lanes.now l.intake.set.caller [] l.pass;
+  worker : IsPassOf l.intake.queue.now l.hand.worker;
+  taken : known l.hand.worker ≡ with_taken (known l.initial.hand.worker) (mixed_in l.hand.mixed);
+  count : length (mixed_in l.hand.mixed) ≡ l._taken;
+  direct : l.hand.mixed.direct ≡ l.initial.hand.mixed.direct;
+  room : vec_capacity l.hand.mixed.samples ≡ vec_capacity l.initial.hand.mixed.samples;
+  irqs : Mixes l.intake.set 0 (mixed_in l.hand.mixed) (view l.initial.pass) (view l.pass);
 }

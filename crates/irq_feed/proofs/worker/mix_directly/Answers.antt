@@ -4,13 +4,13 @@ use Rattle.irq_feed.proofs.worker.mix_directly.Goals as goal
 
 pub mix-requires-clause-room : goal.mix-requires-clause-room
 mix-requires-clause-room g c =
-    direct_room c.args.call.now.feeds.now c.args.number c.loop-index.index _ _ _ _ c.loop-index.invariant.samples
+    direct_room c.args.intake.now.feeds.now c.args.number c.loop-index.index _ _ _ _ c.loop-index.invariant.samples
     (let e = c.each-each.ensures.each in omega arith) c.requires.room.0 c.requires.room.1 c.loop-index.invariant.room
 
 pub loop-index-preserved : goal.loop-index-preserved
 loop-index-preserved g c =
     let before = c.loop-index.invariant in
-    let more = direct_more _ c.args.call.now.feeds.now _ _ _ _ _ _ _ _ _ before.samples c.mix.ensures.mixed
+    let more = direct_more _ c.args.intake.now.feeds.now _ _ _ _ _ _ _ _ _ before.samples c.mix.ensures.mixed
     c.sample-sample.ensures before.irqs c.mix.ensures.irq in
     record {
       has = c.mix.ensures.has;

@@ -9,10 +9,10 @@ use Rattle.irq_feed.proofs.worker.mix_directly.Given as goal
 
 abbrev pub invariant-loop-index : goal.invariant-loop-index
 invariant-loop-index g l = record {
-  has : HoldsLanes l.call.lanes.now l.call.set.caller [] l.pass;
-  samples : mixed_in l.mixed ≡ mixed_in l.initial.mixed ++ first_samples l.call.feeds.now l.number l.index;
+  has : HoldsLanes l.intake.lanes.now l.intake.set.caller [] l.pass;
+  samples : mixed_in l.mixed ≡ mixed_in l.initial.mixed ++ first_samples l.intake.feeds.now l.number l.index;
   direct : l.mixed.direct ≡ l.initial.mixed.direct;
   room : vec_capacity l.mixed.samples ≡ vec_capacity l.initial.mixed.samples;
-  irqs : Mixes l.call.set (length (mixed_in l.initial.mixed)) (first_samples l.call.feeds.now l.number l.index)
+  irqs : Mixes l.intake.set (length (mixed_in l.initial.mixed)) (first_samples l.intake.feeds.now l.number l.index)
       (view l.initial.pass) (view l.pass);
 }
