@@ -18,6 +18,27 @@ use std::sync::Wait;
 use vcall_fork::{Point, Progress, Turn, VCall, VEnd};
 use vdso_state::VState;
 
+/// A caller on a table, and what it has set.
+#[derive(Drop)]
+pub(crate) struct Caller<'a> {
+    pub(crate) lanes: &'a Lanes,
+    pub(crate) set: Setting,
+}
+
+/// A call that is under way, and the state of the caller that makes it.
+#[derive(Drop)]
+pub(crate) struct HeldCall {
+    pub(crate) call: VCall,
+    pub(crate) st: VState,
+}
+
+/// Where a call is to stop: at a point of an attempt.
+#[derive(Clone, Copy)]
+pub(crate) struct StopAt {
+    pub(crate) attempt: Turn,
+    pub(crate) point: Point,
+}
+
 // To a point of an attempt.
 fn run_on_host<R: Wait>(
     host: &mut LaneHost<'_, R>,
@@ -50,36 +71,40 @@ fn run_on_host<R: Wait>(
 /// Runs a call to a point of an attempt. The answer is whether it stands there now: otherwise it is over.
 pub(crate) fn run_to<'x, R: Wait>(
     rt: &'x R,
-    lanes: &'x Lanes,
+    caller: &Caller<'x>,
     pass: &mut Pass,
-    set: &Setting,
-    call: &mut VCall,
-    st: &mut VState,
+    held: &mut HeldCall,
     buf: &mut [u8],
-    attempt: Turn,
-    point: Point,
+    stop: StopAt,
 ) -> bool
-    requires has { HoldsLanes lanes.now set.now.caller [] pass.old }
-    requires cpu { set.now.cpu < lanes.now.cpus }
-    requires open { is_open call.old.stage ≡ true }
-    requires length { length buf.old ≡ call.old.len }
-    requires known { published_or 0 call.old.stage ≤ published_by (floor (view pass.old)) }
-    ensures has { HoldsLanes lanes.now set.entry.now.caller [] pass.new }
-    ensures len { call.new.len ≡ call.old.len }
-    ensures flags { call.new.flags ≡ call.old.flags }
-    ensures stopped { result ≡ true → (steps : List Step) × StoppedOver set.entry.now call.old.len call.old.flags
-        call.old.stage buf.old st.old attempt point call.new.stage buf.new st.new
-        (moment pass.old []) (moment pass.new steps) }
+    requires has { HoldsLanes caller.now.lanes.now caller.now.set.caller [] pass.old }
+    requires cpu { caller.now.set.cpu < caller.now.lanes.now.cpus }
+    requires open { is_open held.old.call.stage ≡ true }
+    requires length { length buf.old ≡ held.old.call.len }
+    requires known { published_or 0 held.old.call.stage ≤ published_by (floor (view pass.old)) }
+    ensures has { HoldsLanes caller.now.lanes.now caller.now.set.caller [] pass.new }
+    ensures len { held.new.call.len ≡ held.old.call.len }
+    ensures flags { held.new.call.flags ≡ held.old.call.flags }
+    ensures stopped { result ≡ true → (steps : List Step) × StoppedOver caller.now.set held.old.call.len
+        held.old.call.flags held.old.call.stage buf.old held.old.st stop.attempt stop.point held.new.call.stage buf.new
+        held.new.st (moment pass.old []) (moment pass.new steps) }
 {
     let mut trace = Trace::empty();
     let site = Site {
-        lanes,
+        lanes: caller.lanes,
         pass: &mut *pass,
         trace: &mut trace,
-        set: *set,
+        set: caller.set,
     };
     let mut host = LaneHost::over(rt, site, &mut [], &mut []);
-    run_on_host(&mut host, call, st, buf, attempt, point)
+    run_on_host(
+        &mut host,
+        &mut held.call,
+        &mut held.st,
+        buf,
+        stop.attempt,
+        stop.point,
+    )
 }
 
 // Whether a call that ended so gave bytes.
@@ -117,29 +142,27 @@ fn finish_on_host<R: Wait>(
 /// Runs a call that stands at a point to its end. The answer is whether it gave bytes.
 pub(crate) fn finish<'x, R: Wait>(
     rt: &'x R,
-    lanes: &'x Lanes,
+    caller: &Caller<'x>,
     pass: &mut Pass,
-    set: &Setting,
-    call: VCall,
-    st: &mut VState,
+    held: &mut HeldCall,
     buf: &mut [u8],
 ) -> bool
-    requires has { HoldsLanes lanes.now set.now.caller [] pass.old }
-    requires cpu { set.now.cpu < lanes.now.cpus }
-    requires stopped { is_stopped call.stage ≡ true }
-    requires length { length buf.old ≡ call.len }
-    requires known { published_or 0 call.stage ≤ published_by (floor (view pass.old)) }
-    ensures has { HoldsLanes lanes.now set.entry.now.caller [] pass.new }
-    ensures finished { result ≡ true → (steps : List Step) × FinishedOver set.entry.now call.len call.flags
-        call.stage buf.old st.old buf.new (moment pass.old []) (moment pass.new steps) }
+    requires has { HoldsLanes caller.now.lanes.now caller.now.set.caller [] pass.old }
+    requires cpu { caller.now.set.cpu < caller.now.lanes.now.cpus }
+    requires stopped { is_stopped held.old.call.stage ≡ true }
+    requires length { length buf.old ≡ held.old.call.len }
+    requires known { published_or 0 held.old.call.stage ≤ published_by (floor (view pass.old)) }
+    ensures has { HoldsLanes caller.now.lanes.now caller.now.set.caller [] pass.new }
+    ensures finished { result ≡ true → (steps : List Step) × FinishedOver caller.now.set held.old.call.len
+        held.old.call.flags held.old.call.stage buf.old held.old.st buf.new (moment pass.old []) (moment pass.new steps) }
 {
     let mut trace = Trace::empty();
     let site = Site {
-        lanes,
+        lanes: caller.lanes,
         pass: &mut *pass,
         trace: &mut trace,
-        set: *set,
+        set: caller.set,
     };
     let mut host = LaneHost::over(rt, site, &mut [], &mut []);
-    finish_on_host(&mut host, call, st, buf)
+    finish_on_host(&mut host, held.call, &mut held.st, buf)
 }

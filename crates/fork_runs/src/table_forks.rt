@@ -16,7 +16,7 @@ ghost use Rattle.vcall_fork.specs.Stages.{is_stopped, published_or};
 ghost use Rattle.fork_runs.specs.Runs.{ReachedStop, ForkedOver};
 ghost use Rattle.fork_runs.specs.TableForks.{AreForkedBytes, first_setting};
 
-use crate::stretches::{finish, run_to};
+use crate::stretches::{Caller, HeldCall, StopAt, finish, run_to};
 use key_names::Trace;
 use lane_table::{Lanes, Pass};
 use rng_core::{Setting, Site, add, fork, reseed};
@@ -55,37 +55,37 @@ fn first_setting(caller: u32) -> Setting
 }
 
 // Adds the first sample, which makes the core ready.
-fn add_sample<R: Wait>(rt: &R, lanes: &Lanes, pass: &mut Pass, set: &Setting)
-    requires has { HoldsLanes lanes.now set.now.caller [] pass.old }
-    requires moment { set.now.now < 2 ^ 40 }
-    ensures has { HoldsLanes lanes.now set.entry.now.caller [] pass.new }
-    ensures did { (steps : List Step) × Makes (IsOutcomeOf (setting_of set.entry.now) (Add (range_with_len 0 32) 256) Done no_data)
-        set.entry.now (moment pass.old []) (moment pass.new steps) }
+fn add_sample<R: Wait>(rt: &R, caller: &Caller, pass: &mut Pass)
+    requires has { HoldsLanes caller.now.lanes.now caller.now.set.caller [] pass.old }
+    requires moment { caller.now.set.now < 2 ^ 40 }
+    ensures has { HoldsLanes caller.now.lanes.now caller.now.set.caller [] pass.new }
+    ensures did { (steps : List Step) × Makes (IsOutcomeOf (setting_of caller.now.set)
+        (Add (range_with_len 0 32) 256) Done no_data) caller.now.set (moment pass.old []) (moment pass.new steps) }
 {
     let mut trace = Trace::empty();
     let mut site = Site {
-        lanes,
+        lanes: caller.lanes,
         pass,
         trace: &mut trace,
-        set: *set,
+        set: caller.set,
     };
     add(rt, &mut site, &SAMPLE, SAMPLE_BITS);
 }
 
 // Reseeds the core. The answer is whether it was ready.
-fn reseed_once<R: Wait>(rt: &R, lanes: &Lanes, pass: &mut Pass, set: &Setting) -> bool
-    requires has { HoldsLanes lanes.now set.now.caller [] pass.old }
-    requires moment { set.now.now < 2 ^ 40 }
-    ensures has { HoldsLanes lanes.now set.entry.now.caller [] pass.new }
-    ensures did { result ≡ true → (steps : List Step) × Makes (IsOutcomeOf (setting_of set.entry.now) Reseed Done no_data)
-        set.entry.now (moment pass.old []) (moment pass.new steps) }
+fn reseed_once<R: Wait>(rt: &R, caller: &Caller, pass: &mut Pass) -> bool
+    requires has { HoldsLanes caller.now.lanes.now caller.now.set.caller [] pass.old }
+    requires moment { caller.now.set.now < 2 ^ 40 }
+    ensures has { HoldsLanes caller.now.lanes.now caller.now.set.caller [] pass.new }
+    ensures did { result ≡ true → (steps : List Step) × Makes (IsOutcomeOf (setting_of caller.now.set)
+        Reseed Done no_data) caller.now.set (moment pass.old []) (moment pass.new steps) }
 {
     let mut trace = Trace::empty();
     let mut site = Site {
-        lanes,
+        lanes: caller.lanes,
         pass,
         trace: &mut trace,
-        set: *set,
+        set: caller.set,
     };
     match reseed(rt, &mut site) {
         Ok(()) => true,
@@ -97,116 +97,103 @@ fn reseed_once<R: Wait>(rt: &R, lanes: &Lanes, pass: &mut Pass, set: &Setting) -
 // there is a second.
 fn reach_second<R: Wait>(
     rt: &R,
-    lanes: &Lanes,
+    caller: &Caller,
     pass: &mut Pass,
-    set: &Setting,
-    call: &mut VCall,
-    st: &mut VState,
+    held: &mut HeldCall,
     buf: &mut [u8],
     point: Point,
 ) -> bool
-    requires has { HoldsLanes lanes.now set.now.caller [] pass.old }
-    requires cpu { set.now.cpu < lanes.now.cpus }
-    requires moment { set.now.now < 2 ^ 40 }
-    requires new { call.old.stage ≡ New }
-    requires length { length buf.old ≡ call.old.len }
-    ensures has { HoldsLanes lanes.now set.entry.now.caller [] pass.new }
-    ensures len { call.new.len ≡ call.old.len }
-    ensures flags { call.new.flags ≡ call.old.flags }
-    ensures reached { result ≡ true → ReachedStop set.entry.now call.old.len call.old.flags st.old Turn.Second point
-        call.new.stage buf.new st.new (view pass.old) (view pass.new) }
+    requires has { HoldsLanes caller.now.lanes.now caller.now.set.caller [] pass.old }
+    requires cpu { caller.now.set.cpu < caller.now.lanes.now.cpus }
+    requires moment { caller.now.set.now < 2 ^ 40 }
+    requires new { held.old.call.stage ≡ New }
+    requires length { length buf.old ≡ held.old.call.len }
+    ensures has { HoldsLanes caller.now.lanes.now caller.now.set.caller [] pass.new }
+    ensures len { held.new.call.len ≡ held.old.call.len }
+    ensures flags { held.new.call.flags ≡ held.old.call.flags }
+    ensures reached { result ≡ true → ReachedStop caller.now.set held.old.call.len held.old.call.flags held.old.st
+        Turn.Second point held.new.call.stage buf.new held.new.st (view pass.old) (view pass.new) }
 {
-    if !run_to(
-        rt,
-        lanes,
-        pass,
-        set,
-        call,
-        st,
-        buf,
-        Turn::First,
-        Point::Serve,
-    ) {
+    let serve = StopAt {
+        attempt: Turn::First,
+        point: Point::Serve,
+    };
+    if !run_to(rt, caller, pass, held, buf, serve) {
         return false;
     }
-    if !reseed_once(rt, lanes, pass, set) {
+    if !reseed_once(rt, caller, pass) {
         return false;
     }
     forks_are_told();
-    run_to(rt, lanes, pass, set, call, st, buf, Turn::Second, point)
+    let stop = StopAt {
+        attempt: Turn::Second,
+        point,
+    };
+    run_to(rt, caller, pass, held, buf, stop)
 }
 
 // Runs a new call to a stop. The answer is whether it stands there.
 fn reach_stop<R: Wait>(
     rt: &R,
-    lanes: &Lanes,
+    caller: &Caller,
     pass: &mut Pass,
-    set: &Setting,
-    call: &mut VCall,
-    st: &mut VState,
+    held: &mut HeldCall,
     buf: &mut [u8],
-    attempt: Turn,
-    point: Point,
+    stop: StopAt,
 ) -> bool
-    requires has { HoldsLanes lanes.now set.now.caller [] pass.old }
-    requires cpu { set.now.cpu < lanes.now.cpus }
-    requires moment { set.now.now < 2 ^ 40 }
-    requires new { call.old.stage ≡ New }
-    requires length { length buf.old ≡ call.old.len }
-    ensures has { HoldsLanes lanes.now set.entry.now.caller [] pass.new }
-    ensures len { call.new.len ≡ call.old.len }
-    ensures flags { call.new.flags ≡ call.old.flags }
-    ensures reached { result ≡ true → ReachedStop set.entry.now call.old.len call.old.flags st.old attempt point
-        call.new.stage buf.new st.new (view pass.old) (view pass.new) }
+    requires has { HoldsLanes caller.now.lanes.now caller.now.set.caller [] pass.old }
+    requires cpu { caller.now.set.cpu < caller.now.lanes.now.cpus }
+    requires moment { caller.now.set.now < 2 ^ 40 }
+    requires new { held.old.call.stage ≡ New }
+    requires length { length buf.old ≡ held.old.call.len }
+    ensures has { HoldsLanes caller.now.lanes.now caller.now.set.caller [] pass.new }
+    ensures len { held.new.call.len ≡ held.old.call.len }
+    ensures flags { held.new.call.flags ≡ held.old.call.flags }
+    ensures reached { result ≡ true → ReachedStop caller.now.set held.old.call.len held.old.call.flags held.old.st
+        stop.attempt stop.point held.new.call.stage buf.new held.new.st (view pass.old) (view pass.new) }
 {
-    match attempt {
-        Turn::First => run_to(rt, lanes, pass, set, call, st, buf, Turn::First, point),
-        Turn::Second => reach_second(rt, lanes, pass, set, call, st, buf, point),
+    match stop.attempt {
+        Turn::First => run_to(rt, caller, pass, held, buf, stop),
+        Turn::Second => reach_second(rt, caller, pass, held, buf, stop.point),
     }
 }
 
 // Forks where the call stands, and ends it in the parent and then in the child. The answer is whether both gave bytes.
 fn fork_at_stop<R: Wait>(
     rt: &R,
-    lanes: &Lanes,
+    caller: &Caller,
     pass: &mut Pass,
-    set: &Setting,
-    call: VCall,
-    st: &mut VState,
+    held: &mut HeldCall,
     buf: &mut [u8],
     child_buf: &mut [u8],
 ) -> bool
-    requires has { HoldsLanes lanes.now set.now.caller [] pass.old }
-    requires cpu { set.now.cpu < lanes.now.cpus }
-    requires stopped { is_stopped call.stage ≡ true }
-    requires length { length buf.old ≡ call.len }
-    requires child_length { length child_buf.old ≡ call.len }
-    requires known { published_or 0 call.stage ≤ published_by (floor (view pass.old)) }
-    ensures has { HoldsLanes lanes.now set.entry.now.caller [] pass.new }
-    ensures forked { result ≡ true → ForkedOver set.entry.now call.len call.flags call.stage buf.old st.old buf.new
-        child_buf.new (view pass.old) (view pass.new) }
+    requires has { HoldsLanes caller.now.lanes.now caller.now.set.caller [] pass.old }
+    requires cpu { caller.now.set.cpu < caller.now.lanes.now.cpus }
+    requires stopped { is_stopped held.old.call.stage ≡ true }
+    requires length { length buf.old ≡ held.old.call.len }
+    requires child_length { length child_buf.old ≡ held.old.call.len }
+    requires known { published_or 0 held.old.call.stage ≤ published_by (floor (view pass.old)) }
+    ensures has { HoldsLanes caller.now.lanes.now caller.now.set.caller [] pass.new }
+    ensures forked { result ≡ true → ForkedOver caller.now.set held.old.call.len held.old.call.flags held.old.call.stage
+        buf.old held.old.st buf.new child_buf.new (view pass.old) (view pass.new) }
 {
     let mut trace = Trace::empty();
     let mut site = Site {
-        lanes,
+        lanes: caller.lanes,
         pass: &mut *pass,
         trace: &mut trace,
-        set: *set,
+        set: caller.set,
     };
     let mut child_pass = fork(rt, &mut site, 1);
-    let (child_call, mut child_st) = call.fork_call(buf, child_buf);
-    let parent_gave = finish(rt, lanes, pass, set, call, st, buf);
-    let child_set = first_setting(1);
-    let child_gave = finish(
-        rt,
-        lanes,
-        &mut child_pass,
-        &child_set,
-        child_call,
-        &mut child_st,
-        child_buf,
-    );
-    lanes.join(pass, child_pass);
+    let (call, st) = held.call.fork_call(buf, child_buf);
+    let parent_gave = finish(rt, caller, pass, held, buf);
+    let child = Caller {
+        lanes: caller.lanes,
+        set: first_setting(1),
+    };
+    let mut childs = HeldCall { call, st };
+    let child_gave = finish(rt, &child, &mut child_pass, &mut childs, child_buf);
+    caller.lanes.join(pass, child_pass);
     parent_gave && child_gave
 }
 
@@ -214,27 +201,29 @@ fn fork_at_stop<R: Wait>(
 fn fork_once<R: Wait>(
     rt: &R,
     alloc: Global,
-    attempt: Turn,
-    point: Point,
+    stop: StopAt,
     parent: &mut [u8],
     child: &mut [u8],
 ) -> Result<bool, AllocError>
     requires length { length parent.old ≤ 2 ^ 20 }
     requires child_length { length child.old ≡ length parent.old }
     ensures { IfOk result (λ gave. gave ≡ true
-        → AreForkedBytes attempt point (length parent.old) parent.new child.new) }
+        → AreForkedBytes stop.attempt stop.point (length parent.old) parent.new child.new) }
 {
     let (lanes, mut pass) = Lanes::start(alloc, 1, 0)?;
-    let set = first_setting(0);
-    add_sample(rt, &lanes, &mut pass, &set);
-    let mut call = VCall::begin(parent.len() as u32, 0);
-    let mut st = VState::wiped();
-    if !reach_stop(
-        rt, &lanes, &mut pass, &set, &mut call, &mut st, parent, attempt, point,
-    ) {
+    let caller = Caller {
+        lanes: &lanes,
+        set: first_setting(0),
+    };
+    add_sample(rt, &caller, &mut pass);
+    let mut held = HeldCall {
+        call: VCall::begin(parent.len() as u32, 0),
+        st: VState::wiped(),
+    };
+    if !reach_stop(rt, &caller, &mut pass, &mut held, parent, stop) {
         return Ok(false);
     }
-    if !fork_at_stop(rt, &lanes, &mut pass, &set, call, &mut st, parent, child) {
+    if !fork_at_stop(rt, &caller, &mut pass, &mut held, parent, child) {
         return Ok(false);
     }
     let _visits = lanes.close(pass);
@@ -247,17 +236,16 @@ fn fork_once<R: Wait>(
 fn fork_until<R: Wait>(
     rt: &R,
     alloc: Global,
-    attempt: Turn,
-    point: Point,
+    stop: StopAt,
     parent: &mut [u8],
     child: &mut [u8],
 ) -> Result<(), AllocError>
     requires length { length parent.old ≤ 2 ^ 20 }
     requires child_length { length child.old ≡ length parent.old }
-    ensures { IfOk result (λ done. AreForkedBytes attempt point (length parent.old) parent.new child.new) }
+    ensures { IfOk result (λ done. AreForkedBytes stop.attempt stop.point (length parent.old) parent.new child.new) }
 {
     for _ in rt.forever() {
-        if fork_once(rt, alloc, attempt, point, parent, child)? {
+        if fork_once(rt, alloc, stop, parent, child)? {
             return Ok(());
         }
     }
@@ -290,6 +278,7 @@ pub fn fork_on_new_table<R: Wait>(
 {
     let mut parent = vec![in alloc; 0; len as usize]?;
     let mut child = vec![in alloc; 0; len as usize]?;
-    fork_until(rt, alloc, attempt, point, &mut parent, &mut child)?;
+    let stop = StopAt { attempt, point };
+    fork_until(rt, alloc, stop, &mut parent, &mut child)?;
     Ok(ForkedBytes { parent, child })
 }

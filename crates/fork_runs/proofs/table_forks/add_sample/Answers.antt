@@ -11,7 +11,7 @@ use Rattle.fork_runs.proofs.table_forks.add_sample.Goals as goal
 
 pub returns-clause-did : goal.returns-clause-did
 returns-clause-did g c =
-    let set = c.args.set.now in let steps = c.add.new.site.trace.now in
+    let set = c.args.caller.now.set in let steps = c.add.new.site.trace.now in
     let back : c.add.new.site.pass.now ≡ c.pass-1.given.0 = search rules in
     let P = IsOutcomeOf (setting_of set) (Add (range_with_len 0 32) 256) Done no_data in (
       steps,

@@ -7,38 +7,38 @@ use Rattle.fork_runs.proofs.table_forks.fork_once.Goals as goal
 
 pub close-visits-requires-clause-idle : goal.close-visits-requires-clause-idle
 close-visits-requires-clause-idle g c =
-    idle_of c.in_ok-lanes.lanes c.first_setting-set.result.caller c.fork_at_stop.new.pass c.fork_at_stop.ensures.has
+    idle_of c.in_ok-lanes.lanes c.first_setting.result.caller c.fork_at_stop.new.pass c.fork_at_stop.ensures.has
 
 pub close-visits-requires-clause-whole : goal.close-visits-requires-clause-whole
 close-visits-requires-clause-whole g c =
-    let set = c.first_setting-set.result in
-    let call = c.begin-call.result in
-    let later = c.reach_stop.new.call in
+    let set = c.first_setting.result in
+    let call = c.begin.result in
+    let later = c.reach_stop.new.held.call in
     let n = length c.args.parent.now in
     let same : call.len ≡ n = search rules in
     let p = view c.in_ok-lanes.pass in
     let q = view c.add_sample.new.pass in
     let w = view c.reach_stop.new.pass in
-    share_is c.args.attempt c.args.point n p q w (view c.fork_at_stop.new.pass) later.stage c.reach_stop.new.buf
-    c.reach_stop.new.st c.fork_at_stop.new.buf c.fork_at_stop.new.child_buf
+    share_is c.args.stop.attempt c.args.stop.point n p q w (view c.fork_at_stop.new.pass) later.stage c.reach_stop.new.buf
+    c.reach_stop.new.held.st c.fork_at_stop.new.buf c.fork_at_stop.new.child_buf
     (ap (λ (m : Seated). m.0) c.in_ok-lanes.ensures.seat)
-    (plain_sample set n call.len later.len call.flags later.flags c.wiped-st.result c.first_setting-set.ensures same
-    c.reach_stop.ensures.len c.begin-call.ensures.flags c.reach_stop.ensures.flags c.wiped-st.ensures p q
+    (plain_sample set n call.len later.len call.flags later.flags c.wiped.result c.first_setting.ensures same
+    c.reach_stop.ensures.len c.begin.ensures.flags c.reach_stop.ensures.flags c.wiped.ensures p q
     c.add_sample.ensures.did)
-    (plain_reached set n call.len later.len call.flags later.flags c.wiped-st.result c.first_setting-set.ensures same
-    c.reach_stop.ensures.len c.begin-call.ensures.flags c.reach_stop.ensures.flags c.wiped-st.ensures c.args.attempt
-    c.args.point later.stage c.reach_stop.new.buf c.reach_stop.new.st q w
+    (plain_reached set n call.len later.len call.flags later.flags c.wiped.result c.first_setting.ensures same
+    c.reach_stop.ensures.len c.begin.ensures.flags c.reach_stop.ensures.flags c.wiped.ensures c.args.stop.attempt
+    c.args.stop.point later.stage c.reach_stop.new.buf c.reach_stop.new.held.st q w
     (c.reach_stop.ensures.reached c.if-not-reach_stop.false))
-    (plain_over set n call.len later.len call.flags later.flags c.wiped-st.result c.first_setting-set.ensures same
-    c.reach_stop.ensures.len c.begin-call.ensures.flags c.reach_stop.ensures.flags c.wiped-st.ensures later.stage
-    c.reach_stop.new.buf c.reach_stop.new.st c.fork_at_stop.new.buf c.fork_at_stop.new.child_buf w
+    (plain_over set n call.len later.len call.flags later.flags c.wiped.result c.first_setting.ensures same
+    c.reach_stop.ensures.len c.begin.ensures.flags c.reach_stop.ensures.flags c.wiped.ensures later.stage
+    c.reach_stop.new.buf c.reach_stop.new.held.st c.fork_at_stop.new.buf c.fork_at_stop.new.child_buf w
     (view c.fork_at_stop.new.pass) (c.fork_at_stop.ensures.forked c.if-not-fork_at_stop.false))
 
 pub returns : goal.returns
 returns g c = λ _.
-    let set = c.first_setting-set.result in
-    let call = c.begin-call.result in
-    let later = c.reach_stop.new.call in
+    let set = c.first_setting.result in
+    let call = c.begin.result in
+    let later = c.reach_stop.new.held.call in
     let n = length c.args.parent.now in
     let same : call.len ≡ n = search rules in
     let p = view c.in_ok-lanes.pass in
@@ -47,18 +47,18 @@ returns g c = λ _.
     let x = view c.fork_at_stop.new.pass in
     let ended : Ended 3 x = subst (λ (k : ℕ). Ended (k + 2) x) c.in_ok-lanes.ensures.table.0 c.close-visits.ensures.ended
     in
-    forked_bytes c.args.attempt c.args.point n p q w x later.stage c.reach_stop.new.buf
-    c.reach_stop.new.st c.fork_at_stop.new.buf c.fork_at_stop.new.child_buf
+    forked_bytes c.args.stop.attempt c.args.stop.point n p q w x later.stage c.reach_stop.new.buf
+    c.reach_stop.new.held.st c.fork_at_stop.new.buf c.fork_at_stop.new.child_buf
     (ap (λ (m : Seated). m.0) c.in_ok-lanes.ensures.seat)
-    (plain_sample set n call.len later.len call.flags later.flags c.wiped-st.result c.first_setting-set.ensures same
-    c.reach_stop.ensures.len c.begin-call.ensures.flags c.reach_stop.ensures.flags c.wiped-st.ensures p q
+    (plain_sample set n call.len later.len call.flags later.flags c.wiped.result c.first_setting.ensures same
+    c.reach_stop.ensures.len c.begin.ensures.flags c.reach_stop.ensures.flags c.wiped.ensures p q
     c.add_sample.ensures.did)
-    (plain_reached set n call.len later.len call.flags later.flags c.wiped-st.result c.first_setting-set.ensures same
-    c.reach_stop.ensures.len c.begin-call.ensures.flags c.reach_stop.ensures.flags c.wiped-st.ensures c.args.attempt
-    c.args.point later.stage c.reach_stop.new.buf c.reach_stop.new.st q w
+    (plain_reached set n call.len later.len call.flags later.flags c.wiped.result c.first_setting.ensures same
+    c.reach_stop.ensures.len c.begin.ensures.flags c.reach_stop.ensures.flags c.wiped.ensures c.args.stop.attempt
+    c.args.stop.point later.stage c.reach_stop.new.buf c.reach_stop.new.held.st q w
     (c.reach_stop.ensures.reached c.if-not-reach_stop.false))
-    (plain_over set n call.len later.len call.flags later.flags c.wiped-st.result c.first_setting-set.ensures same
-    c.reach_stop.ensures.len c.begin-call.ensures.flags c.reach_stop.ensures.flags c.wiped-st.ensures later.stage
-    c.reach_stop.new.buf c.reach_stop.new.st c.fork_at_stop.new.buf c.fork_at_stop.new.child_buf w x
+    (plain_over set n call.len later.len call.flags later.flags c.wiped.result c.first_setting.ensures same
+    c.reach_stop.ensures.len c.begin.ensures.flags c.reach_stop.ensures.flags c.wiped.ensures later.stage
+    c.reach_stop.new.buf c.reach_stop.new.held.st c.fork_at_stop.new.buf c.fork_at_stop.new.child_buf w x
     (c.fork_at_stop.ensures.forked c.if-not-fork_at_stop.false))
     ended c.forks_are_told.ensures c.child_takes_key.ensures
