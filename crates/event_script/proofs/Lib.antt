@@ -1,7 +1,6 @@
 pub mod Cuts
 pub mod LoneNumbers
 pub mod Spellings
-pub mod Digits
 pub mod Tallies
 pub mod FirstOfLines
 pub mod Fronts
@@ -10,3 +9,4 @@ pub mod LoadTexts
 pub mod Loads
 pub mod LoadExamples
 pub mod ShortLines
+pub mod NumberFronts

@@ -1,39 +1,16 @@
 -- Lines that are read where they stand, without a search for their ends.
-use Rattle.std.proofs.Common.{◌≡◌, ℕ, ◌^◌, ◌<◌, ◌≤◌, ◌==◌, false, inl, inr, Ok, List, ◌∷◌, ◌++◌, get_or, length, take, drop, refl, sym, ap, ◌∙◌, append_assoc, arith}
-use Rattle.std.specs.Fmt.{decimal}
-use Rattle.std.specs.Str.Parse.{AllDigits, digits_value}
-use Rattle.std.proofs.lemmas.Bool.{cases_lt, ne_eqb}
-use Rattle.std.proofs.lemmas.List.{get_or-take, length-take, take-append-drop}
+use Rattle.std.proofs.Common.{◌≡◌, ℕ, ◌≤◌, ◌==◌, false, Ok, List, ◌∷◌, ◌++◌, refl, sym, ap, ◌∙◌, append_assoc}
+use Rattle.std.proofs.lemmas.Bool.{ne_eqb}
 use Rattle.std.proofs.lemmas.List.Elements.{All-from_recursion}
 use Rattle.key_names.specs.declared.events.Event.{Event}
 use Rattle.key_names.specs.Texts.Spelling.{spaced}
 use Rattle.key_names.specs.Texts.ScriptGrammar.{InRange, event_fields}
 use Rattle.key_names.specs.Texts.ScriptFaults.{SaysEvent, behind, is_unprintable, parts}
 use Rattle.key_names.proofs.Script.LinedTexts.{none_unprintable}
-use Rattle.key_names.proofs.Script.Numbers.{IsNumber, number_good, number_takes}
 use Rattle.key_names.proofs.Script.Parts.{Lacks, parts_at}
 use Rattle.key_names.proofs.Script.SaidLines.{printable_said, said_again}
 use Rattle.event_script.specs.Says.{said_first}
 use Rattle.event_script.proofs.FirstOfLines.{whole_line}
-
--- digits without a leading zero in front of a text
-pub number_there : (len value : ℕ) (text : List ℕ) → AllDigits 10 (take len text) → value ≡
-    digits_value 10 (take len text)
-    → value < 2 ^ 64 → len ≤ length text → 0 < len → (1 < len → get_or text 0 0 ≡ 48 → ⊥)
-    → text ≡ decimal value ++ drop len text
-number_there len value text digits is small within some lead =
-    let long : length (take len text) ≡ len = omega (arith, length-take len text) in
-    let good : IsNumber (take len text) = record {
-      digits = digits;
-      some = omega arith;
-      lead = λ first. elim (cases_lt 1 len) [
-        | inl many ↦ absurd (lead many (rw (get_or-take len text 0 0 some) at first))
-        | inr one ↦ omega arith
-      ];
-    } in
-    let spelt = number_takes (2 ^ 64) _ (take len text) (number_good (2 ^ 64) (take len text) good (omega arith)
-    (omega arith)) in
-    sym (take-append-drop len text) ∙ ap (λ (front : List ℕ). front ++ drop len text) (spelt.1 ∙ ap decimal (sym is))
 
 not_feed : (b : ℕ) → is_unprintable b ≡ false → (b == 10) ≡ false
 not_feed b fine = ne_eqb b 10 (λ e. let bad : is_unprintable 10 ≡ false = rw e at fine in absurd cc)

@@ -7,3 +7,4 @@ pub mod LoadScript
 pub mod ByteWords
 pub mod WordLengths
 pub mod ShortLines
+pub mod ValueFronts

@@ -1,7 +1,7 @@
-//! Fields that are numbers.
+//! Numbers in front of a text, and fields that are numbers.
 
-ghost use Rattle.std.specs.Prelude.{◌≡◌, ℕ, ◌+◌, ◌<◌, ◌≤◌, IfOk, IfNone, IfSome, OnSome, length};
-ghost use Rattle.std.specs.Str.Parse.{AllDigits, digits_value};
+ghost use Rattle.std.specs.Prelude.{◌≡◌, ℕ, ◌+◌, ◌<◌, ◌≤◌, ◌↔◌, IsTrue, IfOk, IfSome, MatchOption, decimal, length};
+ghost use Rattle.event_script.specs.ValueFronts.{BeginsDigits, EndsNumber, IsDigits, IsFront, NoFront};
 ghost use Rattle.event_script.specs.Views.{Tells, fields_of};
 ghost use Rattle.key_names.specs.declared.events.Event.{Event};
 ghost use Rattle.key_names.specs.Texts.ScriptFaults.{binary, number_below, number, number_in, unary};
@@ -10,23 +10,83 @@ use crate::fields::cut;
 use key_names::FaultKind;
 
 /// So many digits are the number of a `u64`, whatever they are.
-pub(crate) const SAFE_DIGITS: usize = 19;
+const SAFE_DIGITS: usize = 19;
 
-/// The value of a few decimal digits.
-fn value_of(digits: &[u8]) -> Option<u64>
-    requires { length digits.now ≤ 19 }
-    ensures digits { OnSome result (AllDigits 10 digits.now) }
-    ensures value { IfSome result (λ n. n ≡ digits_value 10 digits.now) }
-    ensures none { IfNone result (AllDigits 10 digits.now → ⊥) }
+fn ends_number(text: &[u8]) -> bool
+    ensures { IsTrue result ↔ EndsNumber text.now }
 {
+    match text {
+        [byte, ..] => char::from(*byte).to_digit(10).is_none(),
+        [] => true,
+    }
+}
+
+/// The number of all digits that a text begins with, so many of this value, and what stands behind them.
+#[inline(always)]
+fn cut_number(most: u64, value: u64, len: usize, text: &[u8]) -> Option<(u64, &[u8])>
+    requires { IsDigits text.now value len }
+    ensures front { MatchOption result (NoFront decimal (λ n. n ≤ most) text.now)
+        (λ both. IsFront decimal (λ n. n ≤ most) text.now both.0 both.1.now) }
+    ensures ends { IfSome result (λ both. EndsNumber both.1.now) }
+{
+    if len == 0 {
+        return None;
+    }
+    if len > 1 && text[0] == b'0' {
+        return None;
+    }
+    if value > most {
+        return None;
+    }
+    Some((value, &text[len..]))
+}
+
+/// The number that a longer text begins with, of which the first digits have this value. At most one digit more fits.
+#[inline(never)]
+fn long_number(most: u64, value: u64, text: &[u8]) -> Option<(u64, &[u8])>
+    requires digits { BeginsDigits text.now value 19 }
+    requires longer { 19 < length text.now }
+    ensures front { MatchOption result (NoFront decimal (λ n. n ≤ most) text.now)
+        (λ both. IsFront decimal (λ n. n ≤ most) text.now both.0 both.1.now) }
+    ensures ends { IfSome result (λ both. EndsNumber both.1.now) }
+{
+    let Some(digit) = char::from(text[SAFE_DIGITS]).to_digit(10) else {
+        return cut_number(most, value, SAFE_DIGITS, text);
+    };
+    let Some(tens) = value.checked_mul(10) else {
+        return None;
+    };
+    let Some(next) = tens.checked_add(u64::from(digit)) else {
+        return None;
+    };
+    if !ends_number(&text[SAFE_DIGITS + 1..]) {
+        return None;
+    }
+    cut_number(most, next, SAFE_DIGITS + 1, text)
+}
+
+/// The number up to `most` that a text begins with, in decimal and without leading zeros, and what stands behind it.
+///
+/// `None` where the text begins with no digit, or with a zero and another digit, and where all digits that it begins with
+/// spell more than `most`.
+#[inline(always)]
+pub fn number_front(most: u64, text: &[u8]) -> Option<(u64, &[u8])>
+    ensures front { MatchOption result (NoFront decimal (λ n. n ≤ most) text.now)
+        (λ both. IsFront decimal (λ n. n ≤ most) text.now both.0 both.1.now) }
+    ensures ends { IfSome result (λ both. EndsNumber both.1.now) }
+{
+    let front = &text[..text.len().min(SAFE_DIGITS)];
     let mut value: u64 = 0;
-    for byte in digits {
+    for (len, byte) in front.iter().enumerate() {
         let Some(digit) = char::from(*byte).to_digit(10) else {
-            return None;
+            return cut_number(most, value, len, text);
         };
         value = value * 10 + u64::from(digit);
     }
-    Some(value)
+    if text.len() > SAFE_DIGITS {
+        return long_number(most, value, text);
+    }
+    cut_number(most, value, text.len(), text)
 }
 
 /// The number that a field spells in decimal, without leading zeros, if it is at most `most`.
@@ -34,29 +94,10 @@ pub fn number_up_to(most: u64, field: &[u8]) -> Option<u64>
     ensures value { result ≡ number_below (most + 1) field.now }
     ensures range { IfSome result (λ n. n ≤ most) }
 {
-    if field.is_empty() {
-        return None;
+    match number_front(most, field) {
+        Some((value, rest)) if rest.is_empty() => Some(value),
+        _ => None,
     }
-    if field[0] == b'0' && field.len() > 1 {
-        return None;
-    }
-    let (front, last) = field.split_at(field.len().min(SAFE_DIGITS));
-    let Some(mut value) = value_of(front) else {
-        return None;
-    };
-    for byte in last {
-        let Some(digit) = char::from(*byte).to_digit(10) else {
-            return None;
-        };
-        let Some(tens) = value.checked_mul(10) else {
-            return None;
-        };
-        let Some(next) = tens.checked_add(u64::from(digit)) else {
-            return None;
-        };
-        value = next;
-    }
-    if value <= most { Some(value) } else { None }
 }
 
 /// The number that a field spells, at most `most`.

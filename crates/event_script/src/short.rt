@@ -4,10 +4,9 @@
 //! their fields are searched for first. `None` says nothing of a text: its first line is then read by its fields, as
 //! each line with a fault is.
 
-ghost use Rattle.std.specs.Prelude.{◌≡◌, ℕ, ◌≤◌, ◌∷◌, ◌++◌, IfSome, length, take};
+ghost use Rattle.std.specs.Prelude.{◌≡◌, ℕ, ◌∷◌, ◌++◌, IfSome};
 ghost use Rattle.std.specs.Bool.{OnTrue};
 ghost use Rattle.std.specs.Fmt.{decimal};
-ghost use Rattle.std.specs.Str.Parse.{AllDigits, digits_value};
 ghost use Rattle.key_names.specs.Texts.ScriptGrammar.{InRange, event_fields};
 ghost use Rattle.key_names.specs.Texts.Spelling.{spaced, word_text};
 ghost use Rattle.event_script.specs.declared.short.Numbers.TheVariants.{None, One, Two};
@@ -15,7 +14,7 @@ ghost use Rattle.event_script.specs.ShortLines.{IsShort, behind_word};
 
 use crate::amounts::{MOST_BITS, MOST_FLAGS, MOST_LEN};
 use crate::events::LAST_MOMENT;
-use crate::numbers::SAFE_DIGITS;
+use crate::numbers::number_front;
 use key_names::{Event, Word};
 
 /// The bytes of the longest word that is read here. A shorter text is left to the fields, so that its length is looked
@@ -58,67 +57,12 @@ fn word_in_front(text: &[u8]) -> Option<(Word, &[u8])>
     })
 }
 
-/// The number that the first digits of a text spell, so many of them, and what stands behind them.
-fn cut_number(value: u64, len: usize, text: &[u8]) -> Option<(u64, &[u8])>
-    requires digits { AllDigits 10 (take len text.now) }
-    requires value { value ≡ digits_value 10 (take len text.now) }
-    requires within { len ≤ length text.now }
-    ensures { IfSome result (λ both. text.now ≡ decimal both.0 ++ both.1.now) }
-{
-    if len == 0 {
-        return None;
-    }
-    if len > 1 && text[0] == b'0' {
-        return None;
-    }
-    Some((value, &text[len..]))
-}
-
-/// The number in front of a text of which so many digits are read, and what stands behind it: at most one digit more.
-fn one_digit_more(value: u64, len: usize, text: &[u8]) -> Option<(u64, &[u8])>
-    requires digits { AllDigits 10 (take len text.now) }
-    requires value { value ≡ digits_value 10 (take len text.now) }
-    requires within { len ≤ length text.now }
-    ensures { IfSome result (λ both. text.now ≡ decimal both.0 ++ both.1.now) }
-{
-    if len == text.len() {
-        return None;
-    }
-    let Some(digit) = char::from(text[len]).to_digit(10) else {
-        return cut_number(value, len, text);
-    };
-    let Some(tens) = value.checked_mul(10) else {
-        return None;
-    };
-    let Some(next) = tens.checked_add(u64::from(digit)) else {
-        return None;
-    };
-    cut_number(next, len + 1, text)
-}
-
-/// The number in front of a text, and what stands behind its digits.
-fn number_in_front(text: &[u8]) -> Option<(u64, &[u8])>
-    ensures { IfSome result (λ both. text.now ≡ decimal both.0 ++ both.1.now) }
-{
-    let front = &text[..text.len().min(SAFE_DIGITS)];
-    let mut value: u64 = 0;
-    let mut len: usize = 0;
-    for byte in front {
-        let Some(digit) = char::from(*byte).to_digit(10) else {
-            return cut_number(value, len, text);
-        };
-        value = value * 10 + u64::from(digit);
-        len += 1;
-    }
-    one_digit_more(value, len, text)
-}
-
 /// The number in front of a line end, behind a first number, and what stands behind the line end.
 fn second_in_front(first: u64, text: &[u8]) -> Option<(Numbers, &[u8])>
     ensures { IfSome result (λ both.
         32 ∷ (decimal first ++ 32 ∷ text.now) ≡ behind_word both.0 ++ 10 ∷ both.1.now) }
 {
-    match number_in_front(text) {
+    match number_front(u64::MAX, text) {
         Some((second, [b'\n', rest @ ..])) => Some((Numbers::Two(first, second), rest)),
         _ => None,
     }
@@ -128,7 +72,7 @@ fn second_in_front(first: u64, text: &[u8]) -> Option<(Numbers, &[u8])>
 fn some_in_front(text: &[u8]) -> Option<(Numbers, &[u8])>
     ensures { IfSome result (λ both. 32 ∷ text.now ≡ behind_word both.0 ++ 10 ∷ both.1.now) }
 {
-    match number_in_front(text) {
+    match number_front(u64::MAX, text) {
         Some((first, [b'\n', rest @ ..])) => Some((Numbers::One(first), rest)),
         Some((first, [b' ', more @ ..])) => second_in_front(first, more),
         _ => None,

@@ -1,5 +1,5 @@
 -- A line's spelling names no other line.
-use Rattle.std.proofs.Common.{◌≡◌, ℕ, ◌^◌, ◌<◌, ◌≤◌, ◌==◌, true, false, List, [], ◌∷◌, ◌++◌, length, refl, sym, ap, subst, ◌∙◌, append_assoc, append-nil, arith}
+use Rattle.std.proofs.Common.{◌≡◌, ℕ, ◌-◌, ◌^◌, ◌<◌, ◌≤◌, ◌==◌, true, false, List, [], ◌∷◌, ◌++◌, length, refl, sym, ap, subst, ◌∙◌, append_assoc, append-nil, arith}
 use Rattle.std.specs.Prelude.{codes, decimal}
 use Rattle.std.specs.List.{AllByRecursion, flat_map}
 use Rattle.std.proofs.lemmas.Bool.{eqb-true, false_from_ne_true}
@@ -15,7 +15,8 @@ use Rattle.key_names.specs.SeenLine.{Shown, no_data, bytes, count, SeenLine}
 use Rattle.key_names.specs.Texts.Spelling.{AllLower, is_lower_digit, word_text, spaced}
 use Rattle.key_names.specs.Texts.TranscriptGrammar.{answer_text, steps_text, step_text, shown_text, line_text, StepFits, ShownFits, LineFits}
 use Rattle.transcript_text.specs.declared.line.Numbers.{Numbers}
-use Rattle.transcript_text.specs.Reading.{lacks, IsFront, NoFront, StepsFit}
+use Rattle.event_script.specs.ValueFronts.{IsFront, NoFront}
+use Rattle.transcript_text.specs.Reading.{lacks, StepsFit}
 use Rattle.transcript_text.specs.declared.line.ReadLine.{ReadLine}
 use Rattle.transcript_text.specs.ReadLines.{numbers_text, NumbersFit, FitsShowing, IsSplit, IsRead, seen_read}
 use Rattle.transcript_text.proofs.Cutting.{lacks-append, lacks-decimal, not_lacking, same_cut}
@@ -26,7 +27,7 @@ use Rattle.transcript_text.proofs.StepTexts.{no_digit_below, IsOutside, comma_ou
 -- ---- numbers
 
 dot : (numbers : Numbers) → NumbersFit numbers → lacks 46 (decimal numbers.caller) ≡ true
-dot numbers fits = lacks-decimal 46 numbers.caller (no_digit_below 46 (omega arith)) (omega (arith, fits.caller))
+dot numbers fits = lacks-decimal 46 numbers.caller (no_digit_below 46 (omega arith)) (omega arith)
 
 numbers_text-parts : (numbers : Numbers) → numbers_text numbers ≡ decimal numbers.caller ++ 46 ∷ decimal numbers.event
 numbers_text-parts numbers = append_assoc (decimal numbers.caller) (codes ".") (decimal numbers.event)
@@ -38,24 +39,24 @@ spells_numbers text caller event cut lack numbers fits e =
     same_cut 46 caller (decimal numbers.caller) event (decimal numbers.event) lack (dot numbers fits) (sym cut ∙ e
     ∙ numbers_text-parts numbers)
 
-module _ (text behind digits : List ℕ) (caller : ℕ) (front : IsFront decimal (λ n. n < 2 ^ 32) text caller behind)
+module _ (text behind digits : List ℕ) (caller : ℕ) (front : IsFront decimal (λ n. n ≤ 2 ^ 32 - 1) text caller behind)
     (point : behind ≡ 46 ∷ digits) where
   event_at : (numbers : Numbers) → NumbersFit numbers → text ≡ numbers_text numbers → digits ≡ decimal numbers.event
   event_at numbers fits e =
-      let only = front.only numbers.caller (46 ∷ decimal numbers.event) fits.caller (λ d. omega arith)
+      let only = front.only numbers.caller (46 ∷ decimal numbers.event) (omega arith) (λ d. omega arith)
       (e ∙ numbers_text-parts numbers) in
       let same : 46 ∷ digits ≡ 46 ∷ decimal numbers.event = sym point ∙ only.1 in
       cc
 
-  pub no_event : NoFront decimal (λ n. n < 2 ^ 32) digits → (numbers : Numbers) → NumbersFit numbers
+  pub no_event : NoFront decimal (λ n. n ≤ 2 ^ 32 - 1) digits → (numbers : Numbers) → NumbersFit numbers
       → text ≡ numbers_text numbers → ⊥
   no_event none numbers fits e =
-      none numbers.event [] fits.event tt (event_at numbers fits e ∙ sym (append-nil (decimal numbers.event)))
+      none numbers.event [] (omega arith) tt (event_at numbers fits e ∙ sym (append-nil (decimal numbers.event)))
 
-  pub more_behind : (event : ℕ) (rest : List ℕ) → IsFront decimal (λ n. n < 2 ^ 32) digits event rest
+  pub more_behind : (event : ℕ) (rest : List ℕ) → IsFront decimal (λ n. n ≤ 2 ^ 32 - 1) digits event rest
       → (rest ≡ [] → ⊥) → (numbers : Numbers) → NumbersFit numbers → text ≡ numbers_text numbers → ⊥
   more_behind event rest f some numbers fits e =
-      some (f.only numbers.event [] fits.event tt
+      some (f.only numbers.event [] (omega arith) tt
       (event_at numbers fits e ∙ sym (append-nil (decimal numbers.event)))).1
 
 -- ---- the five fields
@@ -143,8 +144,8 @@ pub numbers_lack : (byte : ℕ) → IsOutside byte → lacks byte (codes ".") �
 numbers_lack byte out point numbers fits =
     lacks-append byte (decimal numbers.caller ++ codes ".") (decimal numbers.event)
     (lacks-append byte (decimal numbers.caller) (codes ".")
-    (lacks-decimal byte numbers.caller out.digits (omega (arith, fits.caller))) point)
-    (lacks-decimal byte numbers.event out.digits (omega (arith, fits.event)))
+    (lacks-decimal byte numbers.caller out.digits (omega arith)) point)
+    (lacks-decimal byte numbers.event out.digits (omega arith))
 
 pub line_splits : (text : List ℕ) (line : SeenLine) → LineFits line → text ≡ line_text line
     → IsSplit text (numbers_text (numbers_in line)) (word_text line.word) (answer_text line.answer)

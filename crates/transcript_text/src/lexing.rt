@@ -1,6 +1,6 @@
 //! Texts cut at a byte, and numbers.
-ghost use Rattle.std.specs.Prelude.{◌≡◌, ◌<◌, ◌≤◌, ◌^◌, ◌∷◌, ◌++◌, ◌↔◌, true, length, IsTrue, MatchOption, codes, decimal};
-ghost use Rattle.transcript_text.specs.Reading.{lacks, IsDigits, IsFront, NoFront, Reads};
+ghost use Rattle.std.specs.Prelude.{◌≡◌, ◌<◌, ◌∷◌, ◌++◌, ◌↔◌, true, IsTrue, MatchOption, codes, decimal};
+ghost use Rattle.transcript_text.specs.Reading.{lacks, Reads};
 
 use event_script::numbers::number_up_to;
 use memchr::memchr;
@@ -8,8 +8,8 @@ use memchr::memchr;
 /// So many bytes are looked at one by one.
 const NEAR: usize = 8;
 
-/// A tenth of 2^63: one more digit behind a larger number makes one that is not below 2^63.
-const MOST_TENS: u64 = (1 << 63) / 10;
+/// The numbers of callers, events and CPUs are at most this.
+pub(crate) const MOST_U32: u64 = u32::MAX as u64;
 
 /// Whether a text is this one. Most have another length, which is seen without a call.
 #[inline(always)]
@@ -58,42 +58,4 @@ pub(crate) fn number_below(limit: u64, text: &[u8]) -> Option<u64>
         Some(number) if number < limit => Some(number),
         _ => None,
     }
-}
-
-/// The value of the digits that a text begins with, and how many they are; nothing where they are too many for a number
-/// below 2^63.
-fn digits_front(text: &[u8]) -> Option<(u64, usize)>
-    ensures { MatchOption result (NoFront decimal (λ n. n < 2 ^ 63) text.now)
-        (λ both. IsDigits text.now both.0 both.1) }
-{
-    let mut value: u64 = 0;
-    for (len, byte) in text.iter().enumerate() {
-        let Some(digit) = char::from(*byte).to_digit(10) else {
-            return Some((value, len));
-        };
-        if value > MOST_TENS {
-            return None;
-        }
-        value = value * 10 + u64::from(digit);
-    }
-    Some((value, text.len()))
-}
-
-/// The number below a limit that a text begins with, and what stands behind its digits. It has no leading zeros.
-pub(crate) fn number_front(limit: u64, text: &[u8]) -> Option<(u64, &[u8])>
-    requires { limit ≤ 2 ^ 63 }
-    ensures { MatchOption result (NoFront decimal (λ n. n < limit) text.now)
-        (λ both. IsFront decimal (λ n. n < limit) text.now both.0 both.1.now) }
-{
-    let (value, len) = digits_front(text)?;
-    if len == 0 {
-        return None;
-    }
-    if text[0] == b'0' && len > 1 {
-        return None;
-    }
-    if value >= limit {
-        return None;
-    }
-    Some((value, &text[len..]))
 }

@@ -5,9 +5,10 @@ ghost use Rattle.key_names.specs.Texts.TranscriptGrammar.{line_text, LineFits};
 ghost use Rattle.transcript_text.specs.ReadLines.{IsRead, IsSplit, numbers_text, NumbersFit};
 ghost use Rattle.transcript_text.specs.Reading.{Reads};
 
-use crate::lexing::{cut, cut_near, number_front};
+use crate::lexing::{MOST_U32, cut, cut_near};
 use crate::names::{answer_of, word_of};
 use crate::steps::steps_of;
+use event_script::numbers::number_front;
 use key_names::{Answer, Step, Trace, Word};
 
 /// The caller's and the event's number.
@@ -41,11 +42,11 @@ pub(crate) struct ReadLine<'a> {
 fn numbers_of(text: &[u8]) -> Option<Numbers>
     ensures { Reads numbers_text NumbersFit text.now result }
 {
-    let (caller, behind) = number_front(1 << 32, text)?;
+    let (caller, behind) = number_front(MOST_U32, text)?;
     let [b'.', digits @ ..] = behind else {
         return None;
     };
-    let (event, rest) = number_front(1 << 32, digits)?;
+    let (event, rest) = number_front(MOST_U32, digits)?;
     if !rest.is_empty() {
         return None;
     }

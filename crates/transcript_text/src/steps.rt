@@ -3,14 +3,16 @@ ghost use Rattle.std.specs.Prelude.{◌≡◌, ◌<◌, ◌≤◌, ◌^◌, leng
 ghost use Rattle.std.specs.List.{AllByRecursion};
 ghost use Rattle.std.specs.Option.{option_map};
 ghost use Rattle.key_names.specs.Texts.TranscriptGrammar.{lane_text, mark_text, step_text, steps_text, LaneFits, MarkFits, StepFits};
-ghost use Rattle.transcript_text.specs.Reading.{IsFront, NoFront, Reads, StepsFit};
+ghost use Rattle.event_script.specs.ValueFronts.{IsFront, NoFront};
+ghost use Rattle.transcript_text.specs.Reading.{Reads, StepsFit};
 
-use crate::lexing::{is_dash, number_front};
+use crate::lexing::{MOST_U32, is_dash};
+use event_script::numbers::number_front;
 use key_names::trace::MOST_STEPS;
 use key_names::{LaneId, Mark, Step, Trace};
 
-/// Generations, places and stamps are below this.
-const MOST_NUMBERS: u64 = 1 << 63;
+/// Generations, places and stamps are at most this.
+const MOST_NUMBER: u64 = (1 << 63) - 1;
 
 /// The lane that a text begins with, and what stands behind it.
 fn lane_front(text: &[u8]) -> Option<(LaneId, &[u8])>
@@ -22,7 +24,7 @@ fn lane_front(text: &[u8]) -> Option<(LaneId, &[u8])>
         [b'p', rest @ ..] => Some((LaneId::Pool, rest)),
         [b'b', rest @ ..] => Some((LaneId::Base, rest)),
         [b'c', digits @ ..] => {
-            let (cpu, rest) = number_front(1 << 32, digits)?;
+            let (cpu, rest) = number_front(MOST_U32, digits)?;
             Some((LaneId::Cpu(cpu as u32), rest))
         }
         _ => None,
@@ -38,11 +40,11 @@ fn mark_front(text: &[u8]) -> Option<(Mark, &[u8])>
     let [b':', places @ ..] = behind_lane else {
         return None;
     };
-    let (place, behind_place) = number_front(MOST_NUMBERS, places)?;
+    let (place, behind_place) = number_front(MOST_NUMBER, places)?;
     let [b'@', stamps @ ..] = behind_place else {
         return None;
     };
-    let (stamp, rest) = number_front(MOST_NUMBERS, stamps)?;
+    let (stamp, rest) = number_front(MOST_NUMBER, stamps)?;
     Some((Mark { lane, place, stamp }, rest))
 }
 
@@ -54,7 +56,7 @@ fn step_front(text: &[u8]) -> Option<(Step, &[u8])>
     match text {
         [] => None,
         [b'~', digits @ ..] => {
-            let (generation, rest) = number_front(MOST_NUMBERS, digits)?;
+            let (generation, rest) = number_front(MOST_NUMBER, digits)?;
             Some((Step::Look(generation), rest))
         }
         _ => {

@@ -8,11 +8,11 @@ use Rattle.transcript_text.proofs.line.numbers_of.Goals as goal
 pub returns-in_err-event : goal.returns-in_err-event
 returns-in_err-event c =
     reads_none numbers_text NumbersFit c.args.text.now _ c.from_residual-in_err-event.ensures
-    (no_event c.args.text.now c.in_ok-caller.behind.now _ c.in_ok-caller.caller c.in_ok-caller.ensures
-    (begins_so 46 c.in_ok-caller.behind.now (omega arith) (omega arith)) c.in_err-event.ensures)
+    (no_event c.args.text.now c.in_ok-caller.behind.now _ c.in_ok-caller.caller c.in_ok-caller.ensures.front
+    (begins_so 46 c.in_ok-caller.behind.now (omega arith) (omega arith)) c.in_err-event.ensures.front)
 
 pub returns-then-not-is_empty : goal.returns-then-not-is_empty
 returns-then-not-is_empty c =
-    more_behind c.args.text.now c.in_ok-caller.behind.now _ c.in_ok-caller.caller c.in_ok-caller.ensures
+    more_behind c.args.text.now c.in_ok-caller.behind.now _ c.in_ok-caller.caller c.in_ok-caller.ensures.front
     (begins_so 46 c.in_ok-caller.behind.now (omega arith) (omega arith)) c.in_ok-event.event c.in_ok-event.rest.now
-    c.in_ok-event.ensures (λ e. let none = rw e at c.if-not-is_empty.ensures in absurd cc)
+    c.in_ok-event.ensures.front (λ e. let none = rw e at c.if-not-is_empty.ensures in absurd cc)

@@ -13,12 +13,12 @@ returns-in-98 c = base_front c.args.text.now _ (begins_so 98 c.args.text.now (om
 pub returns-in_err-cpu-in-99 : goal.returns-in_err-cpu-in-99
 returns-in_err-cpu-in-99 c = matched_none _ _ _ c.from_residual.ensures
     (no_cpu_front c.args.text.now _ (begins_so 99 c.args.text.now (omega arith) (omega arith))
-    c.in_err-cpu-in-99.ensures)
+    c.in_err-cpu-in-99.ensures.front)
 
 pub returns-in_ok-cpu-in-99 : goal.returns-in_ok-cpu-in-99
 returns-in_ok-cpu-in-99 c =
     cpu_front c.args.text.now _ _ _ (begins_so 99 c.args.text.now (omega arith) (omega arith))
-    c.in_ok-cpu-in-99.ensures
+    c.in_ok-cpu-in-99.ensures.front
 
 pub returns-in-empty : goal.returns-in-empty
 returns-in-empty c = no_lane_front c.args.text.now (λ rest e. omega (arith, ap length e, c.in-empty.len_below))

@@ -8,12 +8,12 @@ use Rattle.transcript_text.proofs.steps.step_front.Goals as goal
 pub returns-in_err-generation-in-126 : goal.returns-in_err-generation-in-126
 returns-in_err-generation-in-126 c = matched_none _ _ _ c.from_residual.ensures
     (no_look_front c.args.text.now _ (begins_so 126 c.args.text.now (omega arith) (omega arith))
-    c.in_err-generation-in-126.ensures)
+    c.in_err-generation-in-126.ensures.front)
 
 pub returns-in_ok-generation-in-126 : goal.returns-in_ok-generation-in-126
 returns-in_ok-generation-in-126 c =
     look_front c.args.text.now _ _ _ (begins_so 126 c.args.text.now (omega arith) (omega arith))
-    c.in_ok-generation-in-126.ensures
+    c.in_ok-generation-in-126.ensures.front
 
 pub returns-in-empty : goal.returns-in-empty
 returns-in-empty c =
