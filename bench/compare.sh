@@ -168,6 +168,11 @@ beside_plain() {
     beside "$1" "$2" "$room/plain_core"
 }
 
+# beside_duties NAME SCRIPT: beside plain_core with two of a run's duties.
+beside_duties() {
+    beside "$1" "$2" "$room/duties"
+}
+
 # beside_kernel NAME SCRIPT: beside the kernel's own code, which writes the answers and bytes of the same transcript.
 beside_kernel() {
     "$kernel" <"$2" >"$room/plain" &&
@@ -178,6 +183,7 @@ beside_kernel() {
 for name in plain_core interleaved; do
     "${CC:-cc}" -O2 -o "$room/$name" "bench/$name.c"
 done
+"${CC:-cc}" -O2 -DDUTIES -o "$room/duties" bench/plain_core.c
 
 keystream=$(beyond_start keystream "$bytes")
 plain=$(beyond_start plain "$bytes")
@@ -255,6 +261,8 @@ printf '%-52s %12s\n' "the least seconds of five runs of two events" \
 what='instructions; wall and processor seconds to /dev/null, a pipe, a file'
 echo "rng run to plain_core: $what"
 whole_runs | while IFS=: read -r name text; do beside_plain "$name" "$text"; done
+echo "rng run to plain_core with all events read first, and a lock for each visit: $what"
+whole_runs | while IFS=: read -r name text; do beside_duties "$name" "$text"; done
 
 kernel=tools/kernel/out/harness
 if [ -x "$kernel" ]; then

@@ -5,6 +5,10 @@
  * algorithms are those that the kernel's generic code uses: BLAKE2s by blocks of 64 bytes (RFC 7693), ChaCha20 one block
  * at a time (RFC 8439), a key erased before its bytes are given away. No locks, no threads, no checks: it takes for
  * granted that its input is a script of one caller without `inside` lines.
+ *
+ * With -DDUTIES it does two things that a run owes as well: it reads all events before it makes the first, as who refuses
+ * a script by its first fault alone must; and each visit takes its lane's lock and its stamp by atomic operations. It
+ * still checks nothing, and keeps no line.
  */
 #include <stdint.h>
 #include <stdio.h>
@@ -244,10 +248,26 @@ static uint64_t look(void)
     return base_generation;
 }
 
+#ifdef DUTIES
+static uint64_t tickets[MOST_CPUS + 2], served_tickets[MOST_CPUS + 2];
+
+static void visit(int lane)
+{
+    uint64_t ticket = __atomic_fetch_add(&tickets[lane + 2], 1, __ATOMIC_SEQ_CST);
+    uint64_t now;
+
+    while (__atomic_load_n(&served_tickets[lane + 2], __ATOMIC_SEQ_CST) != ticket)
+        ;
+    now = __atomic_add_fetch(&stamp, 1, __ATOMIC_SEQ_CST);
+    steps[step_count++] = (struct step){lane, places[lane + 2]++, now};
+    __atomic_store_n(&served_tickets[lane + 2], ticket + 1, __ATOMIC_SEQ_CST);
+}
+#else
 static void visit(int lane)
 {
     steps[step_count++] = (struct step){lane, places[lane + 2]++, ++stamp};
 }
+#endif
 
 /* extract_entropy */
 static void extract(uint8_t *root)
@@ -634,7 +654,7 @@ static void put_line(uint64_t event, const char *word, const char *answer, int64
 static uint8_t *text;
 static const uint8_t *at;
 
-static uint64_t field_number(void)
+static uint64_t read_number(void)
 {
     uint64_t number = 0;
 
@@ -642,6 +662,15 @@ static uint64_t field_number(void)
         number = number * 10 + (uint64_t)(*at - '0');
     return number;
 }
+
+#ifdef DUTIES
+/* The numbers of the event that is made, where they were kept. */
+static const uint64_t *numbers;
+
+static uint64_t field_number(void) { return numbers ? *numbers++ : read_number(); }
+#else
+static uint64_t field_number(void) { return read_number(); }
+#endif
 
 static uint8_t digit(uint8_t byte)
 {
@@ -839,6 +868,51 @@ static void read_script(void)
     at = text;
 }
 
+#ifdef DUTIES
+/* An event, and its numbers where they are at most two and all of its fields; of others the fields are read again. */
+struct event {
+    enum word word;
+    int has_numbers;
+    uint64_t numbers[2];
+    const uint8_t *at;
+};
+
+static struct event *events;
+static size_t event_count;
+
+static void read_event(struct event *event)
+{
+    event->word = word_at();
+    event->at = at;
+    for (int i = 0; i < 2 && *at == ' '; i++)
+        event->numbers[i] = read_number();
+    event->has_numbers = *at == '\n';
+    while (*at != '\n')
+        at++;
+}
+
+static void read_events(void)
+{
+    size_t room = 4096;
+
+    events = malloc(room * sizeof(*events));
+    for (; memcmp(at, "end\n", 4); at++) {
+        if (event_count == room)
+            events = realloc(events, (room *= 2) * sizeof(*events));
+        if (!events)
+            exit(6);
+        read_event(&events[event_count++]);
+    }
+}
+
+static enum word next_event(size_t number)
+{
+    at = events[number].at;
+    numbers = events[number].has_numbers ? events[number].numbers : NULL;
+    return events[number].word;
+}
+#endif
+
 int main(void)
 {
     static const uint64_t fast_start[4] = {
@@ -853,8 +927,14 @@ int main(void)
     for (int i = 0; i < 3; i++)
         at = (const uint8_t *)strchr((const char *)at, '\n') + 1;
     put("rngtranscript 1\n");
+#ifdef DUTIES
+    read_events();
+    while (number < event_count) {
+        enum word word = next_event(number);
+#else
     for (; memcmp(at, "end\n", 4); at++) {
         enum word word = word_at();
+#endif
         int64_t bits = -1;
         const char *answer;
 
