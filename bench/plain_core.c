@@ -6,9 +6,9 @@
  * at a time (RFC 8439), a key erased before its bytes are given away. No locks, no threads, no checks: it takes for
  * granted that its input is a script of one caller without `inside` lines.
  *
- * With -DDUTIES it does two things that a run owes as well: it reads all events before it makes the first, as who refuses
- * a script by its first fault alone must; and each visit takes its lane's lock and its stamp by atomic operations. It
- * still checks nothing, and keeps no line.
+ * With -DDUTIES it does two things that a run does as well: it reads all events before it makes the first, since a script
+ * with a fault is answered by its refusal alone; and each visit takes its lane's lock and its stamp by atomic operations.
+ * It still checks nothing, and keeps no line.
  */
 #include <stdint.h>
 #include <stdio.h>
