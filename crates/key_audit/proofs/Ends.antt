@@ -10,7 +10,7 @@ use Rattle.key_names.specs.Texts.ScriptGrammar.{Script}
 use Rattle.key_uses.specs.HeldUnused.{HoldsUnused}
 use Rattle.tool_ends.specs.Pairs.{IsNoPair, IsPair, RefusalOf}
 use Rattle.tool_ends.specs.declared.pair.NoPair.{NoPair}
-use Rattle.tool_ends.specs.declared.pair.NoPair.TheVariants.{Refused as FirstFault, No as Clause, NoMemory as Unread}
+use Rattle.tool_ends.specs.declared.pair.NoPair.TheVariants.{ReadFault as SourceFails, Refused as FirstFault, No as Clause, NoMemory as Unread}
 use Rattle.tool_ends.specs.declared.status.Status.{Status}
 use Rattle.tool_ends.specs.declared.status.Status.TheVariants.{Done, No, Usage, ReadFault, WriteFault, Refused, NoMemory}
 use Rattle.tool_ends.proofs.Inputs.{IsLimited}
@@ -33,6 +33,7 @@ of_pair ask input script t pair NoMemory o told = absurd told
 -- what is said of an input that is not read is said of its text
 pub of_none : (ask : Ask) (input : List ℕ) (why : NoPair) → IsNoPair input why → (s : Status) (o : List ℕ) →
     RefusalOf why s o → Calls ask input s o
+of_none ask input SourceFails is s o said = absurd is
 of_none ask input (FirstFault fault) is s o said =
     subst (λ status. Calls ask input status o) (sym said.0) (record { fault = fault; first = is; line = said.1 })
 of_none ask input (Clause number) is s o said =

@@ -4,14 +4,14 @@ ghost use Rattle.io_edges.specs.Faults.{Rose};
 ghost use Rattle.key_names.specs.Texts.ScriptGrammar.{WellFormed};
 ghost use Rattle.tool_ends.specs.Reads.{WritesEnds};
 ghost use Rattle.key_audit.specs.Commands.{Asks, IsNoForm};
-ghost use Rattle.key_audit.specs.Outcome.{AuditEnds, Calls, ToldOf};
+ghost use Rattle.key_audit.specs.Outcome.{AuditEnds, ToldOf};
 
 use crate::answer::answer_text;
 use crate::ask::{Ask, ask_of};
 use event_script::Script;
-use io_edges::{ReadError, Sink, Source, read_to_limit};
+use io_edges::{Sink, Source};
 use std::alloc::Global;
-use tool_ends::pair::{MOST_INPUT, read_pair};
+use tool_ends::pair::read_pair;
 use tool_ends::short_lines::no_line;
 use tool_ends::{Status, end_output, put_answer, put_line, put_refusal};
 use transcript_check::check::{Verdict, check};
@@ -35,19 +35,6 @@ fn tell<K: Sink>(alloc: Global, ask: Ask, script: &Script, t: &Transcript, sink:
     }
 }
 
-// What an input calls for.
-fn answer<K: Sink>(alloc: Global, ask: Ask, input: &[u8], sink: &mut K) -> Status
-    ensures ends { WritesEnds (Calls ask input.now) result (K.held sink.old) (K.held sink.new) }
-    ensures cut { result ≡ Status.WriteFault → Rose (K.faults sink.old) (K.faults sink.new) }
-    ensures silent { result ≡ Status.NoMemory → sink.new ≡ sink.old }
-    ensures never_falls { K.faults sink.old ≤ K.faults sink.new }
-{
-    match read_pair(alloc, input) {
-        Ok((script, t)) => tell(alloc, ask, &script, &t, sink),
-        Err(why) => put_refusal(why, sink),
-    }
-}
-
 // Tells what is asked of the script and the transcript that the source gives.
 fn audit_input<S: Source, K: Sink>(alloc: Global, ask: Ask, source: &mut S, sink: &mut K) -> Status
     ensures ends { AuditEnds ask result (S.left source.old) (S.left source.new) (K.held sink.old) (K.held sink.new) }
@@ -56,12 +43,10 @@ fn audit_input<S: Source, K: Sink>(alloc: Global, ask: Ask, source: &mut S, sink
     ensures cut { result ≡ Status.WriteFault → Rose (K.faults sink.old) (K.faults sink.new) }
     ensures never_falls { K.faults sink.old ≤ K.faults sink.new }
 {
-    let input = match read_to_limit(alloc, source, MOST_INPUT) {
-        Ok(input) => input,
-        Err(ReadError::Fault) => return Status::ReadFault,
-        Err(ReadError::NoMemory) => return Status::NoMemory,
-    };
-    answer(alloc, ask, &input, sink)
+    match read_pair(alloc, source) {
+        Ok((script, t)) => tell(alloc, ask, &script, &t, sink),
+        Err(why) => put_refusal(why, sink),
+    }
 }
 
 /// Runs the command that the words are. The input is a script, which its first line `end` ends, and then a transcript,

@@ -7,7 +7,7 @@ use Rattle.key_names.specs.Texts.TranscriptGrammar.{TranscriptFits, transcript_t
 use Rattle.serial_replay.specs.Replayed.{IsTheTranscript}
 use Rattle.tool_ends.specs.Pairs.{FailsAsText, IsNoPair, IsPair, RefusalOf, behind}
 use Rattle.tool_ends.specs.declared.pair.NoPair.{NoPair}
-use Rattle.tool_ends.specs.declared.pair.NoPair.TheVariants.{Refused as FirstFault, No as Clause, NoMemory as Unread}
+use Rattle.tool_ends.specs.declared.pair.NoPair.TheVariants.{ReadFault as SourceFails, Refused as FirstFault, No as Clause, NoMemory as Unread}
 use Rattle.tool_ends.specs.declared.status.Status.{Status}
 use Rattle.tool_ends.specs.declared.status.Status.TheVariants.{Done, No, Usage, ReadFault, WriteFault, Refused, NoMemory}
 use Rattle.rng_tool.specs.JudgeOutcome.{Fails, GivesBack, IsClause, JudgeCalls, SaidOf}
@@ -67,6 +67,7 @@ clause_said judge input number fails = elim fails.clause [
 -- what is said of an input that is not read is said of its text
 pub none_said : (judge : Judge) (input : List ℕ) (why : NoPair) → IsNoPair input why → (s : Status) (o : List ℕ) →
     RefusalOf why s o → JudgeCalls judge input s o
+none_said judge input SourceFails is s o said = absurd is
 none_said judge input (FirstFault fault) is s o said = subst (λ status. JudgeCalls judge input status o) (sym said.0)
     (record { fault = fault; first = is; line = said.1 })
 none_said judge input (Clause number) is s o said = subst (λ status. JudgeCalls judge input status o) (sym said.0)

@@ -4,4 +4,3 @@ pub mod Runs
 pub mod ShownBytes
 pub mod Completes
 pub mod VforkWords
-mod KeptEnds

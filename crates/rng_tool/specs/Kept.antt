@@ -1,7 +1,6 @@
 -- What a source that remembers has given.
-use Rattle.std.specs.Prelude.{ℕ, Bool, List, [], ◌∷◌, Option}
+use Rattle.std.specs.Prelude.{ℕ, Bool, List, Option}
 use Rattle.std.specs.Option.{option_map}
-use Rattle.memchr.specs.Find.{OccursAt}
 use Rattle.rng_tool.specs.declared.kept.KeptSource.{KeptSource}
 
 -- the bytes that it gave, where it has them, up to the piece in which the script is over
@@ -14,7 +13,3 @@ is_over s = s.is_over
 
 abbrev pub source_of : {S : Type 0} → KeptSource S → S
 source_of s = s.source
-
--- a line `end` stands in these bytes, behind another line
-abbrev pub HasEndLine : List ℕ → Type 0
-HasEndLine bytes = (place : ℕ) × OccursAt bytes (10 ∷ 101 ∷ 110 ∷ 100 ∷ 10 ∷ []) place

@@ -2,15 +2,15 @@
 ghost use Rattle.std.specs.Prelude.{◌≡◌, ◌⊎◌, ◌≤◌, IfSome, Some};
 ghost use Rattle.io_edges.specs.Faults.{Rose};
 ghost use Rattle.key_names.specs.Texts.ScriptGrammar.{WellFormed};
-ghost use Rattle.rng_tool.specs.JudgeOutcome.{IsJudge, JudgeCalls, JudgeEnds, SaidOf, word_of, yes_line};
+ghost use Rattle.rng_tool.specs.JudgeOutcome.{IsJudge, JudgeEnds, SaidOf, word_of, yes_line};
 ghost use Rattle.tool_ends.specs.Reads.{WritesEnds};
 
 use arrayvec::ArrayString;
 use event_script::Script;
-use io_edges::{Failed, ReadError, Sink, Source, read_to_limit};
+use io_edges::{Failed, Sink, Source};
 use serial_replay::replay::{Replayed, replay};
 use std::alloc::Global;
-use tool_ends::pair::{MOST_INPUT, read_pair};
+use tool_ends::pair::read_pair;
 use tool_ends::short_lines::{ShortLine, no_line};
 use tool_ends::{Status, put_line, put_refusal};
 use transcript_check::check::{Verdict, check};
@@ -111,22 +111,6 @@ fn say<K: Sink>(
     }
 }
 
-// What an input calls for.
-fn answer<K: Sink>(alloc: Global, judge: Judge, input: Vec<u8>, sink: &mut K) -> Status
-    ensures ends { WritesEnds (JudgeCalls judge input.items) result (K.held sink.old) (K.held sink.new) }
-    ensures cut { result ≡ Status.WriteFault → Rose (K.faults sink.old) (K.faults sink.new) }
-    ensures silent { result ≡ Status.NoMemory → sink.new ≡ sink.old }
-    ensures never_falls { K.faults sink.old ≤ K.faults sink.new }
-{
-    let found = read_pair(alloc, &input);
-    // Both are there without their texts, which may be long.
-    drop(input);
-    match found {
-        Ok((script, t)) => say(alloc, judge, &script, &t, sink),
-        Err(why) => put_refusal(why, sink),
-    }
-}
-
 /// Says what is asked of the script and the transcript that the source gives, or refuses the script.
 pub(crate) fn judge_input<S: Source, K: Sink>(
     alloc: Global,
@@ -141,10 +125,8 @@ pub(crate) fn judge_input<S: Source, K: Sink>(
     ensures cut { result ≡ Status.WriteFault → Rose (K.faults sink.old) (K.faults sink.new) }
     ensures never_falls { K.faults sink.old ≤ K.faults sink.new }
 {
-    let input = match read_to_limit(alloc, source, MOST_INPUT) {
-        Ok(input) => input,
-        Err(ReadError::Fault) => return Status::ReadFault,
-        Err(ReadError::NoMemory) => return Status::NoMemory,
-    };
-    answer(alloc, judge, input, sink)
+    match read_pair(alloc, source) {
+        Ok((script, t)) => say(alloc, judge, &script, &t, sink),
+        Err(why) => put_refusal(why, sink),
+    }
 }

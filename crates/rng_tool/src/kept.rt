@@ -3,17 +3,15 @@ ghost use Rattle.std.specs.Prelude.{◌≡◌, ◌<◌, ◌≤◌, ◌++◌, [],
 ghost use Rattle.std.specs.Io.{ReadsAtMost};
 ghost use Rattle.std.specs.Io.KnownBytes.{Consumes, IsAtEnd, Keeps};
 ghost use Rattle.io_edges.specs.Faults.{Rose};
-ghost use Rattle.rng_tool.specs.Kept.{HasEndLine, given_by, is_over, source_of};
+ghost use Rattle.rng_tool.specs.Kept.{given_by, is_over, source_of};
+ghost use Rattle.tool_ends.specs.Intakes.{HasEndLine};
 
 use io_edges::{Failed, Source};
-use memchr::memmem;
 use std::alloc::Global;
+use tool_ends::script_end::has_end_line;
 
 /// The most bytes that are remembered: one more than the 16 MiB of a script, so that one which is too long is told.
 const MOST_KEPT: usize = 16_777_217;
-
-/// A script's last line, behind another line.
-const END_LINE: &[u8] = b"\nend\n";
 
 /// A source that remembers the bytes which it gave, while they are no more than a script can have and there is memory
 /// for them. Where they are more it lets go of them all. Where more than a script may be given, what comes behind the
@@ -36,16 +34,6 @@ fn with_more(mut given: Vec<u8>, more: &[u8]) -> Option<Vec<u8>>
     }
     given.extend_from_slice(more).ok()?;
     Some(given)
-}
-
-// Whether a line `end` came with the last `count` bytes.
-fn has_end(given: &[u8], count: usize) -> bool
-    ensures { IsTrue result → HasEndLine given.now }
-{
-    let before = given.len().saturating_sub(count);
-    let from = before.saturating_sub(END_LINE.len() - 1);
-    let (_, last) = given.split_at(from);
-    memmem::find(last, END_LINE).is_some()
 }
 
 impl<S: Source + Drop> KeptSource<S> {
@@ -82,7 +70,7 @@ impl<S: Source + Drop> KeptSource<S> {
             return;
         };
         if let Some(all) = with_more(given, more) {
-            self.is_over = self.has_more && has_end(&all, more.len());
+            self.is_over = self.has_more && has_end_line(&all, more.len());
             self.given = Some(all);
         }
     }

@@ -31,7 +31,7 @@ fn fault(alloc: Global, text: &[u8]) -> u32 {
     match read(alloc, text) {
         Ok(_) => 0,
         Err(TextError::Fault { line }) => line,
-        Err(TextError::NoMemory) => u32::MAX,
+        Err(TextError::TooManyLines | TextError::NoMemory) => u32::MAX,
     }
 }
 

@@ -239,7 +239,7 @@ fn fault(rt: &impl Abort, alloc: Global, head: &str, rest: &str) -> Result<u32, 
     match read(alloc, text.as_bytes()) {
         Ok(_) => Ok(0),
         Err(TextError::Fault { line }) => Ok(line),
-        Err(TextError::NoMemory) => Err(AllocError),
+        Err(TextError::TooManyLines | TextError::NoMemory) => Err(AllocError),
     }
 }
 

@@ -12,9 +12,10 @@ use Rattle.key_names.specs.IsTranscript.{EachCaller, HasLines, LinesFit}
 use Rattle.key_names.specs.Texts.ScriptFaults.{front}
 use Rattle.key_names.specs.Texts.ScriptGrammar.{Script, IsScript, WellFormed}
 use Rattle.key_names.specs.SeenLine.{SeenLine}
-use Rattle.tool_ends.specs.Pairs.{HasTooManyLines, IsNoPair, IsNoText, LacksLines, RefusalOf, TellsFault, behind, no_line, pair_fault, refusal_line}
+use Rattle.transcript_text.specs.ReadTexts.{HasMoreLines}
+use Rattle.tool_ends.specs.Pairs.{IsNoPair, IsNoText, LacksLines, RefusalOf, TellsFault, behind, no_line, pair_fault, refusal_line}
 use Rattle.tool_ends.specs.declared.pair.NoPair.{NoPair}
-use Rattle.tool_ends.specs.declared.pair.NoPair.TheVariants.{Refused, No, NoMemory}
+use Rattle.tool_ends.specs.declared.pair.NoPair.TheVariants.{ReadFault, Refused, No, NoMemory}
 use Rattle.tool_ends.specs.declared.status.Status.{Status}
 use Rattle.tool_ends.specs.declared.status.Status.TheVariants.{Refused as IsRefused, No as IsNo}
 
@@ -49,15 +50,15 @@ pub few_lines : (script : Script) (t : List (List SeenLine)) → WellFormed scri
 few_lines script t ok fit = omega (arith, ok.events, ok.callers.1, lines_of_all 0 script.callers t fit)
 
 -- more lines than any script's transcript has are not those of this script
-pub too_many : (script : Script) (text : List ℕ) → WellFormed script → HasTooManyLines text → LacksLines script text
-too_many script text ok many = record {
-  lines = many.lines;
-  is_text = many.is_text;
+pub too_many : (script : Script) (text : List ℕ) → WellFormed script → HasMoreLines 65600 text → LacksLines script text
+too_many script text ok more = record {
+  lines = more.callers;
+  is_text = more.is_text;
   fails = λ has. absurd (omega (
     arith,
-    many.many,
-    few_lines script many.lines ok has,
-    length-flat_map (λ ls. ls) many.lines,
+    more.many,
+    few_lines script more.callers ok has,
+    length-flat_map (λ ls. ls) more.callers,
   ));
 }
 
@@ -77,6 +78,7 @@ too_long_alike input all output long too tells = record {
 -- what keeps the text behind a script from being read keeps the input from it
 pub no_pair : (input : List ℕ) (script : Script) → length input ≤ 100663296 → IsScript script (front input) →
     (why : NoPair) → IsNoText (behind input) why → IsNoPair input why
+no_pair input script short is ReadFault not = absurd not
 no_pair input script short is (Refused fault) not = absurd not
 no_pair input script short is (No number) not = record {
   short = short;

@@ -1,3 +1,4 @@
 pub mod Ends
+pub mod Intakes
 pub mod Pairs
 pub mod Reads

@@ -1,7 +1,8 @@
 -- A script with a transcript behind it as one input, and what answers an input that is none.
-use Rattle.std.specs.Prelude.{ℕ, ◌≡◌, ◌⊎◌, ◌<◌, ◌≤◌, ⊤, List, [], ◌∷◌, Option, Some, codes, drop, length, nat_lt}
+use Rattle.std.specs.Prelude.{ℕ, ◌≡◌, ◌⊎◌, ◌+◌, ◌≤◌, ⊤, List, [], ◌∷◌, Option, Some, IfSome, codes, drop, length, take, nat_lt}
 use Rattle.std.specs.Prelude.{if◌then◌else◌}
 use Rattle.std.specs.Fmt.{decimal}
+use Rattle.std.specs.Io.KnownBytes.{Consumes, IsAtEnd, Keeps}
 use Rattle.key_names.specs.declared.faults.FaultKind.TheVariants.{TooLong}
 use Rattle.key_names.specs.declared.faults.ScriptFault.{ScriptFault}
 use Rattle.key_names.specs.IsTranscript.{HasLines}
@@ -9,11 +10,13 @@ use Rattle.key_names.specs.SeenLine.{SeenLine}
 use Rattle.key_names.specs.Texts.ScriptFaults.{first_fault, front, kind_number}
 use Rattle.key_names.specs.Texts.ScriptGrammar.{Script, IsScript}
 use Rattle.key_names.specs.Texts.Spelling.{lined, spaced}
-use Rattle.key_names.specs.Texts.TranscriptGrammar.{IsTranscriptText, all_lines}
+use Rattle.key_names.specs.Texts.TranscriptGrammar.{IsTranscriptText}
+use Rattle.transcript_text.specs.ReadTexts.{HasMoreLines}
 use Rattle.tool_ends.specs.declared.pair.NoPair.{NoPair}
-use Rattle.tool_ends.specs.declared.pair.NoPair.TheVariants.{Refused, No, NoMemory}
+use Rattle.tool_ends.specs.declared.pair.NoPair.TheVariants.{ReadFault, Refused, No, NoMemory}
 use Rattle.tool_ends.specs.declared.status.Status.{Status}
-use Rattle.tool_ends.specs.declared.status.Status.TheVariants.{Refused as IsRefused, No as IsNo}
+use Rattle.tool_ends.specs.declared.status.Status.TheVariants.{ReadFault as Unread, Refused as IsRefused, No as IsNo}
+use Rattle.tool_ends.specs.Reads.{WritesEnds}
 
 -- the most bytes of a script and a transcript
 abbrev pub most_input : ℕ
@@ -47,24 +50,40 @@ pub record FailsAsText (input : List ℕ) (number : ℕ) : Type 0 where
   pub clause : (number ≡ 1) × ((lines : List (List SeenLine)) → IsTranscriptText (behind input) lines → ⊥)
       ⊎ (number ≡ 2) × LacksLines script (behind input)
 
--- a transcript's text with more lines than any script's transcript has
-pub record HasTooManyLines (text : List ℕ) : Type 0 where
-  pub lines : List (List SeenLine)
-  pub is_text : IsTranscriptText text lines
-  pub many : 65600 < length (all_lines lines)
-
 -- why a text is not read as a transcript
 abbrev pub IsNoText : List ℕ → NoPair → Type 0
+IsNoText text ReadFault = ⊥
 IsNoText text (Refused fault) = ⊥
 IsNoText text (No number) = (number ≡ 1) × ((lines : List (List SeenLine)) → IsTranscriptText text lines → ⊥)
-    ⊎ (number ≡ 2) × HasTooManyLines text
+    ⊎ (number ≡ 2) × HasMoreLines 65600 text
 IsNoText text NoMemory = ⊤
 
 -- why an input is not read
 abbrev pub IsNoPair : List ℕ → NoPair → Type 0
+IsNoPair input ReadFault = ⊥
 IsNoPair input (Refused fault) = pair_fault input ≡ Some fault
 IsNoPair input (No number) = FailsAsText input number
 IsNoPair input NoMemory = ⊤
+
+-- ---- from a source
+
+-- what was read of what a source had left: all of it, or one byte more than there may be
+pub record WasRead (left left_after : Option (List ℕ)) (input : List ℕ) : Type 0 where
+  pub read : Consumes left left_after input
+  pub whole : length input ≤ most_input → IsAtEnd left_after
+  pub front : IfSome left (λ all. input ≡ take (most_input + 1) all)
+
+-- a script and a transcript were read
+abbrev pub GivesPair : Option (List ℕ) → Option (List ℕ) → Script → List (List SeenLine) → Type 0
+GivesPair left left_after script t = (input : List ℕ) × WasRead left left_after input × IsPair input script t
+
+-- an input was read that is none, unless the source failed or memory ran out
+abbrev pub GivesNoPair : Option (List ℕ) → Option (List ℕ) → NoPair → Type 0
+GivesNoPair left left_after ReadFault = ⊤
+GivesNoPair left left_after (Refused fault) =
+    (input : List ℕ) × WasRead left left_after input × (pair_fault input ≡ Some fault)
+GivesNoPair left left_after (No number) = (input : List ℕ) × WasRead left left_after input × FailsAsText input number
+GivesNoPair left left_after NoMemory = ⊤
 
 -- ---- the answers
 
@@ -85,6 +104,14 @@ pub record TellsFault (input output : List ℕ) : Type 0 where
 
 -- what says why an input is not read, and the status that says so
 abbrev pub RefusalOf : NoPair → Status → List ℕ → Type 0
+RefusalOf ReadFault status output = ⊥
 RefusalOf (Refused fault) status output = (status ≡ IsRefused) × (output ≡ refusal_line fault)
 RefusalOf (No number) status output = (status ≡ IsNo) × (output ≡ no_line number)
 RefusalOf NoMemory status output = ⊥
+
+-- how an answer ends that says why
+abbrev pub RefusalEnds : NoPair → Status → Option (List ℕ) → Option (List ℕ) → Type 0
+RefusalEnds ReadFault status held held_after = (status ≡ Unread) × Keeps held held_after
+RefusalEnds (Refused fault) status held held_after = WritesEnds (RefusalOf (Refused fault)) status held held_after
+RefusalEnds (No number) status held held_after = WritesEnds (RefusalOf (No number)) status held held_after
+RefusalEnds NoMemory status held held_after = WritesEnds (RefusalOf NoMemory) status held held_after

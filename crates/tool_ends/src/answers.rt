@@ -2,7 +2,7 @@
 ghost use Rattle.std.specs.Prelude.{◌≡◌, ◌≤◌, ◌⊎◌};
 ghost use Rattle.io_edges.specs.Faults.{Rose};
 ghost use Rattle.tool_ends.specs.Ends.{IsAnswered};
-ghost use Rattle.tool_ends.specs.Pairs.{RefusalOf};
+ghost use Rattle.tool_ends.specs.Pairs.{RefusalEnds};
 ghost use Rattle.tool_ends.specs.Reads.{WritesEnds};
 
 use crate::pair::NoPair;
@@ -41,13 +41,15 @@ pub fn put_line<K: Sink>(status: Status, line: &ShortLine, sink: &mut K) -> Stat
 
 /// Answers an input that was not read as a script with a transcript behind it.
 pub fn put_refusal<K: Sink>(why: NoPair, sink: &mut K) -> Status
-    ensures ends { WritesEnds (RefusalOf why) result (K.held sink.old) (K.held sink.new) }
+    ensures ends { RefusalEnds why result (K.held sink.old) (K.held sink.new) }
     ensures memory { result ≡ Status.NoMemory → why ≡ NoPair.NoMemory }
+    ensures unread { result ≡ Status.ReadFault → why ≡ NoPair.ReadFault }
     ensures cut { result ≡ Status.WriteFault → Rose (K.faults sink.old) (K.faults sink.new) }
-    ensures silent { result ≡ Status.NoMemory → sink.new ≡ sink.old }
+    ensures silent { (result ≡ Status.ReadFault) ⊎ (result ≡ Status.NoMemory) → sink.new ≡ sink.old }
     ensures never_falls { K.faults sink.old ≤ K.faults sink.new }
 {
     match why {
+        NoPair::ReadFault => Status::ReadFault,
         NoPair::Refused(fault) => put_line(Status::Refused, &refusal_line(fault), sink),
         NoPair::No(number) => put_line(Status::No, &no_line(number), sink),
         NoPair::NoMemory => Status::NoMemory,

@@ -11,8 +11,10 @@
 mod answers;
 mod command_line;
 mod ending;
+mod intake;
 pub mod numbers;
 pub mod pair;
+pub mod script_end;
 pub mod short_lines;
 mod status;
 

@@ -1,29 +1,27 @@
 //! A script and a transcript behind it, read from one input.
-ghost use Rattle.std.specs.Prelude.{◌≡◌, ◌≤◌, ◌^◌, IfOk, IfErr, IsTrue, length};
-ghost use Rattle.key_names.specs.Texts.TranscriptGrammar.{IsTranscriptText};
-ghost use Rattle.tool_ends.specs.Pairs.{HasTooManyLines, IsNoPair, IsNoText, IsPair};
+ghost use Rattle.std.specs.Prelude.{◌≡◌, ◌≤◌, IfErr, IfOk};
+ghost use Rattle.io_edges.specs.Faults.{Rose};
+ghost use Rattle.tool_ends.specs.Pairs.{GivesPair, GivesNoPair};
+ghost use Rattle.tool_ends.specs.declared.pair.NoPair.TheVariants.{NoMemory, ReadFault};
 
-use event_script::{Script, ScriptError, read_front};
+use crate::intake::Intake;
+use event_script::Script;
+use io_edges::{Failed, Source};
 use key_names::{FaultKind, ScriptFault};
 use std::alloc::{AllocError, Global};
-use std::simd::prelude::*;
-use transcript_text::{TextError, Transcript, count_lines, read};
+use transcript_text::Transcript;
 
 /// The most bytes of a script and a transcript: 96 MiB.
 pub const MOST_INPUT: usize = 100_663_296;
 
-/// The most lines of a script's transcript: one for each of 65,536 events, and the last one of each of 64 callers.
-const MOST_LINES: u64 = 65_600;
-
-/// Line feeds are counted in so many bytes at once.
-const ROW_BYTES: usize = 64;
-
-/// So many bytes are counted in lanes of eight bits, which hold up to 255: as many rows.
-const PIECE_BYTES: usize = 255 * ROW_BYTES;
+/// So many bytes are asked for at a time.
+const PIECE: usize = 64 * 1024;
 
 /// Why an input was not read as a script and a transcript.
 #[derive(Clone, Copy, Debug, PartialEq, Eq)]
 pub enum NoPair {
+    /// The source failed.
+    ReadFault,
     /// The input is too long, or its script has a fault: this is the first.
     Refused(ScriptFault),
     /// The text behind the script is no transcript's, which is clause 1; or it has more lines than the script can have,
@@ -33,80 +31,47 @@ pub enum NoPair {
     NoMemory,
 }
 
-// How many line feeds a piece of a text has: each lane counts those of its place in the rows.
-fn line_feeds(piece: &[u8]) -> u64 {
-    let (rows, rest) = piece.as_chunks::<ROW_BYTES>();
-    let mut counts = u8x64::splat(0);
-    for row in rows {
-        let found = u8x64::from_array(*row).simd_eq(u8x64::splat(b'\n'));
-        counts = counts + found.select(u8x64::splat(1), u8x64::splat(0));
-    }
-    let mut ends = rest.iter().filter(|byte| **byte == b'\n').count() as u64;
-    for count in &counts.to_array() {
-        ends = ends.saturating_add(u64::from(*count));
-    }
-    ends
-}
+impl From<Failed> for NoPair {
+    ghost from_gives = { λ _ why. why ≡ ReadFault };
 
-// Whether the text is that of more lines than a script's transcript can have. It is not read then: its lines would take
-// more memory than those of any lawful one.
-fn has_too_many_lines(alloc: Global, text: &[u8]) -> Result<bool, AllocError>
-    requires { length text.now ≤ 2 ^ 31 }
-    ensures { IfOk result (λ many. IsTrue many → HasTooManyLines text.now) }
-{
-    let mut ends: u64 = 0;
-    for piece in text.chunks(PIECE_BYTES) {
-        ends = ends.saturating_add(line_feeds(piece));
-    }
-    if ends <= MOST_LINES {
-        return Ok(false);
-    }
-    match count_lines(alloc, text)? {
-        Some(count) => Ok(count > MOST_LINES),
-        None => Ok(false),
+    fn from(_: Failed) -> NoPair {
+        NoPair::ReadFault
     }
 }
 
-// The transcript that a text is.
-fn read_behind(alloc: Global, text: &[u8]) -> Result<Transcript, NoPair>
-    requires { length text.now ≤ 2 ^ 31 }
-    ensures read { IfOk result (λ t. IsTranscriptText text.now t) }
-    ensures not_read { IfErr result (λ why. IsNoText text.now why) }
-{
-    match has_too_many_lines(alloc, text) {
-        Ok(true) => return Err(NoPair::No(2)),
-        Ok(false) => {}
-        Err(_) => return Err(NoPair::NoMemory),
-    }
-    match read(alloc, text) {
-        Ok(t) => Ok(t),
-        Err(TextError::Fault { .. }) => Err(NoPair::No(1)),
-        Err(TextError::NoMemory) => Err(NoPair::NoMemory),
+impl From<AllocError> for NoPair {
+    ghost from_gives = { λ _ why. why ≡ NoMemory };
+
+    fn from(_: AllocError) -> NoPair {
+        NoPair::NoMemory
     }
 }
 
-/// The script that an input begins with, and the transcript that is the rest of it.
+/// The script that a source gives, and the transcript that is all that follows. The source is read to its end, or to one
+/// byte behind the most that there may be; of the transcript's text no more is kept at a time than a line.
 ///
 /// # Errors
 ///
 /// [`NoPair`] says why the input was not read.
-pub fn read_pair(alloc: Global, input: &[u8]) -> Result<(Script, Transcript), NoPair>
-    ensures read { IfOk result (λ pair. IsPair input.now pair.0 pair.1) }
-    ensures not_read { IfErr result (λ why. IsNoPair input.now why) }
+pub fn read_pair<S: Source>(alloc: Global, source: &mut S) -> Result<(Script, Transcript), NoPair>
+    ensures read { IfOk result (λ pair. GivesPair (S.left source.old) (S.left source.new) pair.0 pair.1) }
+    ensures not_read { IfErr result (λ why. GivesNoPair (S.left source.old) (S.left source.new) why) }
+    ensures read_fault { IfErr result (λ why. why ≡ NoPair.ReadFault → Rose (S.faults source.old) (S.faults source.new)) }
 {
-    if input.len() > MOST_INPUT {
-        return Err(NoPair::Refused(ScriptFault {
-            line: 0,
-            kind: FaultKind::TooLong,
-        }));
+    let mut intake = Intake::Front(Vec::new(alloc));
+    let mut piece = [0; PIECE];
+    let mut taken = 0;
+    while taken <= MOST_INPUT {
+        let most = PIECE.min(MOST_INPUT + 1 - taken);
+        let count = source.take(&mut piece[..most])?;
+        if count == 0 {
+            return intake.finish(alloc);
+        }
+        intake.take(alloc, &piece[..count])?;
+        taken += count;
     }
-    let (script, len) = match read_front(alloc, input) {
-        Ok(both) => both,
-        Err(ScriptError::Fault(fault)) => return Err(NoPair::Refused(fault)),
-        Err(ScriptError::NoMemory) => return Err(NoPair::NoMemory),
-    };
-    match read_behind(alloc, &input[len as usize..]) {
-        Ok(t) => Ok((script, t)),
-        Err(why) => Err(why),
-    }
+    Err(NoPair::Refused(ScriptFault {
+        line: 0,
+        kind: FaultKind::TooLong,
+    }))
 }

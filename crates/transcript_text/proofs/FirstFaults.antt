@@ -7,21 +7,12 @@ use Rattle.std.proofs.lemmas.List.{length-append, length-map}
 use Rattle.key_names.specs.SeenLine.{SeenLine}
 use Rattle.key_names.specs.Texts.Spelling.{lined}
 use Rattle.key_names.specs.Texts.TranscriptGrammar.{line_text, all_lines, transcript_lines, transcript_text, LineFits, TranscriptFits, UnderOwnNumber, IsTranscriptText, BeginsTranscript, IsFirstFault}
+use Rattle.transcript_text.specs.Feeding.{Rising, last_caller, head_line, line_end, front_of}
 use Rattle.transcript_text.specs.Grouping.{Gives}
 use Rattle.transcript_text.specs.Reading.{lacks}
 use Rattle.transcript_text.proofs.Cutting.{same_cut}
 use Rattle.transcript_text.proofs.LineTexts.{same_line, no_end, line_lacks_feed}
-use Rattle.transcript_text.proofs.RisingLines.{Rising, last_caller, all_lines_rise, same_callers}
-
-abbrev pub line_end : List ℕ
-line_end = codes "end"
-
-abbrev pub head_line : List ℕ
-head_line = codes "rngtranscript 1"
-
--- the lines of a text so far
-abbrev pub front_of : List SeenLine → List (List ℕ)
-front_of lines = head_line ∷ map line_text lines
+use Rattle.transcript_text.proofs.RisingLines.{all_lines_rise, same_callers}
 
 -- ---- lists of lines
 

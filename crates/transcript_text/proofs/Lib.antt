@@ -13,6 +13,7 @@ pub mod NumberTexts
 pub mod PuttingOn
 pub mod ReadingOn
 pub mod CountingOn
+pub mod FeedingOn
 pub mod RisingLines
 pub mod ShownTexts
 pub mod StepLists

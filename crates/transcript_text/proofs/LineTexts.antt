@@ -290,6 +290,11 @@ is_read text a b c d read s numbers numbers_are word answer steps steps_are =
       short = last_short text a b c d read.shown.now s;
     }
 
+-- the line of a text has the caller that was read
+pub same_caller : (text : List ℕ) (read : ReadLine) → IsRead text read → (line : SeenLine) → LineFits line
+    → text ≡ line_text line → line.caller ≡ read.caller
+same_caller text read is line fits e = ap (λ (l : SeenLine). l.caller) (is.only line fits e).0
+
 -- what the line of a text shows is spelt by the last field
 pub shows_data : (text : List ℕ) (read : ReadLine) → IsRead text read → (line : SeenLine) → LineFits line
     → text ≡ line_text line → ShownFits read.word line.shown × (read.shown.now ≡ shown_text line.shown)

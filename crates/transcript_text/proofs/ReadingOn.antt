@@ -1,35 +1,25 @@
 -- Reading the lines of a text one after the other.
-use Rattle.std.proofs.Common.{◌≡◌, ℕ, ◌+◌, ◌<◌, ◌≤◌, Bool, true, false, List, [], ◌∷◌, ◌++◌, length, refl, sym, ap, subst, ◌∙◌, append_assoc, append-nil, arith}
+use Rattle.std.proofs.Common.{◌≡◌, ℕ, ◌+◌, ◌<◌, ◌≤◌, Bool, true, false, List, [], ◌∷◌, ◌++◌, ◌-◌, ◌^◌, length, map, refl, sym, ap, subst, ◌∙◌, append_assoc, append-nil, arith}
 use Rattle.std.specs.Prelude.{codes, Result, Ok, Err, IfOk, MatchBool}
 use Rattle.std.specs.List.{AllByRecursion}
-use Rattle.std.proofs.lemmas.List.{length_push, map_push, flat_map_more}
+use Rattle.std.proofs.lemmas.List.{length-append, length-map, length_push, map_push, flat_map_more}
 use Rattle.key_names.specs.SeenLine.{SeenLine}
 use Rattle.key_names.specs.Texts.Spelling.{lined}
 use Rattle.key_names.specs.Texts.TranscriptGrammar.{line_text, all_lines, transcript_lines, transcript_text, LineFits, IsTranscriptText, IsFirstFault}
+use Rattle.transcript_text.specs.Feeding.{ReadSoFar, Rising, last_caller, head_line, line_end, front_of}
 use Rattle.transcript_text.specs.Grouping.{Groups, Gives}
 use Rattle.transcript_text.specs.Reading.{lacks}
 use Rattle.transcript_text.specs.ReadLines.{IsRead, PushesRead, seen_read}
 use Rattle.transcript_text.specs.Shows.{SpellsNoData}
 use Rattle.transcript_text.specs.declared.line.ReadLine.{ReadLine}
-use Rattle.transcript_text.specs.ReadTexts.{AddsLine, Answers, IsNoLine, IsReadAs}
+use Rattle.transcript_text.specs.ReadTexts.{AddsLine, Answers, HasMoreLines, IsNoLine, IsReadAs}
 use Rattle.transcript_text.specs.declared.error.TextError.{TextError}
-use Rattle.transcript_text.specs.declared.error.TextError.TheVariants.{Fault, NoMemory}
+use Rattle.transcript_text.specs.declared.error.TextError.TheVariants.{Fault, NoMemory, TooManyLines}
 use Rattle.transcript_text.proofs.Cutting.{same_cut, not_lacking}
-use Rattle.transcript_text.proofs.FirstFaults.{head_line, line_end, front_of, NoNext, fault_here, fault_behind, no_head, gives_nothing, one_transcript}
+use Rattle.transcript_text.proofs.FirstFaults.{NoNext, fault_here, fault_behind, no_head, gives_nothing, one_transcript}
 use Rattle.transcript_text.proofs.GroupedLines.{LastHasLines-push, finished, groups_push, no_groups}
 use Rattle.transcript_text.proofs.LineTexts.{shows_data}
-use Rattle.transcript_text.proofs.RisingLines.{Rising, last_caller, Rising-push, last_caller-push}
-
--- the lines that were read, and the text behind them
-pub record ReadSoFar (text : List ℕ) (done : List (List SeenLine)) (current : List SeenLine) (rest : List ℕ)
-    (number : ℕ) : Type 0 where
-  pub lines : List SeenLine
-  pub groups : Groups done current lines
-  pub rising : Rising 0 lines
-  pub last : last_caller 0 lines ≡ length done
-  pub parts : text ≡ lined (front_of lines) ++ rest
-  pub count : number ≡ length lines + 1
-  pub begun : current ≡ [] → lines ≡ []
+use Rattle.transcript_text.proofs.RisingLines.{Rising-push, last_caller-push}
 
 pub begins : (text head rest : List ℕ) (done : List (List SeenLine)) (current : List SeenLine)
     → text ≡ head ++ 10 ∷ rest → head ≡ head_line → done ≡ [] → current ≡ []
@@ -214,8 +204,31 @@ other_head text head rest cut clean not = no_head text (λ line more cut2 is.
 
 -- ---- what was read is the one transcript
 
-pub read_as : (text : List ℕ) (answer : Result (List (List SeenLine)) TextError) → Answers text answer
+few_lines : (lines : List (List ℕ)) → length lines ≤ length (lined lines)
+few_lines [] = omega arith
+few_lines (line ∷ lines) = omega (
+  arith,
+  few_lines lines,
+  length-append (line ++ codes "\n") (lined lines),
+  length-append line (codes "\n"),
+)
+
+-- a text has more bytes than lines
+has_few : (most : ℕ) (text : List ℕ) → HasMoreLines most text → most < length text
+unfolding transcript_text
+has_few most text more = omega (
+  arith,
+  more.many,
+  few_lines (transcript_lines more.callers),
+  ap length more.is_text.spelled,
+  length-append (map line_text (all_lines more.callers)) (line_end ∷ []),
+  length-map (all_lines more.callers) line_text,
+)
+
+pub read_as : (text : List ℕ) (answer : Result (List (List SeenLine)) TextError) (most : ℕ) → most ≡ 2 ^ 32 - 1
+    → Answers most text answer → length text ≤ 2 ^ 31
     → (callers : List (List SeenLine)) → IsTranscriptText text callers → IsReadAs callers answer
-read_as text (Ok found) a callers t = one_transcript text found callers a t
-read_as text (Err (Fault line)) a callers t = a.none callers t
-read_as text (Err NoMemory) a callers t = tt
+read_as text (Ok found) most is a short callers t = one_transcript text found callers a.0 t
+read_as text (Err (Fault line)) most is a short callers t = a.none callers t
+read_as text (Err TooManyLines) most is a short callers t = absurd (omega (arith, is, has_few most text a))
+read_as text (Err NoMemory) most is a short callers t = tt

@@ -1,20 +1,11 @@
 -- The lines of a transcript one after the other: their callers' numbers never fall, and they tell the transcript.
 use Rattle.std.proofs.Common.{◌≡◌, ℕ, suc, ◌+◌, ◌<◌, ◌≤◌, List, [], ◌∷◌, ◌++◌, length, refl, sym, ap, ◌∙◌, append-nil, arith}
-use Rattle.std.specs.Prelude.{⊤}
 use Rattle.std.specs.List.{AllByRecursion}
 use Rattle.std.proofs.lemmas.List.{length-append, nil_from_length}
 use Rattle.key_names.specs.SeenLine.{SeenLine}
 use Rattle.key_names.specs.Texts.TranscriptGrammar.{all_lines, LineFits, LastHasLines, UnderOwnNumber}
+use Rattle.transcript_text.specs.Feeding.{Rising, last_caller}
 use Rattle.transcript_text.specs.Grouping.{OfCaller}
-
--- lines that fit, of callers from a number on and below 64, whose numbers never fall
-abbrev pub Rising : ℕ → List SeenLine → Type 0
-Rising least [] = ⊤
-Rising least (line ∷ lines) = (least ≤ line.caller) × (line.caller < 64) × LineFits line × Rising line.caller lines
-
-abbrev pub last_caller : ℕ → List SeenLine → ℕ
-last_caller caller [] = caller
-last_caller caller (line ∷ lines) = last_caller line.caller lines
 
 pub Rising-push : (least : ℕ) (lines : List SeenLine) (line : SeenLine) → Rising least lines
     → last_caller least lines ≤ line.caller → line.caller < 64 → LineFits line

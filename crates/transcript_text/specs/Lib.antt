@@ -1,3 +1,4 @@
+pub mod Feeding
 pub mod Gathered
 pub mod Grouping
 pub mod Heads

@@ -3,19 +3,29 @@ use Rattle.std.specs.Prelude.{ℕ, ◌≡◌, ◌<◌, ◌≤◌, ⊤, List, [],
 use Rattle.key_names.specs.SeenLine.{SeenLine}
 use Rattle.key_names.specs.Texts.TranscriptGrammar.{all_lines, line_text, LineFits, IsTranscriptText, IsFirstFault}
 use Rattle.transcript_text.specs.declared.error.TextError.{TextError}
-use Rattle.transcript_text.specs.declared.error.TextError.TheVariants.{Fault, NoMemory}
+use Rattle.transcript_text.specs.declared.error.TextError.TheVariants.{Fault, NoMemory, TooManyLines}
+use Rattle.transcript_text.specs.declared.line.ReadLine.{ReadLine}
 use Rattle.transcript_text.specs.Grouping.{Groups}
+use Rattle.transcript_text.specs.ReadLines.{IsRead}
 
--- the transcript of the text, or its first faulty line, unless memory ran out
-abbrev pub Answers : List ℕ → Result (List (List SeenLine)) TextError → Type 0
-Answers text (Ok callers) = IsTranscriptText text callers
-Answers text (Err (Fault line)) = IsFirstFault text line
-Answers text (Err NoMemory) = ⊤
+-- the text is that of a transcript with more lines
+pub record HasMoreLines (most : ℕ) (text : List ℕ) : Type 0 where
+  pub callers : List (List SeenLine)
+  pub is_text : IsTranscriptText text callers
+  pub many : most < length (all_lines callers)
+
+-- the transcript of the text, if it has no more lines, or its first faulty line, unless memory ran out
+abbrev pub Answers : ℕ → List ℕ → Result (List (List SeenLine)) TextError → Type 0
+Answers most text (Ok callers) = IsTranscriptText text callers × (length (all_lines callers) ≤ most)
+Answers most text (Err (Fault line)) = IsFirstFault text line
+Answers most text (Err TooManyLines) = HasMoreLines most text
+Answers most text (Err NoMemory) = ⊤
 
 -- this transcript, unless memory ran out
 abbrev pub IsReadAs : List (List SeenLine) → Result (List (List SeenLine)) TextError → Type 0
 IsReadAs callers (Ok found) = found ≡ callers
 IsReadAs callers (Err (Fault line)) = ⊥
+IsReadAs callers (Err TooManyLines) = ⊥
 IsReadAs callers (Err NoMemory) = ⊤
 
 -- the text is one more line, of the current caller or of a later one
@@ -34,17 +44,17 @@ abbrev pub IsNoLine : List ℕ → ℕ → Type 0
 IsNoLine text least = (line : SeenLine) → LineFits line → least ≤ line.caller → line.caller < 64
     → text ≡ line_text line → ⊥
 
--- the text is a line of this caller, and the caller's number is at least this
-pub record IsLineOf (text : List ℕ) (least caller : ℕ) : Type 0 where
+-- the text is that of this line, of a caller from a number on, with data that its last field spells
+pub record IsReadFrom (text : List ℕ) (least : ℕ) (read : ReadLine) : Type 0 where
+  pub is : IsRead text read
+  pub later : least ≤ read.caller
+  pub below : read.caller < 64
+
+-- the text is a line of the caller with this number, which is at least the other one
+pub record IsPassed (text : List ℕ) (least caller : ℕ) : Type 0 where
   pub line : SeenLine
   pub fits : LineFits line
   pub spelt : text ≡ line_text line
   pub own : line.caller ≡ caller
   pub later : least ≤ caller
   pub below : caller < 64
-
--- the text is that of a transcript with so many lines
-pub record HasCount (text : List ℕ) (count : ℕ) : Type 0 where
-  pub callers : List (List SeenLine)
-  pub is_text : IsTranscriptText text callers
-  pub many : length (all_lines callers) ≡ count

@@ -10,6 +10,8 @@ pub enum TextError {
     /// Which line, counted from 1, is the first that cannot stand where it stands in any transcript. Where the text
     /// ends too early, it is the line that is cut off, or that would have to follow.
     Fault { line: u32 },
+    /// It is a transcript's, which has more lines than were asked for.
+    TooManyLines,
     /// There was no memory for the transcript.
     NoMemory,
 }

@@ -1,6 +1,7 @@
 //! The text of a transcript, written and read.
 //!
-//! What is read is a transcript exactly where the text is one, and otherwise the first faulty line is told. What is
+//! What is read is a transcript exactly where the text is one, and otherwise the first faulty line is told. [`Reader`] is
+//! fed the text piece by piece; [`read`] reads one that is there as a whole. What is
 //! written is that text, or a prefix of it where the sink counted a fault; read again it is the same. [`CallerLines`]
 //! keeps what a caller tells, line by line, in memory that was taken before.
 //!
@@ -9,7 +10,6 @@
 #![tactic(auto)]
 
 mod caller_lines;
-mod counting;
 mod data;
 mod error;
 mod fields;
@@ -20,15 +20,18 @@ mod lexing;
 mod line;
 mod line_buffer;
 mod names;
+mod reader;
 mod reading;
+mod so_far;
 mod steps;
+mod taking;
 mod transcript;
 mod view;
 mod writing;
 
 pub use caller_lines::CallerLines;
-pub use counting::count_lines;
 pub use error::TextError;
+pub use reader::Reader;
 pub use reading::read;
 pub use transcript::Transcript;
 pub use view::{LineView, Shown};

@@ -1,15 +1,18 @@
-use Rattle.std.proofs.Common.{ap, arith, length, subst}
-use Rattle.tool_ends.specs.Reads.{WritesEnds}
-use Rattle.tool_ends.proofs.Inputs.{reads_end}
+use Rattle.tool_ends.proofs.Inputs.{wider}
+use Rattle.tool_ends.proofs.Refusing.{refused_of, said_of}
 use Rattle.key_audit.specs.Outcome.{Calls}
-use Rattle.key_audit.proofs.Ends.{is_limited}
+use Rattle.key_audit.proofs.Ends.{is_limited, of_none, of_pair}
 use Rattle.key_audit.proofs.audit.audit_input.Goals as goal
 
-pub returns-clause-ends : goal.returns-clause-ends
-returns-clause-ends g c =
-    let same = c.deref.ensures.value in
-    reads_end 100663296 (Calls c.args.ask) (is_limited c.args.ask) _ _ _ _ c.in-Ok.input.items c.in-Ok.ensures.taken
-    (λ short. c.in-Ok.ensures.end (let len = ap length same in omega (arith, c.deref.ensures.len)))
-    c.in-Ok.ensures.bytes c.answer.result
-    (subst (λ text. WritesEnds (Calls c.args.ask text) c.answer.result (g.K.Sink.held c.args.sink.now)
-    (g.K.Sink.held c.answer.new.sink)) same c.answer.ensures.ends)
+pub returns-in-Ok-clause-ends : goal.returns-in-Ok-clause-ends
+returns-in-Ok-clause-ends g c =
+    let ask = c.args.ask in
+    let given = c.in-Ok.ensures.read in
+    said_of (Calls ask) (is_limited ask) _ _ _ _ given.0 given.1 c.tell.result
+    (wider _ (Calls ask given.0) (of_pair ask given.0 _ _ given.2) _ _ _ c.tell.ensures.ends)
+
+pub returns-in-Err-clause-ends : goal.returns-in-Err-clause-ends
+returns-in-Err-clause-ends g c =
+    let ask = c.args.ask in
+    refused_of (Calls ask) (is_limited ask) _ _ _ _ c.in-Err.why (λ input none. of_none ask input c.in-Err.why none)
+    c.in-Err.ensures.not_read c.put_refusal.result c.put_refusal.ensures.ends

@@ -1,18 +1,54 @@
-use Rattle.std.proofs.Common.{◌∙◌, ◌≡◌, ap, arith, length, subst, sym}
+use Rattle.std.proofs.Common.{rules, ◌≡◌, ◌≤◌, ◌++◌, arith, length, subst, sym, ◌∙◌}
 use Rattle.std.specs.Prelude.{drop}
-use Rattle.std.proofs.lemmas.List.{length-drop, length-take, take_all}
-use Rattle.key_names.specs.Texts.ScriptFaults.{front}
-use Rattle.tool_ends.specs.Pairs.{IsNoText}
-use Rattle.tool_ends.proofs.Pairs.{no_pair}
+use Rattle.std.proofs.lemmas.List.{length-append, length-take, take-append-le}
+use Rattle.std.specs.Io.KnownBytes.{Consumes}
+use Rattle.tool_ends.proofs.Pairs.{too_long}
+use Rattle.tool_ends.proofs.Taking.{ends_read, gives_no_pair, gives_pair, long_read, no_read_fault, piece_taken}
 use Rattle.tool_ends.proofs.pair.read_pair.Goals as goal
 
-pub returns-in-Err-clause-not_read : goal.returns-in-Err-clause-not_read
-returns-in-Err-clause-not_read c =
-    let input = c.args.input.now in
-    let at = c.in-Ok.both.1 in
-    let len : length (front input) ≡ at =
-    omega (arith, ap length c.in-Ok.ensures.place, length-take at input, c.in-Ok.ensures.within) in
-    no_pair input _ (omega (arith, c.if-input-gt-MOST_INPUT.false)) c.in-Ok.ensures.found c.in-Err.why
-    (subst (λ text. IsNoText text c.in-Err.why)
-    (take_all _ (drop at input) (omega (arith, length-drop at input)) ∙ ap (λ n. drop n input) (sym len))
-    c.in-Err.ensures.not_read)
+pub returns-then-count-eq0-clause-read : goal.returns-then-count-eq0-clause-read
+returns-then-count-eq0-clause-read g c =
+    let s = c.loop-taken.invariant.so_far in
+    let short : length s.input ≤ 100663296 = omega (arith, s.len, c.loop-taken-test.true) in
+    gives_pair _ _ s.input c.finish.result
+    (ends_read _ _ _ s.input s.read (rw c.if-count-eq0.true at c.in_ok-count.ensures.taken)
+    (c.in_ok-count.ensures.end c.if-count-eq0.true (search rules)) (omega (arith, short)))
+    (c.finish.ensures.read s.input s.has short)
+
+pub returns-then-count-eq0-clause-not_read : goal.returns-then-count-eq0-clause-not_read
+returns-then-count-eq0-clause-not_read g c =
+    let s = c.loop-taken.invariant.so_far in
+    let short : length s.input ≤ 100663296 = omega (arith, s.len, c.loop-taken-test.true) in
+    gives_no_pair _ _ s.input c.finish.result
+    (ends_read _ _ _ s.input s.read (rw c.if-count-eq0.true at c.in_ok-count.ensures.taken)
+    (c.in_ok-count.ensures.end c.if-count-eq0.true (search rules)) (omega (arith, short)))
+    (c.finish.ensures.not_read s.input s.has short)
+
+pub returns-then-count-eq0-clause-read_fault : goal.returns-then-count-eq0-clause-read_fault
+returns-then-count-eq0-clause-read_fault g c =
+    let s = c.loop-taken.invariant.so_far in
+    no_read_fault _ s.input c.finish.result
+    (c.finish.ensures.not_read s.input s.has (omega (arith, s.len, c.loop-taken-test.true)))
+
+pub loop-taken-preserved : goal.loop-taken-preserved
+loop-taken-preserved g c =
+    let s = c.loop-taken.invariant.so_far in
+    let n = c.in_ok-count.count in
+    let buf = c.take.new.buf in
+    let old = drop c.min-most.result c.loop-taken.piece in
+    let few = c.in_ok-count.ensures.bound.0 in
+    record {
+      so_far = piece_taken _ _ _ _ _ c.loop-taken.taken n _ s
+          (subst (Consumes (g.S.Source.left c.loop-taken.source) (g.S.Source.left c.take.new.self))
+          (sym (take-append-le n buf old few)) c.in_ok-count.ensures.taken)
+          (omega (arith, few, length-take n (buf ++ old), length-append buf old)) (c.in_ok-take.ensures s.input);
+      counted = c.in_ok-count.ensures.not_counted ∙ c.loop-taken.invariant.counted;
+      within = search rules;
+    }
+
+pub returns-clause-not_read : goal.returns-clause-not_read
+returns-clause-not_read g c =
+    let s = c.loop-taken.invariant.so_far in
+    let many : length s.input ≡ 100663297 =
+    omega (arith, s.len, c.loop-taken-test.false, c.loop-taken.invariant.within) in
+    (s.input, long_read _ _ s.input s.read many, too_long s.input (omega (arith, many)))

@@ -1,5 +1,8 @@
+use Rattle.std.proofs.Common.{[], ◌∙◌}
 use Rattle.transcript_text.proofs.ReadingOn.{read_as}
 use Rattle.transcript_text.proofs.reading.read.Goals as goal
 
 pub returns-clause-only : goal.returns-clause-only
-returns-clause-only c = read_as c.args.text.now c.read_text.result c.read_text.ensures
+returns-clause-only c =
+    read_as c.args.text.now _ _ (c.in_ok-feed.ensures.most ∙ c.in_ok-reader.ensures.most)
+    (c.finish.ensures c.args.text.now (c.in_ok-feed.ensures.fed [] c.in_ok-reader.ensures.fed)) c.requires

@@ -1,0 +1,41 @@
+-- How a command ends that reads a script with a transcript behind it.
+use Rattle.std.proofs.Common.{ℕ, List, Option, sym, subst}
+use Rattle.tool_ends.specs.Pairs.{GivesNoPair, IsNoPair, RefusalEnds, RefusalOf, WasRead}
+use Rattle.tool_ends.specs.Reads.{ReadsEnds, WritesEnds}
+use Rattle.tool_ends.specs.declared.pair.NoPair.{NoPair}
+use Rattle.tool_ends.specs.declared.pair.NoPair.TheVariants.{ReadFault as SourceFails, Refused as FirstFault, No as Clause, NoMemory as Unread}
+use Rattle.tool_ends.specs.declared.status.Status.{Status}
+use Rattle.tool_ends.specs.declared.status.Status.TheVariants.{Done, No, Usage, ReadFault, WriteFault, Refused, NoMemory}
+use Rattle.tool_ends.proofs.Inputs.{IsLimited, reads_end, wider}
+
+module _ (Of : List ℕ → Status → List ℕ → Type 0) (limited : IsLimited 100663296 Of)
+    (left left_after held held_after : Option (List ℕ)) where
+  -- what was written of an input ends the command that read it
+  pub said_of : (input : List ℕ) → WasRead left left_after input → (status : Status) →
+      WritesEnds (Of input) status held held_after → ReadsEnds Of status left left_after held held_after
+  said_of input read status e =
+      reads_end 100663296 Of limited left left_after held held_after input read.read read.whole read.front status e
+
+  -- without memory nothing was written
+  unread : (status : Status) → WritesEnds (RefusalOf Unread) status held held_after →
+      ReadsEnds Of status left left_after held held_after
+  unread Done e = absurd e.1
+  unread No e = absurd e.1
+  unread Refused e = absurd e.1
+  unread WriteFault e = absurd e.1.2
+  unread NoMemory e = e
+  unread Usage e = absurd e
+  unread ReadFault e = absurd e
+
+  -- and so does the refusal of one that was not read
+  pub refused_of : (why : NoPair) →
+      ((input : List ℕ) → IsNoPair input why → (s : Status) (o : List ℕ) → RefusalOf why s o → Of input s o) →
+      GivesNoPair left left_after why → (status : Status) → RefusalEnds why status held held_after →
+      ReadsEnds Of status left left_after held held_after
+  refused_of SourceFails says none status e =
+      subst (λ s. ReadsEnds Of s left left_after held held_after) (sym e.0) e.1
+  refused_of (FirstFault fault) says none status e = said_of none.0 none.1 status
+      (wider _ (Of none.0) (says none.0 none.2) status held held_after e)
+  refused_of (Clause number) says none status e = said_of none.0 none.1 status
+      (wider _ (Of none.0) (says none.0 none.2) status held held_after e)
+  refused_of Unread says none status e = unread status e

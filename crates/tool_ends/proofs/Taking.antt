@@ -1,0 +1,122 @@
+-- An input that is taken piece by piece.
+use Rattle.std.proofs.Common.{◌≡◌, ℕ, ◌+◌, ◌≤◌, List, [], ◌++◌, Option, None, Some, length, sym, ap, subst, ◌∙◌, append-nil, arith}
+use Rattle.std.specs.Prelude.{Result, Ok, Err, IfErr, IfOk, IfSome, OnOk, drop, take}
+use Rattle.std.proofs.lemmas.List.{drop-append-le, length-append, take_all, take_at}
+use Rattle.std.proofs.KnownBytes.{Consumes-trans}
+use Rattle.key_names.specs.declared.faults.ScriptFault.{ScriptFault}
+use Rattle.key_names.specs.Texts.ScriptFaults.{first_fault, front}
+use Rattle.key_names.specs.Texts.ScriptGrammar.{Script, IsScript}
+use Rattle.transcript_text.specs.Feeding.{HasFed, most_lines}
+use Rattle.transcript_text.specs.declared.reader.Reader.{Reader}
+use Rattle.transcript_text.specs.declared.transcript.Transcript.{Transcript}
+use Rattle.std.specs.Io.KnownBytes.{Consumes, IsAtEnd}
+use Rattle.tool_ends.specs.Intakes.{HasEndLine, HasTaken, IsFound}
+use Rattle.tool_ends.specs.declared.intake.Intake.{Intake}
+use Rattle.tool_ends.specs.Pairs.{GivesNoPair, GivesPair, IsNoPair, IsPair, WasRead, behind}
+use Rattle.tool_ends.specs.declared.pair.NoPair.{NoPair}
+use Rattle.tool_ends.specs.declared.pair.NoPair.TheVariants.{ReadFault, Refused, No, NoMemory}
+use Rattle.tool_ends.proofs.FrontStays.{front_stays}
+
+pub on_ok : {T E A B : Type 0} (answer : Result T E) → (A → B) → OnOk answer A → OnOk answer B
+on_ok (Ok x) f a = f a
+on_ok (Err e) f a = tt
+
+pub both_ok : {T E : Type 0} (A B : Type 0) (answer : Result T E) → OnOk answer A → OnOk answer B → OnOk answer (A × B)
+both_ok A B (Ok x) a b = (a, b)
+both_ok A B (Err e) a b = tt
+
+-- more of what stands behind a script
+pub found_on : (input piece : List ℕ) (script : Script) (reader next : Reader) → HasEndLine input
+    → IsFound input script reader → HasFed (behind input ++ piece) next → most_lines next ≡ most_lines reader
+    → IsFound (input ++ piece) script next
+found_on input piece script reader next end f fed same =
+    let stays = front_stays input piece end in
+    let more : behind (input ++ piece) ≡ behind input ++ piece =
+    ap (λ text. drop (length text) (input ++ piece)) stays ∙ drop-append-le (length (front input)) input piece f.within in
+    record {
+      is_script = subst (IsScript script) (sym stays) f.is_script;
+      within = omega (arith, f.within, ap length stays, length-append input piece);
+      fed = subst (λ text. HasFed text next) (sym more) fed;
+      most = same ∙ f.most;
+    }
+
+pub fault_stays : (input piece : List ℕ) (fault : ScriptFault) → HasEndLine input
+    → first_fault (front input) ≡ Some fault → first_fault (front (input ++ piece)) ≡ Some fault
+fault_stays input piece fault end is = ap first_fault (front_stays input piece end) ∙ is
+
+-- so many bytes were taken of what a source had left
+pub record TakenSoFar (left left_now : Option (List ℕ)) (intake : Intake) (count : ℕ) : Type 0 where
+  pub input : List ℕ
+  pub read : Consumes left left_now input
+  pub has : HasTaken input intake
+  pub len : length input ≡ count
+
+-- one more piece was taken
+pub piece_taken : (left now after : Option (List ℕ)) (intake next : Intake) (count more : ℕ) (piece : List ℕ)
+    → (s : TakenSoFar left now intake count) → Consumes now after piece → length piece ≡ more
+    → (HasTaken s.input intake → HasTaken (s.input ++ piece) next) → TakenSoFar left after next (count + more)
+piece_taken left now after intake next count more piece s read len on = record {
+  input = s.input ++ piece;
+  read = Consumes-trans left now after s.input piece s.read read;
+  has = on s.has;
+  len = omega (arith, s.len, len, length-append s.input piece);
+}
+
+-- ---- what was read
+
+all_read : (left after : Option (List ℕ)) (input : List ℕ) → Consumes left after input → IsAtEnd after
+    → length input ≤ 100663297 → IfSome left (λ all. input ≡ take 100663297 all)
+all_read None after input read end short = tt
+all_read (Some all) None input read end short = absurd read
+all_read (Some all) (Some rest) input read end short =
+    let whole : all ≡ input = read ∙ ap (λ r. input ++ r) end ∙ append-nil input in
+    sym whole ∙ sym (take_all 100663297 all (omega (arith, ap length whole)))
+
+-- the source is at its end
+pub ends_read : (left now after : Option (List ℕ)) (input : List ℕ) → Consumes left now input
+    → Consumes now after [] → IsAtEnd after → length input ≤ 100663297 → WasRead left after input
+ends_read left now after input read none end short =
+    let all : Consumes left after input = subst (Consumes left after) (append-nil input)
+    (Consumes-trans left now after input [] read none) in
+    record { read = all; whole = λ _. end; front = all_read left after input all end short }
+
+front_read : (left now : Option (List ℕ)) (input : List ℕ) → Consumes left now input → length input ≡ 100663297
+    → IfSome left (λ all. input ≡ take 100663297 all)
+front_read None now input read len = tt
+front_read (Some all) None input read len = absurd read
+front_read (Some all) (Some rest) input read len =
+    sym (ap (take 100663297) read ∙ take_at input rest 100663297 len)
+
+-- more was read than there may be
+pub long_read : (left now : Option (List ℕ)) (input : List ℕ) → Consumes left now input → length input ≡ 100663297
+    → WasRead left now input
+long_read left now input read len = record {
+  read = read;
+  whole = λ short. absurd (omega (arith, len, short));
+  front = front_read left now input read len;
+}
+
+pub gives_pair : {E : Type 0} (left after : Option (List ℕ)) (input : List ℕ) (answer : Result (Script × Transcript) E)
+    → WasRead left after input → IfOk answer (λ pair. IsPair input pair.0 pair.1)
+    → IfOk answer (λ pair. GivesPair left after pair.0 pair.1)
+gives_pair left after input (Ok pair) read is = (input, read, is)
+gives_pair left after input (Err e) read is = tt
+
+no_input : (left after : Option (List ℕ)) (input : List ℕ) (why : NoPair) → WasRead left after input
+    → IsNoPair input why → GivesNoPair left after why
+no_input left after input ReadFault read is = absurd is
+no_input left after input (Refused fault) read is = (input, read, is)
+no_input left after input (No number) read is = (input, read, is)
+no_input left after input NoMemory read is = tt
+
+pub gives_no_pair : {T : Type 0} (left after : Option (List ℕ)) (input : List ℕ) (answer : Result T NoPair)
+    → WasRead left after input → IfErr answer (λ why. IsNoPair input why)
+    → IfErr answer (λ why. GivesNoPair left after why)
+gives_no_pair left after input (Ok x) read is = tt
+gives_no_pair left after input (Err why) read is = no_input left after input why read is
+
+-- an input that was read was not left unread
+pub no_read_fault : {T : Type 0} (Q : Type 0) (input : List ℕ) (answer : Result T NoPair)
+    → IfErr answer (λ why. IsNoPair input why) → IfErr answer (λ why. why ≡ ReadFault → Q)
+no_read_fault Q input (Ok x) is = tt
+no_read_fault Q input (Err why) is = λ e. absurd (subst (IsNoPair input) e is)

@@ -1,0 +1,33 @@
+-- An input that is taken piece by piece, and what was seen in it.
+use Rattle.std.specs.Prelude.{ℕ, ◌≡◌, ◌≤◌, List, [], ◌∷◌, Some, length}
+use Rattle.key_names.specs.Texts.ScriptFaults.{first_fault, front}
+use Rattle.key_names.specs.Texts.ScriptGrammar.{Script, IsScript}
+use Rattle.memchr.specs.Find.{OccursAt}
+use Rattle.transcript_text.specs.Feeding.{HasFed, most_lines}
+use Rattle.transcript_text.specs.declared.reader.Reader.{Reader}
+use Rattle.tool_ends.specs.Pairs.{behind}
+use Rattle.tool_ends.specs.declared.intake.Intake.{Intake}
+use Rattle.tool_ends.specs.declared.intake.Intake.TheVariants.{Front, Opened as IsOpen}
+use Rattle.tool_ends.specs.declared.intake.Opened.{Opened}
+use Rattle.tool_ends.specs.declared.intake.Opened.TheVariants.{Script as Found, Faulty}
+
+-- a line `end` stands in these bytes, behind another line
+abbrev pub HasEndLine : List ℕ → Type 0
+HasEndLine bytes = (place : ℕ) × OccursAt bytes (10 ∷ 101 ∷ 110 ∷ 100 ∷ 10 ∷ []) place
+
+-- the input begins with the script, and the reader was fed what stands behind it
+pub record IsFound (input : List ℕ) (script : Script) (reader : Reader) : Type 0 where
+  pub is_script : IsScript script (front input)
+  pub within : length (front input) ≤ length input
+  pub fed : HasFed (behind input) reader
+  pub most : most_lines reader ≡ 65600
+
+-- what was seen of the script in front
+abbrev pub IsOpened : List ℕ → Opened → Type 0
+IsOpened input (Found script reader) = IsFound input script reader
+IsOpened input (Faulty fault) = first_fault (front input) ≡ Some fault
+
+-- the input that was taken
+abbrev pub HasTaken : List ℕ → Intake → Type 0
+HasTaken input (Front bytes) = input ≡ bytes.items
+HasTaken input (IsOpen opened) = HasEndLine input × IsOpened input opened

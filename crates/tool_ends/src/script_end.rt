@@ -1,0 +1,18 @@
+//! The end of a script that stands in front of something else.
+ghost use Rattle.std.specs.Prelude.{IsTrue};
+ghost use Rattle.tool_ends.specs.Intakes.{HasEndLine};
+
+use memchr::memmem;
+
+/// A script's last line, behind another line.
+const END_LINE: &[u8] = b"\nend\n";
+
+/// Whether a line `end` came with the last `count` bytes.
+pub fn has_end_line(given: &[u8], count: usize) -> bool
+    ensures { IsTrue result → HasEndLine given.now }
+{
+    let before = given.len().saturating_sub(count);
+    let from = before.saturating_sub(END_LINE.len() - 1);
+    let (_, last) = given.split_at(from);
+    memmem::find(last, END_LINE).is_some()
+}

@@ -1,0 +1,98 @@
+//! A transcript whose text is read piece by piece.
+ghost use Rattle.std.specs.Prelude.{◌≡◌, ◌+◌, ◌<◌, ◌≤◌, ◌^◌, ◌∷◌, ◌++◌, ℕ, [], List, length, true, IfOk, OnOk};
+ghost use Rattle.transcript_text.specs.Feeding.{HasFed, IsBehind, most_lines};
+ghost use Rattle.transcript_text.specs.ReadTexts.{Answers};
+ghost use Rattle.transcript_text.specs.Reading.{lacks};
+
+use crate::error::TextError;
+use crate::lexing::cut;
+use crate::so_far::{SoFar, Stage};
+use crate::transcript::Transcript;
+use std::alloc::{AllocError, Global};
+
+/// A reader that is fed the text of a transcript, in pieces of any length. Of the text it keeps no more than a line that
+/// is not whole yet.
+#[derive(Drop)]
+pub struct Reader {
+    so_far: SoFar,
+    // The front of a line whose end is to come.
+    rest: Vec<u8>,
+}
+
+impl Reader {
+    /// A reader that was fed nothing, for a transcript of at most so many lines, without its first and its last.
+    ///
+    /// # Errors
+    ///
+    /// `AllocError` where there is no memory for it.
+    pub fn new(alloc: Global, most: u32) -> Result<Reader, AllocError>
+        ensures fed { IfOk result (λ reader. HasFed [] reader) }
+        ensures most { IfOk result (λ reader. most_lines reader ≡ most) }
+    {
+        Ok(Reader {
+            so_far: SoFar::nothing(alloc, most)?,
+            rest: Vec::new(alloc),
+        })
+    }
+
+    // The end of a line, whose line feed is left out.
+    fn end_line(&mut self, alloc: Global, end: &[u8]) -> Result<(), AllocError>
+        requires short { length self.old.rest.items + length end.now < 2 ^ 31 }
+        requires few { self.old.so_far.lines < 2 ^ 31 }
+        ensures fed { OnOk result ((text behind : List ℕ) → lacks 10 end.now ≡ true
+            → IsBehind text self.old (end.now ++ 10 ∷ behind) → IsBehind text self.new behind) }
+        ensures most { OnOk result (most_lines self.new ≡ most_lines self.old) }
+    {
+        if self.rest.is_empty() {
+            return self.so_far.take(alloc, end);
+        }
+        self.rest.extend_from_slice(end)?;
+        self.so_far.take(alloc, &self.rest)?;
+        self.rest.clear();
+        Ok(())
+    }
+
+    /// One more piece of the text.
+    ///
+    /// # Errors
+    ///
+    /// `AllocError` where there is no memory for its lines, or for one that is not whole yet. The reader is of no use
+    /// then.
+    pub fn feed(&mut self, alloc: Global, piece: &[u8]) -> Result<(), AllocError>
+        requires short { (text : List ℕ) × HasFed text self.old × (length text + length piece.now ≤ 2 ^ 31) }
+        ensures fed { OnOk result ((text : List ℕ) → HasFed text self.old → HasFed (text ++ piece.now) self.new) }
+        ensures most { OnOk result (most_lines self.new ≡ most_lines self.old) }
+    {
+        let mut unread = piece;
+        while let Some((end, behind)) = cut(b'\n', unread) {
+            self.end_line(alloc, end)?;
+            unread = behind;
+        }
+        self.rest.extend_from_slice(unread)?;
+        Ok(())
+    }
+
+    /// The transcript whose text was fed.
+    ///
+    /// # Errors
+    ///
+    /// `Fault` where the text is no transcript's, with its first faulty line. `TooManyLines` where it is that of one with
+    /// more lines than were asked for. `NoMemory` where there is no memory for the transcript.
+    pub fn finish(self) -> Result<Transcript, TextError>
+        requires short { (text : List ℕ) × HasFed text self × (length text ≤ 2 ^ 31) }
+        ensures { (text : List ℕ) → HasFed text self → Answers (most_lines self) text result }
+    {
+        let Reader { so_far, rest } = self;
+        match so_far.stage {
+            Stage::Head => Err(TextError::Fault { line: 1 }),
+            Stage::Lines => Err(TextError::Fault {
+                line: so_far.lines + 2,
+            }),
+            Stage::Ended if rest.is_empty() => so_far.into_transcript(),
+            Stage::Ended => Err(TextError::Fault {
+                line: so_far.lines + 3,
+            }),
+            Stage::Faulty { line } => Err(TextError::Fault { line }),
+        }
+    }
+}
