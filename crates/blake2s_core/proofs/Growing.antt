@@ -1,10 +1,11 @@
 -- How what a hash keeps follows a message as it grows.
-use Rattle.std.proofs.Common.{◌≡◌, ℕ, zero, suc, ◌+◌, ◌-◌, ◌*◌, ◌/◌, ◌%◌, ◌^◌, ◌<◌, ◌≤◌, List, [], ◌∷◌, ◌++◌, length, take, drop, replicate, get_or, false, Option, Some, None, refl, sym, ap, ◌∙◌, arith, length-append, length-drop}
+use Rattle.std.proofs.Common.{◌≡◌, ℕ, ◌+◌, ◌-◌, ◌*◌, ◌/◌, ◌%◌, ◌^◌, ◌<◌, ◌≤◌, List, [], ◌∷◌, ◌++◌, length, take, drop, replicate, get_or, false, Option, Some, None, refl, sym, ap, ◌∙◌, arith, length-append, length-drop}
 use Rattle.std.specs.Simd.{first_chunks}
 use Rattle.std.proofs.lemmas.List.{append_assoc, take-append-le, drop-append-le, take_all, get_or-take, drop_at, drop-drop}
 use Rattle.std.proofs.lemmas.List.FromFn.{fill_by_all, get_or-map-range_with_len, length-map-range_with_len, map-range_with_len_more}
 use Rattle.std.proofs.lemmas.List.Sums.{fold-append}
 use Rattle.key_names.specs.Blake2s.{Block, block_bytes, compressed, inner_block, inner_blocks, inner_count, key_len, message, start_words}
+use Rattle.key_names.proofs.Lists.Chunks.{get_or-first_chunks}
 use Rattle.blake2s_core.specs.Hash.{Hash, IsAfter, Stands}
 
 -- ---- blocks of a message
@@ -68,15 +69,6 @@ IsTail-drop bytes tail n k is_tail =
     let place : 64 * n + 64 * k ≡ 64 * (n + k) = omega arith in
     rw (← is_tail.dropped) (drop-drop (64 * k) (64 * n) bytes ∙ ap (λ (i : ℕ). drop i bytes) place)
 
-get_or-first_chunks : (count : ℕ) (xs : List ℕ) (k : ℕ) → k < count
-    → get_or (first_chunks 64 count xs) k [] ≡ take 64 (drop (64 * k) xs)
-get_or-first_chunks zero xs k below = absurd (omega arith)
-get_or-first_chunks (suc count) xs zero below = refl
-get_or-first_chunks (suc count) xs (suc k) below =
-    let place : 64 + 64 * k ≡ 64 * suc k = omega arith in
-    get_or-first_chunks count (drop 64 xs) k (omega arith)
-    ∙ ap (take 64) (drop-drop (64 * k) 64 xs ∙ ap (λ (i : ℕ). drop i xs) place)
-
 -- the whole chunks of a tail are blocks of the message
 pub chunk_block : (bytes tail : List ℕ) (n inner k : ℕ) (chunks : List (List ℕ)) → IsTail bytes n tail
     → chunks ≡ first_chunks 64 (length tail / 64) tail → k < inner → inner ≤ length tail / 64
@@ -84,7 +76,7 @@ pub chunk_block : (bytes tail : List ℕ) (n inner k : ℕ) (chunks : List (List
 chunk_block bytes tail n inner k chunks is_tail cut below fits =
     get_or-take inner chunks k [] below
     ∙ ap (λ (cs : List (List ℕ)). get_or cs k []) cut
-    ∙ get_or-first_chunks (length tail / 64) tail k (omega arith)
+    ∙ get_or-first_chunks 64 (length tail / 64) tail k (omega arith)
     ∙ ap (take 64) (IsTail-drop bytes tail n k is_tail)
     ∙ sym (block_bytes_whole bytes (n + k) (omega (arith, is_tail.counted)))
 

@@ -4,3 +4,4 @@ pub mod MarkLists
 pub mod Growing
 pub mod LaneGrowth
 pub mod BookGrowth
+pub mod Chunks

@@ -29,16 +29,16 @@ fn is_lower_hex(field: &[u8]) -> bool
     !bad
 }
 
-// A digit's low four bits are its value, and nine less for a letter, which alone has the bit of 64. The two digits stand
-// in one word, so that the compiler makes many bytes at once.
+// A digit's low four bits are its value, and nine less for a letter, which alone has the bit of 64. The two digits are
+// read as one word, so that the compiler makes many bytes at once.
 #[inline(always)]
-fn byte_value(high: u8, low: u8) -> u8
-    requires high { is_lower_digit high ≡ true }
-    requires low { is_lower_digit low ≡ true }
-    ensures high_digit { slice_index lower_digits (result / 16) ≡ high }
-    ensures low_digit { slice_index lower_digits (result % 16) ≡ low }
+fn byte_value(pair: [u8; 2]) -> u8
+    requires high { is_lower_digit (slice_index pair 0) ≡ true }
+    requires low { is_lower_digit (slice_index pair 1) ≡ true }
+    ensures high_digit { slice_index lower_digits (result / 16) ≡ slice_index pair 0 }
+    ensures low_digit { slice_index lower_digits (result % 16) ≡ slice_index pair 1 }
 {
-    let digits = low as u16 * 256 + high as u16;
+    let digits = u16::from_le_bytes(pair);
     let values = (digits & 0x0f0f) + 9 * (digits / 64 & 0x0101);
     (values % 256 * 16 + values / 256) as u8
 }
@@ -48,8 +48,9 @@ fn write_bytes(out: &mut [u8], digits: &[u8])
     requires twice { length digits.now ≡ 2 * length out.old }
     ensures { encode_lower out.new ≡ digits.now }
 {
+    let (pairs, _) = digits.as_chunks::<2>();
     for i in 0..out.len() {
-        out[i] = byte_value(digits[2 * i], digits[2 * i + 1]);
+        out[i] = byte_value(pairs[i]);
     }
 }
 

@@ -1,13 +1,15 @@
 -- Bytes from their digits, one byte after the other.
 use Rattle.std.proofs.Common.{◌≡◌, ℕ, zero, suc, ◌+◌, ◌-◌, ◌*◌, ◌/◌, ◌%◌, ◌<◌, ◌≤◌, ◌==◌, leb, true, ◌&&◌, inl, inr, Some, List, [], ◌∷◌, ◌++◌, drop, get_or, length, take, refl, sym, subst, ap, ◌∙◌, append_assoc, arith}
 use Rattle.std.specs.Prelude.{slice_index}
+use Rattle.std.specs.Simd.{first_chunks}
 use Rattle.std.proofs.Math.ListN.{set}
 use Rattle.std.proofs.lemmas.Bool.{agree_below_at, and_parts, cases_lt, eqb-true, leb-true, or_cases}
 use Rattle.std.specs.Int.Bits.{bit_and}
-use Rattle.std.proofs.lemmas.List.{get_or_past, take_all, take_more, take_more_set, take-append-le}
+use Rattle.std.proofs.lemmas.List.{get_or-drop, get_or-take, get_or_past, take_all, take_more, take_more_set, take-append-le}
 use Rattle.hex.specs.Hex.{IsBytes, encode_lower, encode_with, lower_digits}
 use Rattle.key_names.specs.Texts.ScriptFaults.{bytes_of}
 use Rattle.key_names.specs.Texts.Spelling.{AllLower, is_lower_digit}
+use Rattle.key_names.proofs.Lists.Chunks.{get_or-first_chunks}
 use Rattle.key_names.proofs.Script.HexFields.{bytes_again, spells_letter, spells_number}
 
 pub lower_at : (digits : List ℕ) (i : ℕ) → AllLower digits → i < length digits →
@@ -34,30 +36,40 @@ place_of c lower =
 abbrev values_of : ℕ → ℕ
 values_of digits = bit_and digits 0x0f0f + 9 * bit_and (digits / 64) 0x0101
 
-abbrev byte_of : ℕ → ℕ → ℕ
-byte_of high low = values_of (low * 256 + high) % 256 * 16 + values_of (low * 256 + high) / 256
+abbrev byte_of : ℕ → ℕ
+byte_of digits = values_of digits % 256 * 16 + values_of digits / 256
 
 -- tried for each two digits of the table
 byte_of-digits : (high low h l : ℕ) → h < 16 → l < 16 → slice_index lower_digits h ≡ high →
-    slice_index lower_digits l ≡ low → byte_of high low ≡ h * 16 + l
+    slice_index lower_digits l ≡ low → byte_of (low * 256 + high) ≡ h * 16 + l
 byte_of-digits high low h l small_high small_low at_high at_low =
     let tens : (h * 16 + l) / 16 ≡ h = omega arith in
     let ones : (h * 16 + l) % 16 ≡ l = omega arith in
     let tried = eqb-true _ _ (agree_below_at
-    (λ k. byte_of (slice_index lower_digits (k / 16)) (slice_index lower_digits (k % 16)) == k) (λ k. true) 256
+    (λ k. byte_of (slice_index lower_digits (k % 16) * 256 + slice_index lower_digits (k / 16)) == k) (λ k. true) 256
     (h * 16 + l) refl (omega arith)) in
     rw (tens, ones, at_high, at_low) at tried
 
-pub byte_spelt : (high low : ℕ) → is_lower_digit high ≡ true → is_lower_digit low ≡ true →
-    (byte_of high low < 256) × (slice_index lower_digits (byte_of high low / 16) ≡ high)
-    × (slice_index lower_digits (byte_of high low % 16) ≡ low)
-byte_spelt high low is_high is_low =
+pub byte_spelt : (digits high low : ℕ) → digits ≡ low * 256 + high → is_lower_digit high ≡ true →
+    is_lower_digit low ≡ true → (byte_of digits < 256) × (slice_index lower_digits (byte_of digits / 16) ≡ high)
+    × (slice_index lower_digits (byte_of digits % 16) ≡ low)
+byte_spelt digits high low word is_high is_low =
     let h = place_of high is_high in
     let l = place_of low is_low in
-    let is = byte_of-digits high low h.0 l.0 h.1 l.1 h.2 l.2 in
-    let tens : byte_of high low / 16 ≡ h.0 = omega arith in
-    let ones : byte_of high low % 16 ≡ l.0 = omega arith in
-    (omega arith, rw tens h.2, rw ones l.2)
+    let is : byte_of digits ≡ h.0 * 16 + l.0 = ap byte_of word ∙ byte_of-digits high low h.0 l.0 h.1 l.1 h.2 l.2 in
+    let tens : byte_of digits / 16 ≡ h.0 = omega (arith, is, l.1) in
+    let ones : byte_of digits % 16 ≡ l.0 = omega (arith, is, l.1) in
+    (omega (arith, is, h.1, l.1), rw tens h.2, rw ones l.2)
+
+-- a digit of a pair
+pub pair_in : (digits : List ℕ) (pairs : List (List ℕ)) (i k place : ℕ) →
+    pairs ≡ first_chunks 2 (length digits / 2) digits → i < length digits / 2 → k < 2 → place ≡ 2 * i + k →
+    get_or (get_or pairs i []) k 0 ≡ get_or digits place 0
+pair_in digits pairs i k place cut here two at =
+    ap (λ ps. get_or (get_or ps i []) k 0) cut
+    ∙ ap (λ pair. get_or pair k 0) (get_or-first_chunks 2 (length digits / 2) digits i here)
+    ∙ get_or-take 2 (drop (2 * i) digits) k 0 two ∙ get_or-drop (2 * i) digits k 0
+    ∙ ap (λ n. get_or digits n 0) (sym at)
 
 pub encode_with-append : (t xs ys : List ℕ) → encode_with t (xs ++ ys) ≡ encode_with t xs ++ encode_with t ys
 unfolding encode_with
