@@ -1,5 +1,5 @@
 -- An input that is taken piece by piece, and what was seen in it.
-use Rattle.std.specs.Prelude.{ℕ, ◌≡◌, ◌≤◌, List, [], ◌∷◌, Some, length}
+use Rattle.std.specs.Prelude.{ℕ, ◌≡◌, ◌≤◌, ◌-◌, List, [], ◌∷◌, Some, drop, length}
 use Rattle.key_names.specs.Texts.ScriptFaults.{first_fault, front}
 use Rattle.key_names.specs.Texts.ScriptGrammar.{Script, IsScript}
 use Rattle.memchr.specs.Find.{OccursAt}
@@ -15,6 +15,10 @@ use Rattle.tool_ends.specs.declared.intake.Opened.TheVariants.{Script as Found, 
 abbrev pub HasEndLine : List ℕ → Type 0
 HasEndLine bytes = (place : ℕ) × OccursAt bytes (10 ∷ 101 ∷ 110 ∷ 100 ∷ 10 ∷ []) place
 
+-- the last `count` of these bytes, and the four in front of them, where a line `end` stands that came with the last
+abbrev pub last_part : ℕ → List ℕ → List ℕ
+last_part count bytes = drop (length bytes - count - 4) bytes
+
 -- the input begins with the script, and the reader was fed what stands behind it
 pub record IsFound (input : List ℕ) (script : Script) (reader : Reader) : Type 0 where
   pub is_script : IsScript script (front input)
@@ -27,7 +31,7 @@ abbrev pub IsOpened : List ℕ → Opened → Type 0
 IsOpened input (Found script reader) = IsFound input script reader
 IsOpened input (Faulty fault) = first_fault (front input) ≡ Some fault
 
--- the input that was taken
+-- the input that was taken: all of it is kept only while no line `end` is there
 abbrev pub HasTaken : List ℕ → Intake → Type 0
-HasTaken input (Front bytes) = input ≡ bytes.items
+HasTaken input (Front bytes) = (input ≡ bytes.items) × (HasEndLine input → ⊥)
 HasTaken input (IsOpen opened) = HasEndLine input × IsOpened input opened

@@ -1,5 +1,5 @@
 //! A script and a transcript behind it, read from one input.
-ghost use Rattle.std.specs.Prelude.{◌≡◌, ◌≤◌, IfErr, IfOk};
+ghost use Rattle.std.specs.Prelude.{◌≡◌, ◌≤◌, IfErr, IfOk, OnOk};
 ghost use Rattle.io_edges.specs.Faults.{Rose};
 ghost use Rattle.tool_ends.specs.Pairs.{GivesPair, GivesNoPair};
 ghost use Rattle.tool_ends.specs.declared.pair.NoPair.TheVariants.{NoMemory, ReadFault};
@@ -57,6 +57,8 @@ pub fn read_pair<S: Source>(alloc: Global, source: &mut S) -> Result<(Script, Tr
     ensures read { IfOk result (λ pair. GivesPair (S.left source.old) (S.left source.new) pair.0 pair.1) }
     ensures not_read { IfErr result (λ why. GivesNoPair (S.left source.old) (S.left source.new) why) }
     ensures read_fault { IfErr result (λ why. why ≡ NoPair.ReadFault → Rose (S.faults source.old) (S.faults source.new)) }
+    ensures no_fault { IfErr result (λ why. (why ≡ NoPair.ReadFault → ⊥) → S.faults source.new ≡ S.faults source.old) }
+    ensures not_counted { OnOk result (S.faults source.new ≡ S.faults source.old) }
 {
     let mut intake = Intake::Front(Vec::new(alloc));
     let mut piece = [0; PIECE];

@@ -1,15 +1,16 @@
 //! The end of a script that stands in front of something else.
-ghost use Rattle.std.specs.Prelude.{IsTrue};
-ghost use Rattle.tool_ends.specs.Intakes.{HasEndLine};
+ghost use Rattle.std.specs.Prelude.{◌↔◌, IsTrue};
+ghost use Rattle.tool_ends.specs.Intakes.{HasEndLine, last_part};
 
 use memchr::memmem;
 
 /// A script's last line, behind another line.
 const END_LINE: &[u8] = b"\nend\n";
 
-/// Whether a line `end` came with the last `count` bytes.
+/// Whether a line `end` came with the last `count` bytes: it may begin in those before them.
 pub fn has_end_line(given: &[u8], count: usize) -> bool
-    ensures { IsTrue result → HasEndLine given.now }
+    ensures came { IsTrue result ↔ HasEndLine (last_part count given.now) }
+    ensures stands { IsTrue result → HasEndLine given.now }
 {
     let before = given.len().saturating_sub(count);
     let from = before.saturating_sub(END_LINE.len() - 1);
