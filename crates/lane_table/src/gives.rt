@@ -23,8 +23,11 @@ impl Lanes {
         ensures pass { IsSamePass self.now pass.old pass.new }
         ensures seat { pass.new.seat.me ≡ (view pass.old, (lane, Some content) ∷ rest (slots pass.old)) }
     {
-        let full = Some(content);
-        match self.table.shared.exchange(&mut pass.seat, lane, full) {
+        match pass
+            .seat
+            .slot_mut(&self.table.shared, lane)
+            .replace(Some(content))
+        {
             None => {}
             Some(_) => unreachable!(),
         }

@@ -3,8 +3,9 @@ ghost use Rattle.std.specs.Prelude.{◌≡◌, ◌+◌, ◌*◌, ◌^◌, ◌<�
 ghost use Rattle.lane_table.specs.LaneNumbers.{index_of};
 
 use crate::plays::World;
+use crate::slot::Slot;
 use crate::values::{Boxed, LaneState};
-use crate::view::{Content, Plan, View};
+use crate::view::{Plan, View};
 use atomic_table::{Seat, Table};
 use key_names::LaneId;
 use std::alloc::Global;
@@ -23,7 +24,7 @@ pub(crate) const SERVING: usize = 17;
 /// What a pass knows is seen in contracts as its view, and what a call tells is said of the view before and after.
 #[derive(Drop)]
 pub struct Lanes {
-    pub(crate) table: Table<Option<Content>, View, Plan, World, Global>,
+    pub(crate) table: Table<Slot, View, Plan, World, Global>,
     pub(crate) cpus: u32,
     ghost sized: { (table.shared.table_id.words ≡ 16 * (cpus + 2) + 16) × (table.shared.table_id.slots ≡ cpus + 2) },
     ghost few: { (1 ≤ cpus) × (cpus ≤ 256) },
@@ -32,7 +33,7 @@ pub struct Lanes {
 /// One caller's token, with which it goes through the lanes.
 #[derive(Drop)]
 pub struct Pass {
-    pub(crate) seat: Seat<Option<Content>, View>,
+    pub(crate) seat: Seat<Slot, View>,
     pub(crate) stamp: u64,
     pub(crate) caller: u32,
 }

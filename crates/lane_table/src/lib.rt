@@ -15,6 +15,7 @@ mod lanes;
 pub mod laws;
 mod passes;
 mod plays;
+mod slot;
 mod takes;
 mod tries;
 mod values;

@@ -7,6 +7,7 @@ ghost use Rattle.lane_table.specs.Calls.{view, slots, count_of, first_of, plan_o
 
 use crate::lanes::{GENERATION, LINE, Lanes, Pass};
 use crate::plays::{Halves, Merges, Settle};
+use crate::slot::Slot;
 use crate::values::{BaseLane, Boxed, CpuLane, LaneState, PoolLane};
 use crate::view::{Content, Plan};
 use atomic_table::Table;
@@ -51,17 +52,13 @@ fn start_content(alloc: Global, lane: usize, first: u64) -> Result<Content, Allo
     })
 }
 
-fn start_contents(
-    alloc: Global,
-    count: usize,
-    first: u64,
-) -> Result<Vec<Option<Content>>, AllocError>
+fn start_contents(alloc: Global, count: usize, first: u64) -> Result<Vec<Slot>, AllocError>
     ensures { IfOk result (λ v. AreStarts first count v.items) }
 {
     let mut slots = Vec::with_capacity(alloc, count)?;
     for lane in 0..count {
         let content = start_content(alloc, lane, first)?;
-        slots.push(Some(content))?;
+        slots.push(Slot::of(Some(content)))?;
     }
     Ok(slots)
 }
@@ -170,7 +167,7 @@ impl Lanes {
         let mut closed = table.close_with(seat);
         let mut visits = 0u128;
         for lane in 0..cpus as usize + 2 {
-            match closed.take(lane) {
+            match closed.take(lane).into_content() {
                 Some(content) => visits += u128::from(content.place()),
                 None => unreachable!(),
             }

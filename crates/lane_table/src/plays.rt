@@ -1,12 +1,13 @@
 //! The rule of the table, and what each kind of atomic step tells. These types are for the proofs alone.
 
-use crate::view::{Content, Plan, View, Visit};
+use crate::slot::Slot;
+use crate::view::{Plan, View, Visit};
 use atomic_table::{Join, Play, Split, TableRule};
 use std::marker::{Brand, PhantomData};
 
 pub struct World;
 
-impl TableRule<Option<Content>, View, Plan> for World {
+impl TableRule<Slot, View, Plan> for World {
     ghost use Rattle.lane_table.specs.WorldRule.{WorldRule};
     ghost use Rattle.lane_table.specs.Steps.{first_view};
 
@@ -31,7 +32,7 @@ impl Tells for Brand {
 /// A ticket is drawn by an exchange of the ticket word.
 pub struct Draw;
 
-impl Play<Option<Content>, View> for Draw {
+impl Play<Slot, View> for Draw {
     ghost use Rattle.lane_table.specs.Steps.{draws};
 
     ghost then = { draws };
@@ -40,7 +41,7 @@ impl Play<Option<Content>, View> for Draw {
 /// The same, where the number that is found is kept.
 pub struct Try;
 
-impl Play<Option<Content>, View> for Try {
+impl Play<Slot, View> for Try {
     ghost use Rattle.lane_table.specs.Steps.{tries};
 
     ghost then = { tries };
@@ -49,7 +50,7 @@ impl Play<Option<Content>, View> for Try {
 /// A load of the ticket word.
 pub struct Find;
 
-impl Play<Option<Content>, View> for Find {
+impl Play<Slot, View> for Find {
     ghost use Rattle.lane_table.specs.Steps.{finds};
 
     ghost then = { finds };
@@ -58,7 +59,7 @@ impl Play<Option<Content>, View> for Find {
 /// A load of the serving word by who has no ticket.
 pub struct Load;
 
-impl Play<Option<Content>, View> for Load {
+impl Play<Slot, View> for Load {
     ghost use Rattle.lane_table.specs.Steps.{loads};
 
     ghost then = { loads };
@@ -67,7 +68,7 @@ impl Play<Option<Content>, View> for Load {
 /// A load of the serving word by who waits. Where it is the ticket, the slot goes out.
 pub struct Serve;
 
-impl Play<Option<Content>, View> for Serve {
+impl Play<Slot, View> for Serve {
     ghost use Rattle.lane_table.specs.Steps.{serves};
 
     ghost then = { serves };
@@ -78,7 +79,7 @@ pub struct Put<N> {
     marker: PhantomData<N>,
 }
 
-impl<N: Tells> Play<Option<Content>, View> for Put<N> {
+impl<N: Tells> Play<Slot, View> for Put<N> {
     ghost use Rattle.lane_table.specs.Steps.{puts};
 
     ghost then = { puts N.visit };
@@ -87,7 +88,7 @@ impl<N: Tells> Play<Option<Content>, View> for Put<N> {
 /// The store of the serving word without a visit. The slot goes home.
 pub struct Leave;
 
-impl Play<Option<Content>, View> for Leave {
+impl Play<Slot, View> for Leave {
     ghost use Rattle.lane_table.specs.Steps.{leaves};
 
     ghost then = { leaves };
@@ -96,7 +97,7 @@ impl Play<Option<Content>, View> for Leave {
 /// A load of the generation word.
 pub struct Look;
 
-impl Play<Option<Content>, View> for Look {
+impl Play<Slot, View> for Look {
     ghost use Rattle.lane_table.specs.Steps.{looks};
 
     ghost then = { looks };
@@ -105,7 +106,7 @@ impl Play<Option<Content>, View> for Look {
 /// A load that changes nothing.
 pub struct Settle;
 
-impl Play<Option<Content>, View> for Settle {
+impl Play<Slot, View> for Settle {
     ghost use Rattle.lane_table.specs.Calls.{settles};
 
     ghost then = { settles };
@@ -114,7 +115,7 @@ impl Play<Option<Content>, View> for Settle {
 /// The store of the generation word.
 pub struct Raise;
 
-impl Play<Option<Content>, View> for Raise {
+impl Play<Slot, View> for Raise {
     ghost use Rattle.lane_table.specs.Steps.{lifts};
 
     ghost then = { lifts };

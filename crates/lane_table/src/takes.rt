@@ -105,8 +105,7 @@ impl Lanes {
         ensures value { slots pass.old ≡ (lane, Some result) ∷ rest (slots pass.old) }
         ensures seat { pass.new.seat.me ≡ (view pass.old, (lane, None) ∷ rest (slots pass.old)) }
     {
-        let nothing: Option<Content> = None;
-        match self.table.shared.exchange(&mut pass.seat, lane, nothing) {
+        match pass.seat.slot_mut(&self.table.shared, lane).replace(None) {
             Some(content) => content,
             None => unreachable!(),
         }

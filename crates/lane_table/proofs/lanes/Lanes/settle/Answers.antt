@@ -1,5 +1,4 @@
-use Rattle.std.proofs.Common.{rules, arith, ◌∙◌, subst, sym, ℕ}
-use Rattle.lane_table.specs.Calls.{Ended, view}
+use Rattle.std.proofs.Common.{rules, arith}
 use Rattle.lane_table.proofs.Rule.Looking.{settled}
 use Rattle.lane_table.proofs.lanes.Lanes.settle.Goals as goal
 
