@@ -14,31 +14,45 @@ pub(crate) struct Graph<'a> {
     by_name: Vec<usize>,
 }
 
-fn lane_rank(lane: LaneId) -> u64 {
+/// A lane among all lanes.
+#[derive(Clone, Copy, PartialEq, Eq, PartialOrd, Ord)]
+enum LaneRank {
+    Pool,
+    Base,
+    Cpu(u32),
+}
+
+/// A name among all names, by its kind and then by its numbers.
+#[derive(Clone, Copy, PartialEq, Eq, PartialOrd, Ord)]
+enum Rank {
+    Root(u64),
+    Base(u64),
+    Cpu(u32, u64),
+    Call(LaneRank, u64),
+    Vdso(u32, u32, u64),
+    NoRow,
+}
+
+fn lane_rank_of(lane: LaneId) -> LaneRank {
     match lane {
-        LaneId::Pool => 0,
-        LaneId::Base => 1,
-        LaneId::Cpu(cpu) => 2 + u64::from(cpu),
+        LaneId::Pool => LaneRank::Pool,
+        LaneId::Base => LaneRank::Base,
+        LaneId::Cpu(cpu) => LaneRank::Cpu(cpu),
     }
 }
 
-// Where a name stands among all names.
-fn rank(key: KeyName) -> (u64, u64, u64, u64) {
+fn rank_of(key: KeyName) -> Rank {
     match key {
-        KeyName::Root(place) => (0, place, 0, 0),
-        KeyName::Base(place) => (1, place, 0, 0),
-        KeyName::Cpu(cpu, place) => (2, u64::from(cpu), place, 0),
-        KeyName::Call(lane, place) => (3, lane_rank(lane), place, 0),
-        KeyName::Vdso(caller, state, number) => (4, u64::from(caller), u64::from(state), number),
+        KeyName::Root(place) => Rank::Root(place),
+        KeyName::Base(place) => Rank::Base(place),
+        KeyName::Cpu(cpu, place) => Rank::Cpu(cpu, place),
+        KeyName::Call(lane, place) => Rank::Call(lane_rank_of(lane), place),
+        KeyName::Vdso(caller, state, number) => Rank::Vdso(caller, state, number),
     }
 }
 
-fn no_rank() -> (u64, u64, u64, u64) {
-    (5, 0, 0, 0)
-}
-
-fn rank_at(rows: &[Row], number: usize) -> (u64, u64, u64, u64) {
-    rows.get(number).map_or(no_rank(), |row| rank(row.key))
+fn rank_at(rows: &[Row], number: usize) -> Rank {
+    rows.get(number).map_or(Rank::NoRow, |row| rank_of(row.key))
 }
 
 impl<'a> Graph<'a> {
@@ -66,7 +80,7 @@ impl<'a> Graph<'a> {
     pub(crate) fn find(&self, key: KeyName) -> Option<usize>
         ensures { IfSome result (λ n. name_at self.now.rows.now n ≡ Some key) }
     {
-        let rank = rank(key);
+        let rank = rank_of(key);
         let first = self
             .by_name
             .partition_point(|number| rank_at(self.rows, *number) < rank);
