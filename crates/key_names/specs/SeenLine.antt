@@ -6,7 +6,6 @@ use Rattle.key_names.specs.declared.events.Word.{Word}
 use Rattle.key_names.specs.declared.lines.Data.{Data}
 use Rattle.key_names.specs.declared.lines.Data.TheVariants.{None as NoData, Bytes, Count}
 use Rattle.key_names.specs.declared.lines.Line.{Line}
-use Rattle.key_names.specs.declared.lines.StepSpan.{StepSpan}
 use Rattle.key_names.specs.declared.names.Step.{Step}
 
 -- what a line shows behind its steps
@@ -26,12 +25,12 @@ pub record SeenLine : Type 0 where
 -- the data of a line whose caller has these bytes
 abbrev pub shown_in : List ℕ → Data → Shown
 shown_in kept NoData = no_data
-shown_in kept (Bytes start len) = bytes (take len (drop start kept))
+shown_in kept (Bytes len start) = bytes (take len (drop start kept))
 shown_in kept (Count n) = count n
 
 -- the steps of a line whose caller has these steps
-abbrev pub steps_in : List Step → StepSpan → List Step
-steps_in kept span = take span.len (drop span.start kept)
+abbrev pub steps_in : List Step → Line → List Step
+steps_in kept line = take line.step_count (drop line.first_step kept)
 
 -- a line of a caller that has these bytes and steps
 abbrev pub seen_line : List ℕ → List Step → Line → SeenLine
@@ -40,7 +39,7 @@ seen_line kept steps line = record {
   event = line.event;
   word = line.word;
   answer = line.answer;
-  steps = steps_in steps line.steps;
+  steps = steps_in steps line;
   shown = shown_in kept line.shown;
 }
 

@@ -27,7 +27,7 @@ pub use entries::{BaseEntry, CpuEntry, PoolEntry, Taken, VEntry};
 pub use errno::Errno;
 pub use events::{Answer, Event, InsideAct, Word};
 pub use faults::{FaultKind, ScriptFault};
-pub use lines::{Data, Line, StepSpan};
+pub use lines::{Data, Line};
 pub use names::{KeyName, LaneId, Mark, Span, Step, Who};
 pub use notes::PoolNote;
 pub use point::Point;

@@ -6,16 +6,9 @@ use crate::events::{Answer, Word};
 pub enum Data {
     None,
     /// The `len` bytes from `start` on among the bytes that are kept for the caller.
-    Bytes { start: u64, len: u32 },
+    Bytes { len: u32, start: u64 },
     /// How many bits the pool had before the visit that read them.
     Count(u32),
-}
-
-/// The `len` steps from `start` on among the steps that are kept for a caller.
-#[derive(Clone, Copy, Debug, PartialEq, Eq)]
-pub struct StepSpan {
-    pub start: u64,
-    pub len: u32,
 }
 
 /// One line of a transcript: an event of a caller, or the caller's end.
@@ -25,6 +18,8 @@ pub struct Line {
     pub event: u32,
     pub word: Word,
     pub answer: Answer,
-    pub steps: StepSpan,
+    pub step_count: u32,
+    /// Where its steps begin among those that are kept for the caller.
+    pub first_step: u64,
     pub shown: Data,
 }

@@ -1,7 +1,7 @@
 //! Lanes, marks of visits, and the names of keys.
 
 /// One lane of the core: the input pool, the base key, or one CPU's generator.
-#[derive(Clone, Copy, Debug, PartialEq, Eq)]
+#[derive(Clone, Copy, Debug, PartialEq, Eq, PartialOrd, Ord)]
 pub enum LaneId {
     Pool,
     Base,
@@ -38,7 +38,7 @@ pub struct Who {
 /// - `Cpu(c, k)`: the same for CPU `c` and its place `k`.
 /// - `Call(lane, i)`: the other half of such a block, bytes 32 to 64, where somebody takes it for a key.
 /// - `Vdso(caller, state, n)`: what this vgetrandom state kept for itself when it made its `n`-th batch, from 0.
-#[derive(Clone, Copy, Debug, PartialEq, Eq)]
+#[derive(Clone, Copy, Debug, PartialEq, Eq, PartialOrd, Ord)]
 pub enum KeyName {
     Root(u64),
     Base(u64),

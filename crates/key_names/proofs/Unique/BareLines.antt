@@ -84,9 +84,9 @@ bare_steps (vread_call n flags line acts) =
 bare_steps (unbound bound) = refl
 bare_steps (ending line) = refl
 
-calls_alike : (cs : List Call) → calls_steps (map bare_call cs) ≡ calls_steps cs
-calls_alike [] = refl
-calls_alike (c ∷ cs) = λ i. bare_steps c i ++ calls_alike cs i
+pub bare_calls_steps : (cs : List Call) → calls_steps (map bare_call cs) ≡ calls_steps cs
+bare_calls_steps [] = refl
+bare_calls_steps (c ∷ cs) = λ i. bare_steps c i ++ bare_calls_steps cs i
 
 -- Forks among them
 
@@ -138,7 +138,7 @@ inherited_alike : (ancestors : List (List Step)) (o : Option Parent) →
     inherited_steps ancestors (bare_parent o) ≡ inherited_steps ancestors o
 inherited_alike ancestors None = refl
 inherited_alike ancestors (Some parent) =
-    λ i. list_at ancestors parent.caller ++ calls_alike parent.fork.before i ++ through_visit parent.fork.line.steps
+    λ i. list_at ancestors parent.caller ++ bare_calls_steps parent.fork.before i ++ through_visit parent.fork.line.steps
 
 ancestors_alike : (callers : List (List Call)) (n : ℕ) →
     ancestors_steps (map (map bare_call) callers) n ≡ ancestors_steps callers n
@@ -154,9 +154,9 @@ ancestors_alike callers (suc n) =
 orders_alike : (ancestors : List (List Step)) (callers : List (List Call)) →
     orders_from ancestors (map (map bare_call) callers) ≡ orders_from ancestors callers
 orders_alike ancestors [] = refl
-orders_alike [] (cs ∷ callers) = λ i. calls_alike cs i ∷ orders_alike [] callers i
+orders_alike [] (cs ∷ callers) = λ i. bare_calls_steps cs i ∷ orders_alike [] callers i
 orders_alike (before ∷ ancestors) (cs ∷ callers) =
-    λ i. (before ++ calls_alike cs i) ∷ orders_alike ancestors callers i
+    λ i. (before ++ bare_calls_steps cs i) ∷ orders_alike ancestors callers i
 
 pub bare_orders : (callers : List (List Call)) →
     caller_orders (map (map bare_call) callers) ≡ caller_orders callers
