@@ -2,7 +2,7 @@
 -- it. Answers and data have no part in which these are.
 use Rattle.std.proofs.Common.{◌≡◌, ℕ, zero, suc, ◌+◌, ◌<◌, ◌≤◌, List, [], ◌∷◌, ◌++◌, length, map, inl, inr, refl, sym, subst, ap, ◌∙◌, arith}
 use Rattle.std.specs.Prelude.{◌==◌, drop, if◌then◌else◌, nat_le, take}
-use Rattle.std.proofs.lemmas.List.{append_cancel_right, length-map}
+use Rattle.std.proofs.lemmas.List.{append-nil, append_cancel_right, length-map}
 use Rattle.key_names.specs.declared.names.Step.{Step}
 use Rattle.key_names.specs.Book.{Lists, list_at}
 use Rattle.key_names.specs.CallerOrders.{start_of}
@@ -15,7 +15,7 @@ use Rattle.key_names.specs.SeenLine.{SeenLine}
 use Rattle.key_names.specs.Texts.ScriptGrammar.{Script}
 use Rattle.key_names.proofs.History.CallerOrders.{order_is_start_and_own}
 use Rattle.key_names.proofs.Transcripts.TranscriptBooks.{lt_or_le}
-use Rattle.key_names.proofs.Unique.BareLines.{bare_act, bare_all, bare_call, bare_orders}
+use Rattle.key_names.proofs.Unique.BareLines.{bare_all, bare_call, bare_calls_steps, bare_orders}
 use Rattle.key_uses.specs.Moments.{first_calls}
 use Rattle.key_uses.proofs.Moments.{calls_front, lines_front}
 use Rattle.state_entries.specs.Callers.{lists_left}
@@ -64,23 +64,8 @@ cut_states lists settings callers mss states each cut stamp =
 
 -- ---- bare lines
 
-bare_at_point : (acts : List BoundAct) (p : ℕ) → steps_at_point (map bare_act acts) p ≡ steps_at_point acts p
-bare_at_point [] p = refl
-bare_at_point (b ∷ acts) p =
-    ap (λ (rest : List Step). if b.point == p then b.line.steps ++ rest else rest) (bare_at_point acts p)
-
 bare_steps : (c : Call) → call_steps (bare_call c) ≡ call_steps c
-bare_steps (alone event line) = refl
-bare_steps (vread_call n flags line acts) =
-    let cut : List Step × List Step = cut_behind_rekey (drop 2 line.steps) in
-    λ i. take 2 line.steps ++ bare_at_point acts 1 i ++ bare_at_point acts 2 i ++ cut.0 ++ bare_at_point acts 3 i
-    ++ bare_at_point acts 4 i ++ cut.1
-bare_steps (unbound bound) = refl
-bare_steps (ending line) = refl
-
-calls_alike : (cs : List Call) → calls_steps (map bare_call cs) ≡ calls_steps cs
-calls_alike [] = refl
-calls_alike (c ∷ cs) = λ i. bare_steps c i ++ calls_alike cs i
+bare_steps c = sym (append-nil (call_steps (bare_call c))) ∙ bare_calls_steps (c ∷ []) ∙ append-nil (call_steps c)
 
 made_alike : (stamp before : ℕ) (cs : List Call) → made_by stamp before (map bare_call cs) ≡ made_by stamp before cs
 made_alike stamp before [] = refl
@@ -105,7 +90,7 @@ starts_alike : (callers : List (List Call)) (c : ℕ) → c < length callers →
 starts_alike callers c lt =
     let bares : List (List Call) = map (map bare_call) callers in
     let own : calls_steps (list_at bares c) ≡ calls_steps (list_at callers c) =
-    ap calls_steps (bare_at callers c) ∙ calls_alike (list_at callers c) in
+    ap calls_steps (bare_at callers c) ∙ bare_calls_steps (list_at callers c) in
     append_cancel_right (start_of bares c) (start_of callers c) (calls_steps (list_at callers c))
     (ap (λ (steps : List Step). start_of bares c ++ steps) (sym own)
     ∙ sym (order_is_start_and_own bares c (let long = length-map callers (map bare_call) in omega arith))

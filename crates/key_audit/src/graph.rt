@@ -2,7 +2,7 @@
 ghost use Rattle.std.specs.Prelude.{◌≡◌, IfOk, IfSome, Some};
 ghost use Rattle.key_audit.specs.Live.{name_at};
 
-use key_names::{KeyName, LaneId};
+use key_names::KeyName;
 use key_rows::rows::{Fate, Row};
 use std::alloc::{AllocError, Global};
 
@@ -14,45 +14,11 @@ pub(crate) struct Graph<'a> {
     by_name: Vec<usize>,
 }
 
-/// A lane among all lanes.
-#[derive(Clone, Copy, PartialEq, Eq, PartialOrd, Ord)]
-enum LaneRank {
-    Pool,
-    Base,
-    Cpu(u32),
-}
-
-/// A name among all names, by its kind and then by its numbers.
-#[derive(Clone, Copy, PartialEq, Eq, PartialOrd, Ord)]
-enum Rank {
-    Root(u64),
-    Base(u64),
-    Cpu(u32, u64),
-    Call(LaneRank, u64),
-    Vdso(u32, u32, u64),
-    NoRow,
-}
-
-fn lane_rank_of(lane: LaneId) -> LaneRank {
-    match lane {
-        LaneId::Pool => LaneRank::Pool,
-        LaneId::Base => LaneRank::Base,
-        LaneId::Cpu(cpu) => LaneRank::Cpu(cpu),
-    }
-}
-
-fn rank_of(key: KeyName) -> Rank {
-    match key {
-        KeyName::Root(place) => Rank::Root(place),
-        KeyName::Base(place) => Rank::Base(place),
-        KeyName::Cpu(cpu, place) => Rank::Cpu(cpu, place),
-        KeyName::Call(lane, place) => Rank::Call(lane_rank_of(lane), place),
-        KeyName::Vdso(caller, state, number) => Rank::Vdso(caller, state, number),
-    }
-}
-
-fn rank_at(rows: &[Row], number: usize) -> Rank {
-    rows.get(number).map_or(Rank::NoRow, |row| rank_of(row.key))
+// The name of a row. No number behind the rows has one.
+fn name_at(rows: &[Row], number: usize) -> Option<KeyName>
+    ensures { result ≡ name_at rows.now number }
+{
+    rows.get(number).map(|row| row.key)
 }
 
 impl<'a> Graph<'a> {
@@ -68,7 +34,7 @@ impl<'a> Graph<'a> {
         for number in 0..rows.len() {
             by_name.push(number)?;
         }
-        by_name.sort_by_key(|number| rank_at(rows, *number))?;
+        by_name.sort_by_key(|number| name_at(rows, *number))?;
         Ok(Graph { rows, by_name })
     }
 
@@ -80,14 +46,14 @@ impl<'a> Graph<'a> {
     pub(crate) fn find(&self, key: KeyName) -> Option<usize>
         ensures { IfSome result (λ n. name_at self.now.rows.now n ≡ Some key) }
     {
-        let rank = rank_of(key);
         let first = self
             .by_name
-            .partition_point(|number| rank_at(self.rows, *number) < rank);
+            .partition_point(|number| name_at(self.rows, *number) < Some(key));
         let number = *self.by_name.get(first)?;
-        match self.rows.get(number) {
-            Some(row) if row.key == key => Some(number),
-            _ => None,
+        if name_at(self.rows, number) == Some(key) {
+            Some(number)
+        } else {
+            None
         }
     }
 

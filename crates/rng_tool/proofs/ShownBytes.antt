@@ -19,7 +19,7 @@ length-shown : (kept : List ℕ) (shown : Data) → IsWithin (length kept) shown
     → length (bytes_in (shown_in kept shown)) ≡ data_len shown
 length-shown kept NoData within = refl
 length-shown kept (Count n) within = refl
-length-shown kept (Bytes start len) within =
+length-shown kept (Bytes len start) within =
     omega (arith, length-take len (drop start kept), length-drop start kept, within.1)
 
 length-shown_lines : (kept : List ℕ) (steps : List Step) (lines : List Line)

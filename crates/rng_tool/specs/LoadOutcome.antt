@@ -33,7 +33,7 @@ load_line callers events bytes =
 
 -- how many bytes the data of a line are
 abbrev pub data_len : Data → ℕ
-data_len (Bytes start len) = len
+data_len (Bytes len start) = len
 data_len _ = 0
 
 -- the output counts the events of the load's script, and the bytes that the lines of a lawful transcript for it show,

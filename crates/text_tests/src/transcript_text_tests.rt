@@ -167,8 +167,8 @@ fn a_line_is_filled_in_behind_a_later_one(rt: HostRuntime) -> Result<(), Fail> {
         assert_eq!(rt;
             lines.lines().get(number).map(|line| line.shown),
             Some(Data::Bytes {
-                start: *start,
-                len: *len
+                len: *len,
+                start: *start
             }),
             "line {number}"
         );

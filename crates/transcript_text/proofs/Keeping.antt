@@ -34,13 +34,13 @@ shown_in-more : (kept more : List ℕ) (shown : Data) → IsWithin (length kept)
     → shown_in (kept ++ more) shown ≡ shown_in kept shown
 shown_in-more kept more NoData within = refl
 shown_in-more kept more (Count n) within = refl
-shown_in-more kept more (Bytes start len) within = ap bytes (part_more start len kept more within.1)
+shown_in-more kept more (Bytes len start) within = ap bytes (part_more start len kept more within.1)
 
 within_more : (kept more : List ℕ) (shown : Data) → IsWithin (length kept) shown
     → IsWithin (length (kept ++ more)) shown
 within_more kept more NoData within = tt
 within_more kept more (Count n) within = tt
-within_more kept more (Bytes start len) within = (within.0, omega (arith, length-append kept more))
+within_more kept more (Bytes len start) within = (within.0, omega (arith, length-append kept more))
 
 pub shown_in-bytes_from : (kept shown : List ℕ)
     → shown_in (kept ++ shown) (bytes_from (length kept) shown) ≡ bytes_or_none shown
@@ -69,7 +69,7 @@ module _ (bs more : List ℕ) (steps others : List Step) where
   seen_lines-more [] within = refl
   seen_lines-more (line ∷ lines) within = rw (
     shown_in-more bs more line.shown within.0.shown,
-    part_more line.steps.start line.steps.len steps others within.0.steps',
+    part_more line.first_step line.step_count steps others within.0.steps',
     seen_lines-more lines within.1,
   ) refl
 
@@ -167,7 +167,8 @@ module _ (bs after : List ℕ) (steps : List Step) (begins : take (length bs) af
       event = read.event;
       word = read.word;
       answer = read.answer;
-      steps = record { start = length steps; len = length read.steps.now };
+      step_count = length read.steps.now;
+      first_step = length steps;
       shown = shown;
     }
 

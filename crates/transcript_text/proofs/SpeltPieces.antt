@@ -192,16 +192,16 @@ names_none text old new a same = record {
     none start (b ∷ bytes) e = absurd (omega arith)
 
 pub names_bytes : (text old new : List ℕ) (start len : ℕ) → AppendsSpelt text old new → start ≡ length old
-    → len ≡ length new - start → 0 < len → NamesSpelt text old new (Bytes start len)
+    → len ≡ length new - start → 0 < len → NamesSpelt text old new (Bytes len start)
 names_bytes text old new start len a from_here long some = record {
   appends = a;
   named_is = rw from_here (named (length old) len a.bytes
       (omega (arith, long, from_here, ap length a.whole, length-append old a.bytes)) some);
 }
   where
-    named : (start len : ℕ) (bytes : List ℕ) → len ≡ length bytes → 0 < len → Bytes start len ≡ bytes_from start bytes
+    named : (start len : ℕ) (bytes : List ℕ) → len ≡ length bytes → 0 < len → Bytes len start ≡ bytes_from start bytes
     named start len [] e some = absurd (omega arith)
-    named start len (b ∷ bytes) e some = ap (Bytes start) e
+    named start len (b ∷ bytes) e some = ap (λ (n : ℕ). Bytes n start) e
 
 -- there are no more bytes than digits
 pub spelt_short : (text old new : List ℕ) → AppendsSpelt text old new → length new ≤ length old + length text

@@ -23,13 +23,13 @@ pub record Gathered : Type 0 where
 
 -- the bytes that it shows, of which there are some, are among the first n
 abbrev pub IsWithin : ℕ → Data → Type 0
-IsWithin n (Bytes start len) = (0 < len) × (start + len ≤ n)
+IsWithin n (Bytes len start) = (0 < len) × (start + len ≤ n)
 IsWithin n _ = ⊤
 
 -- the bytes and the steps of a line are among the first ones
 pub record LineWithin (bytes steps : ℕ) (line : Line) : Type 0 where
   pub shown : IsWithin bytes line.shown
-  pub steps' : line.steps.start + line.steps.len ≤ steps
+  pub steps' : line.first_step + line.step_count ≤ steps
 
 -- the lines name places in the bytes and steps that are kept, and fit a transcript with what stands there
 pub record IsKept (bytes : List ℕ) (steps : List Step) (lines : List Line) : Type 0 where
@@ -38,7 +38,7 @@ pub record IsKept (bytes : List ℕ) (steps : List Step) (lines : List Line) : T
 
 abbrev pub bytes_from : ℕ → List ℕ → Data
 bytes_from start [] = NoData
-bytes_from start (b ∷ bs) = Bytes start (length (b ∷ bs))
+bytes_from start (b ∷ bs) = Bytes (length (b ∷ bs)) start
 
 -- the data of a line that shows this, its bytes being kept from start on
 abbrev pub data_from : ℕ → Shown → Data
@@ -53,6 +53,7 @@ kept_line steps bytes line = record {
   event = line.event;
   word = line.word;
   answer = line.answer;
-  steps = record { start = steps; len = length line.steps.now };
+  step_count = length line.steps.now;
+  first_step = steps;
   shown = data_from bytes line.shown;
 }

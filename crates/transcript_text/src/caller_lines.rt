@@ -11,7 +11,7 @@ ghost use Rattle.transcript_text.specs.Views.{bytes_of, seen, seen_shown};
 use crate::data::keep_data;
 use crate::line::ReadLine;
 use crate::view::{LineView, Shown};
-use key_names::{Data, Line, Step, StepSpan};
+use key_names::{Data, Line, Step};
 use std::alloc::{AllocError, Global};
 use std::marker::Model;
 
@@ -58,8 +58,8 @@ fn keep_bytes(kept: &mut Vec<u8>, shown: &[u8]) -> Data
         return Data::None;
     }
     Data::Bytes {
-        start,
         len: shown.len() as u32,
+        start,
     }
 }
 
@@ -80,12 +80,11 @@ fn keep_shown(kept: &mut Vec<u8>, shown: Shown<'_>) -> Data
     }
 }
 
-// Keeps more steps where there is room, and says where they stand. They are few, so each is pushed by itself.
+// Keeps more steps where there is room, and says where they begin. They are few, so each is pushed by itself.
 #[inline(always)]
-fn keep_steps(kept: &mut Vec<Step>, steps: &[Step]) -> StepSpan
+fn keep_steps(kept: &mut Vec<Step>, steps: &[Step]) -> u64
     requires room { vec_len kept.old + length steps.now ≤ vec_capacity kept.old }
-    requires few { length steps.now ≤ 20 }
-    ensures span { result ≡ record { start = length kept.old.items; len = length steps.now } }
+    ensures start { result ≡ length kept.old.items }
     ensures items { kept.new.items ≡ kept.old.items ++ steps.now }
     ensures capacity { vec_capacity kept.old ≤ vec_capacity kept.new }
     ensures len { vec_len kept.new ≡ vec_len kept.old + length steps.now }
@@ -94,10 +93,7 @@ fn keep_steps(kept: &mut Vec<Step>, steps: &[Step]) -> StepSpan
     for step in steps {
         kept.push_reserved(*step);
     }
-    StepSpan {
-        start,
-        len: steps.len() as u32,
-    }
+    start
 }
 
 impl CallerLines {
@@ -164,7 +160,8 @@ impl CallerLines {
             event: line.event,
             word: line.word,
             answer: line.answer,
-            steps: keep_steps(&mut self.steps, line.steps),
+            step_count: line.steps.len() as u32,
+            first_step: keep_steps(&mut self.steps, line.steps),
             shown: keep_shown(&mut self.bytes, line.shown),
         }
     }
@@ -205,13 +202,14 @@ impl CallerLines {
         let Some(shown) = keep_data(alloc, &mut self.bytes, read.word, read.shown)? else {
             return Ok(false);
         };
-        let steps = keep_steps(&mut self.steps, read.steps);
+        let first_step = keep_steps(&mut self.steps, read.steps);
         self.lines.push_reserved(Line {
             caller: read.caller,
             event: read.event,
             word: read.word,
             answer: read.answer,
-            steps,
+            step_count: read.steps.len() as u32,
+            first_step,
             shown,
         });
         Ok(true)
@@ -256,7 +254,7 @@ impl CallerLines {
     {
         match named {
             Data::None => Shown::None,
-            Data::Bytes { start, len } => {
+            Data::Bytes { len, start } => {
                 let start = start as usize;
                 Shown::Bytes(&self.bytes[start..start + len as usize])
             }
@@ -271,13 +269,13 @@ impl CallerLines {
         ensures fits { LineFits (seen result) }
     {
         let line = self.lines[number];
-        let start = line.steps.start as usize;
+        let start = line.first_step as usize;
         LineView {
             caller: line.caller,
             event: line.event,
             word: line.word,
             answer: line.answer,
-            steps: &self.steps[start..start + line.steps.len as usize],
+            steps: &self.steps[start..start + line.step_count as usize],
             shown: self.shown(line.shown),
         }
     }

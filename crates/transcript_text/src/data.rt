@@ -83,8 +83,8 @@ fn keep_bytes(alloc: Global, kept: &mut Vec<u8>, text: &[u8]) -> Result<Option<D
         return Ok(Some(Data::None));
     }
     Ok(Some(Data::Bytes {
-        start: start as u64,
         len: len as u32,
+        start: start as u64,
     }))
 }
 

@@ -20,8 +20,8 @@ invariant_of-self-2 c =
     let within = rw c.in-Some.is at c.in_ok-shown.ensures.within in
     rw (
       c.push_reserved.ensures.items,
-      c.keep_steps-steps.ensures.span,
-      c.keep_steps-steps.ensures.items,
+      c.keep_steps-first_step.ensures.start,
+      c.keep_steps-first_step.ensures.items,
       c.reserve.ensures.items,
       c.reserve-2.ensures.items,
     )
@@ -38,8 +38,8 @@ returns c =
       spelt = reads.1;
       pushed = rw (
         c.push_reserved.ensures.items,
-        c.keep_steps-steps.ensures.span,
-        c.keep_steps-steps.ensures.items,
+        c.keep_steps-first_step.ensures.start,
+        c.keep_steps-first_step.ensures.items,
         c.reserve.ensures.items,
         c.reserve-2.ensures.items,
       )
