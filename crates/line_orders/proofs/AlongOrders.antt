@@ -17,10 +17,13 @@ use Rattle.key_names.specs.Calls.{Call, Parent, parent_from}
 use Rattle.key_names.specs.History.{ancestors_steps, inherited_steps, orders_from, caller_orders, calls_steps, through_visit}
 use Rattle.key_names.specs.CallerOrders.{start_of}
 use Rattle.key_names.proofs.History.CallerOrders.{order_is_start_and_own, start_is_a_front}
+use Rattle.line_orders.specs.declared.called.Called.{Called}
 use Rattle.line_orders.specs.declared.order.Fork.{Fork}
+use Rattle.line_orders.specs.Called.{seen_call, seen_calls}
 use Rattle.line_orders.specs.Orders.{all_forks, front_in, is_parent_in}
 use Rattle.line_orders.specs.Along.{Along, AreAlong, begin_in, kept_at}
-use Rattle.line_orders.proofs.Carried.{get_front}
+use Rattle.line_orders.proofs.Carried.{get_front, along_parts, along_both}
+use Rattle.line_orders.proofs.SettingsFound.{list_found}
 use Rattle.line_orders.proofs.Forks.{AtParent, at_parent, rises, steps_before}
 
 -- the parent of a caller's fork forks it
@@ -62,18 +65,6 @@ orders_long [] (calls ∷ rest) = ap suc (orders_long [] rest)
 orders_long (before ∷ ancestors) (calls ∷ rest) = ap suc (orders_long ancestors rest)
 
 module _ (after : Option ℕ → Step → Option ℕ) (May : Option ℕ → Step → Type 0) where
-  pub along_parts : (v : Option ℕ) (xs ys : List Step) → Along after May v (xs ++ ys) →
-      Along after May v xs × Along after May (fold after v xs) ys
-  along_parts v [] ys h = (tt, h)
-  along_parts v (x ∷ xs) ys h =
-      let rest : Along after May (after v x) xs × Along after May (fold after (after v x) xs) ys =
-      along_parts (after v x) xs ys h.1 in ((h.0, rest.0), rest.1)
-
-  pub along_both : (v : Option ℕ) (xs ys : List Step) → Along after May v xs → Along after May (fold after v xs) ys →
-      Along after May v (xs ++ ys)
-  along_both v [] ys h k = k
-  along_both v (x ∷ xs) ys h k = (h.0, along_both (after v x) xs ys h.1 k)
-
   module _ (callers : List (List Call)) where
     abbrev own : ℕ → List Step
     own c = calls_steps (list_at callers c)
@@ -106,16 +97,16 @@ module _ (after : Option ℕ → Step → Option ℕ) (May : Option ℕ → Step
       behind p n low forks shape short =
           let k : KeptOf p kept = each p low in
           let parts : Along after May None (start_of callers p) × Along after May (begun p) (own p) =
-          along_parts None (start_of callers p) (own p) k.stands in
+          along_parts after May None (start_of callers p) (own p) k.stands in
           let front : Along after May (begun p) (take n (own p)) =
-          (along_parts (begun p) (take n (own p)) (drop n (own p))
+          (along_parts after May (begun p) (take n (own p)) (drop n (own p))
           (subst (Along after May (begun p)) (sym (take_drop n (own p))) parts.1)).0 in
           let value : kept_at (slice_get kept p) n ≡ fold after (begun p) (take n (own p)) =
           rw (k.here, k.along forks n short) refl in (
             value ∙ sym (fold-append after None (start_of callers p) (take n (own p)))
                 ∙ sym (ap (λ (s : List Step). fold after None s) shape),
             subst (λ (s : List Step). Along after May None s) (sym shape)
-                (along_both None (start_of callers p) (take n (own p)) parts.0 front),
+                (along_both after May None (start_of callers p) (take n (own p)) parts.0 front),
           )
 
       begins_at : (o : Option Parent) → parent_from c 0 callers ≡ o → AtParent c 0 callers o →
@@ -167,38 +158,35 @@ module _ (after : Option ℕ → Step → Option ℕ) (May : Option ℕ → Step
         let low' : c < length (caller_orders callers) =
         (let e : length (caller_orders callers) ≡ length callers =
         orders_long (ancestors_steps callers (length callers)) callers in omega arith) in
-        (along_parts None (start_of callers c) (own c)
+        (along_parts after May None (start_of callers c) (own c)
         (subst (λ (s : List Step). Along after May None s) (order_is_start_and_own callers c low)
         (at_list (Along after May None) (caller_orders callers) c low' all))).1
 
--- the own steps that are kept
-pub own_kept : (owns : List (Vec Step)) (callers : List (List Call)) (c : ℕ) (steps : Vec Step) →
-    map (λ own. own.items) owns ≡ map calls_steps callers → c < length owns → steps ≡ get_or owns c steps →
-    steps.items ≡ calls_steps (list_at callers c)
-own_kept owns [] c steps e low is = absurd (let n : length (map (λ (own : Vec Step). own.items) owns) ≡ 0 = ap length e in omega (arith, length-map owns (λ (own : Vec Step). own.items)))
-own_kept [] (calls ∷ callers) c steps e low is = absurd (omega arith)
-own_kept (o ∷ owns) (calls ∷ callers) zero steps e low is = let h : o.items ≡ calls_steps calls = cc in ap (λ (x : Vec Step). x.items) is ∙ h
-own_kept (o ∷ owns) (calls ∷ callers) (suc c) steps e low is =
-    let t : map (λ (own : Vec Step). own.items) owns ≡ map calls_steps callers = cc in
-    own_kept owns callers c steps t (omega arith) is
-
-pub owns_long : (owns : List (Vec Step)) (callers : List (List Call)) →
-    map (λ own. own.items) owns ≡ map calls_steps callers → length callers ≡ length owns
-owns_long owns callers e =
-    sym (length-map callers calls_steps) ∙ sym (ap length e) ∙ length-map owns (λ (own : Vec Step). own.items)
+-- each caller has its calls
+pub seen_long : (callers : List (Vec Called)) → length (seen_calls callers) ≡ length callers
+seen_long callers = length-map callers (λ (calls : Vec Called). map seen_call calls.items)
 
 -- one caller more is gone along
-module _ (after : Option ℕ → Step → Option ℕ) (May : Option ℕ → Step → Type 0) (callers : List (List Call)) where
-  module _ (owns : List (Vec Step)) (forks : List Fork) (kept : List (Vec (Option ℕ))) (c : ℕ) (own : Vec Step)
-      (start : Option ℕ) (owns_are : map (λ own. own.items) owns ≡ map calls_steps callers)
-      (forks_are : forks ≡ all_forks 0 callers) (rise : AllByRecursion (λ f. f.parent < f.child) (all_forks 0 callers))
-      (low : c < length owns) (own_is : own ≡ get_or owns c own) (each : (p : ℕ) → p < c → KeptOf after May callers p kept)
+module _ (after : Option ℕ → Step → Option ℕ) (May : Option ℕ → Step → Type 0) (called : List (Vec Called)) where
+  abbrev callers : List (List Call)
+  callers = seen_calls called
+
+  module _ (forks : List Fork) (kept : List (Vec (Option ℕ))) (c : ℕ) (calls : Vec Called) (start : Option ℕ)
+      (forks_are : forks ≡ all_forks 0 (seen_calls called)) (above : AllByRecursion (λ f. f.parent < f.child) forks)
+      (low : c < length called) (calls_are : calls ≡ get_or called c calls)
+      (each : (p : ℕ) → p < c → KeptOf after May (seen_calls called) p kept)
       (start_is : start ≡ begin_in kept (front_in c forks)) where
-    steps_are : own.items ≡ calls_steps (list_at callers c)
-    steps_are = own_kept owns callers c own owns_are low own_is
+    abbrev ours : List Step
+    ours = calls_steps (map seen_call calls.items)
+
+    steps_are : ours ≡ calls_steps (list_at callers c)
+    steps_are = ap calls_steps (list_found called c calls low calls_are)
 
     among : c < length callers
-    among = let e : length callers ≡ length owns = owns_long owns callers owns_are in omega arith
+    among = let e : length callers ≡ length called = seen_long called in omega arith
+
+    rise : AllByRecursion (λ f. f.parent < f.child) (all_forks 0 callers)
+    rise = subst (λ (fs : List Fork). AllByRecursion (λ f. f.parent < f.child) fs) forks_are above
 
     all_begins : Begins after May callers c kept (all_forks 0 callers)
     all_begins = begins after May callers c kept rise each
@@ -206,22 +194,23 @@ module _ (after : Option ℕ → Step → Option ℕ) (May : Option ℕ → Step
     begun_at : start ≡ fold after None (start_of callers c)
     begun_at = start_is ∙ ap (λ (fs : List Fork). begin_in kept (front_in c fs)) forks_are ∙ all_begins.value
 
-    pub must_follow : AllByRecursion (Along after May None) (caller_orders callers) → Along after May start own.items
-    must_follow all = subst (λ v. Along after May v own.items) (sym begun_at)
-        (subst (Along after May (fold after None (start_of callers c))) (sym steps_are) (own_follow after May callers c among all))
+    pub must_follow : AllByRecursion (Along after May None) (caller_orders callers) → Along after May start ours
+    must_follow all = subst (λ v. Along after May v ours) (sym begun_at)
+        (subst (Along after May (fold after None (start_of callers c))) (sym steps_are)
+        (own_follow after May callers c among all))
 
     pub now_kept : (values : Vec (Option ℕ)) (more : List (Vec (Option ℕ))) → slice_get more c ≡ Some values →
-        Along after May start own.items → OnTrue (is_parent_in c forks) (AreAlong after start own.items values.items) →
+        Along after May start ours → OnTrue (is_parent_in c forks) (AreAlong after start ours values.items) →
         KeptOf after May callers c more
     now_kept values more here follow along = record {
       stands = along_both after May None (start_of callers c) (calls_steps (list_at callers c)) all_begins.stands
           (subst (Along after May (fold after None (start_of callers c))) steps_are
-          (subst (λ v. Along after May v own.items) begun_at follow));
+          (subst (λ v. Along after May v ours) begun_at follow));
       values = values;
       here = here;
       along = λ parent. subst (λ (steps : List Step).
           AreAlong after (fold after None (start_of callers c)) steps values.items) steps_are
-          (subst (λ v. AreAlong after v own.items values.items) begun_at
+          (subst (λ v. AreAlong after v ours values.items) begun_at
           (OnTrue_at (ap (is_parent_in c) forks_are ∙ parent) along));
     }
 

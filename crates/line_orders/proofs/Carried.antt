@@ -2,12 +2,13 @@
 use Rattle.std.proofs.Common.{◌≡◌, ℕ, zero, suc, ◌+◌, ◌<◌, ◌≤◌, Option, Some, List, [], ◌∷◌, ◌++◌, length, get_or, take, drop, refl, sym, subst, ap, ◌∙◌, arith}
 use Rattle.std.specs.Prelude.{◌↔◌, slice_get}
 use Rattle.std.specs.List.{fold}
-use Rattle.std.proofs.lemmas.List.{take_more, drop_more, at_drop_all}
+use Rattle.std.proofs.lemmas.List.{take_all, take_more, drop_more, at_drop_all}
 use Rattle.std.proofs.lemmas.List.Sums.{fold-append}
 use mathlib.Core.Logic.{dite}
 use native.Mathlib.Decide.{ℕ_discrete}
 use Rattle.key_names.specs.declared.names.Step.{Step}
-use Rattle.line_orders.specs.Along.{Along}
+use Rattle.line_orders.specs.declared.along.Walk.{Walk}
+use Rattle.line_orders.specs.Along.{Along, HasGone}
 
 pub get_front : {X : Type 0} (xs : List X) (x : X) (n : ℕ) → n < length xs → slice_get (xs ++ x ∷ []) n ≡ slice_get xs n
 get_front [] x n low = absurd (omega arith)
@@ -56,3 +57,45 @@ module _ (after : Option ℕ → Step → Option ℕ) (May : Option ℕ → Step
       (λ e. ap (slice_get (kept ++ carried ∷ [])) (e ∙ sym long) ∙ get_last kept carried ∙ ap Some here
       ∙ ap (λ k. Some (fold after start (take k steps))) (sym e))
       (λ ne. get_front kept carried n (omega arith) ∙ before n (omega arith))
+
+  pub along_parts : (v : Option ℕ) (xs ys : List Step) → Along after May v (xs ++ ys) →
+      Along after May v xs × Along after May (fold after v xs) ys
+  along_parts v [] ys h = (tt, h)
+  along_parts v (x ∷ xs) ys h =
+      let rest : Along after May (after v x) xs × Along after May (fold after (after v x) xs) ys =
+      along_parts (after v x) xs ys h.1 in ((h.0, rest.0), rest.1)
+
+  pub along_both : (v : Option ℕ) (xs ys : List Step) → Along after May v xs → Along after May (fold after v xs) ys →
+      Along after May v (xs ++ ys)
+  along_both v [] ys h k = k
+  along_both v (x ∷ xs) ys h k = (h.0, along_both (after v x) xs ys h.1 k)
+
+  pub gone_nowhere : (walk : Walk) → HasGone after May walk [] walk
+  gone_nowhere walk = record { carried = refl; follows = ((λ h. (h, tt)), (λ h. h.0)) }
+
+  -- one went along some steps, and then along more
+  pub gone_on : (walk middle on : Walk) (xs ys : List Step) → HasGone after May walk xs middle →
+      HasGone after May middle ys on → HasGone after May walk (xs ++ ys) on
+  gone_on walk middle on xs ys a b = record {
+    carried = b.carried ∙ ap (λ v. fold after v ys) a.carried ∙ sym (fold-append after walk.carried xs ys);
+    follows = (
+      (λ h.
+          let there = b.follows.0 h in
+          let here = a.follows.0 there.0 in
+          (here.0, along_both walk.carried xs ys here.1 (subst (λ v. Along after May v ys) a.carried there.1))),
+      (λ h.
+          let parts = along_parts walk.carried xs ys h.1 in
+          b.follows.1 (a.follows.1 (h.0, parts.0), subst (λ v. Along after May v ys) (sym a.carried) parts.1)),
+    );
+  }
+
+  pub gone_more : (walk middle on : Walk) (steps : List Step) (i : ℕ) (d : Step) → i < length steps →
+      HasGone after May walk (take i steps) middle → HasGone after May middle (get_or steps i d ∷ []) on →
+      HasGone after May walk (take (i + 1) steps) on
+  gone_more walk middle on steps i d low a b =
+      subst (λ (xs : List Step). HasGone after May walk xs on) (sym (take_more steps i d low))
+      (gone_on walk middle on (take i steps) (get_or steps i d ∷ []) a b)
+
+  pub gone_all : (walk on : Walk) (steps : List Step) (i : ℕ) → length steps ≤ i →
+      HasGone after May walk (take i steps) on → HasGone after May walk steps on
+  gone_all walk on steps i high a = subst (λ (xs : List Step). HasGone after May walk xs on) (take_all i steps high) a

@@ -1,12 +1,16 @@
 -- Own steps and forks, call by call.
-use Rattle.std.proofs.Common.{◌≡◌, ℕ, ◌+◌, ◌<◌, List, [], ◌∷◌, ◌++◌, length, get_or, drop, map, refl, length-append, add-one}
+use Rattle.std.specs.Prelude.{◌||◌}
+use Rattle.std.specs.List.{list_any}
+use Rattle.std.proofs.Common.{◌≡◌, ℕ, Bool, suc, ◌+◌, ◌<◌, false, List, [], ◌∷◌, ◌++◌, length, get_or, drop, map, refl, length-append, add-one}
 use Rattle.std.specs.Global.{Vec}
 use Rattle.key_names.specs.declared.names.Step.{Step}
+use Rattle.key_names.specs.declared.events.Event.TheVariants.{Fork as ForkEvent}
+use Rattle.key_names.specs.Calls.{Call, alone}
 use Rattle.key_names.specs.History.{call_steps, calls_steps}
 use Rattle.line_orders.specs.declared.called.Called.{Called}
 use Rattle.line_orders.specs.declared.order.Fork.{Fork}
 use Rattle.line_orders.specs.Called.{seen_call, seen_calls}
-use Rattle.line_orders.specs.Orders.{fork_here, forks_in, all_forks}
+use Rattle.line_orders.specs.Orders.{fork_here, forks_in, is_fork, all_forks}
 use Rattle.line_orders.proofs.Fronts.{goes_on}
 
 pub own_next : (calls : List Called) (n : ℕ) (call : Called) (own whole : List Step) → n < length calls →
@@ -40,3 +44,16 @@ pub all_forks_next : (callers : List (Vec Called)) (c : ℕ) (calls : Vec Called
 all_forks_next callers c calls forks whole low is so_far =
     goes_on (λ xs. all_forks c (seen_calls xs)) (λ xs. all_forks (c + 1) (seen_calls xs)) callers c calls forks
     (forks_in c 0 0 (map seen_call calls.items)) whole low is (rw add-one refl) so_far
+
+no_forks_here : (p k n : ℕ) (c : Call) (calls : List Call) (later : Bool) → (is_fork c || later) ≡ false →
+    (later ≡ false → forks_in p (suc k) (n + length (call_steps c)) calls ≡ []) → forks_in p k n (c ∷ calls) ≡ []
+no_forks_here p k n (alone (ForkEvent child) line) calls later none rest = cc
+no_forks_here p k n c calls later none rest = rest none
+
+-- who forks nobody has no forks
+pub no_forks : (p k n : ℕ) (calls : List Called) → list_any (λ call. is_fork (seen_call call)) calls ≡ false →
+    forks_in p k n (map seen_call calls) ≡ []
+no_forks p k n [] none = refl
+no_forks p k n (call ∷ calls) none = no_forks_here p k n (seen_call call) (map seen_call calls)
+    (list_any (λ call. is_fork (seen_call call)) calls) none
+    (λ rest. no_forks p (suc k) (n + length (call_steps (seen_call call))) calls rest)

@@ -1,8 +1,9 @@
 -- What is carried along some steps.
-use Rattle.std.specs.Prelude.{ℕ, ◌≡◌, ◌≤◌, ⊤, Option, Some, None, List, [], ◌∷◌, length, take, slice_get}
+use Rattle.std.specs.Prelude.{ℕ, ◌≡◌, ◌↔◌, ◌≤◌, ⊤, IsTrue, Option, Some, None, List, [], ◌∷◌, length, take, slice_get}
 use Rattle.std.specs.List.{fold}
 use Rattle.std.specs.Global.{Vec}
 use Rattle.key_names.specs.declared.names.Step.{Step}
+use Rattle.line_orders.specs.declared.along.Walk.{Walk}
 use Rattle.line_orders.specs.declared.order.Fork.{Fork}
 
 module _ (after : Option ℕ → Step → Option ℕ) where
@@ -10,6 +11,11 @@ module _ (after : Option ℕ → Step → Option ℕ) where
   abbrev pub Along : (Option ℕ → Step → Type 0) → Option ℕ → List Step → Type 0
   Along MayFollow carried [] = ⊤
   Along MayFollow carried (step ∷ steps) = MayFollow carried step × Along MayFollow (after carried step) steps
+
+  -- one went along the steps
+  pub record HasGone (MayFollow : Option ℕ → Step → Type 0) (walk : Walk) (steps : List Step) (on : Walk) : Type 0 where
+    pub carried : on.carried ≡ fold after walk.carried steps
+    pub follows : IsTrue on.follows ↔ IsTrue walk.follows × Along MayFollow walk.carried steps
 
   -- what is carried behind each front of the steps
   abbrev pub AreAlong : Option ℕ → List Step → List (Option ℕ) → Type 0

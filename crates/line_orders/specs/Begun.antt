@@ -2,7 +2,6 @@
 use Rattle.std.specs.Prelude.{ℕ, ◌≡◌, ◌⊎◌, List, map, IsPermutation}
 use Rattle.key_names.specs.Texts.ScriptGrammar.{Script}
 use Rattle.key_names.specs.SeenLine.{SeenLine}
-use Rattle.key_names.specs.History.{calls_steps}
 use Rattle.key_names.specs.IsTranscript.{HasLines, MarksStand, script_calls, all_marks, clause_number, FirstFails}
 use Rattle.key_names.specs.IsTranscript.{lines_clause, marks_clause}
 use Rattle.line_orders.specs.declared.begin.Parts.{Parts}
@@ -19,8 +18,7 @@ pub record PartsStand (script : Script) (t : List (List SeenLine)) (parts : Part
   pub calls : seen_calls parts.calls.items ≡ script_calls script t
   pub all_marks : IsPermutation (all_marks t) (map seen_mark parts.marks.items)
   pub sorted : IsSortedByLane parts.marks.items
-  pub own : map (λ own. own.items) parts.orders.own.items ≡ map calls_steps (script_calls script t)
-  pub forks : parts.orders.forks.items ≡ all_forks 0 (script_calls script t)
+  pub forks : parts.forks.items ≡ all_forks 0 (script_calls script t)
 
 -- the first clause that fails is that on lines, or that on marks
 abbrev pub IsEarlyFault : Script → List (List SeenLine) → ℕ → Type 0

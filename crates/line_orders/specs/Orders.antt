@@ -1,5 +1,5 @@
 -- The forks among callers' calls, and how many steps of a parent come before its child's.
-use Rattle.std.specs.Prelude.{ℕ, Bool, suc, ◌+◌, ◌==◌, Option, Some, None, List, [], ◌∷◌, ◌++◌, length, if◌then◌else◌}
+use Rattle.std.specs.Prelude.{ℕ, Bool, true, false, suc, ◌+◌, ◌==◌, Option, Some, None, List, [], ◌∷◌, ◌++◌, length, if◌then◌else◌}
 use Rattle.std.specs.List.{list_any}
 use Rattle.key_names.specs.declared.events.Event.TheVariants.{Fork as ForkEvent}
 use Rattle.key_names.specs.Calls.{Call, alone}
@@ -11,6 +11,10 @@ abbrev pub fork_here : ℕ → ℕ → ℕ → Call → List Fork
 fork_here p k n (alone (ForkEvent child) line) =
     record { parent = p; child = child; calls = k; steps = n + length (through_visit line.steps) } ∷ []
 fork_here p k n _ = []
+
+abbrev pub is_fork : Call → Bool
+is_fork (alone (ForkEvent child) line) = true
+is_fork _ = false
 
 -- those of some calls behind k calls and n steps
 abbrev pub forks_in : ℕ → ℕ → ℕ → List Call → List Fork

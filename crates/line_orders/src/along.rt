@@ -1,15 +1,16 @@
 //! What goes along the orders of callers: it begins with nothing, each step changes it, and a child begins with what its
 //! parent had at the fork.
-ghost use Rattle.std.specs.Prelude.{◌≡◌, ◌↔◌, ◌+◌, ◌<◌, ◌≤◌, ℕ, IsTrue, IfOk, Option, Some, None, List, map, length};
+ghost use Rattle.std.specs.Prelude.{◌≡◌, ◌↔◌, ◌<◌, ◌≤◌, ℕ, [], ◌∷◌, true, IsTrue, IfOk, Option, None, map, length};
 ghost use Rattle.std.specs.Bool.{OnTrue};
 ghost use Rattle.std.specs.List.{AllByRecursion};
 ghost use Rattle.key_names.specs.declared.names.Step.{Step};
-ghost use Rattle.key_names.specs.History.{caller_orders, calls_steps};
-ghost use Rattle.key_names.specs.Calls.{Call};
+ghost use Rattle.key_names.specs.History.{call_steps, calls_steps, caller_orders, steps_at_point, vread_steps};
+ghost use Rattle.line_orders.specs.Called.{seen_act, seen_call, seen_calls};
 ghost use Rattle.line_orders.specs.Orders.{all_forks, front_in};
-ghost use Rattle.line_orders.specs.Along.{Along, AreAlong, begin_in};
+ghost use Rattle.line_orders.specs.Along.{Along, AreAlong, HasGone, begin_in};
 
-use crate::order::{Orders, front_of, is_parent};
+use crate::called::{ActLine, Called};
+use crate::order::{Fork, cut, front_of, is_parent, own_steps};
 use key_names::Step;
 use std::alloc::{AllocError, Global};
 
@@ -28,18 +29,92 @@ pub trait Carry {
         ensures { result ≡ after self.now carried step };
 }
 
-// Whether each of some steps may follow what is carried to it.
-fn may_go<C: Carry>(carry: &C, start: Option<u64>, steps: &[Step]) -> bool
-    ensures { IsTrue result ↔ Along (C.after carry.now) (C.MayFollow carry.now) start steps.now }
-{
-    let mut carried = start;
-    for step in steps {
-        if !carry.may_follow(carried, *step) {
-            return false;
+/// How far one has come along an order: what is carried there, and whether each step so far could follow.
+#[derive(Clone, Copy)]
+pub(crate) struct Walk {
+    pub(crate) carried: Option<u64>,
+    pub(crate) follows: bool,
+}
+
+impl Walk {
+    fn from(start: Option<u64>) -> Walk
+        ensures carried { result.carried ≡ start }
+        ensures follows { result.follows ≡ true }
+    {
+        Walk {
+            carried: start,
+            follows: true,
         }
-        carried = carry.after(carried, *step);
     }
-    true
+
+    // Goes along a step.
+    fn pass<C: Carry>(&mut self, carry: &C, step: Step)
+        ensures { HasGone (C.after carry.now) (C.MayFollow carry.now) self.old (step ∷ []) self.new }
+    {
+        self.follows = self.follows && carry.may_follow(self.carried, step);
+        self.carried = carry.after(self.carried, step);
+    }
+
+    // Goes along some steps.
+    fn go<C: Carry>(&mut self, carry: &C, steps: &[Step])
+        ensures { HasGone (C.after carry.now) (C.MayFollow carry.now) self.old steps.now self.new }
+    {
+        for step in steps {
+            self.pass(carry, *step);
+        }
+    }
+
+    // Goes along the steps of the acts at a point.
+    fn go_at_point<C: Carry>(&mut self, carry: &C, acts: &[ActLine<'_>], point: u8)
+        ensures { HasGone (C.after carry.now) (C.MayFollow carry.now) self.old
+            (steps_at_point (map seen_act acts.now) point) self.new }
+    {
+        let Some((act, rest)) = acts.split_first() else {
+            return;
+        };
+        if act.point == point {
+            self.go(carry, act.line.steps);
+        }
+        self.go_at_point(carry, rest, point);
+    }
+
+    // Goes along a `vread` with the acts inside it.
+    fn go_vread<C: Carry>(&mut self, carry: &C, steps: &[Step], acts: &[ActLine<'_>])
+        ensures { HasGone (C.after carry.now) (C.MayFollow carry.now) self.old
+            (vread_steps steps.now (map seen_act acts.now)) self.new }
+    {
+        let (looks, rekey, rest) = cut(steps);
+        self.go(carry, looks);
+        self.go_at_point(carry, acts, 1);
+        self.go_at_point(carry, acts, 2);
+        self.go(carry, rekey);
+        self.go_at_point(carry, acts, 3);
+        self.go_at_point(carry, acts, 4);
+        self.go(carry, rest);
+    }
+
+    // Goes along a call.
+    fn go_call<C: Carry>(&mut self, carry: &C, call: &Called<'_>)
+        ensures { HasGone (C.after carry.now) (C.MayFollow carry.now) self.old (call_steps (seen_call call.now)) self.new }
+    {
+        match call {
+            Called::Alone { line, .. } | Called::Ending(line) => self.go(carry, line.steps),
+            Called::Unbound(act) => self.go(carry, act.line.steps),
+            Called::Vread { line, acts, .. } => self.go_vread(carry, line.steps, acts),
+        }
+    }
+}
+
+// Whether each step of some calls may follow what is carried to it.
+fn may_go<C: Carry>(carry: &C, start: Option<u64>, calls: &[Called<'_>]) -> bool
+    ensures { IsTrue result ↔ Along (C.after carry.now) (C.MayFollow carry.now) start
+        (calls_steps (map seen_call calls.now)) }
+{
+    let mut walk = Walk::from(start);
+    for call in calls {
+        walk.go_call(carry, call);
+    }
+    walk.follows
 }
 
 // What is carried behind each front of some steps that may all follow, the empty one first.
@@ -66,53 +141,53 @@ fn kept_of<C: Carry>(
     alloc: Global,
     carry: &C,
     start: Option<u64>,
-    steps: &[Step],
+    calls: &[Called<'_>],
     is_parent: bool,
 ) -> Result<Vec<Option<u64>>, AllocError>
-    ensures { IfOk result (λ kept. OnTrue is_parent (AreAlong (C.after carry.now) start steps.now kept.items)) }
+    ensures { IfOk result (λ kept. OnTrue is_parent
+        (AreAlong (C.after carry.now) start (calls_steps (map seen_call calls.now)) kept.items)) }
 {
     if is_parent {
-        along(alloc, carry, start, steps)
+        along(alloc, carry, start, &own_steps(alloc, calls)?)
     } else {
         Ok(Vec::new(alloc))
     }
 }
 
 // What a child begins with, of what its ancestors carried.
-fn start_of(orders: &Orders, kept: &[Vec<Option<u64>>], caller: u32) -> Option<u64>
-    ensures { result ≡ begin_in kept.now (front_in caller orders.now.forks.items) }
+fn start_of(forks: &[Fork], kept: &[Vec<Option<u64>>], caller: u32) -> Option<u64>
+    ensures { result ≡ begin_in kept.now (front_in caller forks.now) }
 {
-    let fork = front_of(&orders.forks, caller)?;
+    let fork = front_of(forks, caller)?;
     let parent = kept.get(fork.parent as usize)?;
     *parent.get(fork.steps)?
 }
 
-/// Whether each step of each order may follow what is carried to it.
+/// Whether each step of each caller's order may follow what is carried to it.
 ///
 /// # Errors
 ///
 /// `AllocError` where there is no memory for what is carried.
 pub fn all_may_follow<C: Carry>(
     alloc: Global,
-    orders: &Orders,
+    callers: &[Vec<Called<'_>>],
+    forks: &[Fork],
     carry: &C,
 ) -> Result<bool, AllocError>
-    requires few { length orders.now.own.items ≤ 64 }
-    ensures { IfOk result (λ holds. (callers : List (List Call))
-        → map (λ own. own.items) orders.now.own.items ≡ map calls_steps callers
-        → orders.now.forks.items ≡ all_forks 0 callers
-        → AllByRecursion (λ fork. fork.parent < fork.child) (all_forks 0 callers)
-        → IsTrue holds ↔ AllByRecursion (Along (C.after carry.now) (C.MayFollow carry.now) None)
-        (caller_orders callers)) }
+    requires few { length callers.now ≤ 64 }
+    requires forks { forks.now ≡ all_forks 0 (seen_calls callers.now) }
+    requires above { AllByRecursion (λ fork. fork.parent < fork.child) forks.now }
+    ensures { IfOk result (λ holds. IsTrue holds ↔ AllByRecursion (Along (C.after carry.now) (C.MayFollow carry.now) None)
+        (caller_orders (seen_calls callers.now))) }
 {
-    let mut kept = Vec::with_capacity(alloc, orders.own.len())?;
-    for (caller, own) in orders.own.iter().enumerate() {
-        let start = start_of(orders, &kept, caller as u32);
-        if !may_go(carry, start, own) {
+    let mut kept = Vec::with_capacity(alloc, callers.len())?;
+    for (caller, calls) in callers.iter().enumerate() {
+        let start = start_of(forks, &kept, caller as u32);
+        if !may_go(carry, start, calls) {
             return Ok(false);
         }
-        let is_parent = is_parent(&orders.forks, caller as u32);
-        kept.push(kept_of(alloc, carry, start, own, is_parent)?)?;
+        let is_parent = is_parent(forks, caller as u32);
+        kept.push(kept_of(alloc, carry, start, calls, is_parent)?)?;
     }
     Ok(true)
 }

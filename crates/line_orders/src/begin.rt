@@ -11,19 +11,19 @@ use crate::bare::BareLine;
 use crate::called::{Called, caller_calls};
 use crate::lines::lines_fit;
 use crate::marks::{MarkOf, places_count, sorted_marks};
-use crate::order::{Orders, make_orders};
+use crate::order::{Fork, all_forks};
 use crate::seen::bare_callers;
 use crate::stamps::Stamps;
 use event_script::Script;
 use std::alloc::{AllocError, Global};
 use transcript_text::Transcript;
 
-/// The calls, marks and orders of a transcript whose lines and marks stand.
+/// The calls, marks and forks of a transcript whose lines and marks stand.
 #[derive(Drop)]
 pub struct Parts<'a> {
     pub calls: Vec<Vec<Called<'a>>>,
     pub marks: Vec<MarkOf>,
-    pub orders: Orders,
+    pub forks: Vec<Fork>,
 }
 
 #[derive(Drop)]
@@ -72,14 +72,14 @@ pub fn begin<'a>(
         return Ok(Begun::No(3));
     }
     let calls = all_calls(alloc, script, lines)?;
-    let orders = make_orders(alloc, &calls)?;
-    if !all_may_follow(alloc, &orders, &Stamps)? {
+    let forks = all_forks(alloc, &calls)?;
+    if !all_may_follow(alloc, &calls, &forks, &Stamps)? {
         return Ok(Begun::No(3));
     }
     Ok(Begun::Stands(Parts {
         calls,
         marks,
-        orders,
+        forks,
     }))
 }
 

@@ -1,9 +1,10 @@
 //! In what order a caller's steps happen, and where its order begins in that of its parent.
 ghost use Rattle.std.specs.Prelude.{◌≡◌, ◌<◌, ◌≤◌, ◌^◌, ◌++◌, IfOk, OnOk, map, length, take, drop};
+ghost use Rattle.std.specs.List.{list_any};
 ghost use Rattle.key_names.specs.History.{is_mark, through_visit, steps_at_point, cut_behind_visits, cut_behind_rekey};
 ghost use Rattle.key_names.specs.History.{call_steps, calls_steps, vread_steps};
 ghost use Rattle.line_orders.specs.Called.{seen_act, seen_call, seen_calls};
-ghost use Rattle.line_orders.specs.Orders.{fork_here, forks_in, all_forks, front_in, is_parent_in};
+ghost use Rattle.line_orders.specs.Orders.{fork_here, forks_in, is_fork, all_forks, front_in, is_parent_in};
 
 use crate::called::{ActLine, Called};
 use key_names::{Event, Step};
@@ -17,13 +18,6 @@ pub struct Fork {
     pub child: u32,
     pub calls: usize,
     pub steps: usize,
-}
-
-/// The own steps of each caller in their order, and the forks of them all.
-#[derive(Drop)]
-pub struct Orders {
-    pub own: Vec<Vec<Step>>,
-    pub forks: Vec<Fork>,
 }
 
 fn is_visit(step: Step) -> bool
@@ -81,8 +75,8 @@ fn push_at_point(own: &mut Vec<Step>, acts: &[ActLine<'_>], point: u8) -> Result
     push_at_point(own, rest, point)
 }
 
-// The steps of a `vread` before its points 1 and 2, between them and its points 3 and 4, and behind these.
-fn cut(steps: &[Step]) -> (&[Step], &[Step], &[Step])
+/// The steps of a `vread` before its points 1 and 2, between them and its points 3 and 4, and behind these.
+pub(crate) fn cut(steps: &[Step]) -> (&[Step], &[Step], &[Step])
     ensures looks { result.0.now ≡ take 2 steps.now }
     ensures rekey { result.1.now ≡ (cut_behind_rekey (drop 2 steps.now)).0 }
     ensures rest { result.2.now ≡ (cut_behind_rekey (drop 2 steps.now)).1 }
@@ -147,40 +141,89 @@ fn push_fork(
     }
 }
 
-// The own steps of a caller, and its forks behind those of others.
-fn own_steps(
-    alloc: Global,
-    caller: u32,
-    calls: &[Called<'_>],
-    forks: &mut Vec<Fork>,
-) -> Result<Vec<Step>, AllocError>
-    ensures own { IfOk result (λ own. own.items ≡ calls_steps (map seen_call calls.now)) }
-    ensures forks { OnOk result (forks.new.items ≡ forks.old.items ++ forks_in caller 0 0 (map seen_call calls.now)) }
+/// The own steps of a caller with these calls, in their order.
+///
+/// # Errors
+///
+/// `AllocError` where there is no memory for them.
+pub(crate) fn own_steps(alloc: Global, calls: &[Called<'_>]) -> Result<Vec<Step>, AllocError>
+    ensures { IfOk result (λ own. own.items ≡ calls_steps (map seen_call calls.now)) }
 {
     let mut own = Vec::new(alloc);
-    for (number, call) in calls.iter().enumerate() {
-        push_fork(forks, caller, number, own.len(), call)?;
+    for call in calls {
         push_call(&mut own, call)?;
     }
     Ok(own)
 }
 
-/// The orders of callers with these calls.
+/// Those of each caller.
 ///
 /// # Errors
 ///
 /// `AllocError` where there is no memory for them.
-pub fn make_orders(alloc: Global, callers: &[Vec<Called<'_>>]) -> Result<Orders, AllocError>
-    requires { length callers.now ≤ 64 }
-    ensures own { IfOk result (λ orders. map (λ own. own.items) orders.own.items ≡ map calls_steps (seen_calls callers.now)) }
-    ensures forks { IfOk result (λ orders. orders.forks.items ≡ all_forks 0 (seen_calls callers.now)) }
+pub fn all_own_steps(
+    alloc: Global,
+    callers: &[Vec<Called<'_>>],
+) -> Result<Vec<Vec<Step>>, AllocError>
+    ensures { IfOk result (λ owns. map (λ own. own.items) owns.items ≡ map calls_steps (seen_calls callers.now)) }
 {
+    let mut owns = Vec::new(alloc);
+    for calls in callers {
+        owns.push(own_steps(alloc, calls)?)?;
+    }
+    Ok(owns)
+}
+
+fn is_fork(call: &Called<'_>) -> bool
+    ensures { result ≡ is_fork (seen_call call.now) }
+{
+    match call {
+        Called::Alone { event, .. } => matches!(event, Event::Fork { .. }),
+        _ => false,
+    }
+}
+
+// Whether there is a fork among some calls.
+fn has_fork(calls: &[Called<'_>]) -> bool
+    ensures { result ≡ list_any (λ call. is_fork (seen_call call)) calls.now }
+{
+    calls.iter().any(|call| is_fork(call))
+}
+
+// The forks of a caller, behind those of others. The steps of who forks nobody are not gone through.
+fn push_forks(
+    alloc: Global,
+    caller: u32,
+    calls: &[Called<'_>],
+    forks: &mut Vec<Fork>,
+) -> Result<(), AllocError>
+    ensures { OnOk result (forks.new.items ≡ forks.old.items ++ forks_in caller 0 0 (map seen_call calls.now)) }
+{
+    if !has_fork(calls) {
+        return Ok(());
+    }
     let mut own = Vec::new(alloc);
+    for (number, call) in calls.iter().enumerate() {
+        push_fork(forks, caller, number, own.len(), call)?;
+        push_call(&mut own, call)?;
+    }
+    Ok(())
+}
+
+/// The forks of callers with these calls.
+///
+/// # Errors
+///
+/// `AllocError` where there is no memory for them.
+pub(crate) fn all_forks(alloc: Global, callers: &[Vec<Called<'_>>]) -> Result<Vec<Fork>, AllocError>
+    requires { length callers.now ≤ 64 }
+    ensures { IfOk result (λ forks. forks.items ≡ all_forks 0 (seen_calls callers.now)) }
+{
     let mut forks = Vec::new(alloc);
     for (caller, calls) in callers.iter().enumerate() {
-        own.push(own_steps(alloc, caller as u32, calls, &mut forks)?)?;
+        push_forks(alloc, caller as u32, calls, &mut forks)?;
     }
-    Ok(Orders { own, forks })
+    Ok(forks)
 }
 
 /// Where a caller is forked, if it is.

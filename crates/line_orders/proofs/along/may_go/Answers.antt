@@ -1,32 +1,31 @@
-use Rattle.std.proofs.Common.{refl, arith}
-use Rattle.line_orders.proofs.Carried.{along_more, along_end}
+use Rattle.std.proofs.Common.{[], ◌++◌, map, refl}
+use Rattle.key_names.specs.History.{call_steps, calls_steps}
+use Rattle.line_orders.specs.Called.{seen_call}
+use Rattle.line_orders.proofs.Carried.{gone_nowhere, gone_on}
+use Rattle.line_orders.proofs.Fronts.{all_done}
+use Rattle.line_orders.proofs.OwnSteps.{own_next}
 use Rattle.line_orders.proofs.along.may_go.Goals as goal
 
-pub loop-step-init : goal.loop-step-init
-loop-step-init g c = ((λ h. h), (λ h. h))
+pub loop-call-init : goal.loop-call-init
+loop-call-init g c = record {
+  done = [];
+  gone = gone_nowhere (g.C.Carry.after c.args.carry.now) (g.C.Carry.MayFollow c.args.carry.now) c.from-walk.result;
+  so_far = refl;
+}
 
-pub returns-then-not-may_follow : goal.returns-then-not-may_follow
-returns-then-not-may_follow g c = (
-  (λ false_is. absurd cc),
-  (λ h.
-      let more = along_more (g.C.Carry.after c.args.carry.now) (g.C.Carry.MayFollow c.args.carry.now) c.loop-step.carried
-      c.args.steps.now c.loop-step.step-index _ c.loop-step-test.true in
-      let false_is = c.if-not-may_follow.ensures.1 (more.0 (c.loop-step.invariant.0 h)).0 in cc),
-)
-
-pub loop-step-preserved : goal.loop-step-preserved
-loop-step-preserved g c =
-    let more = along_more (g.C.Carry.after c.args.carry.now) (g.C.Carry.MayFollow c.args.carry.now) c.loop-step.carried
-    c.args.steps.now c.loop-step.step-index _ c.loop-step-test.true in (
-      (λ h. rw c.after-carried.ensures (more.0 (c.loop-step.invariant.0 h)).1),
-      (λ h. c.loop-step.invariant.1
-          (more.1 (c.if-not-may_follow.ensures.0 refl, rw (← c.after-carried.ensures) h))),
-    )
+pub loop-call-preserved : goal.loop-call-preserved
+loop-call-preserved g c = record {
+  done = c.loop-call.invariant.done ++ call_steps (seen_call c.call-item.result);
+  gone = gone_on (g.C.Carry.after c.args.carry.now) (g.C.Carry.MayFollow c.args.carry.now) c.from-walk.result
+      c.loop-call.walk c.go_call.new.self c.loop-call.invariant.done (call_steps (seen_call c.call-item.result))
+      c.loop-call.invariant.gone c.go_call.ensures;
+  so_far = own_next c.args.calls.now c.loop-call.call-index c.call-item.result c.loop-call.invariant.done _
+      c.loop-call-test.true c.call-item.is c.loop-call.invariant.so_far;
+}
 
 pub returns : goal.returns
-returns g c = (
-  (λ h. c.loop-step.invariant.1
-      (along_end (g.C.Carry.after c.args.carry.now) (g.C.Carry.MayFollow c.args.carry.now) c.loop-step.carried
-      c.args.steps.now c.loop-step.step-index c.loop-step-test.false)),
-  (λ h. refl),
-)
+returns g c =
+    let whole = all_done (λ xs. calls_steps (map seen_call xs)) c.args.calls.now c.loop-call.call-index
+    c.loop-call.invariant.done _ c.loop-call-test.false refl c.loop-call.invariant.so_far in
+    let follows = c.loop-call.invariant.gone.follows in
+    rw (← c.from-walk.ensures.carried, ← whole) ((λ h. (follows.0 h).1), (λ h. follows.1 (c.from-walk.ensures.follows, h)))

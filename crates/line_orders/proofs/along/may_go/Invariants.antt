@@ -1,9 +1,13 @@
-use Rattle.std.proofs.Common.{drop}
-use Rattle.std.specs.Prelude.{◌↔◌}
-use Rattle.line_orders.specs.Along.{Along}
+use Rattle.std.proofs.Common.{◌≡◌, List, ◌++◌, drop, map}
+use Rattle.key_names.specs.declared.names.Step.{Step}
+use Rattle.key_names.specs.History.{calls_steps}
+use Rattle.line_orders.specs.Along.{HasGone}
+use Rattle.line_orders.specs.Called.{seen_call}
 use Rattle.line_orders.proofs.along.may_go.Given as goal
 
-abbrev pub invariant-loop-step : goal.invariant-loop-step
-invariant-loop-step g l =
-    Along (g.C.Carry.after l.carry) (g.C.Carry.MayFollow l.carry) l.fn.start l.steps
-    ↔ Along (g.C.Carry.after l.carry) (g.C.Carry.MayFollow l.carry) l.carried (drop l.step-index l.steps)
+abbrev pub invariant-loop-call : goal.invariant-loop-call
+invariant-loop-call g l = record {
+  done : List Step;
+  gone : HasGone (g.C.Carry.after l.carry) (g.C.Carry.MayFollow l.carry) l.initial.walk done l.walk;
+  so_far : done ++ calls_steps (map seen_call (drop l.call-index l.calls)) ≡ calls_steps (map seen_call l.calls);
+}

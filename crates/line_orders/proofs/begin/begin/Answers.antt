@@ -1,11 +1,14 @@
-use Rattle.std.proofs.Common.{◌≡◌, List, length, map, inr, refl, sym, ap, ◌∙◌, arith}
+use Rattle.std.proofs.Common.{◌≡◌, ◌<◌, ◌≤◌, List, length, map, inr, refl, sym, subst, ap, ◌∙◌, arith}
+use Rattle.std.specs.List.{AllByRecursion}
 use Rattle.std.specs.Global.{Vec}
 use Rattle.std.proofs.lemmas.List.{length-map}
-use Rattle.key_names.specs.declared.names.Step.{Step}
-use Rattle.key_names.specs.History.{calls_steps, caller_orders}
+use Rattle.key_names.specs.History.{caller_orders}
 use Rattle.key_names.specs.IsTranscript.{all_marks, script_calls}
 use Rattle.line_orders.specs.declared.bare.BareLine.{BareLine}
+use Rattle.key_names.specs.SeenLine.{SeenLine}
+use Rattle.key_names.specs.Texts.ScriptGrammar.{Script, WellFormed}
 use Rattle.line_orders.specs.declared.called.Called.{Called}
+use Rattle.line_orders.specs.declared.order.Fork.{Fork}
 use Rattle.line_orders.specs.Seen.{seen_bare, seen_callers}
 use Rattle.line_orders.specs.Called.{seen_call, seen_calls}
 use Rattle.line_orders.specs.Marks.{seen_mark}
@@ -35,48 +38,46 @@ all_calls-requires-clause-few c =
     ∙ callers_long 0 c.args.script.now.callers (seen_callers c.args.lines.now) (c.if-not-lines_fit.ensures.0 refl) in
     omega (arith, c.requires.well.callers.1)
 
-pub make_orders-requires : goal.make_orders-requires
-make_orders-requires c =
-    let many : length c.deref-2.result.now ≡ length c.args.script.now.callers =
-    ap length c.deref-2.ensures.value
-    ∙ sym (length-map c.in_ok-calls.calls.items (λ (calls : Vec Called). map seen_call calls.items))
-    ∙ ap length c.in_ok-calls.ensures
-    ∙ calls_long c.args.script.now.callers (seen_callers c.args.lines.now) in
-    omega (arith, c.requires.well.callers.1)
+few_callers : (script : Script) (t : List (List SeenLine)) (calls : List (Vec Called)) → WellFormed script →
+    seen_calls calls ≡ script_calls script t → length calls ≤ 64
+few_callers script t calls well are =
+    let many : length calls ≡ length script.callers =
+    sym (length-map calls (λ (of : Vec Called). map seen_call of.items)) ∙ ap length are
+    ∙ calls_long script.callers t in
+    omega (arith, well.callers.1)
+
+pub all_forks-requires : goal.all_forks-requires
+all_forks-requires c = rw c.deref-2.ensures.value
+    (few_callers c.args.script.now (seen_callers c.args.lines.now) c.in_ok-calls.calls.items c.requires.well
+    c.in_ok-calls.ensures)
 
 pub all_may_follow-requires : goal.all_may_follow-requires
-all_may_follow-requires c = record {
-  few =
-      (let many : length c.in_ok-orders.orders.own.items ≡ length c.args.script.now.callers =
-      sym (length-map c.in_ok-orders.orders.own.items (λ (own : Vec Step). own.items))
-      ∙ ap length c.in_ok-orders.ensures.own
-      ∙ length-map (seen_calls c.deref-2.result.now) calls_steps
-      ∙ ap (λ (calls : List (Vec Called)). length (seen_calls calls)) c.deref-2.ensures.value
-      ∙ ap length c.in_ok-calls.ensures
-      ∙ calls_long c.args.script.now.callers (seen_callers c.args.lines.now) in
-      omega (arith, c.requires.well.callers.1));
-}
+all_may_follow-requires c =
+    let forks : c.in_ok-forks.forks.items ≡ all_forks 0 (seen_calls c.in_ok-calls.calls.items) =
+    c.in_ok-forks.ensures ∙ ap (λ (calls : List (Vec Called)). all_forks 0 (seen_calls calls)) c.deref-2.ensures.value in
+    rw (c.deref-3.ensures.value, c.deref-4.ensures.value) (record {
+      few = few_callers c.args.script.now (seen_callers c.args.lines.now) c.in_ok-calls.calls.items c.requires.well
+          c.in_ok-calls.ensures;
+      forks = forks;
+      above = subst (λ (fs : List Fork). AllByRecursion (λ fork. fork.parent < fork.child) fs)
+          (sym (forks ∙ ap (all_forks 0) c.in_ok-calls.ensures))
+          (all_rise 0 c.args.script.now.callers (seen_callers c.args.lines.now) c.requires.well.above);
+    })
 
 pub returns-then-not-branch : goal.returns-then-not-branch
 returns-then-not-branch c =
-    let calls : seen_calls c.deref-2.result.now ≡ script_calls c.args.script.now (seen_callers c.args.lines.now) =
-    ap seen_calls c.deref-2.ensures.value ∙ c.in_ok-calls.ensures in inr (
+    let stands = rw (c.deref-3.ensures.value, c.in_ok-calls.ensures) at c.in_ok-all_may_follow.ensures in inr (
       refl,
       (
         c.if-not-lines_fit.ensures.0 refl,
-        (λ stand. let f = (c.in_ok-all_may_follow.ensures
-            (script_calls c.args.script.now (seen_callers c.args.lines.now))
-            (c.in_ok-orders.ensures.own ∙ ap (map calls_steps) calls)
-            (c.in_ok-orders.ensures.forks ∙ ap (all_forks 0) calls)
-            (all_rise 0 c.args.script.now.callers (seen_callers c.args.lines.now) c.requires.well.above)).1
+        (λ stand. let f = stands.1
             ((stamps_rise (caller_orders (script_calls c.args.script.now (seen_callers c.args.lines.now)))).1 stand.callers) in cc),
       ),
     )
 
 pub returns : goal.returns
 returns c =
-    let calls : seen_calls c.deref-2.result.now ≡ script_calls c.args.script.now (seen_callers c.args.lines.now) =
-    ap seen_calls c.deref-2.ensures.value ∙ c.in_ok-calls.ensures in record {
+    let stands = rw (c.deref-3.ensures.value, c.in_ok-calls.ensures) at c.in_ok-all_may_follow.ensures in record {
       lines = c.if-not-lines_fit.ensures.0 refl;
       marks_stand = record {
         lanes = λ lane.
@@ -84,15 +85,12 @@ returns c =
             c.in_ok-marks.ensures.all
             (rw (← c.deref.ensures.value) (c.if-not-places_count.ensures.0 refl lane));
         callers = (stamps_rise (caller_orders (script_calls c.args.script.now (seen_callers c.args.lines.now)))).0
-            ((c.in_ok-all_may_follow.ensures
-            (script_calls c.args.script.now (seen_callers c.args.lines.now))
-            (c.in_ok-orders.ensures.own ∙ ap (map calls_steps) calls)
-            (c.in_ok-orders.ensures.forks ∙ ap (all_forks 0) calls)
-            (all_rise 0 c.args.script.now.callers (seen_callers c.args.lines.now) c.requires.well.above)).0 c.if-not-branch.false);
+            (stands.0 c.if-not-branch.false);
       };
       calls = c.in_ok-calls.ensures;
       all_marks = c.in_ok-marks.ensures.all;
       sorted = c.in_ok-marks.ensures.sorted;
-      own = c.in_ok-orders.ensures.own ∙ ap (map calls_steps) calls;
-      forks = c.in_ok-orders.ensures.forks ∙ ap (all_forks 0) calls;
+      forks = c.in_ok-forks.ensures
+          ∙ ap (λ (calls : List (Vec Called)). all_forks 0 (seen_calls calls)) c.deref-2.ensures.value
+          ∙ ap (all_forks 0) c.in_ok-calls.ensures;
     }
