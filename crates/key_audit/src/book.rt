@@ -44,7 +44,7 @@ fn of_lines(
         Begun::No(_) => return Ok(None),
         Begun::Stands(parts) => parts,
     };
-    let settings = all_settings(alloc, &parts.calls, &parts.orders.forks)?;
+    let settings = all_settings(alloc, &parts.calls, &parts.forks)?;
     let Some(told) = gather(alloc, script, &parts, &settings)? else {
         return Ok(None);
     };

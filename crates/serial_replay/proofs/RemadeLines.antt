@@ -4,10 +4,9 @@ use Rattle.std.specs.Prelude.{◌↔◌, IsTrue}
 use Rattle.std.specs.List.{AllByRecursion}
 use Rattle.std.specs.Global.{Vec}
 use Rattle.std.proofs.lemmas.List.{length-map}
-use Rattle.key_names.specs.declared.names.Step.{Step}
 use Rattle.key_names.specs.Book.{Book, Lists, LawfulLanes, lists_of, list_at}
 use Rattle.key_names.specs.Calls.{Setting, Call}
-use Rattle.key_names.specs.History.{caller_orders, calls_steps}
+use Rattle.key_names.specs.History.{caller_orders}
 use Rattle.key_names.specs.Texts.ScriptGrammar.{Script, WellFormed}
 use Rattle.key_names.specs.SeenLine.{SeenLine}
 use Rattle.key_names.specs.IsTranscript.{script_calls, start_setting, EachCaller, EachLine}
@@ -52,17 +51,10 @@ module _ (script : Script) (t : List (List SeenLine)) (parts : Parts) (stand : P
       ∙ ap length stand.calls ∙ calls_long script.callers t in
       omega (arith, well.callers.1)
 
-  pub few_orders : length parts.orders.own.items ≤ 64
-  few_orders =
-      let many : length parts.orders.own.items ≡ length script.callers =
-      sym (length-map parts.orders.own.items (λ (own : Vec Step). own.items)) ∙ ap length stand.own
-      ∙ length-map calls calls_steps ∙ calls_long script.callers t in
-      omega (arith, well.callers.1)
-
-  pub forks_are : parts.orders.forks.items ≡ all_forks 0 (seen_calls parts.calls.items)
+  pub forks_are : parts.forks.items ≡ all_forks 0 (seen_calls parts.calls.items)
   forks_are = stand.forks ∙ ap (all_forks 0) (sym stand.calls)
 
-  pub forks_rise : AllByRecursion (λ fork. fork.parent < fork.child) parts.orders.forks.items
+  pub forks_rise : AllByRecursion (λ fork. fork.parent < fork.child) parts.forks.items
   forks_rise = subst (λ (forks : List Fork). AllByRecursion (λ fork. fork.parent < fork.child) forks) (sym stand.forks)
       (all_rise 0 script.callers t well.above)
 

@@ -94,7 +94,7 @@ fn of_lines<N: Note>(
         Begun::No(clause) => return Ok(Remade::No(clause)),
         Begun::Stands(parts) => parts,
     };
-    let settings = all_settings(alloc, &parts.calls, &parts.orders.forks)?;
+    let settings = all_settings(alloc, &parts.calls, &parts.forks)?;
     let Some(told) = gather(alloc, script, &parts, &settings)? else {
         return Ok(Remade::No(4));
     };
@@ -104,7 +104,7 @@ fn of_lines<N: Note>(
     let Some(callers) = all_said(alloc, &parts.calls, &settings, &kept, how)? else {
         return Ok(Remade::No(4));
     };
-    let looks_stand = all_may_follow(alloc, &parts.orders, &Looks::of(&kept))?;
+    let looks_stand = all_may_follow(alloc, &parts.calls, &parts.forks, &Looks::of(&kept))?;
     Ok(Remade::Made(Made {
         callers,
         looks_stand,

@@ -1,8 +1,9 @@
 -- The stamp of the last visit that a caller stands behind.
-use Rattle.std.proofs.Common.{◌≡◌, ℕ, zero, suc, ◌+◌, ◌<◌, ◌≤◌, Option, Some, None, List, [], ◌∷◌, ◌++◌, inl, inr, refl, sym, ap, ◌∙◌, arith, append_assoc, length, take}
+use Rattle.std.proofs.Common.{◌≡◌, ℕ, zero, suc, ◌+◌, ◌<◌, ◌≤◌, Option, Some, None, List, [], ◌∷◌, ◌++◌, inl, inr, refl, sym, ap, ◌∙◌, arith, append_assoc, length, get_or, take}
 use Rattle.std.specs.Prelude.{map, slice_get, unwrap_or}
 use Rattle.std.specs.Global.{Vec}
 use Rattle.std.proofs.lemmas.Bool.{cases_lt}
+use Rattle.std.proofs.lemmas.List.{length-map}
 use Rattle.std.proofs.Math.Seq.{take-nil}
 use Rattle.key_names.specs.declared.names.Step.{Step}
 use Rattle.key_names.specs.Book.{list_at}
@@ -12,11 +13,26 @@ use Rattle.key_names.specs.CallerOrders.{start_of}
 use Rattle.key_names.proofs.History.CallerOrders.{start_is_a_front, long_ancestors}
 use Rattle.line_orders.specs.declared.order.Fork.{Fork}
 use Rattle.line_orders.specs.Orders.{all_forks, front_in}
-use Rattle.line_orders.proofs.AlongOrders.{owns_long}
 use Rattle.line_orders.proofs.Carried.{get_front, get_last}
 use Rattle.line_orders.proofs.Forks.{AtParent, at_parent, steps_before}
 use Rattle.state_entries.specs.Stamps.{latest_of, start_stamp}
 use Rattle.state_entries.proofs.Latest.{latest-append}
+
+-- the own steps of a caller among those of all
+pub own_kept : (owns : List (Vec Step)) (callers : List (List Call)) (c : ℕ) (steps : Vec Step) →
+    map (λ own. own.items) owns ≡ map calls_steps callers → c < length owns → steps ≡ get_or owns c steps →
+    steps.items ≡ calls_steps (list_at callers c)
+own_kept owns [] c steps e low is = absurd (let n : length (map (λ (own : Vec Step). own.items) owns) ≡ 0 = ap length e in omega (arith, length-map owns (λ (own : Vec Step). own.items)))
+own_kept [] (calls ∷ callers) c steps e low is = absurd (omega arith)
+own_kept (o ∷ owns) (calls ∷ callers) zero steps e low is = let h : o.items ≡ calls_steps calls = cc in ap (λ (x : Vec Step). x.items) is ∙ h
+own_kept (o ∷ owns) (calls ∷ callers) (suc c) steps e low is =
+    let t : map (λ (own : Vec Step). own.items) owns ≡ map calls_steps callers = cc in
+    own_kept owns callers c steps t (omega arith) is
+
+pub owns_long : (owns : List (Vec Step)) (callers : List (List Call)) →
+    map (λ own. own.items) owns ≡ map calls_steps callers → length callers ≡ length owns
+owns_long owns callers e =
+    sym (length-map callers calls_steps) ∙ sym (ap length e) ∙ length-map owns (λ (own : Vec Step). own.items)
 
 -- what a caller stands behind that is forked here
 abbrev pub start_from : (ℕ → ℕ) → List (List Call) → Option Fork → ℕ

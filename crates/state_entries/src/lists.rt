@@ -21,7 +21,7 @@ use crate::stamps::latest;
 use key_names::Step;
 use line_orders::begin::Parts;
 use line_orders::called::Called;
-use line_orders::order::Fork;
+use line_orders::order::{Fork, all_own_steps};
 use std::alloc::{AllocError, Global};
 
 // The fork of a caller, if there is one.
@@ -137,7 +137,8 @@ pub fn state_lists(
     ensures cut { (script : Script) (t : List (List SeenLine)) → PartsStand script t parts.now →
         IfOk result (λ lists. AreCutByStamp (script_calls script t) lists.items) }
 {
-    let starts = start_stamps(alloc, &parts.orders.own, &parts.orders.forks)?;
+    let own = all_own_steps(alloc, &parts.calls)?;
+    let starts = start_stamps(alloc, &own, &parts.forks)?;
     let lists = all_lists(alloc, &starts, &parts.calls)?;
     Ok(lists)
 }

@@ -1,10 +1,8 @@
 use Rattle.std.proofs.Common.{◌≡◌, true, false, List}
 use Rattle.list_replay.specs.Tables.{tables_of}
 use Rattle.key_names.specs.SeenLine.{SeenLine}
-use Rattle.key_names.specs.IsTranscript.{script_calls}
 use Rattle.line_orders.specs.Seen.{seen_callers}
-use Rattle.line_orders.proofs.ForksRise.{all_rise}
-use Rattle.serial_replay.proofs.RemadeLines.{few_calls, few_orders, forks_rise, in_range, none_replayed, callers_stand, none_said, all_fill, all_made}
+use Rattle.serial_replay.proofs.RemadeLines.{few_calls, forks_are, forks_rise, in_range, none_replayed, callers_stand, none_said, all_fill, all_made}
 use Rattle.serial_replay.proofs.remake.of_lines.Goals as goal
 
 pub all_settings-requires-clause-few : goal.all_settings-requires-clause-few
@@ -59,9 +57,11 @@ returns-in_default-3 g c =
 pub all_may_follow-requires : goal.all_may_follow-requires
 all_may_follow-requires g c =
     let stand = rw c.in-Stands.is at c.in_ok-clause.ensures in
-    record {
-      few = few_orders c.args.script.now (seen_callers c.args.lines.now) c.in-Stands.parts stand c.requires.well;
-    }
+    rw (c.deref-6.ensures.value, c.deref-7.ensures.value) (record {
+      few = few_calls c.args.script.now (seen_callers c.args.lines.now) c.in-Stands.parts stand c.requires.well;
+      forks = forks_are c.args.script.now (seen_callers c.args.lines.now) c.in-Stands.parts stand c.requires.well;
+      above = forks_rise c.args.script.now (seen_callers c.args.lines.now) c.in-Stands.parts stand c.requires.well;
+    })
 
 pub returns : goal.returns
 returns g c =
@@ -77,8 +77,7 @@ returns g c =
     c.requires.fit are (tables_of c.in-Some.told) gathered c.in-Some-2.kept
     (λ ls fills lawful. rw c.in-Some-2.is at (c.in_ok-kept.ensures.only ls fills lawful)) lists.0 lists.1 lists.2 in
     let said = some c.args.script.now t lists.0 there lists.3 lists.2.lanes fill in
-    let looks = rw c.of.ensures.lists at (c.in_ok-looks_stand.ensures (script_calls c.args.script.now t) stand.own stand.forks
-    (all_rise 0 c.args.script.now.callers t c.requires.well.above)) in
+    let looks = rw (c.of.ensures.lists, c.deref-6.ensures.value, stand.calls) at c.in_ok-looks_stand.ensures in
     all_made c.args.script.now t c.in-Stands.parts stand c.requires.well c.in_ok-settings.settings.items c.requires.fit are
     (tables_of c.in-Some.told) gathered c.in-Some-2.kept
     (λ ls fills lawful. rw c.in-Some-2.is at (c.in_ok-kept.ensures.only ls fills lawful)) lists.0 lists.1 lists.2 (g.N.Note.IsNoted c.args.how.now)

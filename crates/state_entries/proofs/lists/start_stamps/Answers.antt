@@ -1,7 +1,6 @@
 use Rattle.std.proofs.Common.{◌≡◌, ℕ, ◌+◌, List, [], ◌∷◌, ap, ◌∙◌, arith, length, length-append}
 use Rattle.std.specs.Prelude.{slice_get, unwrap_or}
-use Rattle.line_orders.proofs.AlongOrders.{owns_long}
-use Rattle.state_entries.proofs.Starts.{known_more}
+use Rattle.state_entries.proofs.Starts.{known_more, owns_long}
 use Rattle.state_entries.proofs.lists.start_stamps.Goals as goal
 
 pub loop-caller-preserved : goal.loop-caller-preserved

@@ -1,7 +1,6 @@
 use Rattle.std.proofs.Common.{sym, ap, ◌∙◌, List, take}
 use Rattle.key_names.specs.declared.names.Step.{Step}
-use Rattle.line_orders.proofs.AlongOrders.{own_kept}
-use Rattle.state_entries.proofs.Starts.{none_past}
+use Rattle.state_entries.proofs.Starts.{none_past, own_kept}
 use Rattle.state_entries.proofs.lists.steps_before.Goals as goal
 
 pub returns-in-Some : goal.returns-in-Some
