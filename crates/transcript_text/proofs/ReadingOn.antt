@@ -232,3 +232,10 @@ read_as text (Ok found) most is a short callers t = one_transcript text found ca
 read_as text (Err (Fault line)) most is a short callers t = a.none callers t
 read_as text (Err TooManyLines) most is a short callers t = absurd (omega (arith, is, has_few most text a))
 read_as text (Err NoMemory) most is a short callers t = tt
+
+pub never_too_many : (text : List ℕ) (answer : Result (List (List SeenLine)) TextError) (most : ℕ) → most ≡ 2 ^ 32 - 1
+    → Answers most text answer → length text ≤ 2 ^ 31 → answer ≡ Err TooManyLines → ⊥
+never_too_many text (Ok found) most is a short e = cc
+never_too_many text (Err (Fault line)) most is a short e = cc
+never_too_many text (Err TooManyLines) most is a short e = omega (arith, is, has_few most text a)
+never_too_many text (Err NoMemory) most is a short e = cc

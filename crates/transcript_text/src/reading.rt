@@ -14,12 +14,13 @@ use std::alloc::Global;
 /// # Errors
 ///
 /// `Fault` where the text is no transcript's, with its first faulty line. `NoMemory` where there is no memory for the
-/// transcript.
+/// transcript. `TooManyLines` never comes.
 pub fn read(alloc: Global, text: &[u8]) -> Result<Transcript, TextError>
     requires { length text.now ≤ 2 ^ 31 }
     ensures found { IfOk result (λ transcript. IsTranscriptText text.now transcript) }
     ensures only { (callers : List (List SeenLine)) → IsTranscriptText text.now callers → IsReadAs callers result }
     ensures fault { (line : ℕ) → result ≡ Err (TextError.Fault line) → IsFirstFault text.now line }
+    ensures no_limit { result ≡ Err TextError.TooManyLines → ⊥ }
 {
     let mut reader = Reader::new(alloc, u32::MAX)?;
     reader.feed(alloc, text)?;
