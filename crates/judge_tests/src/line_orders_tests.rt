@@ -1,13 +1,14 @@
 //! A small transcript, and changed ones: which clause on lines and marks is the first that fails.
 use event_script::read;
 use line_orders::begin::early_fault;
+use line_orders::clause::Clause;
 use std::test::Fail;
 
 const SCRIPT: &[u8] =
     b"rngscript 1\ncpus 1\ncaller 0\nwrite 616263\nfork 1\nbits\ncaller 1\nread 16 4\nend\n";
 
 // Each with the clause that fails, worked out by hand.
-const CASES: [(&[u8], Option<u8>); 8] = [
+const CASES: [(&[u8], Option<Clause>); 8] = [
     (
         b"rngtranscript 1\n0.0 write ok p:0@1 -\n0.1 fork ok b:0@2 -\n0.2 bits ok p:2@5 -\n0.3 end ok b:2@6 -\n1.0 read ok ~0,p:1@3,b:1@4 -\n1.1 end ok b:3@7 -\nend\n",
         None,
@@ -15,27 +16,27 @@ const CASES: [(&[u8], Option<u8>); 8] = [
     // The line of the bits has another event's number.
     (
         b"rngtranscript 1\n0.0 write ok p:0@1 -\n0.1 fork ok b:0@2 -\n0.4 bits ok p:2@5 -\n0.3 end ok b:2@6 -\n1.0 read ok ~0,p:1@3,b:1@4 -\n1.1 end ok b:3@7 -\nend\n",
-        Some(2),
+        Some(Clause::Lines),
     ),
     // The child does not end.
     (
         b"rngtranscript 1\n0.0 write ok p:0@1 -\n0.1 fork ok b:0@2 -\n0.2 bits ok p:2@5 -\n0.3 end ok b:2@6 -\n1.0 read ok ~0,p:1@3,b:1@4 -\nend\n",
-        Some(2),
+        Some(Clause::Lines),
     ),
     // Place 1 of the pool is left out.
     (
         b"rngtranscript 1\n0.0 write ok p:0@1 -\n0.1 fork ok b:0@2 -\n0.2 bits ok p:2@5 -\n0.3 end ok b:2@6 -\n1.0 read ok ~0,p:3@3,b:1@4 -\n1.1 end ok b:3@7 -\nend\n",
-        Some(3),
+        Some(Clause::Marks),
     ),
     // Along the base the stamps fall behind place 1.
     (
         b"rngtranscript 1\n0.0 write ok p:0@1 -\n0.1 fork ok b:0@2 -\n0.2 bits ok p:2@5 -\n0.3 end ok b:2@6 -\n1.0 read ok ~0,p:1@3,b:1@7 -\n1.1 end ok b:3@8 -\nend\n",
-        Some(3),
+        Some(Clause::Marks),
     ),
     // The child's first visit has a stamp below that of its fork.
     (
         b"rngtranscript 1\n0.0 write ok p:0@1 -\n0.1 fork ok b:0@4 -\n0.2 bits ok p:2@6 -\n0.3 end ok b:2@7 -\n1.0 read ok ~0,p:1@3,b:1@5 -\n1.1 end ok b:3@8 -\nend\n",
-        Some(3),
+        Some(Clause::Marks),
     ),
     // A CPU that is not there has places too.
     (
@@ -44,7 +45,7 @@ const CASES: [(&[u8], Option<u8>); 8] = [
     ),
     (
         b"rngtranscript 1\n0.0 write ok p:0@1 -\n0.1 fork ok b:0@2 -\n0.2 bits ok p:2@5 -\n0.3 end ok b:2@6 -\n1.0 read ok ~0,p:1@3,b:1@4 -\n1.1 end ok b:3@7,c9:1@8 -\nend\n",
-        Some(3),
+        Some(Clause::Marks),
     ),
 ];
 

@@ -1,5 +1,5 @@
 -- Lines and marks stand for a transcript exactly where they stand for its bare lines.
-use Rattle.std.proofs.Common.{◌≡◌, ℕ, suc, List, [], ◌∷◌, map, inl, inr, refl, sym, subst, ap, ◌∙◌}
+use Rattle.std.proofs.Common.{◌≡◌, ℕ, suc, List, [], ◌∷◌, map, refl, sym, subst, ap, ◌∙◌}
 use Rattle.std.specs.Prelude.{◌↔◌}
 use Rattle.std.specs.List.{AllByRecursion}
 use Rattle.key_names.specs.declared.names.Step.{Step}
@@ -13,6 +13,8 @@ use Rattle.key_names.specs.History.{stamps_of, caller_orders}
 use Rattle.key_names.specs.IsTranscript.{LineIs, LinesFit, EachCaller, HasLines, MarkBy, lane_marks, Rises}
 use Rattle.key_names.specs.IsTranscript.{PlacesStand, MarksStand, script_calls}
 use Rattle.key_names.proofs.Unique.BareLines.{bare_all, bare_marks, bare_orders}
+use Rattle.line_orders.specs.declared.clause.Clause.{Clause}
+use Rattle.line_orders.specs.declared.clause.Clause.TheVariants.{Lines, Marks}
 use Rattle.line_orders.specs.Begun.{IsEarlyFault}
 
 to_bare : (c n : ℕ) (word : Word) (l : SeenLine) → LineIs c n word l → LineIs c n word (bare l)
@@ -85,8 +87,8 @@ same_bare [] = refl
 same_bare (ls ∷ t) = λ i. bare_twice ls i ∷ same_bare t i
 
 -- what is judged of bare lines is so of the lines themselves
-pub fault_of_bare : (script : Script) (t : List (List SeenLine)) (number : ℕ) → IsEarlyFault script (map (map bare) t) number →
-    IsEarlyFault script t number
-fault_of_bare script t number (inl f) = inl (f.0, (λ has. f.1 ((lines_both script t).1 has)))
-fault_of_bare script t number (inr f) =
-    inr (f.0, ((lines_both script t).0 f.1.0, (λ stand. f.1.1 ((marks_both script t).1 stand))))
+pub fault_of_bare : (script : Script) (t : List (List SeenLine)) (clause : Clause) →
+    IsEarlyFault script (map (map bare) t) clause → IsEarlyFault script t clause
+fault_of_bare script t Lines f = λ has. f ((lines_both script t).1 has)
+fault_of_bare script t Marks f = ((lines_both script t).0 f.0, (λ stand. f.1 ((marks_both script t).1 stand)))
+fault_of_bare script t clause f = absurd f

@@ -1,10 +1,12 @@
 -- What is judged of lines and marks.
-use Rattle.std.specs.Prelude.{ℕ, ◌≡◌, ◌⊎◌, List, map, IsPermutation}
+use Rattle.std.specs.Prelude.{◌≡◌, List, map, IsPermutation}
 use Rattle.key_names.specs.Texts.ScriptGrammar.{Script}
 use Rattle.key_names.specs.SeenLine.{SeenLine}
-use Rattle.key_names.specs.IsTranscript.{HasLines, MarksStand, script_calls, all_marks, clause_number, FirstFails}
+use Rattle.key_names.specs.IsTranscript.{HasLines, MarksStand, script_calls, all_marks, FirstFails}
 use Rattle.key_names.specs.IsTranscript.{lines_clause, marks_clause}
 use Rattle.line_orders.specs.declared.begin.Parts.{Parts}
+use Rattle.line_orders.specs.declared.clause.Clause.{Clause}
+use Rattle.line_orders.specs.declared.clause.Clause.TheVariants.{Lines, Marks}
 use Rattle.line_orders.specs.declared.begin.Begun.{Begun}
 use Rattle.line_orders.specs.declared.begin.Begun.TheVariants.{Stands, No}
 use Rattle.line_orders.specs.Called.{seen_calls}
@@ -20,15 +22,15 @@ pub record PartsStand (script : Script) (t : List (List SeenLine)) (parts : Part
   pub sorted : IsSortedByLane parts.marks.items
   pub forks : parts.forks.items ≡ all_forks 0 (script_calls script t)
 
--- the first clause that fails is that on lines, or that on marks
-abbrev pub IsEarlyFault : Script → List (List SeenLine) → ℕ → Type 0
-IsEarlyFault script t number =
-    (number ≡ clause_number lines_clause) × FirstFails script t lines_clause
-    ⊎ (number ≡ clause_number marks_clause) × FirstFails script t marks_clause
+-- this clause is the first that fails, and it is that on lines or that on marks
+abbrev pub IsEarlyFault : Script → List (List SeenLine) → Clause → Type 0
+IsEarlyFault script t Lines = FirstFails script t lines_clause
+IsEarlyFault script t Marks = FirstFails script t marks_clause
+IsEarlyFault script t _ = ⊥
 
 abbrev pub IsBegun : Script → List (List SeenLine) → Begun → Type 0
 IsBegun script t (Stands parts) = PartsStand script t parts
-IsBegun script t (No number) = IsEarlyFault script t number
+IsBegun script t (No clause) = IsEarlyFault script t clause
 
 -- neither of the two fails
 pub record LinesAndMarksStand (script : Script) (t : List (List SeenLine)) : Type 0 where

@@ -1,5 +1,6 @@
 pub mod Seen
 pub mod Called
+pub mod Clauses
 pub mod Orders
 pub mod Along
 pub mod Stamps

@@ -9,6 +9,7 @@ ghost use Rattle.line_orders.specs.Begun.{IsBegun, IsEarlyFault, LinesAndMarksSt
 use crate::along::all_may_follow;
 use crate::bare::BareLine;
 use crate::called::{Called, caller_calls};
+use crate::clause::Clause;
 use crate::lines::lines_fit;
 use crate::marks::{MarkOf, places_count, sorted_marks};
 use crate::order::{Fork, all_forks};
@@ -26,11 +27,12 @@ pub struct Parts<'a> {
     pub forks: Vec<Fork>,
 }
 
+/// What lines and marks were judged to be.
 #[derive(Drop)]
 pub enum Begun<'a> {
     Stands(Parts<'a>),
-    /// This clause is the first that fails.
-    No(u8),
+    /// This clause is the first that fails, `Lines` or `Marks`.
+    No(Clause),
 }
 
 // The calls of each caller.
@@ -65,16 +67,16 @@ pub fn begin<'a>(
     ensures { IfOk result (λ begun. IsBegun script.now (seen_callers lines.now) begun) }
 {
     if !lines_fit(script, lines) {
-        return Ok(Begun::No(2));
+        return Ok(Begun::No(Clause::Lines));
     }
     let marks = sorted_marks(alloc, lines)?;
     if !places_count(&marks) {
-        return Ok(Begun::No(3));
+        return Ok(Begun::No(Clause::Marks));
     }
     let calls = all_calls(alloc, script, lines)?;
     let forks = all_forks(alloc, &calls)?;
     if !all_may_follow(alloc, &calls, &forks, &Stamps)? {
-        return Ok(Begun::No(3));
+        return Ok(Begun::No(Clause::Marks));
     }
     Ok(Begun::Stands(Parts {
         calls,
@@ -83,12 +85,16 @@ pub fn begin<'a>(
     }))
 }
 
-/// The number of the first of the clauses on lines and on marks that fails, 2 or 3, if one does.
+/// The first of the clauses on lines and on marks that fails, if one does.
 ///
 /// # Errors
 ///
 /// `AllocError` where there is no memory to judge them.
-pub fn early_fault(alloc: Global, script: &Script, t: &Transcript) -> Result<Option<u8>, AllocError>
+pub fn early_fault(
+    alloc: Global,
+    script: &Script,
+    t: &Transcript,
+) -> Result<Option<Clause>, AllocError>
     requires { WellFormed script.now }
     ensures { IfOk result (λ fault. MatchOption fault (LinesAndMarksStand script.now t.now)
         (IsEarlyFault script.now t.now)) }

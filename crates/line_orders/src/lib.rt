@@ -15,6 +15,7 @@ pub mod along;
 pub mod bare;
 pub mod begin;
 pub mod called;
+pub mod clause;
 pub mod lines;
 pub mod marks;
 pub mod order;

@@ -1,4 +1,4 @@
-use Rattle.std.proofs.Common.{◌≡◌, ◌<◌, ◌≤◌, List, length, map, inr, refl, sym, subst, ap, ◌∙◌, arith}
+use Rattle.std.proofs.Common.{◌≡◌, ◌<◌, ◌≤◌, List, length, map, refl, sym, subst, ap, ◌∙◌, arith}
 use Rattle.std.specs.List.{AllByRecursion}
 use Rattle.std.specs.Global.{Vec}
 use Rattle.std.proofs.lemmas.List.{length-map}
@@ -21,14 +21,11 @@ use Rattle.line_orders.proofs.StampsRise.{stamps_rise}
 use Rattle.line_orders.proofs.begin.begin.Goals as goal
 
 pub returns-then-not-places_count : goal.returns-then-not-places_count
-returns-then-not-places_count c = inr (
-  refl,
-  (
-    c.if-not-lines_fit.ensures.0 refl,
-    (λ stand. let f = c.if-not-places_count.ensures.1 (rw c.deref.ensures.value (λ lane.
-        lane_moved lane (all_marks (seen_callers c.args.lines.now)) (map seen_mark c.in_ok-marks.marks.items)
-        c.in_ok-marks.ensures.all (stand.lanes lane))) in cc),
-  ),
+returns-then-not-places_count c = (
+  c.if-not-lines_fit.ensures.0 refl,
+  (λ stand. let f = c.if-not-places_count.ensures.1 (rw c.deref.ensures.value (λ lane.
+      lane_moved lane (all_marks (seen_callers c.args.lines.now)) (map seen_mark c.in_ok-marks.marks.items)
+      c.in_ok-marks.ensures.all (stand.lanes lane))) in cc),
 )
 
 pub all_calls-requires-clause-few : goal.all_calls-requires-clause-few
@@ -66,13 +63,10 @@ all_may_follow-requires c =
 
 pub returns-then-not-branch : goal.returns-then-not-branch
 returns-then-not-branch c =
-    let stands = rw (c.deref-3.ensures.value, c.in_ok-calls.ensures) at c.in_ok-all_may_follow.ensures in inr (
-      refl,
-      (
-        c.if-not-lines_fit.ensures.0 refl,
-        (λ stand. let f = stands.1
-            ((stamps_rise (caller_orders (script_calls c.args.script.now (seen_callers c.args.lines.now)))).1 stand.callers) in cc),
-      ),
+    let stands = rw (c.deref-3.ensures.value, c.in_ok-calls.ensures) at c.in_ok-all_may_follow.ensures in (
+      c.if-not-lines_fit.ensures.0 refl,
+      (λ stand. let f = stands.1
+          ((stamps_rise (caller_orders (script_calls c.args.script.now (seen_callers c.args.lines.now)))).1 stand.callers) in cc),
     )
 
 pub returns : goal.returns
