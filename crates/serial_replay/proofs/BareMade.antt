@@ -15,8 +15,10 @@ use Rattle.key_names.specs.Texts.ScriptGrammar.{Script}
 use Rattle.key_names.specs.SeenLine.{SeenLine}
 use Rattle.key_names.specs.SameSteps.{bare}
 use Rattle.key_names.specs.IsTranscript.{EachCaller, EachAct, EachOfCall, EachLine, script_calls, SeenStands}
-use Rattle.key_names.specs.IsTranscript.{Clause, lines_clause, marks_clause, forms_clause, answers_clause, data_clause}
-use Rattle.key_names.specs.IsTranscript.{looks_clause, FirstFails}
+use Rattle.key_names.specs.IsTranscript.{FirstFails}
+use Rattle.line_orders.specs.Clauses.{clause_of}
+use Rattle.line_orders.specs.declared.clause.Clause.{Clause}
+use Rattle.line_orders.specs.declared.clause.Clause.TheVariants.{Lines, Marks, Forms}
 use Rattle.key_names.proofs.Unique.BareLines.{bare_act, bare_call, bare_all}
 use Rattle.key_names.proofs.Unique.BareMeanings.{steps_make_the_book}
 use Rattle.line_orders.proofs.BareStands.{lines_both, marks_both, orders_both, same_bare}
@@ -64,17 +66,16 @@ module _ (script : Script) (t : List (List SeenLine)) where
   abbrev bares : List (List SeenLine)
   bares = map (map bare) t
 
-  fails_both : (clause : Clause) → IsEarly clause → FirstFails script bares clause → FirstFails script t clause
-  fails_both lines_clause early f = λ has. f ((lines_both script t).1 has)
-  fails_both marks_clause early f = ((lines_both script t).0 f.0, (λ stand. f.1 ((marks_both script t).1 stand)))
-  fails_both forms_clause early f = (
+  fails_both : (clause : Clause) → IsEarly clause → FirstFails script bares (clause_of clause) →
+      FirstFails script t (clause_of clause)
+  fails_both Lines early f = λ has. f ((lines_both script t).1 has)
+  fails_both Marks early f = ((lines_both script t).0 f.0, (λ stand. f.1 ((marks_both script t).1 stand)))
+  fails_both Forms early f = (
     (lines_both script t).0 f.0,
     (marks_both script t).0 f.1,
     (λ made. f.2 (steps_make_the_book script t bares (sym (same_bare t)) made).0),
   )
-  fails_both answers_clause early f = absurd early
-  fails_both data_clause early f = absurd early
-  fails_both looks_clause early f = absurd early
+  fails_both clause early f = absurd early
 
   pub all_made : {Noted : Type 0} (IsNoted : ℕ → ℕ → Said → Noted → Type 0) (m : Made Noted) →
       AllMade IsNoted script bares m → AllMade IsNoted script t m
@@ -105,12 +106,7 @@ module _ (script : Script) (t : List (List SeenLine)) where
   pub remade_of_bare : {Noted : Type 0} (IsNoted : ℕ → ℕ → Said → Noted → Type 0) (r : Remade Noted) →
       IsRemade IsNoted script bares r → IsRemade IsNoted script t r
   remade_of_bare IsNoted (MadeAll m) a = all_made IsNoted m a
-  remade_of_bare IsNoted (No number) f = record {
-    clause = f.clause;
-    is = f.is;
-    early = f.early;
-    fails = fails_both f.clause f.early f.fails;
-  }
+  remade_of_bare IsNoted (No clause) f = record { early = f.early; fails = fails_both clause f.early f.fails }
 
 line_steps : (lines : List SeenLine) → AllByRecursion LineFits lines →
     AllByRecursion (λ (line : SeenLine). AllByRecursion StepFits line.steps) (map bare lines)

@@ -15,7 +15,7 @@ use Rattle.key_names.specs.History.{LooksStand, caller_orders}
 use Rattle.key_names.specs.Texts.ScriptGrammar.{Script}
 use Rattle.key_names.specs.SeenLine.{SeenLine}
 use Rattle.key_names.specs.IsTranscript.{MadeBook, MarkBy, all_marks, lane_marks, script_calls, start_setting, state_lists}
-use Rattle.key_names.specs.IsTranscript.{CallerMeans, SeenStands, forms_clause}
+use Rattle.key_names.specs.IsTranscript.{CallerMeans, SeenStands}
 use Rattle.key_names.specs.PlacesInOrder.{InOrder}
 use Rattle.key_names.proofs.Transcripts.PlacesInOrder.{places_count_up}
 use Rattle.line_orders.specs.declared.begin.Parts.{Parts}
@@ -30,6 +30,7 @@ use Rattle.told_entries.specs.Filled.{AllCallsFill}
 use Rattle.told_entries.specs.Gathered.{IsBookOf, AllMean, IsGathered}
 use Rattle.told_entries.proofs.MadeIsTold.{all_told}
 use Rattle.caller_answers.specs.declared.said.Said.{Said}
+use Rattle.line_orders.specs.declared.clause.Clause.TheVariants.{Forms}
 use Rattle.serial_replay.specs.Remade.{FailsEarly}
 use Rattle.serial_replay.proofs.Callers.{each_caller, SaidByAll}
 use Rattle.serial_replay.proofs.LaneVisits.{Laid, book_of, lists_back, as_many_cpus, visits_are}
@@ -37,10 +38,8 @@ use Rattle.serial_replay.proofs.StatesAside.{aside, deeds_same, fills_aside, law
 
 module _ (script : Script) (t : List (List SeenLine)) (parts : Parts) (stand : PartsStand script t parts) where
   -- where no book is made the forms fail first
-  pub stops : (MadeBook script t → ⊥) → FailsEarly script t 4
+  pub stops : (MadeBook script t → ⊥) → FailsEarly script t Forms
   stops none = record {
-    clause = forms_clause;
-    is = refl;
     early = tt;
     fails = (stand.lines, stand.marks_stand, none);
   }

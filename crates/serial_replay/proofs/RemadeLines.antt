@@ -14,7 +14,9 @@ use Rattle.line_orders.specs.declared.begin.Parts.{Parts}
 use Rattle.line_orders.specs.declared.called.Called.{Called}
 use Rattle.line_orders.specs.declared.order.Fork.{Fork}
 use Rattle.line_orders.specs.Along.{Along}
-use Rattle.line_orders.specs.Begun.{PartsStand}
+use Rattle.line_orders.specs.Begun.{IsEarlyFault, PartsStand}
+use Rattle.line_orders.specs.declared.clause.Clause.{Clause}
+use Rattle.line_orders.specs.declared.clause.Clause.TheVariants.{Lines, Marks, Forms}
 use Rattle.line_orders.specs.Called.{seen_call, seen_calls}
 use Rattle.line_orders.specs.Orders.{all_forks}
 use Rattle.line_orders.specs.Settings.{AreSettings}
@@ -38,6 +40,12 @@ use Rattle.serial_replay.specs.Seen.{seen_behind, MayLook, reseeds_in}
 use Rattle.serial_replay.proofs.Callers.{caller_means, SaidByAll, said_by_all}
 use Rattle.serial_replay.proofs.LooksStand.{looks_stand}
 use Rattle.serial_replay.proofs.MadeBooks.{stops, made_fills, made_lawful, lines_fill, of_lists}
+
+pub early_fails : (script : Script) (t : List (List SeenLine)) (clause : Clause) → IsEarlyFault script t clause →
+    FailsEarly script t clause
+early_fails script t Lines f = record { early = tt; fails = f }
+early_fails script t Marks f = record { early = tt; fails = f }
+early_fails script t clause f = absurd f
 
 module _ (script : Script) (t : List (List SeenLine)) (parts : Parts) (stand : PartsStand script t parts)
     (well : WellFormed script) where
@@ -63,14 +71,14 @@ module _ (script : Script) (t : List (List SeenLine)) (parts : Parts) (stand : P
       (all_in_range script.version script.cpus script.callers t well.ranges)
 
   -- a line visits a CPU that is not there
-  pub none_gathered : ((book : Book) → IsBookOf script t book → ⊥) → FailsEarly script t 4
+  pub none_gathered : ((book : Book) → IsBookOf script t book → ⊥) → FailsEarly script t Forms
   none_gathered none = stops script t parts stand
       (λ m. none m.book (record { cpus = m.forms.cpus; visits = m.forms.visits }))
 
   module _ (settings : List (Vec Setting)) (fit : StepsFit t) (are : AreSettings (seen_calls parts.calls.items) settings)
       (told : Tables) (gathered : IsGathered script t told) where
     -- no lists are as told and lawful
-    pub none_replayed : ((lists : Lists) → Fills told lists → Lawful told lists → ⊥) → FailsEarly script t 4
+    pub none_replayed : ((lists : Lists) → Fills told lists → Lawful told lists → ⊥) → FailsEarly script t Forms
     none_replayed none = stops script t parts stand
         (λ m. none (lists_of m.book) (made_fills script t parts stand told gathered m)
         (made_lawful script t parts stand told gathered m))
@@ -82,7 +90,7 @@ module _ (script : Script) (t : List (List SeenLine)) (parts : Parts) (stand : P
       -- the steps of some line are no form
       pub none_said :
           ((lists : Lists) → Keeps kept lists → LawfulLanes lists → AllMeanSome lists (seen_calls parts.calls.items) → ⊥) →
-          FailsEarly script t 4
+          FailsEarly script t Forms
       none_said none = stops script t parts stand (λ m.
           let lists : Lists = lists_of m.book in
           let means : AllMeanSome lists calls =

@@ -6,15 +6,15 @@ use Rattle.key_names.specs.Book.{list_at}
 use Rattle.key_names.specs.Texts.ScriptGrammar.{Script}
 use Rattle.key_names.specs.SeenLine.{SeenLine}
 use Rattle.key_names.specs.SameSteps.{bare, SameSteps}
-use Rattle.key_names.specs.IsTranscript.{MadeBook, AnswersStand, DataStand, IsTranscript, FirstFails, Clause}
-use Rattle.key_names.specs.IsTranscript.{lines_clause, marks_clause, forms_clause, answers_clause, data_clause, looks_clause}
+use Rattle.key_names.specs.IsTranscript.{MadeBook, AnswersStand, DataStand, IsTranscript, clause_number}
+use Rattle.key_names.specs.IsTranscript.{looks_clause}
 use Rattle.key_names.proofs.Unique.UniqueBook.{book_is_unique}
 use Rattle.caller_answers.specs.declared.said.Said.{Said}
 use Rattle.caller_answers.specs.Said.{shown_by, itself}
 use Rattle.serial_replay.specs.declared.remake.Made.{Made}
 use Rattle.serial_replay.specs.Agreement.{Agrees, SameAnswer, SameShown, AllAgree}
-use Rattle.serial_replay.specs.Remade.{AllMade, FailsEarly, IsEarly, made_by}
-use Rattle.serial_replay.specs.Replayed.{IsTheTranscript, StopsAt, StepsFail}
+use Rattle.serial_replay.specs.Remade.{AllMade, made_by}
+use Rattle.serial_replay.specs.Replayed.{IsTheTranscript, StopsAt}
 use Rattle.serial_replay.specs.Written.{said_of, lines_said, said_into, MayShow}
 use Rattle.serial_replay.proofs.Agreement.{answers_both, data_both}
 use Rattle.serial_replay.proofs.BareMade.{all_made}
@@ -163,23 +163,10 @@ module _ (script : Script) (t : List (List SeenLine)) (m : Made Said) (of : AllM
       }
 
 -- where looks do not stand
-pub looks_stop : (script : Script) (t : List (List SeenLine)) (m : Made Said) → AllMade itself script t m → (IsTrue m.looks_stand → ⊥) →
-    StopsAt script t 7
-looks_stop script t m a fall = record {
+pub looks_stop : (script : Script) (t : List (List SeenLine)) (m : Made Said) (number : ℕ) →
+    number ≡ clause_number looks_clause → AllMade itself script t m → (IsTrue m.looks_stand → ⊥) → StopsAt script t number
+looks_stop script t m number is a fall = record {
   clause = looks_clause;
-  is = refl;
+  is = is;
   fails = (a.made, (λ stand. fall (a.looks.1 stand)));
 }
-
--- the clause that fails before the answers
-pub early_stops : (script : Script) (t : List (List SeenLine)) (number : ℕ) → FailsEarly script t number →
-    StopsAt script t number
-early_stops script t number f = record { clause = f.clause; is = f.is; fails = by f.clause f.early f.fails }
-  where
-    by : (clause : Clause) → IsEarly clause → FirstFails script t clause → StepsFail script t clause
-    by lines_clause early fails = fails
-    by marks_clause early fails = fails
-    by forms_clause early fails = fails
-    by answers_clause early fails = absurd early
-    by data_clause early fails = absurd early
-    by looks_clause early fails = absurd early

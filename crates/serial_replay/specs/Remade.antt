@@ -8,11 +8,12 @@ use Rattle.key_names.specs.Meaning.{CallMeaning}
 use Rattle.key_names.specs.Texts.TranscriptGrammar.{StepFits}
 use Rattle.key_names.specs.Texts.ScriptGrammar.{Script}
 use Rattle.key_names.specs.SeenLine.{SeenLine}
-use Rattle.key_names.specs.IsTranscript.{MadeBook, SeenStands, FirstFails, Clause, clause_number, EachCaller}
+use Rattle.key_names.specs.IsTranscript.{MadeBook, SeenStands, FirstFails, EachCaller}
 use Rattle.key_names.specs.IsTranscript.{EachLine, script_calls, HasLines, CallerMeans, start_setting}
 use Rattle.line_orders.specs.Settings.{AreSettings}
-use Rattle.key_names.specs.IsTranscript.{lines_clause, marks_clause, forms_clause, answers_clause, data_clause}
-use Rattle.key_names.specs.IsTranscript.{looks_clause}
+use Rattle.line_orders.specs.Clauses.{clause_of}
+use Rattle.line_orders.specs.declared.clause.Clause.{Clause}
+use Rattle.line_orders.specs.declared.clause.Clause.TheVariants.{Lines, Marks, Forms}
 use Rattle.caller_answers.specs.declared.said.Said.{Said}
 use Rattle.caller_answers.specs.Said.{NotedAt, SaysIt, IsSaid}
 use Rattle.serial_replay.specs.declared.remake.Made.{Made}
@@ -21,12 +22,10 @@ use Rattle.serial_replay.specs.declared.remake.Remade.TheVariants.{Made as MadeA
 
 -- a clause that is judged before any answer
 abbrev pub IsEarly : Clause → Type 0
-IsEarly lines_clause = ⊤
-IsEarly marks_clause = ⊤
-IsEarly forms_clause = ⊤
-IsEarly answers_clause = ⊥
-IsEarly data_clause = ⊥
-IsEarly looks_clause = ⊥
+IsEarly Lines = ⊤
+IsEarly Marks = ⊤
+IsEarly Forms = ⊤
+IsEarly _ = ⊥
 
 -- the numbers in all steps are those of a transcript
 abbrev pub StepsFit : List (List SeenLine) → Type 0
@@ -75,14 +74,12 @@ module _ {Noted : Type 0} (IsNoted : ℕ → ℕ → Said → Noted → Type 0) 
         made.meanings
     pub looks : IsTrue m.looks_stand ↔ SeenStands script t (lists_of made.book)
 
--- the clause of this number is the first that fails, and one before the answers
-pub record FailsEarly (script : Script) (t : List (List SeenLine)) (number : ℕ) : Type 0 where
-  pub clause : Clause
-  pub is : number ≡ clause_number clause
+-- the clause is the first that fails, and one before the answers
+pub record FailsEarly (script : Script) (t : List (List SeenLine)) (clause : Clause) : Type 0 where
   pub early : IsEarly clause
-  pub fails : FirstFails script t clause
+  pub fails : FirstFails script t (clause_of clause)
 
 abbrev pub IsRemade : {Noted : Type 0} → (ℕ → ℕ → Said → Noted → Type 0) → Script → List (List SeenLine) →
     Remade Noted → Type 0
 IsRemade IsNoted script t (MadeAll m) = AllMade IsNoted script t m
-IsRemade IsNoted script t (No number) = FailsEarly script t number
+IsRemade IsNoted script t (No clause) = FailsEarly script t clause

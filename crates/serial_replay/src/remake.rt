@@ -22,6 +22,7 @@ use line_orders::along::all_may_follow;
 use line_orders::bare::BareLine;
 use line_orders::begin::{Begun, begin};
 use line_orders::called::Called;
+use line_orders::clause::Clause;
 use line_orders::seen::bare_callers;
 use line_orders::settings::all_settings;
 use list_replay::{Lists, replay_lists};
@@ -41,7 +42,7 @@ pub struct Made<T: Drop> {
 pub enum Remade<T: Drop> {
     Made(Made<T>),
     /// The first of the clauses 2, 3 and 4 that fails.
-    No(u8),
+    No(Clause),
 }
 
 // Notes of what each caller's lines say, if the steps of all are forms.
@@ -96,13 +97,13 @@ fn of_lines<N: Note>(
     };
     let settings = all_settings(alloc, &parts.calls, &parts.forks)?;
     let Some(told) = gather(alloc, script, &parts, &settings)? else {
-        return Ok(Remade::No(4));
+        return Ok(Remade::No(Clause::Forms));
     };
     let Some(kept) = replay_lists(alloc, &told)? else {
-        return Ok(Remade::No(4));
+        return Ok(Remade::No(Clause::Forms));
     };
     let Some(callers) = all_said(alloc, &parts.calls, &settings, &kept, how)? else {
-        return Ok(Remade::No(4));
+        return Ok(Remade::No(Clause::Forms));
     };
     let looks_stand = all_may_follow(alloc, &parts.calls, &parts.forks, &Looks::of(&kept))?;
     Ok(Remade::Made(Made {

@@ -14,6 +14,7 @@ ghost use Rattle.serial_replay.specs.Written.{bytes_said, said_of, lines_said, s
 use crate::remake::{Remade, remake};
 use caller_answers::said::{Said, Shows, Whole};
 use event_script::Script;
+use line_orders::clause::Clause;
 use std::alloc::{AllocError, Global};
 use transcript_text::{CallerLines, LineView, Shown, Transcript};
 
@@ -157,11 +158,11 @@ pub fn replay(alloc: Global, script: &Script, steps: &Transcript) -> Result<Repl
     ensures { IfOk result (λ replayed. IsReplay script.now steps.now replayed) }
 {
     let made = match remake(alloc, script, steps, &Whole)? {
-        Remade::No(clause) => return Ok(Replayed::No(clause)),
+        Remade::No(clause) => return Ok(Replayed::No(clause.number())),
         Remade::Made(made) => made,
     };
     if !made.looks_stand {
-        return Ok(Replayed::No(7));
+        return Ok(Replayed::No(Clause::Looks.number()));
     }
     Ok(Replayed::Made(all_lines(alloc, steps, &made.callers)?))
 }

@@ -6,6 +6,7 @@ ghost use Rattle.transcript_check.specs.Judged.{IsJudged};
 
 use crate::compare::{Answers, Compare, Data, all_agree};
 use event_script::Script;
+use line_orders::clause::Clause;
 use serial_replay::remake::{Remade, remake};
 use std::alloc::{AllocError, Global};
 use transcript_text::Transcript;
@@ -24,19 +25,19 @@ fn judge(alloc: Global, script: &Script, t: &Transcript) -> Result<Verdict, Allo
     ensures { IfOk result (λ verdict. IsJudged script.now t.now verdict) }
 {
     let made = match remake(alloc, script, t, &Compare { t })? {
-        Remade::No(clause) => return Ok(Verdict::No(clause)),
+        Remade::No(clause) => return Ok(Verdict::No(clause.number())),
         Remade::Made(made) => made,
     };
     if !all_agree(&Answers, t, &made.callers) {
-        return Ok(Verdict::No(5));
+        return Ok(Verdict::No(Clause::Answers.number()));
     }
     if !all_agree(&Data, t, &made.callers) {
-        return Ok(Verdict::No(6));
+        return Ok(Verdict::No(Clause::Data.number()));
     }
     if made.looks_stand {
         Ok(Verdict::Yes)
     } else {
-        Ok(Verdict::No(7))
+        Ok(Verdict::No(Clause::Looks.number()))
     }
 }
 

@@ -2,8 +2,12 @@ use Rattle.std.proofs.Common.{◌≡◌, true, false, List}
 use Rattle.list_replay.specs.Tables.{tables_of}
 use Rattle.key_names.specs.SeenLine.{SeenLine}
 use Rattle.line_orders.specs.Seen.{seen_callers}
-use Rattle.serial_replay.proofs.RemadeLines.{few_calls, forks_are, forks_rise, in_range, none_replayed, callers_stand, none_said, all_fill, all_made}
+use Rattle.serial_replay.proofs.RemadeLines.{early_fails, few_calls, forks_are, forks_rise, in_range, none_replayed, callers_stand, none_said, all_fill, all_made}
 use Rattle.serial_replay.proofs.remake.of_lines.Goals as goal
+
+pub returns-in-No : goal.returns-in-No
+returns-in-No g c = early_fails c.args.script.now (seen_callers c.args.lines.now) c.in-No.clause
+    (rw c.in-No.is at c.in_ok-clause.ensures)
 
 pub all_settings-requires-clause-few : goal.all_settings-requires-clause-few
 all_settings-requires-clause-few g c =

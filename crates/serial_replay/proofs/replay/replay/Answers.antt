@@ -6,7 +6,7 @@ use Rattle.serial_replay.proofs.replay.replay.Goals as goal
 pub returns-then-not-made : goal.returns-then-not-made
 returns-then-not-made c =
     let a = rw c.in-Made.is at c.in_ok-clause.ensures.made in
-    looks_stop c.args.script.now c.args.steps.now c.in-Made.made a
+    looks_stop c.args.script.now c.args.steps.now c.in-Made.made c.number-then-not-made.result c.number-then-not-made.ensures a
     (λ stand. let fall : c.in-Made.made.looks_stand ≡ false = c.if-not-made.true in
     let stands : c.in-Made.made.looks_stand ≡ true = stand in cc)
 
