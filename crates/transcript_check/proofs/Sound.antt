@@ -20,7 +20,7 @@ use Rattle.key_names.proofs.Transcripts.TranscriptLaws.{transcript_is_lawful}
 use Rattle.key_names.proofs.Unique.UniqueBook.{first_fail_is_unique}
 use Rattle.serial_replay.specs.declared.remake.Made.{Made}
 use Rattle.serial_replay.specs.Agreement.{AllAgree}
-use Rattle.serial_replay.specs.Remade.{AllMade, FailsEarly, made_by}
+use Rattle.serial_replay.specs.Remade.{AllMade, made_by}
 use Rattle.transcript_check.specs.declared.check.Verdict.{Verdict}
 use Rattle.transcript_check.specs.declared.check.Verdict.TheVariants.{Yes, No}
 use Rattle.transcript_check.specs.declared.compare.Same.{Same}
@@ -83,9 +83,6 @@ module _ (script : Script) (t : List (List SeenLine)) (well : WellFormed script)
             looks;
       }
 
-  pub early : (number : ℕ) → FailsEarly script t number → FailsFirst script t number
-  early number f = record { clause = f.clause; is = f.is; fails = f.fails }
-
   module _ (m : Made Same) (a : AllMade (IsCompared t) script t m) where
     abbrev Answers : Type 0
     Answers = AllAgree AnswerSame (made_by m) t
@@ -99,24 +96,25 @@ module _ (script : Script) (t : List (List SeenLine)) (well : WellFormed script)
     shown : DataStand script t a.made.meanings ↔ Data
     shown = data_same script t a.made.meanings (made_by m) a.made.lines a.says
 
-    pub other_answers : (Answers → ⊥) → FailsFirst script t 5
-    other_answers differ = record {
+    pub other_answers : (number : ℕ) → number ≡ clause_number answers_clause → (Answers → ⊥) → FailsFirst script t number
+    other_answers number is_number differ = record {
       clause = answers_clause;
-      is = refl;
+      is = is_number;
       fails = (a.made, (λ stand. differ (answers.0 stand)));
     }
 
-    pub other_data : Answers → (Data → ⊥) → FailsFirst script t 6
-    other_data same differ = record {
+    pub other_data : (number : ℕ) → number ≡ clause_number data_clause → Answers → (Data → ⊥) → FailsFirst script t number
+    other_data number is_number same differ = record {
       clause = data_clause;
-      is = refl;
+      is = is_number;
       fails = (a.made, answers.1 same, (λ stand. differ (shown.0 stand)));
     }
 
-    pub other_looks : Answers → Data → (IsTrue m.looks_stand → ⊥) → FailsFirst script t 7
-    other_looks same same' fall = record {
+    pub other_looks : (number : ℕ) → number ≡ clause_number looks_clause → Answers → Data →
+        (IsTrue m.looks_stand → ⊥) → FailsFirst script t number
+    other_looks number is_number same same' fall = record {
       clause = looks_clause;
-      is = refl;
+      is = is_number;
       fails = (a.made, answers.1 same, shown.1 same', (λ stand. fall (a.looks.1 stand)));
     }
 

@@ -1,7 +1,8 @@
 //! The check of a transcript.
 ghost use Rattle.std.specs.Prelude.{◌≡◌, IfOk};
 ghost use Rattle.key_names.specs.Texts.ScriptGrammar.{WellFormed};
-ghost use Rattle.key_names.specs.IsTranscript.{IsTranscript, FirstFails, Clause, clause_number};
+ghost use Rattle.key_names.specs.IsTranscript.{IsTranscript, FirstFails, clause_number};
+ghost use Rattle.line_orders.specs.Clauses.{clause_of};
 ghost use Rattle.transcript_check.specs.Judged.{IsJudged};
 
 use crate::compare::{Answers, Compare, Data, all_agree};
@@ -50,8 +51,8 @@ pub fn check(alloc: Global, script: &Script, t: &Transcript) -> Result<Verdict, 
     requires { WellFormed script.now }
     ensures judged { IfOk result (λ verdict. IsJudged script.now t.now verdict) }
     ensures yes { IsTranscript script.now t.now → IfOk result (λ verdict. verdict ≡ Verdict.Yes) }
-    ensures no { (clause : Clause) → FirstFails script.now t.now clause
-        → IfOk result (λ verdict. verdict ≡ Verdict.No (clause_number clause)) }
+    ensures no { (clause : Clause) → FirstFails script.now t.now (clause_of clause)
+        → IfOk result (λ verdict. verdict ≡ Verdict.No (clause_number (clause_of clause))) }
 {
     judge(alloc, script, t)
 }
