@@ -220,15 +220,15 @@ class Course:
         return block + whole + 2
 
 
-def parents_of(events, steps):
-    """Of each forked caller the stamp of the fork's visit, or of what its parent did before."""
+def parents_of(events):
+    """Of each forked caller its parent, and the number of the line that forks it."""
     return {int(fields[1]): (caller, number)
             for caller, lines in enumerate(events) for number, fields in enumerate(lines) if fields[0] == 'fork'}
 
 
 def tell_callers(events, steps):
     """Tells each visit's role; answers the entries of all states, each caller's in order."""
-    parents, stamps, moments = parents_of(events, steps), {}, []
+    parents, stamps, moments = parents_of(events), {}, []
     for caller, lines in enumerate(events):
         start = stamps.get(parents.get(caller), 0)
         course, waiting = Course(caller, start), []
@@ -495,7 +495,7 @@ def event_of(events, visit):
 
 def moments_of(events):
     """The time that each line is at. A child begins at that of its parent's fork."""
-    forks, times = parents_of(events, None), []
+    forks, times = parents_of(events), []
     for caller, lines in enumerate(events):
         parent = forks.get(caller)
         now, told = times[parent[0]][parent[1]] if parent else 0, []

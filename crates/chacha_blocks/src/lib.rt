@@ -5,7 +5,7 @@
 //! they are with no state carried.
 //!
 //! Each call promises the bytes at their positions, and each erasure that bytes 0 to 32 alone stay as the key, and that
-//! others are handed out. It stands on `rand_chacha`, which makes the blocks.
+//! others are handed out. It makes one or two blocks itself, and stands on `rand_chacha` for whole runs of four.
 #![tactic(auto)]
 
 mod block;

@@ -5,8 +5,7 @@
 //! [`Script`] also makes the script of a load. `words` and `numbers` read the words and numbers of transcripts and
 //! command lines too.
 //!
-//! It stands on the grammar and the faults of `key_names` (`specs/Texts`), and on `memchr` and `hex` for line ends and
-//! bytes.
+//! It stands on the grammar and the faults of `key_names` (`specs/Texts`), and on `memchr` for line ends.
 #![tactic(auto)]
 
 mod acts;

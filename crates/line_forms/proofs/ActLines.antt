@@ -6,7 +6,6 @@ use Rattle.key_names.specs.declared.names.Step.{Step}
 use Rattle.key_names.specs.declared.names.Step.TheVariants.{Look, Visit as Marked}
 use Rattle.key_names.specs.declared.entries.PoolEntry.{PoolEntry}
 use Rattle.key_names.specs.declared.entries.BaseEntry.{BaseEntry}
-use Rattle.key_names.specs.declared.entries.BaseEntry.TheVariants.{Resume}
 use Rattle.key_names.specs.declared.entries.CpuEntry.{CpuEntry}
 use Rattle.key_names.specs.declared.events.InsideAct.TheVariants.{Wipe as WipeAct, Vread as VreadAct}
 use Rattle.key_names.specs.declared.events.InsideAct.TheVariants.{Reseed as ReseedAct}
@@ -14,12 +13,11 @@ use Rattle.key_names.specs.PoolList.{pool_after}
 use Rattle.key_names.specs.BaseList.{BaseMayCome, base_step, base_start}
 use Rattle.key_names.specs.CpuList.{CpuMayCome, cpu_step, cpu_start}
 use Rattle.key_names.specs.Book.{cpu_list}
-use Rattle.key_names.specs.Deeds.{looked, at_pool, at_base, at_cpu, nothing_there, pool_visit, base_visit, cpu_visit}
+use Rattle.key_names.specs.Deeds.{at_pool, at_base, at_cpu, pool_visit, base_visit, cpu_visit}
 use Rattle.key_names.specs.Deeds.{deed_or, deed_at, deed_of}
 use Rattle.key_names.proofs.Lists.Growing.{may_at}
-use Rattle.line_forms.specs.Kinds.{base_kind, resumed_kind, is_resume}
 use Rattle.line_forms.specs.LaneFacts.{DeedFits, facts_of, crossed_by}
-use Rattle.line_forms.specs.Laws.{LawfulListsFit, SignsGiveKinds, ActHasForm, ActIsTold, ActRowIsForm}
+use Rattle.line_forms.specs.Laws.{LawfulListsFit, ActHasForm, ActIsTold, ActRowIsForm}
 use Rattle.line_forms.specs.Laws.{ActFormIsRow}
 use Rattle.line_forms.specs.Told.{silent}
 use Rattle.line_forms.proofs.ToldReads.{system_told}
@@ -57,17 +55,6 @@ lists_fit lists lawful (step ∷ steps) = (one step, lists_fit lists lawful step
     one : (step : Step) → DeedFits (facts_of lists) (deed_of lists step)
     one (Look g) = tt
     one (Marked mark) = lane mark.lane mark.place
-
-pub kinds_seen : SignsGiveKinds
-kinds_seen cpu (looked g) = refl
-kinds_seen cpu (at_pool v) = refl
-kinds_seen cpu (at_base v) = by v.entry
-  where
-    by : (e : BaseEntry) → base_kind e ≡ resumed_kind (is_resume e)
-    by Resume = refl
-    by _ = refl
-kinds_seen cpu (at_cpu v) = refl
-kinds_seen cpu nothing_there = refl
 
 pub act_form : ActHasForm
 act_form set WipeAct m is = ap (λ x. x.deeds) is

@@ -3,8 +3,6 @@ use Rattle.std.specs.Prelude.{ℕ, ◌==◌, Bool, true, false, List, map, if◌
 use Rattle.key_names.specs.declared.entries.BaseEntry.{BaseEntry}
 use Rattle.key_names.specs.declared.entries.BaseEntry.TheVariants.{Resume}
 use Rattle.key_names.specs.Deeds.{Deed, looked, at_pool, at_base, at_cpu, nothing_there}
-use Rattle.line_forms.specs.declared.told.Sign.{Sign}
-use Rattle.line_forms.specs.declared.told.Sign.TheVariants.{Saw, InPool, InBase, InCpu, Nowhere}
 use Rattle.line_forms.specs.declared.kind.Kind.{Kind}
 use Rattle.line_forms.specs.declared.kind.Kind.TheVariants.{Unready, Ready, Pool, Base, Resumed, Cpu, OtherCpu}
 
@@ -33,24 +31,7 @@ kind_of cpu nothing_there = OtherCpu
 abbrev pub kinds_of : ℕ → List Deed → List Kind
 kinds_of cpu deeds = map (kind_of cpu) deeds
 
--- ---- kinds out of what is seen of a step
-
-abbrev pub resumed_kind : Bool → Kind
-resumed_kind true = Resumed
-resumed_kind false = Base
-
--- resumed says that a waiting caller went on with the visit
-abbrev pub sign_kind : ℕ → Bool → Sign → Kind
-sign_kind cpu resumed (Saw g) = look_kind g
-sign_kind cpu resumed (InPool p) = Pool
-sign_kind cpu resumed (InBase i) = resumed_kind resumed
-sign_kind cpu resumed (InCpu c k) = cpu_kind (c == cpu)
-sign_kind cpu resumed Nowhere = OtherCpu
-
+-- a waiting caller went on with it
 abbrev pub is_resume : BaseEntry → Bool
 is_resume Resume = true
 is_resume _ = false
-
-abbrev pub is_resumed : Deed → Bool
-is_resumed (at_base v) = is_resume v.entry
-is_resumed _ = false

@@ -14,10 +14,9 @@ use Rattle.key_names.specs.Book.{Lists, ForwardLawful}
 use Rattle.key_names.specs.Deeds.{looked, deeds_of}
 use Rattle.key_names.specs.Meaning.{ActMeans, LineMeaning}
 use Rattle.line_forms.specs.declared.told.Sign.{Sign}
-use Rattle.line_forms.specs.Kinds.{kind_of, sign_kind, is_resumed}
 use Rattle.line_forms.specs.Rows.{IsActRow}
 use Rattle.line_forms.specs.LaneFacts.{facts_of}
-use Rattle.line_forms.specs.Told.{sign_of, act_telling, AllFill, FillsPart, AllThere}
+use Rattle.line_forms.specs.Told.{act_telling, AllFill, FillsPart, AllThere}
 use Rattle.line_forms.specs.Kinds.{kinds_of}
 use Rattle.line_forms.specs.Rows.{IsSystemCall, IsRow, IsEnd, cpu_for}
 use Rattle.line_forms.specs.LaneFacts.{first_crossing, CrossingsKnown, LaneFacts, AllFit}
@@ -79,9 +78,6 @@ ActForm set ReseedAct deeds = Form set Reseed deeds
 abbrev pub LawfulListsFit : Type 0
 LawfulListsFit = (lists : Lists) → ForwardLawful lists → (steps : List Step) →
     AllFit (facts_of lists) (deeds_of lists steps)
-
-abbrev pub SignsGiveKinds : Type 0
-SignsGiveKinds = (cpu : ℕ) (d : Deed) → kind_of cpu d ≡ sign_kind cpu (is_resumed d) (sign_of d)
 
 abbrev pub ActHasForm : Type 0
 ActHasForm = (set : Setting) (act : InsideAct) (m : LineMeaning) → ActMeans set act m → ActForm set act m.deeds

@@ -3,7 +3,7 @@
 //! Where all entries fit, as they do in lawful lists, a line's steps are a form of its event exactly where their kinds
 //! are a row of it and each visit has the entry that the steps around it tell.
 ghost use Rattle.line_forms.specs.Laws.{KeyRowIsCall, LastRowIsCall, KeyCallIsTold, LastCallIsTold};
-ghost use Rattle.line_forms.specs.Laws.{LawfulListsFit, SignsGiveKinds, ActHasForm, ActIsTold, ActRowIsForm};
+ghost use Rattle.line_forms.specs.Laws.{LawfulListsFit, ActHasForm, ActIsTold, ActRowIsForm};
 ghost use Rattle.line_forms.specs.Laws.{ActFormIsRow, FormIsTold, EndIsTold, SystemCallIsTold, SystemRowIsForm};
 ghost use Rattle.line_forms.specs.Laws.{RowIsForm, EndRowIsForm, FormIsRow, EndFormIsRow, SystemFormIsRow};
 
@@ -65,12 +65,6 @@ pub fn system_form_is_row()
 #[tactic(auto, using(crate::proofs::ActLines::lists_fit))]
 pub fn lawful_lists_fit()
     ensures { LawfulListsFit }
-{}
-
-/// What a step shows of itself gives its kind, but for whether a caller went on with it.
-#[tactic(auto, using(crate::proofs::ActLines::kinds_seen))]
-pub fn signs_give_kinds()
-    ensures { SignsGiveKinds }
 {}
 
 /// What an act inside a `vread` may mean has a form of the act.

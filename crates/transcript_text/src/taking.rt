@@ -10,7 +10,7 @@ use crate::line::{ReadLine, line_of};
 use key_names::Trace;
 use std::alloc::{AllocError, Global};
 
-/// A transcript has fewer callers than this number and one more.
+/// The most callers of a transcript.
 const MOST_CALLERS: u32 = 64;
 
 // The line of a caller from this number on that a text spells, if its last field spells data.
