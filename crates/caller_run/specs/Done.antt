@@ -9,6 +9,7 @@ use Rattle.caller_run.specs.Items.{call_items, calls_items}
 use Rattle.key_names.specs.IsTranscript.{EachOfCall, EachLine, CallsMean}
 use Rattle.key_names.specs.Meaning.{CallerState, CallMeaning, Means}
 use Rattle.key_names.specs.SeenLine.{SeenLine}
+use Rattle.key_names.specs.StatesReplayed.{caller_end}
 use Rattle.lane_table.specs.declared.view.Visit.{Visit}
 use Rattle.lane_table.specs.declared.view.View.{View}
 use Rattle.lane_table.specs.BookLists.{StateLists, book_lists}
@@ -18,12 +19,12 @@ use Rattle.caller_run.specs.Ran.{RanBy}
 use Rattle.key_names.specs.LineSamples.{SamplesStand}
 use Rattle.rng_core.specs.SampleDeeds.{fast_in}
 
--- the lines of a call: those of the acts inside it, and its own
-abbrev pub call_lines : Call → List SeenLine
-call_lines (alone event line) = line ∷ []
-call_lines (vread_call len flags line acts) = map (λ bound. bound.line) acts ++ line ∷ []
-call_lines (unbound bound) = bound.line ∷ []
-call_lines (ending line) = line ∷ []
+-- the lines of a call in the order of what they tell: those of the acts inside it, and then its own
+abbrev pub lines_in_order : Call → List SeenLine
+lines_in_order (alone event line) = line ∷ []
+lines_in_order (vread_call len flags line acts) = map (λ bound. bound.line) acts ++ line ∷ []
+lines_in_order (unbound bound) = bound.line ∷ []
+lines_in_order (ending line) = line ∷ []
 
 -- each act has one of the four points
 abbrev pub PointsFit : Call → Type 0
@@ -44,7 +45,7 @@ pub record CallMeant (lists : Lists) (s : CallerState) (call : Call) (t : Caller
 
 -- the samples of each line of a call stand
 abbrev pub CallSamples : (ℕ → ℕ → FastPool) → Lists → Call → Type 0
-CallSamples fast lists call = AllByRecursion (λ line. SamplesStand fast (deeds_of lists line.steps)) (call_lines call)
+CallSamples fast lists call = AllByRecursion (λ line. SamplesStand fast (deeds_of lists line.steps)) (lines_in_order call)
 
 -- from v to w, and from s to t, the caller made this call; what it meant is said of all lists in the end of which its
 -- pass knows beginnings
@@ -62,16 +63,11 @@ pub record CallDoneBy (caller splits : ℕ) (v w : View) (s t : CallerState) (ca
 abbrev pub CallDone : ℕ → View → View → CallerState → CallerState → Call → Type 0
 CallDone caller v w s t call = CallDoneBy caller 0 v w s t call
 
--- where a caller that was at s stands after the last call
-abbrev pub state_reached : CallerState → List CallMeaning → CallerState
-state_reached s [] = s
-state_reached s (m ∷ ms) = state_reached m.after ms
-
 -- the same of some calls
 pub record CallsMeant (lists : Lists) (s : CallerState) (calls : List Call) (t : CallerState) : Type 0 where
   pub meanings : List CallMeaning
   pub means : CallsMean s calls meanings
-  pub reaches : state_reached s meanings ≡ t
+  pub reaches : caller_end s meanings ≡ t
   pub deeds : EachLine (λ line m. deeds_of lists line.steps ≡ m.deeds) calls meanings
   pub answers : EachLine (λ line m. line.answer ≡ m.answer) calls meanings
   pub shown : EachLine (λ line m. line.shown ≡ m.shown) calls meanings

@@ -13,7 +13,7 @@ use Rattle.caller_run.specs.Plots.{plot}
 use Rattle.caller_run.specs.Ways.{IsNewSheet, ArePrepared}
 
 -- new sheets of a caller and of all that it forks
-pub record IsReady (callers : List (List Event)) (c : ℕ) (a : Plot) : Type 0 where
+pub record IsNewRoom (callers : List (List Event)) (c : ℕ) (a : Plot) : Type 0 where
   pub is : a.caller ≡ c
   pub there : a.caller < length callers
   pub new : IsNewSheet a.sheet (list_at callers a.caller)
@@ -21,7 +21,7 @@ pub record IsReady (callers : List (List Event)) (c : ℕ) (a : Plot) : Type 0 w
 
 -- and for each caller a slot
 pub record IsPlanned (script : Script) (a : Plot) (slots : List Gathered) : Type 0 where
-  pub root : IsReady script.callers 0 a
+  pub root : IsNewRoom script.callers 0 a
   pub slots' : length slots ≡ length script.callers
 
 -- all memory of a run of the script, with nothing in it

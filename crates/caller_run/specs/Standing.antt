@@ -15,7 +15,7 @@ use Rattle.lane_table.specs.declared.view.View.{View}
 use Rattle.lane_table.specs.Calls.{view}
 use Rattle.lane_table.specs.Steps.{Grows, child as split_off}
 use Rattle.rng_core.specs.Acts.{Ask, wants, all_wanted, asks_of}
-use Rattle.rng_core.specs.InsideMakes.{IsFresh}
+use Rattle.rng_core.specs.InsideMakes.{IsWaitingAct}
 use Rattle.rng_core.specs.declared.vdso.acts.Bound.{Bound}
 use Rattle.transcript_text.specs.Gathered.{Gathered}
 use Rattle.caller_run.specs.Calling.{IsReady, StatesStand, stand}
@@ -52,7 +52,7 @@ pub record CanAdvanceWith (t : Lanes) (c : Caller) (lines : Gathered) (acts : Li
   pub longest : AllByRecursion (λ event. most_shown event ≤ served) rest
   pub wanted : sum_by read_inside rest + all_wanted (asks_of acts) ≤ inside
   pub few : (length acts ≤ 8) × FewActs (length acts) rest
-  pub fresh : AllByRecursion IsFresh acts
+  pub fresh : AllByRecursion IsWaitingAct acts
   pub told : AllByRecursion (λ a. a.event < length lines.lines) (asks_of acts)
 
 -- a caller that can make these events

@@ -4,7 +4,7 @@ use Rattle.std.specs.List.{AllByRecursion}
 use Rattle.key_names.specs.declared.names.Step.{Step}
 use Rattle.lane_table.specs.declared.lanes.Lanes.{Lanes}
 use Rattle.rng_core.specs.Acts.{all_wanted, asks_of, outcomes_of}
-use Rattle.rng_core.specs.InsideMakes.{IsFresh}
+use Rattle.rng_core.specs.InsideMakes.{IsWaitingAct}
 use Rattle.rng_core.specs.declared.vdso.acts.Bound.{Bound}
 use Rattle.caller_run.specs.Calling.{IsReady, StatesStand, StateRead}
 use Rattle.caller_run.specs.declared.caller.Caller.{Caller}
@@ -16,7 +16,7 @@ pub record CanRead (t : Lanes) (c : Caller) (acts : List Bound) (into : ReadInto
   pub ready : IsReady t c
   pub states : StatesStand c
   pub short : length into.served.now ≤ 2 ^ 20
-  pub fresh : AllByRecursion IsFresh acts
+  pub fresh : AllByRecursion IsWaitingAct acts
   pub fits : length into.inside.now ≡ all_wanted (asks_of acts)
 
 -- the caller, then c and now d, read in these steps, with these acts inside, which are those now

@@ -148,7 +148,7 @@ pub record AtFork (m w : Caller) (steps : List Step) (child : ℕ) (theirs : Pas
   pub states : w.states ≡ m.states
   pub forked : cuts.Forked m.set (moment m.pass []) steps child w.pass theirs
 
--- a child ran between two more visits
+-- its caller made two more visits: it waits from the first on, and goes on from the second
 pub record RanHere (set : Setting) (m n : Moment) : Type 0 where
   pub middle : Moment
   pub stall : Makes (BaseOnly Stall) set m middle

@@ -38,7 +38,7 @@ impl Children {
     }
 }
 
-/// What a child's thread gives back.
+/// What a child's thread promises of what it gives back.
 #[derive(Drop)]
 pub(crate) struct Child<'a> {
     pub(crate) lanes: &'a Lanes,

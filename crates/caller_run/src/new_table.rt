@@ -16,8 +16,7 @@ use std::sync::Wait;
 use std::thread::Threads;
 use transcript_text::Transcript;
 
-/// Runs all callers of a script on a new table. Stamps count from 1. All memory is taken before the first event, but for
-/// threads.
+/// Runs all callers of a script on a new table. All memory is taken before the first event, but for threads.
 ///
 /// # Errors
 ///

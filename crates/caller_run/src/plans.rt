@@ -2,7 +2,7 @@
 ghost use Rattle.std.specs.Prelude.{◌≡◌, ◌<◌, ◌≤◌, length, IfOk};
 ghost use Rattle.key_names.specs.Texts.ScriptGrammar.{Script, WellFormed};
 ghost use Rattle.caller_run.specs.Grove.{told_by};
-ghost use Rattle.caller_run.specs.Plans.{HaveSlots, IsPlanFor, IsReady, lines_in, put_in};
+ghost use Rattle.caller_run.specs.Plans.{HaveSlots, IsPlanFor, IsNewRoom, lines_in, put_in};
 ghost use Rattle.caller_run.specs.Plots.{plot};
 ghost use Rattle.caller_run.specs.Ways.{IsNewSheet};
 
@@ -57,7 +57,7 @@ impl Room {
     fn prepare(alloc: Global, script: &Script, caller: u32) -> Result<Room, AllocError>
         requires well { WellFormed script.now }
         requires there { caller < length script.now.callers }
-        ensures { IfOk result (λ room. IsReady script.now.callers caller (plot room)) }
+        ensures { IfOk result (λ room. IsNewRoom script.now.callers caller (plot room)) }
     {
         let events = script.events(caller);
         let sheet = Sheet::for_events(alloc, events)?;
@@ -94,7 +94,7 @@ impl Plan {
 
     /// The room of caller 0, with the rooms of all other callers in it.
     pub fn root(self) -> Room
-        ensures { (script : Script) → IsPlanFor script self → IsReady script.callers 0 (plot result) }
+        ensures { (script : Script) → IsPlanFor script self → IsNewRoom script.callers 0 (plot result) }
     {
         let Plan { root, slots: _ } = self;
         root

@@ -2,7 +2,8 @@
 ghost use Rattle.std.specs.Prelude.{◌≡◌, ◌≤◌, ℕ, List, length, if◌then◌else◌};
 ghost use Rattle.key_names.specs.declared.events.Answer.TheVariants.{Unused};
 ghost use Rattle.key_names.specs.SeenLine.{bytes_or_none, no_data};
-ghost use Rattle.rng_core.specs.Makes.{errno_answer, result_answer, tick_result, given};
+ghost use Rattle.key_names.specs.VreadSteps.{answer_of_errno};
+ghost use Rattle.rng_core.specs.Makes.{result_answer, tick_result, given};
 ghost use Rattle.caller_run.specs.Says.{shown_by, IsNoCount};
 
 use key_names::{Answer, Errno};
@@ -24,7 +25,7 @@ pub(crate) struct Reply {
 }
 
 fn answer_of(errno: Errno) -> Answer
-    ensures { result ≡ errno_answer errno }
+    ensures { result ≡ answer_of_errno errno }
 {
     match errno {
         Errno::NoData => Answer::NoData,

@@ -5,7 +5,7 @@ ghost use Rattle.key_names.specs.Texts.ScriptGrammar.{WellFormed};
 ghost use Rattle.lane_table.specs.Calls.{view};
 ghost use Rattle.lane_table.specs.Hands.{HoldsLanes};
 ghost use Rattle.caller_run.specs.Families.{SameShare};
-ghost use Rattle.caller_run.specs.Plans.{IsPlanFor, IsReady};
+ghost use Rattle.caller_run.specs.Plans.{IsPlanFor, IsNewRoom};
 ghost use Rattle.caller_run.specs.Plots.{plot};
 ghost use Rattle.caller_run.specs.Ways.{CanAdvanceOn, CanPart, CanRun, IsFirst, Returned, WentBeside, WentOn, WholeRan, start_of};
 
@@ -40,7 +40,7 @@ pub fn run_caller<R: Threads + Wait + Sync, G: Gate>(
     requires set { (set.cpu < shared.now.lanes.now.cpus) × (set.now < 2 ^ 40) }
     requires well { WellFormed shared.now.script.now }
     requires cpus { shared.now.lanes.now.cpus ≡ shared.now.script.now.cpus }
-    requires room { IsReady shared.now.script.now.callers set.caller (plot room) }
+    requires room { IsNewRoom shared.now.script.now.callers set.caller (plot room) }
     ensures has { HoldsLanes shared.now.lanes.now set.caller [] result.0 }
     ensures share { SameShare (view pass) (view result.0) }
     ensures ran { Returned shared.now.lanes.now shared.now.script.now (start_of set pass) (plot room) result.0

@@ -62,7 +62,7 @@ IsIdle v = (lane : ℕ) → IsAway lane v
 -- What is held
 
 -- the value stands for the model of the lane's list as it is known, and its next place and last stamp are the list's
-pub record Stands (lane : ℕ) (h : Held) (v : View) : Type 0 where
+pub record MatchesList (lane : ℕ) (h : Held) (v : View) : Type 0 where
   pub value : ValueRepresents lane h.state (replay (known_of v lane))
   pub place : h.turn.place ≡ length (known_of v lane)
   pub stamp : h.turn.stamp ≡ last_stamp v.first (known_of v lane)
@@ -127,7 +127,7 @@ pub record Taken (lane : ℕ) (h : Held) (m m' : Seated) : Type 0 where
   pub of_lane : h.turn.lane ≡ lane
   pub consistent : Consistent m'.0
   pub same : SameView m.0 m'.0
-  pub stands : Stands lane h m'.0
+  pub stands : MatchesList lane h m'.0
   pub holding : (at lane m'.0).stage ≡ Holding h.turn.ticket
   pub free : OwesNothing lane m'.0
   pub still : SameHistory lane m.0 m'.0
@@ -144,10 +144,13 @@ pub record Taken (lane : ℕ) (h : Held) (m m' : Seated) : Type 0 where
   pub stamps : m'.0.stamps ≡ m.0.stamps
   pub drawn : m'.0.drawn ≡ m.0.drawn + 1
 
+-- the lane was got by a ticket, and its last stamp had come to 2^62
+abbrev pub DrewTooLate : ℕ → Seated → Seated → Type 0
+DrewTooLate lane m m' = (m'.0.drawn ≡ m.0.drawn + 1) × (2 ^ 62 ≤ last_stamp m'.0.first (known_of m'.0 lane))
+
 -- the pass's stamp, or the ticket that was read, or the last stamp of the lane that was got, had come to 2^62
 abbrev pub IsSpent : ℕ → Seated → Seated → Type 0
-IsSpent lane m m' = (2 ^ 62 ≤ m.0.stamp) ⊎ (2 ^ 62 ≤ (at lane m'.0).found)
-    ⊎ ((m'.0.drawn ≡ m.0.drawn + 1) × (2 ^ 62 ≤ last_stamp m'.0.first (known_of m'.0 lane)))
+IsSpent lane m m' = (2 ^ 62 ≤ m.0.stamp) ⊎ (2 ^ 62 ≤ (at lane m'.0).found) ⊎ DrewTooLate lane m m'
 
 -- none of the three was
 pub record Unspent (lane : ℕ) (m m' : Seated) : Type 0 where
@@ -167,7 +170,7 @@ abbrev pub Refused : ℕ → Seated → Seated → TakeFault → Type 0
 Refused lane m m' Spent = IsSpent lane m m'
 Refused lane m m' (Busy serving ticket) = IsBusy lane serving ticket m m'
 
--- the lane was not got: the pass stands nowhere else than before
+-- the lane was not got: the pass stands nowhere else than before, and drew no ticket where the lane's last stamp is low
 pub record Tried (lane : ℕ) (m m' : Seated) : Type 0 where
   pub consistent : Consistent m.0 → Consistent m'.0
   pub same : SameView m.0 m'.0
@@ -179,6 +182,7 @@ pub record Tried (lane : ℕ) (m m' : Seated) : Type 0 where
   pub seen : m'.0.seen ≡ m.0.seen
   pub stamp : m'.0.stamp ≡ m.0.stamp
   pub stamps : m'.0.stamps ≡ m.0.stamps
+  pub drawn : (m'.0.drawn ≡ m.0.drawn) ⊎ DrewTooLate lane m m'
 
 -- a visit as its maker tells it, before it is known what is handed to it
 abbrev pub visit_by : Who → ℕ → LaneEntry → Visit

@@ -9,7 +9,7 @@ ghost use Rattle.lane_table.specs.LaneNumbers.{index_of};
 ghost use Rattle.lane_table.specs.Calls.{view, slots, count_of, visit_by, IsPassOf, IsSamePass, CanPut, CanLeave, Added, Left};
 
 use crate::entry::Entry;
-use crate::lanes::{Held, LINE, Lanes, Pass, SERVING, Turn, lane_at};
+use crate::lanes::{Held, Lanes, Pass, Turn, lane_at, serving_word};
 use crate::plays::{Put, Tells};
 use crate::view::Content;
 use key_names::{Mark, Who};
@@ -69,7 +69,7 @@ impl Lanes {
         self.lay(pass, lane, content);
         self.table
             .shared
-            .store::<Put<N>>(&mut pass.seat, LINE * lane + SERVING, ticket + 1);
+            .store::<Put<N>>(&mut pass.seat, serving_word(lane), ticket + 1);
         pass.stamp = stamp;
     }
 

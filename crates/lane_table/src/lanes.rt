@@ -1,6 +1,7 @@
 //! The table of lanes, the passes of its callers, and a lane while a pass holds it.
 ghost use Rattle.std.specs.Prelude.{◌≡◌, ◌+◌, ◌*◌, ◌^◌, ◌<◌, ◌≤◌};
 ghost use Rattle.lane_table.specs.LaneNumbers.{index_of};
+ghost use Rattle.lane_table.specs.WorldRule.{ticket_word, serving_word};
 
 use crate::plays::World;
 use crate::slot::Slot;
@@ -15,9 +16,19 @@ pub(crate) const GENERATION: usize = 0;
 
 pub(crate) const LINE: usize = 16;
 
-pub(crate) const TICKET: usize = 16;
+pub(crate) fn ticket_word(lane: usize) -> usize
+    requires { lane < 258 }
+    ensures { result ≡ ticket_word lane }
+{
+    LINE * lane + LINE
+}
 
-pub(crate) const SERVING: usize = 17;
+pub(crate) fn serving_word(lane: usize) -> usize
+    requires { lane < 258 }
+    ensures { result ≡ serving_word lane }
+{
+    ticket_word(lane) + 1
+}
 
 /// The pool, the base and some CPUs, each a lane behind a ticket lock of its own, and the generation word.
 ///

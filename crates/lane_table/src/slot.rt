@@ -6,8 +6,8 @@ use crossbeam_utils::CachePadded;
 use std::marker::Model;
 use std::mem;
 
-/// What lies in a lane's slot, while it lies there, with nothing else on its cache lines: so visits of one CPU do not slow
-/// down those of another. In contracts it is what lies there.
+/// What lies in a lane's slot, while it lies there, with nothing else on its cache lines: so callers on neighbouring CPUs
+/// do not fetch each other's cache lines. In contracts it is what lies there.
 #[derive(Drop)]
 pub struct Slot {
     padded: CachePadded<Option<Content>>,

@@ -8,7 +8,7 @@ ghost use Rattle.lane_table.specs.Steps.{Got, queued};
 ghost use Rattle.lane_table.specs.LaneNumbers.{index_of};
 ghost use Rattle.lane_table.specs.Calls.{view, slots, count_of, IsPassOf, IsSamePass, IsAway, Taken};
 
-use crate::lanes::{Held, LINE, Lanes, Pass, SERVING, TICKET, Turn, index_of};
+use crate::lanes::{Held, Lanes, Pass, Turn, index_of, serving_word, ticket_word};
 use crate::plays::{Draw, Serve};
 use crate::view::Content;
 use crossbeam_utils::Backoff;
@@ -62,7 +62,7 @@ impl Lanes {
         ensures early { result < 2 ^ 62 }
     {
         let words = &self.table.shared;
-        let word = LINE * lane + TICKET;
+        let word = ticket_word(lane);
         let backoff = Backoff::new();
         for _ in rt.forever() {
             let ticket = words.peek(word);
@@ -89,7 +89,7 @@ impl Lanes {
         let words = &self.table.shared;
         let backoff = Backoff::new();
         for _ in rt.forever() {
-            if words.load::<Serve>(&mut pass.seat, LINE * lane + SERVING) == ticket {
+            if words.load::<Serve>(&mut pass.seat, serving_word(lane)) == ticket {
                 return;
             }
             backoff.snooze();

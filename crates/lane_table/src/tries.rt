@@ -7,7 +7,7 @@ ghost use Rattle.lane_table.specs.Steps.{Got, OwesNothing, queued_found, found, 
 ghost use Rattle.lane_table.specs.LaneNumbers.{index_of};
 ghost use Rattle.lane_table.specs.Calls.{view, slots, count_of, IsPassOf, IsSamePass, IsAway, Taken, Tried, Unspent, Refused};
 
-use crate::lanes::{Held, LINE, Lanes, Pass, SERVING, TICKET, TakeFault, index_of};
+use crate::lanes::{Held, Lanes, Pass, TakeFault, index_of, serving_word, ticket_word};
 use crate::plays::{Find, Leave, Load, Serve, Try};
 use crate::takes::{LAST, held};
 use crate::view::Content;
@@ -22,7 +22,7 @@ impl Lanes {
     {
         self.table
             .shared
-            .load::<Load>(&mut pass.seat, LINE * lane + SERVING)
+            .load::<Load>(&mut pass.seat, serving_word(lane))
     }
 
     fn find_ticket(&self, pass: &mut Pass, lane: usize) -> u64
@@ -34,7 +34,7 @@ impl Lanes {
     {
         self.table
             .shared
-            .load::<Find>(&mut pass.seat, LINE * lane + TICKET)
+            .load::<Find>(&mut pass.seat, ticket_word(lane))
     }
 
     fn try_draw(&self, pass: &mut Pass, lane: usize, ticket: u64) -> u64
@@ -48,7 +48,7 @@ impl Lanes {
     {
         self.table
             .shared
-            .compare_exchange::<Try>(&mut pass.seat, LINE * lane + TICKET, ticket, ticket + 1)
+            .compare_exchange::<Try>(&mut pass.seat, ticket_word(lane), ticket, ticket + 1)
     }
 
     // The lane serves the ticket, which is a serving number that was loaded.
@@ -62,7 +62,7 @@ impl Lanes {
         let _serving = self
             .table
             .shared
-            .load::<Serve>(&mut pass.seat, LINE * lane + SERVING);
+            .load::<Serve>(&mut pass.seat, serving_word(lane));
     }
 
     // Gives back a lane whose value was not touched.
@@ -79,7 +79,7 @@ impl Lanes {
         self.lay(pass, lane, content);
         self.table
             .shared
-            .store::<Leave>(&mut pass.seat, LINE * lane + SERVING, ticket + 1);
+            .store::<Leave>(&mut pass.seat, serving_word(lane), ticket + 1);
     }
 
     fn try_take_at(&self, pass: &mut Pass, lane: usize) -> Result<Held, TakeFault>

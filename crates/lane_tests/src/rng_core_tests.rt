@@ -4,7 +4,7 @@ ghost use Rattle.std.specs.List.{AllByRecursion};
 ghost use Rattle.lane_table.specs.Hands.{HoldsLanes};
 ghost use Rattle.rng_core.specs.Integers.{IsWidth};
 ghost use Rattle.rng_core.specs.Acts.{asks_of, all_wanted};
-ghost use Rattle.rng_core.specs.InsideMakes.{IsFresh};
+ghost use Rattle.rng_core.specs.InsideMakes.{IsWaitingAct};
 
 mod long_reads;
 mod waits;
@@ -390,7 +390,7 @@ fn inside_of<'x, R: Wait>(
     requires cpu { set.now.cpu < lanes.now.cpus }
     requires moment { set.now.now < 2 ^ 40 }
     requires some { 0 < length acts.old }
-    requires fresh { AllByRecursion IsFresh acts.old }
+    requires fresh { AllByRecursion IsWaitingAct acts.old }
     requires fits { length out.old ≡ all_wanted (asks_of acts.old) }
     ensures has { HoldsLanes lanes.now set.entry.now.caller [] pass.new }
 {

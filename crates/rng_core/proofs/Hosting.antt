@@ -16,7 +16,7 @@ use Rattle.key_names.specs.Book.{Lists, cpu_list}
 use Rattle.key_names.specs.Answers.{system_answer, served_bytes}
 use Rattle.key_names.specs.SeenLine.{bytes_or_none, bytes_in}
 use Rattle.key_names.specs.Vgetrandom.{CpuPlace, SystemAnswer, read, failed}
-use Rattle.key_names.specs.VreadSteps.{published_by, place_of, last_place, errno_of, answer_with, answer_behind}
+use Rattle.key_names.specs.VreadSteps.{published_by, place_of, last_place, errno_of, answer_with, answer_behind, answer_of_errno}
 use Rattle.lane_table.specs.declared.view.Visit.{Visit}
 use Rattle.lane_table.specs.declared.view.View.{View}
 use Rattle.lane_table.specs.declared.view.Stage.{Stage}
@@ -37,7 +37,7 @@ use Rattle.vdso_state.specs.Host.{IsAnswer}
 use Rattle.rng_core.specs.declared.setting.Setting.{Setting}
 use Rattle.rng_core.specs.Traces.{Moment}
 use Rattle.lane_table.specs.BookLaws.{Continues}
-use Rattle.rng_core.specs.Makes.{Makes, IsOutcomeOf, setting_of, errno_answer, result_answer, given}
+use Rattle.rng_core.specs.Makes.{Makes, IsOutcomeOf, setting_of, result_answer, given}
 use Rattle.rng_core.specs.Hosted.{is_away, IsFree, SystemCall}
 
 -- Empty hands
@@ -154,7 +154,7 @@ pub is_answer : (result : Result (Unit {0}) Errno) (bytes : List ℕ) (visit : O
 is_answer (Ok x) bytes visit = (refl, refl)
 is_answer (Err errno) bytes visit = refl
 
-errno_is : (errno : Errno) → errno_of (errno_answer errno) ≡ Some errno
+errno_is : (errno : Errno) → errno_of (answer_of_errno errno) ≡ Some errno
 errno_is NoData = refl
 errno_is Again = refl
 errno_is Invalid = refl

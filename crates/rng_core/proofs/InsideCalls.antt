@@ -35,7 +35,7 @@ use Rattle.rng_core.specs.Hosted.{stand}
 use Rattle.rng_core.specs.Acts.{Ask, ActOutcome, wants, ask_of, asks_of, outcomes_of, is_ready, all_ready, wipes_at, done_line}
 use Rattle.rng_core.specs.Acting.{ActStand, act_stand, acting, InsideRan}
 use Rattle.rng_core.specs.Hosting.{standing, SameLoans, hosting, IsNewHost, HostCalled}
-use Rattle.rng_core.specs.InsideMakes.{IsFresh, bound_acts, outcome_line, inside_meaning, InsideMakes}
+use Rattle.rng_core.specs.InsideMakes.{IsWaitingAct, bound_acts, outcome_line, inside_meaning, InsideMakes}
 use Rattle.rng_core.proofs.ActRuns.{AllDone, AllMeant, came, Own}
 use Rattle.rng_core.proofs.Acting.{acted_asks, acted_onward, acted_up_to, acted_own, acted_wipes, acted_done, acted_meant, host_acts}
 use Rattle.rng_core.proofs.CallEnds.{EndsWell, call_ends}
@@ -44,11 +44,11 @@ use Rattle.rng_core.proofs.Readings.{ending_is, same_looks, never_fall}
 
 -- Acts as they are handed over
 
-fresh_one : (b : Bound) → IsFresh b → is_ready b ≡ true
+fresh_one : (b : Bound) → IsWaitingAct b → is_ready b ≡ true
 fresh_one b k = ap (λ (x : Bool). x && (b.done || length b.trace == 0)) (le-leb (wants b.act) (2 ^ 20) k.short)
     ∙ (λ i. k.idle i || length (k.empty i) == 0)
 
-pub fresh_ready : (bounds : List Bound) → AllByRecursion IsFresh bounds → all_ready bounds ≡ true
+pub fresh_ready : (bounds : List Bound) → AllByRecursion IsWaitingAct bounds → all_ready bounds ≡ true
 fresh_ready [] all = refl
 fresh_ready (b ∷ bounds) all = ap (λ (x : Bool). x && all_ready bounds) (fresh_one b all.0) ∙ fresh_ready bounds all.1
 
@@ -57,7 +57,7 @@ pub record IsUndone (x : ActOutcome) : Type 0 where
   pub idle : x.done ≡ false
   pub empty : x.steps ≡ []
 
-pub fresh_undone : (bounds : List Bound) (out : List ℕ) → AllByRecursion IsFresh bounds →
+pub fresh_undone : (bounds : List Bound) (out : List ℕ) → AllByRecursion IsWaitingAct bounds →
     AllByRecursion IsUndone (outcomes_of bounds out)
 fresh_undone [] out all = tt
 fresh_undone (b ∷ bounds) out all = (

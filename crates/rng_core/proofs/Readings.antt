@@ -8,7 +8,6 @@ use Rattle.key_names.specs.declared.names.LaneId.{LaneId}
 use Rattle.key_names.specs.declared.names.Step.{Step}
 use Rattle.key_names.specs.declared.names.LaneId.TheVariants.{Pool as PoolLane, Base as BaseLane, Cpu as CpuLane}
 use Rattle.key_names.specs.declared.errno.Errno.{Errno}
-use Rattle.key_names.specs.declared.errno.Errno.TheVariants.{NoData, Again, Invalid, Interrupted}
 use Rattle.key_names.specs.declared.events.Answer.{Answer}
 use Rattle.key_names.specs.Flags.{is_bad}
 use Rattle.key_names.specs.Book.{Lists}
@@ -20,7 +19,7 @@ use Rattle.key_names.specs.Meaning.{CallerState, CallMeaning, VreadMeans, ByLoca
 use Rattle.key_names.specs.SeenLine.{Shown, bytes_or_none}
 use Rattle.key_names.specs.Vgetrandom.{read, failed, HostStep, Ending, no_bytes, by_batch, by_system, FromLook, BySystem, IsCall}
 use Rattle.key_names.specs.VgetrandomState.{VgetrandomState}
-use Rattle.key_names.specs.VreadSteps.{Shows, answer_of_errno, ending_answer, ending_shown, published_by, looks_of, NeverFall}
+use Rattle.key_names.specs.VreadSteps.{Shows, ending_answer, ending_shown, published_by, looks_of, NeverFall}
 use Rattle.key_names.proofs.Vgetrandom.Attempts.{match_true, match_false}
 use Rattle.lane_table.specs.declared.view.View.{View}
 use Rattle.lane_table.specs.BookLists.{book_lists}
@@ -30,7 +29,7 @@ use Rattle.vdso_state.specs.declared.outcome.VEnd.{VEnd}
 use Rattle.vdso_state.specs.Call.{EndsAs}
 use Rattle.rng_core.specs.declared.setting.Setting.{Setting}
 use Rattle.rng_core.specs.Traces.{Moment, TraceRecords}
-use Rattle.rng_core.specs.Makes.{Makes, setting_of, errno_answer, result_answer, given}
+use Rattle.rng_core.specs.Makes.{Makes, setting_of, result_answer, given}
 use Rattle.rng_core.specs.VreadMakes.{done_of, LocallyServed, Refused, Unserved, LeftToSystem, Called, VreadLine, VreadMakes, vread_meaning}
 use Rattle.rng_core.proofs.ActRuns.{Risen, sees_risen}
 use Rattle.rng_core.proofs.Hosting.{none_left, published_more}
@@ -87,12 +86,6 @@ refused_later a b n s low less refuses = dite (ℕ_discrete b s.generation)
 
 -- Calls
 
-same_errno : (errno : Errno) → errno_answer errno ≡ answer_of_errno errno
-same_errno NoData = refl
-same_errno Again = refl
-same_errno Invalid = refl
-same_errno Interrupted = refl
-
 abbrev pub answered : Result VEnd Errno → Answer
 answered result = result_answer (done_of result)
 
@@ -107,7 +100,7 @@ ending_is n no_bytes result buf long none e = let empty = none_left buf (long �
 ending_is n (by_batch bytes) result buf long none e = (ap answered e.0, (λ i. showing (e.0 i) (e.1 i)))
 ending_is n (by_system (read bytes visit)) result buf long none e = (ap answered e.0, (λ i. showing (e.0 i) (e.1 i)))
 ending_is n (by_system (failed errno)) result buf long none e =
-    (ap answered e ∙ same_errno errno, ap (λ (r : Result VEnd Errno). showing r buf) e)
+    (ap answered e, ap (λ (r : Result VEnd Errno). showing r buf) e)
 
 -- Reads
 

@@ -17,22 +17,22 @@ use Rattle.lane_table.proofs.Lists.VisitLists.{begins_length}
 use Rattle.rng_core.specs.declared.setting.Setting.{Setting}
 use Rattle.rng_core.specs.declared.site.Site.{Site}
 use Rattle.rng_core.specs.Makes.{IsOutcomeOf, setting_of}
-use Rattle.rng_core.specs.Sites.{at, pool_lane, lane_of, own_lane, own_cpu, own_places, IsIdle, IsOnCpu, Entered, Left, DoesIn, Does, Completes}
+use Rattle.rng_core.specs.Sites.{at, pool_lane, lane_of, own_lane, own_cpu, own_places, IsIdle, IsOnCpu, Entered, VisitedIdly, DoesIn, Does, Completes}
 use Rattle.rng_core.proofs.Makings.{did_bits, did_credit}
 use Rattle.rng_core.proofs.Sampling.{CpuMet, did_met, visited_below}
-use Rattle.rng_core.proofs.SiteLemmas.{same_then, by_set, does_behind, does_left}
+use Rattle.rng_core.proofs.SiteLemmas.{same_then, by_set, does_behind, does_visited}
 
 -- the bits that a visit reads
-pub does_bits : (h k : Held) (bits : ℕ) (l m n : Site) → Entered pool_lane h l m → Left pool_lane k (Pool Bits) m n →
+pub does_bits : (h k : Held) (bits : ℕ) (l m n : Site) → Entered pool_lane h l m → VisitedIdly pool_lane k (Pool Bits) m n →
     bits ≡ (lane_of m pool_lane).pool.bits → Completes 1 BitsEvent Done (count bits) l n
 does_bits h k bits l m n a b is = does_behind (λ set visits. IsOutcomeOf (setting_of set) BitsEvent Done (count bits)) 1
     l m n
     a.walked a.trace
-    (does_left 0 k (Pool Bits) m n b (λ x. did_bits m.set (at m) (at n) _ bits _ _ x is))
+    (does_visited 0 k (Pool Bits) m n b (λ x. did_bits m.set (at m) (at n) _ bits _ _ x is))
 
 -- a visit of the pool that credits bits, and what they cross
 pub does_credit : (h k : Held) (e : PoolEntry) (crossed : Crossing) (j l m n : Site) → Entered pool_lane h j l →
-    Left pool_lane k (Pool e) l m →
+    VisitedIdly pool_lane k (Pool e) l m →
     crossed ≡ crossing (lane_of l pool_lane).pool.bits (pool_step (lane_of l pool_lane).pool e).bits →
     Does 2 (Cross (setting_of m.set) crossed) m n → Does 3 (CreditForm (setting_of j.set) e) j n
 does_credit h k e crossed j l m n a b is d = does_behind (λ set visits. CreditForm (setting_of set) e) 3 j l n
@@ -45,9 +45,9 @@ does_credit h k e crossed j l m n a b is d = does_behind (λ set visits. CreditF
     })
 
 -- a visit of the CPU that the caller runs on, and the fast pool that it met
-pub does_met : (h : Held) (e : CpuEntry) (m n : Site) → IsIntOfBatch e → Left (own_lane m) h (Cpu e) m n →
+pub does_met : (h : Held) (e : CpuEntry) (m n : Site) → IsIntOfBatch e → VisitedIdly (own_lane m) h (Cpu e) m n →
     DoesIn 1 (CpuMet m.set.cpu h.turn.place e (own_cpu m).fast) m n
-does_met h e m n fits b = does_left (own_lane m) h (Cpu e) m n b
+does_met h e m n fits b = does_visited (own_lane m) h (Cpu e) m n b
     (λ x. did_met m.set (at m) (at n) m.set.cpu h.turn.place _ e _ fits x)
 
 -- its place is behind those that were known before it was taken
@@ -61,7 +61,8 @@ taken_behind h l m idle cpu a =
     ∙ ap (λ (s : Setting). length (known_of (view m.pass.now) (s.cpu + 2))) a.walked.same.set in omega arith
 
 -- and it is known behind the visit
-pub left_below : (h : Held) (e : CpuEntry) (m n : Site) → Left (own_lane m) h (Cpu e) m n → h.turn.place < own_places n
-left_below h e m n b =
+pub visit_below : (h : Held) (e : CpuEntry) (m n : Site) → VisitedIdly (own_lane m) h (Cpu e) m n →
+    h.turn.place < own_places n
+visit_below h e m n b =
     let low = visited_below m.set (at m) (at n) (own_lane m) h.turn.place _ (Cpu e) _ b.visited in
     let same = ap (λ (s : Setting). length (known_of (view n.pass.now) (s.cpu + 2))) b.same.set in omega arith

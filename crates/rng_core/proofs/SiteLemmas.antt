@@ -19,7 +19,7 @@ use Rattle.rng_core.specs.declared.setting.Setting.{Setting}
 use Rattle.rng_core.specs.declared.site.Site.{Site}
 use Rattle.rng_core.specs.Traces.{TraceRecords, Visited}
 use Rattle.rng_core.specs.Makes.{MakesIn, Serving}
-use Rattle.rng_core.specs.Sites.{at, Same, Walked, IsIdle, Does, DoesIn, Entered, Left, Looked, LookedIdly, lane_of}
+use Rattle.rng_core.specs.Sites.{at, Same, Walked, IsIdle, Does, DoesIn, Entered, VisitedIdly, Looked, LookedIdly, lane_of}
 use Rattle.rng_core.proofs.TellLemmas.{told_then}
 use Rattle.rng_core.proofs.Makings.{After, Behind, did_in_map, did_after, did_in_then, did_behind, did_look, did_nothing, did_pool, did_base, did_cpu, serving_looked, formed, served_of}
 
@@ -149,32 +149,32 @@ does_nothing steps m idle p = record {
 }
 
 -- one visit
-pub does_left : {P : (ℕ → List Visit) → List Deed → Type 0} (lane : ℕ) (h : Held) (e : LaneEntry) (m n : Site) →
-    Left lane h e m n → (Visited m.set (at m) (at n) lane h.turn.place (lane_of m lane) e
+pub does_visited : {P : (ℕ → List Visit) → List Deed → Type 0} (lane : ℕ) (h : Held) (e : LaneEntry) (m n : Site) →
+    VisitedIdly lane h e m n → (Visited m.set (at m) (at n) lane h.turn.place (lane_of m lane) e
     (handed lane e (view m.pass.now)) →
     MakesIn P m.set (at m) (at n)) → DoesIn 1 P m n
-does_left lane h e m n k f = record {
+does_visited lane h e m n k f = record {
   same = k.same;
   has = k.has;
   room = (let r = k.room in omega arith);
   did = f k.visited;
 }
 
-pub left_at : (a b : ℕ) (h : Held) (e : LaneEntry) (m n : Site) → a ≡ b → Left a h e m n → Left b h e m n
-left_at a b h e m n same k = subst (λ (l : ℕ). Left l h e m n) same k
+pub visit_at : (a b : ℕ) (h : Held) (e : LaneEntry) (m n : Site) → a ≡ b → VisitedIdly a h e m n → VisitedIdly b h e m n
+visit_at a b h e m n same k = subst (λ (l : ℕ). VisitedIdly l h e m n) same k
 
 -- a visit of the pool, the base or a CPU alone
-pub does_pool : (h k : Held) (e : PoolEntry) (l m n : Site) → Entered 0 h l m → Left 0 k (Pool e) m n →
+pub does_pool : (h k : Held) (e : PoolEntry) (l m n : Site) → Entered 0 h l m → VisitedIdly 0 k (Pool e) m n →
     Does 1 (PoolOnly e) l n
 does_pool h k e l m n a b = does_after 1 l m n a.walked a.trace
-    (does_left 0 k (Pool e) m n b (λ x. did_pool m.set (at m) (at n) _ _ e _ x))
+    (does_visited 0 k (Pool e) m n b (λ x. did_pool m.set (at m) (at n) _ _ e _ x))
 
-pub does_base : (h k : Held) (e : BaseEntry) (l m n : Site) → Entered 1 h l m → Left 1 k (Base e) m n →
+pub does_base : (h k : Held) (e : BaseEntry) (l m n : Site) → Entered 1 h l m → VisitedIdly 1 k (Base e) m n →
     Does 1 (BaseOnly e) l n
-does_base h k e l m n a b = does_after 1 l m n a.walked a.trace (does_left 1 k (Base e) m n b
+does_base h k e l m n a b = does_after 1 l m n a.walked a.trace (does_visited 1 k (Base e) m n b
     (λ x. formed m.set (at m) (at n) (did_base m.set (at m) (at n) _ e _ (served_of _ _ _ _ _ _ _ _ x))))
 
 pub does_cpu : (cpu : ℕ) (h k : Held) (e : CpuEntry) (l m n : Site) → IsIntOfBatch e → Entered (cpu + 2) h l m →
-    Left (cpu + 2) k (Cpu e) m n → Does 1 (CpuOnly cpu e) l n
-does_cpu cpu h k e l m n fits a b = does_after 1 l m n a.walked a.trace (does_left (cpu + 2) k (Cpu e) m n b
+    VisitedIdly (cpu + 2) k (Cpu e) m n → Does 1 (CpuOnly cpu e) l n
+does_cpu cpu h k e l m n fits a b = does_after 1 l m n a.walked a.trace (does_visited (cpu + 2) k (Cpu e) m n b
     (λ x. formed m.set (at m) (at n) (did_cpu m.set (at m) (at n) cpu _ e _ fits (served_of _ _ _ _ _ _ _ _ x))))

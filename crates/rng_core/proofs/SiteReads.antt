@@ -19,16 +19,16 @@ use Rattle.rng_core.specs.declared.setting.Setting.{Setting}
 use Rattle.rng_core.specs.declared.site.Site.{Site}
 use Rattle.rng_core.specs.Traces.{Visited}
 use Rattle.rng_core.specs.Makes.{Makes, Serving, Served, serving, setting_of}
-use Rattle.rng_core.specs.Sites.{at, Does, EnteredCpu, Left, LeftServing, Refilled, Same, lane_of, own_lane}
+use Rattle.rng_core.specs.Sites.{at, Does, EnteredCpu, VisitedIdly, VisitedServing, Refilled, Same, lane_of, own_lane}
 use Rattle.rng_core.proofs.IntFulfilling.{did_batch, did_refilled_batch}
 use Rattle.rng_core.proofs.Makings.{did_base, did_rooted, did_plain_read, did_refilled_read}
-use Rattle.rng_core.proofs.SiteLemmas.{same_then, does_left}
+use Rattle.rng_core.proofs.SiteLemmas.{same_then, does_visited}
 
 -- a visit of the base alone
-pub serves_base : (h : Held) (e : BaseEntry) (bytes : List ℕ) (m n : Site) → Left 1 h (Base e) m n →
+pub serves_base : (h : Held) (e : BaseEntry) (bytes : List ℕ) (m n : Site) → VisitedIdly 1 h (Base e) m n →
     bytes ≡ serving (Base e) (lane_of m 1) (handed 1 (Base e) (view m.pass.now)) →
     Does 1 (Serving (BaseOnly e) bytes) m n
-serves_base h e bytes m n k is = does_left 1 h (Base e) m n k (λ x. did_base m.set (at m) (at n) h.turn.place e bytes
+serves_base h e bytes m n k is = does_visited 1 h (Base e) m n k (λ x. did_base m.set (at m) (at n) h.turn.place e bytes
     (record { model = _; got = _; visited = x; serves = is }))
 
 -- a root, and a visit of the base that names it
@@ -36,7 +36,7 @@ pub serves_rooted : (h : Held) (place : ℕ) (s : Model) (entry : ℕ → BaseEn
     Same l m →
     length m.trace.now ≡ length l.trace.now + 1 →
     Visited l.set (at l) (at m) 0 place s (Pool (Extract l.set.hw h.turn.place)) nothing →
-    Left 1 h (Base (entry place)) m n →
+    VisitedIdly 1 h (Base (entry place)) m n →
     bytes ≡ serving (Base (entry place)) (lane_of m 1) (handed 1 (Base (entry place)) (view m.pass.now)) →
     Does 2 (Serving (Rooted (setting_of l.set) entry) bytes) l n
 serves_rooted h place s entry bytes l m n same one v b is = record {
@@ -51,7 +51,7 @@ serves_rooted h place s entry bytes l m n same one v b is = record {
 -- what a CPU serves that was entered
 cpu_serves : {Q : List Deed → Type 0} (h : Held) (e : LaneEntry) (bytes : List ℕ) (steps : ℕ) (l m n : Site) →
     Same l m →
-    length m.trace.now + 1 ≤ length l.trace.now + steps → LeftServing (own_lane m) h e bytes m n →
+    length m.trace.now + 1 ≤ length l.trace.now + steps → VisitedServing (own_lane m) h e bytes m n →
     (Served l.set (at m) (at n) (own_lane l) h.turn.place e bytes → Makes Q l.set (at l) (at n)) → Does steps Q l n
 cpu_serves h e bytes steps l m n same few b f = record {
   same = same_then l m n same b.same;
@@ -62,7 +62,7 @@ cpu_serves h e bytes steps l m n same few b f = record {
 
 -- a read from a CPU that was looked at
 pub serves_plain_read : (h : Held) (g : ℕ) (taken : Taken) (bytes : List ℕ) (l m n : Site) → EnteredCpu h g l m →
-    LeftServing (own_lane m) h (Cpu (Read g None taken)) bytes m n →
+    VisitedServing (own_lane m) h (Cpu (Read g None taken)) bytes m n →
     Does 3 (Serving (PlainRead (setting_of l.set) taken) bytes) l n
 serves_plain_read h g taken bytes l m n a b = cpu_serves h _ bytes 3 l m n a.walked.same (let q = a.room in omega arith)
     b
@@ -70,7 +70,7 @@ serves_plain_read h g taken bytes l m n a b = cpu_serves h _ bytes 3 l m n a.wal
 
 -- one that was looked at and refilled
 pub serves_refilled_read : (h : Held) (base : KeyHandoff) (g : ℕ) (taken : Taken) (bytes : List ℕ) (j l m n : Site) →
-    EnteredCpu h g j l → Refilled h base l m → LeftServing (own_lane m) h (Cpu (Read g (Some base.place) taken)) bytes m
+    EnteredCpu h g j l → Refilled h base l m → VisitedServing (own_lane m) h (Cpu (Read g (Some base.place) taken)) bytes m
     n →
     Does 3 (Serving (RefilledRead (setting_of j.set) taken) bytes) j n
 serves_refilled_read h base g taken bytes j l m n a b d = cpu_serves h _ bytes 3 j m n
@@ -81,7 +81,7 @@ serves_refilled_read h base g taken bytes j l m n a b d = cpu_serves h _ bytes 3
 
 -- an integer of a CPU that was looked at
 pub serves_batch : (h : Held) (g width : ℕ) (fills : Bool) (bytes : List ℕ) (l m n : Site) → FitsBatch width →
-    EnteredCpu h g l m → LeftServing (own_lane m) h (Cpu (Int g None width fills)) bytes m n →
+    EnteredCpu h g l m → VisitedServing (own_lane m) h (Cpu (Int g None width fills)) bytes m n →
     Does 3 (Serving (BatchForm (setting_of l.set) width) bytes) l n
 serves_batch h g width fills bytes l m n fits a b = cpu_serves h _ bytes 3 l m n a.walked.same
     (let q = a.room in omega arith) b
@@ -90,7 +90,7 @@ serves_batch h g width fills bytes l m n fits a b = cpu_serves h _ bytes 3 l m n
 -- one that was looked at and refilled
 pub serves_refilled_batch : (h : Held) (base : KeyHandoff) (g width : ℕ) (bytes : List ℕ) (j l m n : Site) →
     FitsBatch width → EnteredCpu h g j l → Refilled h base l m →
-    LeftServing (own_lane m) h (Cpu (Int g (Some base.place) width true)) bytes m n →
+    VisitedServing (own_lane m) h (Cpu (Int g (Some base.place) width true)) bytes m n →
     Does 3 (Serving (RefilledBatch (setting_of j.set) width) bytes) j n
 serves_refilled_batch h base g width bytes j l m n fits a b d = cpu_serves h _ bytes 3 j m n
     (same_then j l m a.walked.same b.same) (let q = a.room in let r = b.room in omega arith) d

@@ -12,7 +12,7 @@ use Rattle.rng_core.specs.declared.vdso.lane_host.LaneHost.{LaneHost}
 use Rattle.rng_core.specs.Acting.{ActStand, act_stand, ActPublished, ActAnswered, ActPassed, InsideRan}
 use Rattle.rng_core.specs.Acts.{all_wanted, asks_of, outcomes_of}
 use Rattle.rng_core.specs.Hosted.{stand}
-use Rattle.rng_core.specs.InsideMakes.{IsFresh, InsideMakes}
+use Rattle.rng_core.specs.InsideMakes.{IsWaitingAct, InsideMakes}
 use Rattle.rng_core.specs.Sites.{Same, IsNew, IsOnCpu, IsTimely, HasInHands, at}
 use Rattle.rng_core.specs.VreadMakes.{Called, IsCurrent, VreadMakes}
 
@@ -21,7 +21,7 @@ pub record CanHost (acts : List Bound) (out : List ℕ) (s : Site) : Type 0 wher
   pub new : IsNew s
   pub cpu : IsOnCpu s
   pub moment : 0 < length acts → IsTimely s
-  pub fresh : AllByRecursion IsFresh acts
+  pub fresh : AllByRecursion IsWaitingAct acts
   pub fits : length out ≡ all_wanted (asks_of acts)
 
 module _ {R : Type 0} where
@@ -31,7 +31,7 @@ module _ {R : Type 0} where
     pub before : h.attempt ≡ Before
     pub looks : h.looks ≡ 5
     pub calls : h.calls ≡ 3
-    pub fresh : AllByRecursion IsFresh h.acts.now
+    pub fresh : AllByRecursion IsWaitingAct h.acts.now
 
   -- where the caller stands
   abbrev pub standing : LaneHost R → ActStand

@@ -25,7 +25,7 @@ use Rattle.rng_core.specs.Makes.{setting_of, result_answer, given}
 use Rattle.rng_core.specs.Acts.{Ask, ActOutcome, wants, done_line}
 
 -- an act as it is handed to a call
-pub record IsFresh (b : Bound) : Type 0 where
+pub record IsWaitingAct (b : Bound) : Type 0 where
   pub short : wants b.act ≤ 2 ^ 20
   pub idle : b.done ≡ false
   pub empty : b.trace ≡ []

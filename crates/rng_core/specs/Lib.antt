@@ -1,5 +1,6 @@
 pub mod Acting
 pub mod Acts
+pub mod Causes
 pub mod Makes
 pub mod Forks
 pub mod InsideMakes

@@ -5,12 +5,12 @@ use Rattle.key_names.specs.Calls.{Setting as CallSetting}
 use Rattle.key_names.specs.Deeds.{Deed, deeds_of}
 use Rattle.key_names.specs.declared.events.Event.{Event}
 use Rattle.key_names.specs.declared.events.Answer.{Answer}
-use Rattle.key_names.specs.declared.events.Answer.TheVariants.{Ok as Done, Again as AgainAnswer, Invalid as InvalidAnswer, NoData as NoDataAnswer, Interrupted as InterruptedAnswer, Fired, Idle}
+use Rattle.key_names.specs.declared.events.Answer.TheVariants.{Ok as Done, Fired, Idle}
 use Rattle.key_names.specs.declared.errno.Errno.{Errno}
-use Rattle.key_names.specs.declared.errno.Errno.TheVariants.{NoData, Again, Invalid, Interrupted}
 use Rattle.key_names.specs.SeenLine.{Shown}
 use Rattle.key_names.specs.Forms.{Form}
 use Rattle.key_names.specs.Answers.{served_bytes, answer_of, shown_of}
+use Rattle.key_names.specs.VreadSteps.{answer_of_errno}
 use Rattle.lane_table.specs.declared.view.Visit.{Visit}
 use Rattle.lane_table.specs.declared.view.Handed.{Handed}
 use Rattle.lane_table.specs.declared.view.LaneEntry.{LaneEntry}
@@ -64,15 +64,9 @@ pub record IsOutcomeOf (set : CallSetting) (event : Event) (answer : Answer) (sh
   pub answers : answer ≡ answer_of event deeds
   pub shows : shown ≡ shown_of event deeds
 
-abbrev pub errno_answer : Errno → Answer
-errno_answer NoData = NoDataAnswer
-errno_answer Again = AgainAnswer
-errno_answer Invalid = InvalidAnswer
-errno_answer Interrupted = InterruptedAnswer
-
 abbrev pub result_answer : {T : Type 0} → Result T Errno → Answer
 result_answer (Ok x) = Done
-result_answer (Err e) = errno_answer e
+result_answer (Err e) = answer_of_errno e
 
 abbrev pub tick_result : Bool → Answer
 tick_result true = Fired

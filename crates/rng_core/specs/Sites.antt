@@ -134,7 +134,7 @@ pub record IsFill (look width : ℕ) (filled : Bool) (s : Site) : Type 0 where
   pub fresh : (filled ≡ false) ⊎ (look ≡ (own_cpu s).cpu.generation)
 
 -- only this lane is held, and may be given back with the entry
-pub record CanLeave (lane : ℕ) (h : Held) (e : LaneEntry) (s : Site) : Type 0 where
+pub record CanVisit (lane : ℕ) (h : Held) (e : LaneEntry) (s : Site) : Type 0 where
   pub has : HasInHands (hand h.turn (behind_of e) (raise_of e) ∷ []) s
   pub lane_is : h.turn.lane ≡ lane
   pub kind : IsOf lane e
@@ -239,7 +239,7 @@ pub record Visits (h : Held) (e : LaneEntry) (m n : Site) : Type 0 where
       (handed lane e (view m.pass.now))
 
 -- a visit was made, and the hands are empty
-pub record Left (lane : ℕ) (h : Held) (e : LaneEntry) (m n : Site) : Type 0 where
+pub record VisitedIdly (lane : ℕ) (h : Held) (e : LaneEntry) (m n : Site) : Type 0 where
   pub same : Same m n
   pub has : HasInHands [] n
   pub seen : (view n.pass.now).seen ≡ (view m.pass.now).seen
@@ -247,7 +247,7 @@ pub record Left (lane : ℕ) (h : Held) (e : LaneEntry) (m n : Site) : Type 0 wh
   pub visited : Visited m.set (at m) (at n) lane h.turn.place (lane_of m lane) e (handed lane e (view m.pass.now))
 
 -- a visit was made, and it served these bytes
-pub record LeftServing (lane : ℕ) (h : Held) (e : LaneEntry) (bytes : List ℕ) (m n : Site) : Type 0 where
+pub record VisitedServing (lane : ℕ) (h : Held) (e : LaneEntry) (bytes : List ℕ) (m n : Site) : Type 0 where
   pub same : Same m n
   pub has : HasInHands [] n
   pub room : length n.trace.now ≡ length m.trace.now + 1

@@ -21,7 +21,7 @@ impl Site<'_> {
     ghost use Rattle.lane_table.specs.declared.view.LaneEntry.TheVariants.{Pool as OfPool, Base as OfBase, Cpu as OfCpu};
     ghost use Rattle.key_names.specs.PoolNotes.{entry_of};
     ghost use Rattle.lane_table.specs.Advances.{maker};
-    ghost use Rattle.rng_core.specs.Sites.{IsIdle, IsOnCpu, HasRoom, Holds, Took, Entered, EnteredCpu, CanLeave, IsMade, Left, Visits, Looked, LookedIdly, GaveBack, pool_lane, base_lane, own_lane, last_stamp};
+    ghost use Rattle.rng_core.specs.Sites.{IsIdle, IsOnCpu, HasRoom, Holds, Took, Entered, EnteredCpu, CanVisit, IsMade, VisitedIdly, Visits, Looked, LookedIdly, GaveBack, pool_lane, base_lane, own_lane, last_stamp};
 
     // Takes a lane, over those that are held.
     pub(crate) fn take<R: Wait>(&mut self, rt: &R, lane: LaneId) -> Held
@@ -109,38 +109,38 @@ impl Site<'_> {
     }
 
     /// Makes a visit of the only lane that is held, whose entry names no lane ahead.
-    pub(crate) fn leave<E: Entry>(&mut self, held: Held, entry: E)
-        requires ready { CanLeave held.turn.lane held (E.entry entry) self.old }
+    pub(crate) fn visit<E: Entry>(&mut self, held: Held, entry: E)
+        requires ready { CanVisit held.turn.lane held (E.entry entry) self.old }
         requires makes { IsMade held.turn.lane held (E.entry entry) self.old }
-        ensures { Left held.turn.lane held (E.entry entry) self.old self.new }
+        ensures { VisitedIdly held.turn.lane held (E.entry entry) self.old self.new }
     {
         self.put(held, entry);
     }
 
     /// Makes a visit of the pool, which alone is held.
-    pub(crate) fn leave_pool(&mut self, pool: Held, note: PoolNote)
-        requires ready { CanLeave pool_lane pool (OfPool (entry_of note)) self.old }
+    pub(crate) fn visit_pool(&mut self, pool: Held, note: PoolNote)
+        requires ready { CanVisit pool_lane pool (OfPool (entry_of note)) self.old }
         requires makes { IsMade pool_lane pool (OfPool (entry_of note)) self.old }
-        ensures { Left pool_lane pool (OfPool (entry_of note.entry)) self.old self.new }
+        ensures { VisitedIdly pool_lane pool (OfPool (entry_of note.entry)) self.old self.new }
     {
-        self.leave(pool, note);
+        self.visit(pool, note);
     }
 
     /// Makes a visit of the base, which alone is held.
-    pub(crate) fn leave_base(&mut self, base: Held, entry: BaseEntry)
-        requires ready { CanLeave base_lane base (OfBase entry) self.old }
+    pub(crate) fn visit_base(&mut self, base: Held, entry: BaseEntry)
+        requires ready { CanVisit base_lane base (OfBase entry) self.old }
         requires makes { IsMade base_lane base (OfBase entry) self.old }
-        ensures { Left base_lane base (OfBase entry) self.old self.new }
+        ensures { VisitedIdly base_lane base (OfBase entry) self.old self.new }
     {
-        self.leave(base, entry);
+        self.visit(base, entry);
     }
 
     /// Makes a visit of the CPU that the caller runs on, which alone is held.
-    pub(crate) fn leave_cpu(&mut self, cpu: Held, entry: CpuEntry)
-        requires ready { CanLeave (own_lane self.old) cpu (OfCpu entry) self.old }
+    pub(crate) fn visit_cpu(&mut self, cpu: Held, entry: CpuEntry)
+        requires ready { CanVisit (own_lane self.old) cpu (OfCpu entry) self.old }
         requires makes { IsMade (own_lane self.old) cpu (OfCpu entry) self.old }
-        ensures { Left (own_lane self.old) cpu (OfCpu entry) self.old self.new }
+        ensures { VisitedIdly (own_lane self.old) cpu (OfCpu entry) self.old self.new }
     {
-        self.leave(cpu, entry);
+        self.visit(cpu, entry);
     }
 }

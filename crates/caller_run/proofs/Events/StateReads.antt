@@ -30,7 +30,7 @@ use Rattle.rng_core.specs.Acting.{act_stand, InsideRan}
 use Rattle.rng_core.specs.Acts.{Ask, asks_of, outcomes_of}
 use Rattle.rng_core.specs.Makes.{result_answer, given}
 use Rattle.rng_core.specs.Hosted as core
-use Rattle.rng_core.specs.InsideMakes.{IsFresh, bound_acts, InsideMakes}
+use Rattle.rng_core.specs.InsideMakes.{IsWaitingAct, bound_acts, InsideMakes}
 use Rattle.rng_core.specs.Traces.{moment}
 use Rattle.rng_core.specs.VreadMakes.{VreadMakes}
 use Rattle.caller_run.specs.Calling.{stand}
@@ -129,7 +129,7 @@ module _ {t : Lanes} {c d : Caller} {said : Reply} {served : List ℕ} {before :
         refl (steps_fit did.did.made_steps did.did.told.trace did.did.told.fits) tt)
 
     -- with these acts inside, which then were those
-    pub read_inside : (acts after : List Bound) (out out_after : List ℕ) → AllByRecursion IsFresh acts →
+    pub read_inside : (acts after : List Bound) (out out_after : List ℕ) → AllByRecursion IsWaitingAct acts →
         1 < length (view c.pass).lanes →
         asks_of after ≡ asks_of acts →
         InsideMakes n flags st left (result_answer ended) (bytes_or_none (given ended served)) c.set

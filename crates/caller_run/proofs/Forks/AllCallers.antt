@@ -24,7 +24,7 @@ use Rattle.caller_run.specs.Families.{SameShare, RunsIn}
 use Rattle.caller_run.specs.Forest.{Forest, no_more, more, numbers, AreForked, forks}
 use Rattle.caller_run.specs.Grove.{Grove, cleared, planted, Plot, tree, told_in, told_by}
 use Rattle.caller_run.specs.Laws.{Run, LawfulRuns, lines_of_all}
-use Rattle.caller_run.specs.Plans.{IsReady, IsPlanned, HaveSlots, put_in}
+use Rattle.caller_run.specs.Plans.{IsNewRoom, IsPlanned, HaveSlots, put_in}
 use Rattle.caller_run.specs.Standing.{Start}
 use Rattle.caller_run.specs.Ways.{ArePrepared, CanRun, Returned, WholeRan, IsFirst, numbered, root_set, start_of}
 use Rattle.caller_run.proofs.Law.Whole.{lawful_runs}
@@ -62,7 +62,7 @@ whole_share v w same whole =
 
 pub can_caller : (t : Lanes) (script : Script) (set : Setting) (caller : ℕ) (p : Pass) (a : Plot) →
     HoldsLanes t caller [] p → (set.cpu < t.cpus) × (set.now < 2 ^ 40) → WellFormed script → t.cpus ≡ script.cpus →
-    IsReady script.callers caller a → CanRun t script (record set { caller = caller; event = 0 }) p a
+    IsNewRoom script.callers caller a → CanRun t script (record set { caller = caller; event = 0 }) p a
 can_caller t script set caller p a has fits well cpus room = record {
   has = has;
   cpu = fits.0;

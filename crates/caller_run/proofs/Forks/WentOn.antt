@@ -29,7 +29,7 @@ use Rattle.rng_core.specs.declared.setting.Setting.{Setting}
 use Rattle.rng_core.specs.declared.vdso.acts.Bound.{Bound}
 use Rattle.rng_core.specs.Acts.{Ask, asks_of, all_wanted}
 use Rattle.rng_core.specs.Makes.{Makes, setting_of}
-use Rattle.rng_core.specs.InsideMakes.{IsFresh}
+use Rattle.rng_core.specs.InsideMakes.{IsWaitingAct}
 use Rattle.rng_core.specs.Traces.{Moment, moment}
 use Rattle.rng_core.proofs.Makings.{did_floor}
 use Rattle.transcript_text.specs.Gathered.{Gathered}
@@ -207,7 +207,7 @@ module _ (set : Setting) (m n : Moment) (here : RanHere set m n) where
 module _ (before after : Gathered) (line : SeenLine) (lines : after.lines ≡ before.lines ++ line ∷ [])
     (line_room : after.line_room + 1 ≡ before.line_room) (step_room : before.step_room ≤ after.step_room + 20)
     (byte_room : before.byte_room ≤ after.byte_room) where
-  fills_fork : (child : ℕ) (acts : List Bound) → AllByRecursion IsFresh acts →
+  fills_fork : (child : ℕ) (acts : List Bound) → AllByRecursion IsWaitingAct acts →
       AreTold (length before.lines) (asks_of acts) → Fills (Fork child) before after acts acts
   fills_fork child acts fresh told = record {
     lines = ap length lines ∙ length-append before.lines (line ∷ []);
@@ -404,7 +404,7 @@ module _ (t : Lanes) (script : Script) (set : Setting) (p : Pass) (a : Plot) (sh
           omega arith);
       few = subst (λ (l : List Bound). (length l ≤ 8) × FewActs (length l) events) (sym new.acts)
           (omega arith, at_number (FewActs 0) script.callers a.caller events there can.well.acts);
-      fresh = subst (AllByRecursion IsFresh) (sym new.acts) tt;
+      fresh = subst (AllByRecursion IsWaitingAct) (sym new.acts) tt;
       told = subst (λ (l : List Bound). AllByRecursion (λ b. b.event < length x.sheet.log.lines.lines) (asks_of l))
           (sym new.acts) tt;
     };

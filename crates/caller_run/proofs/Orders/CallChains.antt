@@ -7,13 +7,14 @@ use Rattle.caller_run.specs.Items.{call_items, calls_items}
 use Rattle.key_names.specs.IsTranscript.{EachOfCall, EachLine, CallsMean}
 use Rattle.key_names.specs.Meaning.{CallerState, CallMeaning, LineMeaning, Means}
 use Rattle.key_names.specs.SeenLine.{SeenLine}
+use Rattle.key_names.specs.StatesReplayed.{caller_end}
 use Rattle.key_names.specs.Book.{Lists}
 use Rattle.key_names.proofs.Lists.Each.{each_more}
 use Rattle.lane_table.specs.declared.view.View.{View}
 use Rattle.lane_table.specs.BookLists.{book_lists}
 use Rattle.lane_table.proofs.Book.BookEnds.{continues_before}
 use Rattle.caller_run.specs.NumberedSteps.{item_of}
-use Rattle.caller_run.specs.Done.{PointsFit, CallMeant, CallSamples, CallDone, CallDoneBy, state_reached, CallsMeant, CallsDone}
+use Rattle.caller_run.specs.Done.{PointsFit, CallMeant, CallSamples, CallDone, CallDoneBy, CallsMeant, CallsDone}
 use Rattle.rng_core.specs.SampleDeeds.{fast_in}
 use Rattle.caller_run.proofs.Orders.Chains.{ran_nothing, ran_then}
 
@@ -25,7 +26,7 @@ each_line_more P (c ∷ calls) [] call m all here = absurd all
 each_line_more P (c ∷ calls) (n ∷ ms) call m all here = (all.0, each_line_more P calls ms call m all.1 here)
 
 calls_mean_more : (s : CallerState) (calls : List Call) (ms : List CallMeaning) (call : Call) (m : CallMeaning) →
-    CallsMean s calls ms → m.before ≡ state_reached s ms → Means call m →
+    CallsMean s calls ms → m.before ≡ caller_end s ms → Means call m →
     CallsMean s (calls ++ call ∷ []) (ms ++ m ∷ [])
 calls_mean_more s [] [] call m all from here = (from, here, tt)
 calls_mean_more s [] (n ∷ ms) call m all from here = absurd all
@@ -33,7 +34,7 @@ calls_mean_more s (c ∷ calls) [] call m all from here = absurd all
 calls_mean_more s (c ∷ calls) (n ∷ ms) call m all from here =
     (all.0, all.1, calls_mean_more n.after calls ms call m all.2 from here)
 
-reached_more : (s : CallerState) (ms : List CallMeaning) (m : CallMeaning) → state_reached s (ms ++ m ∷ []) ≡ m.after
+reached_more : (s : CallerState) (ms : List CallMeaning) (m : CallMeaning) → caller_end s (ms ++ m ∷ []) ≡ m.after
 reached_more s [] m = refl
 reached_more s (n ∷ ms) m = reached_more n.after ms m
 

@@ -10,7 +10,7 @@ use Rattle.key_names.specs.History.{is_mark}
 use Rattle.caller_run.specs.Items.{Item, line_items, cut_items, cut_rekey, items_at_point, vread_items, call_items}
 use Rattle.key_names.specs.SeenLine.{SeenLine}
 use Rattle.key_names.proofs.Lists.Each.{each_append, each_parts}
-use Rattle.caller_run.specs.Done.{call_lines, PointsFit}
+use Rattle.caller_run.specs.Done.{lines_in_order, PointsFit}
 
 -- the steps of some lines
 abbrev pub lines_items : List SeenLine → List Item
@@ -173,7 +173,7 @@ module _ (P : Item → Type 0) where
       go (suc (suc (suc (suc (suc p))))) from to a b c d rest = absurd (omega arith)
 
   -- what holds of each step of a call holds of each step of its lines
-  pub call_each : (call : Call) → PointsFit call → Each (call_items call) → Each (lines_items (call_lines call))
+  pub call_each : (call : Call) → PointsFit call → Each (call_items call) → Each (lines_items (lines_in_order call))
   call_each (alone event line) fit all = subst Each (sym (append-nil (line_items line))) all
   call_each (vread_call len flags line acts) fit all =
       let items : List Item = line_items line in

@@ -10,7 +10,7 @@ use Rattle.caller_run.specs.Items.{Item, line_items, call_items, calls_items}
 use Rattle.key_names.specs.SeenLine.{SeenLine}
 use Rattle.key_names.specs.IsTranscript.{LinesFit}
 use Rattle.key_names.proofs.Lists.Each.{each_append}
-use Rattle.caller_run.specs.Done.{call_lines, PointsFit}
+use Rattle.caller_run.specs.Done.{lines_in_order, PointsFit}
 use Rattle.caller_run.proofs.Orders.CallLists.{Kept, Keeps, kept}
 use Rattle.caller_run.proofs.Orders.CallSteps.{lines_items, act_line, vread_weight, call_each, in_front, behind}
 
@@ -127,7 +127,7 @@ module _ (Q : SeenLine → Type 0) where
   EachSeen lines = AllByRecursion Q lines
 
   abbrev HoldsOfLines : Kept
-  HoldsOfLines waiting events lines calls = AllByRecursion (λ call. EachSeen (call_lines call)) calls →
+  HoldsOfLines waiting events lines calls = AllByRecursion (λ call. EachSeen (lines_in_order call)) calls →
       EachSeen (map act_line waiting) × EachSeen lines
 
   keeps_lines : (c : ℕ) → Keeps c HoldsOfLines
@@ -151,5 +151,5 @@ module _ (Q : SeenLine → Type 0) where
 
   -- what holds of each line of the calls holds of each line
   pub calls_lines : (c : ℕ) (events : List Event) (lines : List SeenLine) → LinesFit c 0 events lines →
-      AllByRecursion (λ call. EachSeen (call_lines call)) (calls_of events lines) → EachSeen lines
+      AllByRecursion (λ call. EachSeen (lines_in_order call)) (calls_of events lines) → EachSeen lines
   calls_lines c events lines fit all = (kept c HoldsOfLines (keeps_lines c) events lines fit all).1

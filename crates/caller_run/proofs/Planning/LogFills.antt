@@ -13,7 +13,7 @@ use Rattle.key_names.specs.SeenLine.{SeenLine}
 use Rattle.key_names.proofs.Lists.Each.{each_more}
 use Rattle.rng_core.specs.declared.vdso.acts.Bound.{Bound}
 use Rattle.rng_core.specs.Acts.{Ask, wants, all_wanted, ask_of, asks_of}
-use Rattle.rng_core.specs.InsideMakes.{IsFresh}
+use Rattle.rng_core.specs.InsideMakes.{IsWaitingAct}
 use Rattle.caller_run.specs.Kinds.{IsCall}
 use Rattle.caller_run.specs.Says.{most_shown}
 use Rattle.transcript_text.specs.Gathered.{Gathered}
@@ -30,7 +30,7 @@ pub record Fills (event : Event) (before after : Gathered) (acts left : List Bou
       (most_shown event + all_wanted (asks_of acts))
   pub wanted : all_wanted (asks_of left) ≤ read_inside event + all_wanted (asks_of acts)
   pub many : length left ≡ acts_after (length acts) event
-  pub fresh : AllByRecursion IsFresh left
+  pub fresh : AllByRecursion IsWaitingAct left
   pub told : AreTold (length after.lines) (asks_of left)
 
 -- an act shows at most what it reads
@@ -58,7 +58,7 @@ short (ReadAct len) range = range
 short Reseed range = omega arith
 
 -- acts that were not done yet want no more than a vread gives each of them
-pub wanted_few : (bounds : List Bound) → AllByRecursion IsFresh bounds →
+pub wanted_few : (bounds : List Bound) → AllByRecursion IsWaitingAct bounds →
     all_wanted (asks_of bounds) ≤ 1048576 * length bounds
 wanted_few [] all = omega arith
 wanted_few (b ∷ bounds) all = let rest = wanted_few bounds all.1 in let here = all.0.short in omega arith
@@ -71,7 +71,7 @@ module _ (before after : Gathered) (line : SeenLine) (lines : after.lines ≡ be
   -- a call of the core
   pub fills_call : {event : Event} {acts : List Bound} → IsCall event → before.step_room ≤ after.step_room + 20 →
       before.byte_room ≤ after.byte_room + most_shown event →
-      AllByRecursion IsFresh acts → AreTold (length before.lines) (asks_of acts) → Fills event before after acts acts
+      AllByRecursion IsWaitingAct acts → AreTold (length before.lines) (asks_of acts) → Fills event before after acts acts
   fills_call {event = event} {acts = acts} is steps bytes fresh told = record {
     lines = one_line;
     line_room = line_room;
@@ -87,7 +87,7 @@ module _ (before after : Gathered) (line : SeenLine) (lines : after.lines ≡ be
   -- an act that waits
   pub fills_act : (point : Point) (act : InsideAct) (event : ℕ) (acts : List Bound) →
       before.step_room ≤ after.step_room → before.byte_room ≤ after.byte_room → ActInRange act →
-      event ≡ length before.lines → AllByRecursion IsFresh acts → AreTold (length before.lines) (asks_of acts) →
+      event ≡ length before.lines → AllByRecursion IsWaitingAct acts → AreTold (length before.lines) (asks_of acts) →
       Fills (Inside (number_of point) act) before after acts (acts ++ new_bound point act event ∷ [])
   fills_act point act event acts steps bytes range at fresh told =
       let b = new_bound point act event in
@@ -102,7 +102,7 @@ module _ (before after : Gathered) (line : SeenLine) (lines : after.lines ≡ be
         byte_room = omega arith;
         wanted = omega arith;
         many = length-append acts (b ∷ []);
-        fresh = each_more IsFresh acts b fresh (record { short = short act range; idle = refl; empty = refl });
+        fresh = each_more IsWaitingAct acts b fresh (record { short = short act range; idle = refl; empty = refl });
         told = subst (λ (ls : List SeenLine). AreTold (length ls) (asks_of (acts ++ b ∷ []))) (sym lines)
             (subst (AreTold (length (before.lines ++ line ∷ []))) (sym asks)
             (each_more (λ (a : Ask). a.event < length (before.lines ++ line ∷ [])) (asks_of acts) (ask_of b)
@@ -125,6 +125,6 @@ fills_read {after = after} {left = left} lines line_room steps bytes none =
       byte_room = omega arith;
       wanted = omega arith;
       many = ap length none;
-      fresh = subst (AllByRecursion IsFresh) (sym none) tt;
+      fresh = subst (AllByRecursion IsWaitingAct) (sym none) tt;
       told = subst (λ (l : List Bound). AreTold (length after.lines) (asks_of l)) (sym none) tt;
     }

@@ -17,7 +17,7 @@ use Rattle.caller_run.specs.declared.rooms.Room.{Room}
 use Rattle.caller_run.specs.declared.rooms.Sheet.{Sheet}
 use Rattle.caller_run.specs.Forest.{forks}
 use Rattle.caller_run.specs.Grove.{Grove, Plot, plant, grove_of, told_by, told_in}
-use Rattle.caller_run.specs.Plans.{IsReady, lines_in, put_in, HaveSlots}
+use Rattle.caller_run.specs.Plans.{IsNewRoom, lines_in, put_in, HaveSlots}
 use Rattle.caller_run.specs.Plots.{plot, plot_by}
 use Rattle.caller_run.specs.Ways.{IsNewSheet, ArePrepared}
 use Rattle.caller_run.proofs.Planning.Groves.{grove_pushed}
@@ -65,7 +65,7 @@ module _ (callers : List (List Event)) (c : ℕ) {rest : List Event} {g : Grove}
     ready = subst (ArePrepared callers g) (sym (forks_plain e p.done other)) p.ready;
   }
 
-  pub prepared_fork : (child : ℕ) (a : Plot) → rest ≡ front ++ Fork child ∷ [] → IsReady callers child a →
+  pub prepared_fork : (child : ℕ) (a : Plot) → rest ≡ front ++ Fork child ∷ [] → IsNewRoom callers child a →
       PreparedSoFar callers c front (plant a g)
   prepared_fork child a is ready = record {
     done = Fork child ∷ p.done;
@@ -75,7 +75,7 @@ module _ (callers : List (List Event)) (c : ℕ) {rest : List Event} {g : Grove}
 
 pub prepared_push : (callers : List (List Event)) (c : ℕ) {rest front : List Event} (kids more : List Room) (kid : Room)
     (child : ℕ) → PreparedSoFar callers c rest (grove_of (map plot kids)) → rest ≡ front ++ Fork child ∷ [] →
-    IsReady callers child (plot kid) → more ≡ kids ++ kid ∷ [] → PreparedSoFar callers c front (grove_of (map plot more))
+    IsNewRoom callers child (plot kid) → more ≡ kids ++ kid ∷ [] → PreparedSoFar callers c front (grove_of (map plot more))
 prepared_push callers c {front = front} kids more kid child p is ready pushed =
     subst (PreparedSoFar callers c front) (sym (grove_pushed more kids kid pushed))
     (prepared_fork callers c p front child (plot kid) is ready)
@@ -127,9 +127,9 @@ few_here script ok c es there = let few = few_events script.callers c es there i
 
 pub prepared : (callers : List (List Event)) (c : ℕ) (es : List Event) (sheet : Sheet) (kids : List Room) (a : Plot) →
     slice_get callers c ≡ Some es → c < length callers → IsNewSheet sheet es →
-    PreparedSoFar callers c [] (grove_of (map plot kids)) → a ≡ plot_by c sheet (map plot kids) → IsReady callers c a
+    PreparedSoFar callers c [] (grove_of (map plot kids)) → a ≡ plot_by c sheet (map plot kids) → IsNewRoom callers c a
 prepared callers c es sheet kids a there low new p is =
-    subst (IsReady callers c) (sym is) (record {
+    subst (IsNewRoom callers c) (sym is) (record {
       is = refl;
       there = low;
       new = subst (IsNewSheet sheet) (sym (list_number callers c es there)) new;

@@ -1,5 +1,5 @@
 -- What the calls tell follows from what their steps tell.
-use Rattle.std.proofs.Common.{◌≡◌, ◌≢◌, ℕ, ◌+◌, ◌^◌, ◌<◌, ◌≤◌, zero, suc, List, [], ◌∷◌, ◌++◌, length-append, Option, Some, None, length, get_or, set, sym, refl, ap, ◌∙◌, subst, ⊎_elim, arith}
+use Rattle.std.proofs.Common.{◌≡◌, ◌≢◌, ℕ, ◌+◌, ◌^◌, ◌<◌, ◌≤◌, zero, suc, List, [], ◌∷◌, ◌++◌, length-append, Option, Some, None, length, get_or, set, sym, refl, ap, ◌∙◌, subst, ⊎_elim, inr, arith}
 use Rattle.std.proofs.lemmas.List.{get_or-set_other, get_or-set_same, length-set}
 use mathlib.Core.Logic.{dite}
 use native.Mathlib.Decide.{ℕ_discrete}
@@ -149,8 +149,9 @@ module _ {i t : ℕ} {m m₁ m₂ m₃ : Seated} {c : Content} (near : i < lengt
   }
 
   -- it was given back at once
-  pub left_tried : (at i m.0).stage ≡ Away → (m₄ : Seated) → m₄ ≡ left i m₃ → Tried i m m₄
-  left_tried away m₄ e = let w : View = with_at i (staged Away (at i m₃.0)) m₃.0 in let v₄ : m₄.0 ≡ w =
+  pub left_tried : (at i m.0).stage ≡ Away → m₁.0.drawn ≡ m.0.drawn + 1 → 2 ^ 62 ≤ c.stamp → (m₄ : Seated) →
+      m₄ ≡ left i m₃ → Tried i m m₄
+  left_tried away drawn late m₄ e = let w : View = with_at i (staged Away (at i m₃.0)) m₃.0 in let v₄ : m₄.0 ≡ w =
       ap (λ (z : Seated). z.0) e in let mine : at i m₁.0 ≡ r.to = to_here r near in
       let here : at i m₄.0 ≡ staged Away (at i m₃.0) =
       ap (at i) v₄ ∙ at_with i (staged Away (at i m₃.0)) m₃.0 (let f = got_long in omega arith) in
@@ -202,6 +203,10 @@ module _ {i t : ℕ} {m m₁ m₂ m₃ : Seated} {c : Content} (near : i < lengt
         seen = ap (λ (v : View). v.seen) v₄ ∙ got_seen;
         stamp = ap (λ (v : View). v.stamp) v₄ ∙ ap (λ (v : View). v.stamp) got_view ∙ r.stamp;
         stamps = ap (λ (v : View). v.stamps) v₄ ∙ ap (λ (v : View). v.stamps) got_view ∙ r.stamps;
+        drawn = inr (
+          ap (λ (v : View). v.drawn) v₄ ∙ got_drawn drawn,
+          (let s = got_stamp ∙ (λ q. last_stamp (sym v₄ q).first (sym (known i) q)) in omega arith),
+        );
       }
 
 -- a pass whose turn came is still one of the table

@@ -1,5 +1,5 @@
 -- Steps that change how a pass stands at a lane, and what it read there, and nothing else.
-use Rattle.std.proofs.Common.{◌≡◌, ◌≢◌, ℕ, zero, suc, ◌<◌, List, [], ◌∷◌, length, get_or, set, sym, refl, ap, ◌∙◌, subst, arith}
+use Rattle.std.proofs.Common.{◌≡◌, ◌≢◌, ℕ, zero, suc, ◌<◌, List, [], ◌∷◌, length, get_or, set, sym, refl, ap, ◌∙◌, subst, inl, arith}
 use Rattle.std.proofs.lemmas.List.{get_or-set_other, get_or-set_same, length-set}
 use mathlib.Core.Logic.{dite}
 use native.Mathlib.Decide.{ℕ_discrete}
@@ -88,8 +88,8 @@ module _ {i : ℕ} {m m' : Seated} (r : Restages i m m') (near : i < length m.0.
       }
 
   -- it did not get the lane
-  pub to_tried : (at i m'.0).stage ≡ (at i m.0).stage → Tried i m m'
-  to_tried stage = record {
+  pub to_tried : (at i m'.0).stage ≡ (at i m.0).stage → m'.0.drawn ≡ m.0.drawn → Tried i m m'
+  to_tried stage drawn = record {
     consistent = consistent_same m.0 m'.0 to_long to_known;
     same = to_same;
     keeps = λ j u low ne hold. to_there j ne;
@@ -109,6 +109,7 @@ module _ {i : ℕ} {m m' : Seated} (r : Restages i m m') (near : i < length m.0.
     seen = r.seen;
     stamp = r.stamp;
     stamps = r.stamps;
+    drawn = inl drawn;
   }
 
 abbrev pub restages_loaded : (i n : ℕ) (m : Seated) → Restages i m (loaded i n m)

@@ -42,8 +42,11 @@ module _ (i n k : ℕ) (m m₁ m₂ : Seated) (near : i < length m.0.lanes) (at�
   pub found_now : (at i m₂.0).found ≡ k
   found_now = ap (λ (a : LaneView). a.found) here₂
 
+  still_drawn : m₂.0.drawn ≡ m.0.drawn
+  still_drawn = ap (λ (z : Seated). z.0.drawn) at₂ ∙ ap (λ (z : Seated). z.0.drawn) at₁
+
   pub tried : Tried i m m₂
-  tried = to_tried two near away_still
+  tried = to_tried two near away_still still_drawn
 
   -- the exchange found q
   module _ (q : ℕ) (m₃ : Seated) where
@@ -52,13 +55,12 @@ module _ (i n k : ℕ) (m m₁ m₂ : Seated) (near : i < length m.0.lanes) (at�
       missed = ap (λ (z : Seated). at i z.0) at₃ ∙ to_here (restages_found i q m₂) near₂
           ∙ ap (λ (a : LaneView). record a { found = q }) here₂
 
+      not_drawn : m₃.0.drawn ≡ m.0.drawn
+      not_drawn = ap (λ (z : Seated). z.0.drawn) at₃ ∙ still_drawn
+
       pub missed_tried : Tried i m m₃
       missed_tried = to_tried (restages_both near two (restages_to (restages_found i q m₂) at₃)) near
-          (ap (λ (a : LaneView). a.stage) missed)
-
-      not_drawn : m₃.0.drawn ≡ m.0.drawn
-      not_drawn = ap (λ (z : Seated). z.0.drawn) at₃ ∙ ap (λ (z : Seated). z.0.drawn) at₂
-          ∙ ap (λ (z : Seated). z.0.drawn) at₁
+          (ap (λ (a : LaneView). a.stage) missed) not_drawn
 
       pub missed_spent : 2 ^ 62 ≤ q → IsSpent i m m₃
       missed_spent high = inr (inl (let e = ap (λ (a : LaneView). a.found) missed in omega arith))
@@ -81,8 +83,7 @@ module _ (i n k : ℕ) (m m₁ m₂ : Seated) (near : i < length m.0.lanes) (at�
       three = restages_both near two (restages_to (restages_queued_found i q m₂) at₃)
 
       pub three_drawn : m₃.0.drawn ≡ m.0.drawn + 1
-      three_drawn = ap (λ (z : Seated). z.0.drawn) at₃ ∙ ap (λ (z : Seated). z.0.drawn + 1) at₂
-          ∙ ap (λ (z : Seated). z.0.drawn + 1) at₁
+      three_drawn = ap (λ (z : Seated). z.0.drawn) at₃ ∙ ap (λ (n : ℕ). n + 1) still_drawn
 
       pub three_here : at i m₃.0 ≡ record (at i m.0) { loaded = n; found = q; stage = Queued q }
       three_here = ap (λ (z : Seated). at i z.0) at₃ ∙ to_here (restages_queued_found i q m₂) near₂

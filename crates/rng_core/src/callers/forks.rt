@@ -15,7 +15,7 @@ fn tell<R: Wait>(rt: &R, site: &mut Site, child: u32)
 {
     let mut base = site.enter(rt, LaneId::Base);
     lane_values::up(base.state_mut());
-    site.leave_base(base, BaseEntry::Fork { child });
+    site.visit_base(base, BaseEntry::Fork { child });
 }
 
 /// The caller forks the caller `child`, which runs from now on. The answer is the child's pass, which knows what this

@@ -17,7 +17,7 @@ pub fn stall<R: Wait>(rt: &R, site: &mut Site)
 {
     let mut base = site.enter(rt, LaneId::Base);
     lane_values::down(base.state_mut());
-    site.leave_base(base, BaseEntry::Stall);
+    site.visit_base(base, BaseEntry::Stall);
 }
 
 /// The caller goes on.
@@ -28,7 +28,7 @@ pub fn unstall<R: Wait>(rt: &R, site: &mut Site)
 {
     let mut base = site.enter(rt, LaneId::Base);
     lane_values::up(base.state_mut());
-    site.leave_base(base, BaseEntry::Unstall);
+    site.visit_base(base, BaseEntry::Unstall);
 }
 
 /// The caller ends. All that its pass has seen of the generation is then in the base's list.
@@ -39,5 +39,5 @@ pub fn end<R: Wait>(rt: &R, site: &mut Site)
 {
     let mut base = site.enter(rt, LaneId::Base);
     lane_values::down(base.state_mut());
-    site.leave_base(base, BaseEntry::End);
+    site.visit_base(base, BaseEntry::End);
 }

@@ -18,7 +18,7 @@ pub fn prepare<R: Wait>(rt: &R, site: &mut Site, cpu: u32)
 {
     let mut held = site.enter(rt, LaneId::Cpu(cpu));
     cpu_values::prepare(held.state_mut());
-    site.leave(held, CpuEntry::Prepare);
+    site.visit(held, CpuEntry::Prepare);
 }
 
 /// A CPU came online (`random_online_cpu`).
@@ -29,5 +29,5 @@ pub fn online<R: Wait>(rt: &R, site: &mut Site, cpu: u32)
 {
     let mut held = site.enter(rt, LaneId::Cpu(cpu));
     cpu_values::online(held.state_mut());
-    site.leave(held, CpuEntry::Online);
+    site.visit(held, CpuEntry::Online);
 }

@@ -7,7 +7,7 @@ ghost use Rattle.key_names.specs.Batches.{must_fill};
 ghost use Rattle.lane_table.specs.declared.view.LaneEntry.TheVariants.{Cpu as OfCpu};
 ghost use Rattle.rng_core.specs.Makes.{Serving, setting_of};
 ghost use Rattle.rng_core.specs.Integers.{IsWidth, BatchedForm, int_event};
-ghost use Rattle.rng_core.specs.Sites.{IsIdle, IsOnCpu, HasRoom, Holds, HoldsWith, IsFill, IsRefill, LeftServing, Does, Completes, own_lane, own_cpu, seen_by};
+ghost use Rattle.rng_core.specs.Sites.{IsIdle, IsOnCpu, HasRoom, Holds, HoldsWith, IsFill, IsRefill, VisitedServing, Does, Completes, own_lane, own_cpu, seen_by};
 
 use crate::cpu_values;
 use crate::crng::keys::KeyHandoff;
@@ -23,7 +23,7 @@ fn serve(site: &mut Site, mut cpu: Held, look: u64, filled: bool, out: &mut [u8]
     requires fill { IsFill look (length out.old) filled site.old }
     requires width { IsWidth (length out.old) }
     requires room { HasRoom 1 site.old }
-    ensures { LeftServing (own_lane site.old) cpu (OfCpu (Int look None (length out.old) filled)) out.new site.old
+    ensures { VisitedServing (own_lane site.old) cpu (OfCpu (Int look None (length out.old) filled)) out.new site.old
         site.new }
 {
     let width = out.len() as u8;
@@ -34,7 +34,7 @@ fn serve(site: &mut Site, mut cpu: Held, look: u64, filled: bool, out: &mut [u8]
         width,
         filled,
     };
-    site.leave_cpu(cpu, entry);
+    site.visit_cpu(cpu, entry);
 }
 
 // An integer out of a batch that a CPU fills which was refilled from the base.
@@ -44,7 +44,7 @@ fn serve_refilled(site: &mut Site, mut cpu: Held, look: u64, base: &KeyHandoff, 
     requires fills { must_fill look (length out.old) ((own_cpu site.old).fills (length out.old)) ≡ true }
     requires width { IsWidth (length out.old) }
     requires room { HasRoom 1 site.old }
-    ensures { LeftServing (own_lane site.old) cpu (OfCpu (Int look (Some base.now.place) (length out.old) true)) out.new
+    ensures { VisitedServing (own_lane site.old) cpu (OfCpu (Int look (Some base.now.place) (length out.old) true)) out.new
         site.old site.new }
 {
     let width = out.len() as u8;
@@ -55,7 +55,7 @@ fn serve_refilled(site: &mut Site, mut cpu: Held, look: u64, base: &KeyHandoff, 
         width,
         filled: true,
     };
-    site.leave_cpu(cpu, entry);
+    site.visit_cpu(cpu, entry);
 }
 
 // An integer out of a CPU's batch (`DEFINE_BATCHED_ENTROPY` once the core is ready).

@@ -10,7 +10,7 @@ ghost use Rattle.key_names.specs.Forms.{DrawForm, CpuReadForm, ReadForm};
 ghost use Rattle.lane_table.specs.declared.view.LaneEntry.TheVariants.{Cpu as OfCpu};
 ghost use Rattle.rng_core.specs.Makes.{Serving, setting_of};
 ghost use Rattle.rng_core.specs.Rests.{Asks, finished, IsBegun};
-ghost use Rattle.rng_core.specs.Sites.{IsIdle, IsOnCpu, HasRoom, Holds, HoldsWith, IsFresh, IsRefill, LeftServing, Does, Completes, lane_of, base_lane, own_lane, seen_by, most_bytes};
+ghost use Rattle.rng_core.specs.Sites.{IsIdle, IsOnCpu, HasRoom, Holds, HoldsWith, IsFresh, IsRefill, VisitedServing, Does, Completes, lane_of, base_lane, own_lane, seen_by, most_bytes};
 
 use crate::crng::keys::KeyHandoff;
 use crate::crng::rest::{self, Rest};
@@ -44,7 +44,7 @@ fn draw_rooted<R: Wait>(
         root: Some(root.place),
         taken,
     };
-    site.leave_base(base, entry);
+    site.visit_base(base, entry);
     rest
 }
 
@@ -59,7 +59,7 @@ fn draw_early(site: &mut Site, mut base: Held, buf: &mut [u8], taken: Taken) -> 
         site.new }
 {
     let rest = rest::draw(base.state_mut(), buf, taken);
-    site.leave_base(base, BaseEntry::Draw { root: None, taken });
+    site.visit_base(base, BaseEntry::Draw { root: None, taken });
     rest
 }
 
@@ -87,7 +87,7 @@ fn read_fresh(site: &mut Site, mut cpu: Held, look: u64, buf: &mut [u8], taken: 
     requires asks { Asks taken buf.old }
     requires room { HasRoom 1 site.old }
     ensures begun { IsBegun result buf.new }
-    ensures left { LeftServing (own_lane site.old) cpu (OfCpu (Read look None taken)) (finished result buf.new)
+    ensures left { VisitedServing (own_lane site.old) cpu (OfCpu (Read look None taken)) (finished result buf.new)
         site.old site.new }
 {
     let rest = rest::read(cpu.state_mut(), buf, taken);
@@ -96,7 +96,7 @@ fn read_fresh(site: &mut Site, mut cpu: Held, look: u64, buf: &mut [u8], taken: 
         refill: None,
         taken,
     };
-    site.leave_cpu(cpu, entry);
+    site.visit_cpu(cpu, entry);
     rest
 }
 
@@ -114,7 +114,7 @@ fn read_refilled(
     requires asks { Asks taken buf.old }
     requires room { HasRoom 1 site.old }
     ensures begun { IsBegun result buf.new }
-    ensures left { LeftServing (own_lane site.old) cpu (OfCpu (Read look (Some base.now.place) taken))
+    ensures left { VisitedServing (own_lane site.old) cpu (OfCpu (Read look (Some base.now.place) taken))
         (finished result buf.new) site.old site.new }
 {
     let rest = rest::read_refilled(cpu.state_mut(), base.key, base.generation, buf, taken);
@@ -123,7 +123,7 @@ fn read_refilled(
         refill: Some(base.place),
         taken,
     };
-    site.leave_cpu(cpu, entry);
+    site.visit_cpu(cpu, entry);
     rest
 }
 

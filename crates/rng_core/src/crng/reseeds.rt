@@ -8,6 +8,7 @@ ghost use Rattle.key_names.specs.BaseList.{IsDue, empty};
 ghost use Rattle.key_names.specs.PoolList.{early};
 ghost use Rattle.lane_table.specs.Calls.{view};
 ghost use Rattle.input_pool.specs.PoolStands.{crossing_of};
+ghost use Rattle.rng_core.specs.Causes.{ReseedCause};
 ghost use Rattle.rng_core.specs.Makes.{setting_of, result_answer, tick_result};
 ghost use Rattle.rng_core.specs.Sites.{IsIdle, IsTimely, HasRoom, Holds, IsLow, Does, Completes, lane_of, base_lane};
 
@@ -33,18 +34,19 @@ pub(crate) fn reseed_base<R: Wait>(rt: &R, site: &mut Site)
         root: root.place,
         now,
     };
-    site.leave_base(base, entry);
+    site.visit_base(base, entry);
 }
 
 /// Reseeds the core by hand (`random_ioctl` of `RNDRESEEDCRNG`).
 ///
 /// # Errors
 ///
-/// `NoData` where the look found that the core was not ready.
+/// `NoData` where the look finds that the core is not ready, and only then.
 pub fn reseed<R: Wait>(rt: &R, site: &mut Site) -> Result<(), Errno>
     requires idle { IsIdle 3 site.old }
     requires moment { IsTimely site.old }
-    ensures { Completes 3 ReseedEvent (result_answer result) no_data site.old site.new }
+    ensures does { Completes 3 ReseedEvent (result_answer result) no_data site.old site.new }
+    ensures cause { ReseedCause result site.old site.new }
 {
     if site.look() == 0 {
         return Err(Errno::NoData);
@@ -69,7 +71,7 @@ fn fire<R: Wait>(rt: &R, site: &mut Site, mut base: Held)
         now,
         root: Some(root.place),
     };
-    site.leave_base(base, entry);
+    site.visit_base(base, entry);
 }
 
 /// The reseed timer's moment passes (the delayed work of `crng_reseed`). The answer is whether it was due, so that the
@@ -85,7 +87,7 @@ pub fn tick<R: Wait>(rt: &R, site: &mut Site) -> bool
         fire(rt, site, base);
         return true;
     }
-    site.leave_base(base, BaseEntry::Tick { now, root: None });
+    site.visit_base(base, BaseEntry::Tick { now, root: None });
     false
 }
 
@@ -101,7 +103,7 @@ fn seed_early<R: Wait>(rt: &R, site: &mut Site, mut base: Held)
     let entry = BaseEntry::Early {
         root: Some(root.place),
     };
-    site.leave_base(base, entry);
+    site.visit_base(base, entry);
 }
 
 // Half of what readiness asks was gathered.
@@ -114,7 +116,7 @@ fn cross_early<R: Wait>(rt: &R, site: &mut Site)
         seed_early(rt, site, base);
         return;
     }
-    site.leave_base(base, BaseEntry::Early { root: None });
+    site.visit_base(base, BaseEntry::Early { root: None });
 }
 
 /// What follows a credit (`_credit_init_bits`).

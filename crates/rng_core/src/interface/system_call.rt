@@ -1,10 +1,11 @@
 //! The system call getrandom(2), and the waiting for readiness.
-ghost use Rattle.std.specs.Prelude.{◌≡◌, ◌≤◌, ◌+◌, ◌==◌, ◌&&◌, not, false, if◌then◌else◌, length, []};
+ghost use Rattle.std.specs.Prelude.{◌≡◌, ◌≤◌, ◌+◌, ◌==◌, ◌&&◌, ◌⊎◌, not, true, false, if◌then◌else◌, IsOk, length, []};
 ghost use Rattle.key_names.specs.declared.entries.BaseEntry.TheVariants.{Wait as WaitEntry, Resume, Interrupt};
 ghost use Rattle.key_names.specs.declared.events.Event.TheVariants.{Read, Dread};
 ghost use Rattle.key_names.specs.Flags.{is_bad, is_nonblock, is_insecure};
 ghost use Rattle.key_names.specs.Forms.{BaseOnly};
 ghost use Rattle.key_names.specs.SeenLine.{bytes_or_none};
+ghost use Rattle.rng_core.specs.Causes.{ReadCause};
 ghost use Rattle.rng_core.specs.Makes.{Serving, result_answer, given};
 ghost use Rattle.rng_core.specs.Sites.{IsIdle, IsOnCpu, HasRoom, Holds, Does, Completes, IsOneStep, lane_of, base_lane, seen_by, most_bytes};
 ghost use Rattle.rng_core.specs.SiteWaits.{Waited, BeginsAndWaits, waiting_at};
@@ -25,7 +26,7 @@ fn wait<R: Wait>(rt: &R, site: &mut Site)
 {
     let mut base = site.enter(rt, LaneId::Base);
     lane_values::down(base.state_mut());
-    site.leave_base(base, BaseEntry::Wait);
+    site.visit_base(base, BaseEntry::Wait);
 }
 
 // The caller runs again, since the core is ready.
@@ -37,7 +38,7 @@ fn resume(site: &mut Site, mut base: Held)
     ensures ready { 1 ≤ seen_by site.new }
 {
     lane_values::up(base.state_mut());
-    site.leave_base(base, BaseEntry::Resume);
+    site.visit_base(base, BaseEntry::Resume);
 }
 
 // The caller runs again, since nobody runs who could make the core ready.
@@ -49,7 +50,7 @@ fn interrupt(site: &mut Site, mut base: Held)
     ensures { Does 1 (Serving (BaseOnly Interrupt) []) site.old site.new }
 {
     lane_values::up(base.state_mut());
-    site.leave_base(base, BaseEntry::Interrupt);
+    site.visit_base(base, BaseEntry::Interrupt);
 }
 
 // Takes the base again and again, until the core is ready or nobody runs (`wait_for_random_bytes`).
@@ -100,6 +101,8 @@ pub fn getrandom<R: Wait>(rt: &R, site: &mut Site, buf: &mut [u8], flags: u32) -
     ensures does { Completes (4 + waiting_at site.old) (Read (length buf.old) flags) (result_answer result)
         (bytes_or_none (given result buf.new)) site.old site.new }
     ensures begins { BeginsAndWaits flags site.old site.new }
+    ensures cause { ReadCause result flags site.old site.new }
+    ensures served { is_bad flags ≡ false → (is_insecure flags ≡ true) ⊎ (1 ≤ seen_by site.old) → IsOk result }
 {
     if are_bad(flags) {
         return Err(Errno::Invalid);
@@ -151,8 +154,10 @@ pub fn random_file<R: Wait>(
     requires idle { IsIdle 6 site.old }
     requires cpu { IsOnCpu site.old }
     requires short { length buf.old ≤ most_bytes }
-    ensures { Completes 6 (Dread (length buf.old) (if nonblock then 1 else 0)) (result_answer result)
+    ensures does { Completes 6 (Dread (length buf.old) (if nonblock then 1 else 0)) (result_answer result)
         (bytes_or_none (given result buf.new)) site.old site.new }
+    ensures cause { ReadCause result (if nonblock then 1 else 0) site.old site.new }
+    ensures served { 1 ≤ seen_by site.old → IsOk result }
 {
     let flags = file_flags(nonblock);
     getrandom(rt, site, buf, flags)

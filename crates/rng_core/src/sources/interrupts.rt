@@ -33,7 +33,7 @@ fn dump<R: Wait>(rt: &R, site: &mut Site)
     let mut cpu = enter_own(rt, site);
     let now = site.set.now;
     let dump = cpu_values::dump(cpu.state_mut(), now);
-    site.leave_cpu(cpu, CpuEntry::Dump { now });
+    site.visit_cpu(cpu, CpuEntry::Dump { now });
     add(rt, site, &dump.bytes, dump.bits);
 }
 
@@ -48,7 +48,7 @@ pub fn irq<R: Wait>(rt: &R, site: &mut Site, v1: u64, v2: u64)
     let mut cpu = enter_own(rt, site);
     let now = site.set.now;
     let due = cpu_values::sample(cpu.state_mut(), v1, v2, now);
-    site.leave_cpu(cpu, CpuEntry::Irq { v1, v2, now });
+    site.visit_cpu(cpu, CpuEntry::Irq { v1, v2, now });
     if !due {
         return;
     }

@@ -18,7 +18,7 @@ pub fn mix<R: Wait>(rt: &R, site: &mut Site, text: &[u8])
 {
     let mut pool = site.enter(rt, LaneId::Pool);
     lane_values::mix(pool.state_mut(), text);
-    site.leave_pool(pool, PoolNote::Mix { text, bits: 0 });
+    site.visit_pool(pool, PoolNote::Mix { text, bits: 0 });
 }
 
 /// Mixes a device's word and bytes into the pool, without credit (`add_device_randomness`).
@@ -29,7 +29,7 @@ pub fn device<R: Wait>(rt: &R, site: &mut Site, word: u64, text: &[u8])
 {
     let mut pool = site.enter(rt, LaneId::Pool);
     lane_values::mix_device(pool.state_mut(), word, text);
-    site.leave_pool(pool, PoolNote::Device { word, text });
+    site.visit_pool(pool, PoolNote::Device { word, text });
 }
 
 /// Mixes bytes into the pool, and credits bits for them (`RNDADDENTROPY`, and with no bytes `RNDADDTOENTCNT`).
@@ -40,7 +40,7 @@ pub fn add<R: Wait>(rt: &R, site: &mut Site, text: &[u8], bits: u32)
 {
     let mut pool = site.enter(rt, LaneId::Pool);
     let crossing = lane_values::mix_and_credit(pool.state_mut(), text, bits);
-    site.leave_pool(pool, PoolNote::Mix { text, bits });
+    site.visit_pool(pool, PoolNote::Mix { text, bits });
     cross(rt, site, crossing);
 }
 
@@ -61,7 +61,7 @@ pub fn input<R: Wait>(rt: &R, site: &mut Site, word: u64, kind: u16, code: u16, 
         value,
         now,
     };
-    site.leave_pool(pool, note);
+    site.visit_pool(pool, note);
     cross(rt, site, crossing);
 }
 
@@ -72,7 +72,7 @@ pub fn bits<R: Wait>(rt: &R, site: &mut Site) -> u32
 {
     let pool = site.enter(rt, LaneId::Pool);
     let bits = lane_values::bits(pool.state());
-    site.leave_pool(pool, PoolNote::Bits);
+    site.visit_pool(pool, PoolNote::Bits);
     bits
 }
 

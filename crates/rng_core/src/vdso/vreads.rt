@@ -1,6 +1,7 @@
 //! Reads out of a caller's vgetrandom state.
 ghost use Rattle.std.specs.Prelude.{◌≡◌, ◌<◌, ◌≤◌, length};
 ghost use Rattle.key_names.specs.SeenLine.{bytes_or_none};
+ghost use Rattle.vdso_state.specs.declared.outcome.Local.TheVariants.{NeedsSystem};
 ghost use Rattle.rng_core.specs.Hosting.{IsNewHost, HostCalled, ReadsState, ReadsInside};
 ghost use Rattle.rng_core.specs.Makes.{result_answer, given};
 ghost use Rattle.rng_core.specs.Sites.{IsIdle, most_bytes};
@@ -15,14 +16,15 @@ use std::sync::Wait;
 use vdso_state::{Local, VEnd, VState, local, vgetrandom};
 
 /// Copies bytes of the batch over all of `buf` where the state's key is of the published generation and the batch has
-/// as many left. It waits for nobody. A look whose value is not used is no step: the trace then stays as it was.
+/// as many left, and else leaves `buf` as it was. It waits for nobody. A look whose value is not used is no step: the trace then stays as it was.
 ///
 /// The state's generation has to be one that the pass has seen published, as it is where only these calls and wipes
 /// changed the state.
 pub fn vread_local(site: &mut Site, st: &mut VState, buf: &mut [u8], flags: u32) -> Local
     requires idle { IsIdle 1 site.old }
     requires current { IsCurrent st.old site.old }
-    ensures { ReadsLocally result (length buf.old) flags st.old st.new buf.new site.old site.new }
+    ensures reads { ReadsLocally result (length buf.old) flags st.old st.new buf.new site.old site.new }
+    ensures kept { result ≡ NeedsSystem → buf.new ≡ buf.old }
 {
     if buf.is_empty() || are_bad(flags) {
         return Local::NeedsSystem;

@@ -39,4 +39,4 @@ returns-in-Dread g c =
     by_shown (c.in-Dread.is ∙ ap (λ n. Dread n c.in-Dread.flag) (sym (c.requires.len ∙ ap most_shown c.in-Dread.is))
     ∙ ap (Dread (length c.args.served.now)) (sym (flag_of c.in-Dread.flag range.1))) _ c.read-in-Dread.ensures.answer
     (c.read-in-Dread.ensures.shows c.random_file.new.buf) (no_count _ _ (λ same. cc) c.read-in-Dread.ensures.bytes) tt
-    c.random_file.ensures
+    c.random_file.ensures.does

@@ -4,7 +4,7 @@ use Rattle.caller_run.proofs.Events.Callings.{by_answer}
 use Rattle.caller_run.proofs.calls.reseed_by.Goals as goal
 
 pub returns-in-Reseed : goal.returns-in-Reseed
-returns-in-Reseed g c served = by_answer c.in-Reseed.is c.tried.ensures tt c.reseed.ensures
+returns-in-Reseed g c served = by_answer c.in-Reseed.is c.tried.ensures tt c.reseed.ensures.does
 
 pub returns-in-Tick : goal.returns-in-Tick
 returns-in-Tick g c served = by_answer c.in-Tick.is c.ticked.ensures tt c.tick.ensures

@@ -11,22 +11,22 @@ pub store-requires : goal.store-requires
 store-requires g c = (
   search rules,
   omega arith,
-  puts _ _ _ c.args.lane c.args.ticket c.args.pass.now.seat.me _ c.args.content c.lay.ensures.seat
+  rw c.serving_word.ensures (puts _ _ _ c.args.lane c.args.ticket c.args.pass.now.seat.me _ c.args.content c.lay.ensures.seat
       (let p = c.requires.pass in omega arith) (let p = c.requires.pass in omega arith) c.requires.lane.1 _ _
       c.requires.visit c.requires.above c.requires.later c.requires.kind c.requires.fits c.requires.names
-      c.requires.replays,
+      c.requires.replays),
 )
 
 pub returns-clause-seat : goal.returns-clause-seat
 returns-clause-seat g c = let i : ℕ = c.args.lane in
-    (c.store.ensures.2 i refl).0 ∙ (λ k. (
+    (c.store.ensures.2 i c.serving_word.ensures).0 ∙ (λ k. (
       after i (filled i (c.requires.visit k) (c.lay.ensures.seat k).0)
           (c.lay.ensures.seat k).0,
       rest (c.lay.ensures.seat k).1,
     ))
 
 pub returns-clause-consistent : goal.returns-clause-consistent
-returns-clause-consistent g c = (c.store.ensures.2 c.args.lane refl).1
+returns-clause-consistent g c = (c.store.ensures.2 c.args.lane c.serving_word.ensures).1
 
 pub returns-clause-pass : goal.returns-clause-pass
 returns-clause-pass g c = let i : ℕ = c.args.lane in let v : View = c.args.pass.now.seat.me.0 in
@@ -36,7 +36,7 @@ returns-clause-pass g c = let i : ℕ = c.args.lane in let v : View = c.args.pas
       stamp = c.args.content.stamp;
       caller = c.lay.new.pass.caller;
     } c.requires.pass
-    (ap (λ (m : Seated). m.0) ((c.store.ensures.2 i refl).0
+    (ap (λ (m : Seated). m.0) ((c.store.ensures.2 i c.serving_word.ensures).0
     ∙ (λ k. (
       after i (filled i (c.requires.visit k) (c.lay.ensures.seat k).0) (c.lay.ensures.seat k).0,
       rest (c.lay.ensures.seat k).1,

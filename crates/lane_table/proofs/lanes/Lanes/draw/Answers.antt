@@ -6,5 +6,5 @@ pub compare_exchange-requires : goal.compare_exchange-requires
 compare_exchange-requires g c = (
   search rules,
   omega arith,
-  draws _ _ _ c.args.lane _ (search rules) (search rules) _ (search rules),
+  rw c.ticket_word-word.ensures (draws _ _ _ c.args.lane _ (search rules) (search rules) _ (search rules)),
 )

@@ -6,5 +6,5 @@ pub compare_exchange-requires : goal.compare_exchange-requires
 compare_exchange-requires c = (
   search rules,
   omega arith,
-  tries _ _ _ c.args.lane _ (search rules) (search rules) _ (search rules),
+  rw c.ticket_word.ensures (tries _ _ _ c.args.lane _ (search rules) (search rules) _ (search rules)),
 )

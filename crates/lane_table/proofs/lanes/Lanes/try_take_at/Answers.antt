@@ -34,10 +34,11 @@ returns-then-ticket-serving-clause-tried c = let i : ℕ = c.args.lane in let m 
 pub returns-then-content-ge-LAST-clause-tried : goal.returns-then-content-ge-LAST-clause-tried
 returns-then-content-ge-LAST-clause-tried c = let i : ℕ = c.args.lane in let m : Seated = c.args.pass.now.seat.me in
     let p = c.requires.pass in let l = c.requires.lane in let near : i < length m.0.lanes = omega arith in
-    let r = three i _ _ m _ _ near c.load_serving-serving.ensures.seat c.find_ticket.ensures.seat _ _
-    (c.try_draw-ticket.ensures.drawn c.if-ticket-serving.false) in
+    let drawn = c.try_draw-ticket.ensures.drawn c.if-ticket-serving.false in
+    let r = three i _ _ m _ _ near c.load_serving-serving.ensures.seat c.find_ticket.ensures.seat _ _ drawn in
     left_tried near r c.turn.ensures.got c.lift-content.ensures.value c.lift-content.ensures.seat l.1
-    c.leave.new.pass.seat.me c.leave.ensures.seat
+    (three_drawn i _ _ m _ _ near c.load_serving-serving.ensures.seat c.find_ticket.ensures.seat _ _ drawn)
+    c.if-content-ge-LAST.true c.leave.new.pass.seat.me c.leave.ensures.seat
 
 pub held-requires-clause-early : goal.held-requires-clause-early
 held-requires-clause-early c = let i : ℕ = c.args.lane in let m : Seated = c.args.pass.now.seat.me in let p =

@@ -8,11 +8,11 @@ pub load-serving-requires : goal.load-serving-requires
 load-serving-requires c = (
   search rules,
   omega arith,
-  serves _ _ _ c.args.lane c.args.ticket _ (search rules) (search rules) (search rules),
+  rw c.serving_word.ensures (serves _ _ _ c.args.lane c.args.ticket _ (search rules) (search rules) (search rules)),
 )
 
 got : (c : goal.After-load-serving) → Got c.args.lane c.args.ticket c.args.pass.now.seat.me c.load-serving.new.seat.me
-got c = let t = c.load-serving.ensures.2 c.args.lane refl c.args.ticket c.requires.lane.1 in let a = t.0 in let b =
+got c = let t = c.load-serving.ensures.2 c.args.lane c.serving_word.ensures c.args.ticket c.requires.lane.1 in let a = t.0 in let b =
     t.1 in let d = c.requires.served in let r = c.load-serving.result in let e : r ≡ c.args.ticket = omega arith in
     t.2 e
 

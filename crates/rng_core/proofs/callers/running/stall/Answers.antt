@@ -4,7 +4,7 @@ use Rattle.rng_core.proofs.SiteLemmas.{does_base}
 use Rattle.rng_core.proofs.callers.running.stall.Goals as goal
 
 pub returns-clause-does : goal.returns-clause-does
-returns-clause-does g c = does_base _ _ _ _ _ _ c.enter-base.ensures c.leave_base.ensures
+returns-clause-does g c = does_base _ _ _ _ _ _ c.enter-base.ensures c.visit_base.ensures
 
 pub returns-clause-step : goal.returns-clause-step
-returns-clause-step g c = c.leave_base.ensures.room ∙ ap (λ (t : List Step). length t + 1) c.enter-base.ensures.trace
+returns-clause-step g c = c.visit_base.ensures.room ∙ ap (λ (t : List Step). length t + 1) c.enter-base.ensures.trace

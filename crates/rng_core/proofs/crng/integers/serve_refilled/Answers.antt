@@ -8,8 +8,8 @@ use Rattle.rng_core.specs.Sites.{lane_of, own_lane}
 use Rattle.rng_core.proofs.Parents.{parent_cpu}
 use Rattle.rng_core.proofs.crng.integers.serve_refilled.Goals as goal
 
-pub leave_cpu-requires-clause-makes : goal.leave_cpu-requires-clause-makes
-leave_cpu-requires-clause-makes c = let p : ℕ = c.args.base.now.place in let s = c.args.site.now in
+pub visit_cpu-requires-clause-makes : goal.visit_cpu-requires-clause-makes
+visit_cpu-requires-clause-makes c = let p : ℕ = c.args.base.now.place in let s = c.args.site.now in
     let e : got_of (Some p) (known_of (view s.pass.now) (parent (own_lane s))) ≡ _ =
     ap (λ (l : ℕ). got_of (Some p) (known_of (view s.pass.now) l)) (parent_cpu s.set.cpu) ∙ c.requires.refill.handed in
     c.serve_refilled.ensures.made (own_lane s) (lane_of s (own_lane s))
@@ -22,13 +22,13 @@ returns c = let p : ℕ = c.args.base.now.place in let s = c.args.site.now in
     let e : got_of (Some p) (known_of (view s.pass.now) (parent (own_lane s))) ≡ _ =
     ap (λ (l : ℕ). got_of (Some p) (known_of (view s.pass.now) l)) (parent_cpu s.set.cpu) ∙ c.requires.refill.handed in
     record {
-      same = c.leave_cpu.ensures.same;
-      has = c.leave_cpu.ensures.has;
-      room = c.leave_cpu.ensures.room;
+      same = c.visit_cpu.ensures.same;
+      has = c.visit_cpu.ensures.has;
+      room = c.visit_cpu.ensures.room;
       served = record {
         model = lane_of s (own_lane s);
         got = got_of (Some p) (known_of (view s.pass.now) (parent (own_lane s)));
-        visited = c.leave_cpu.ensures.visited;
+        visited = c.visit_cpu.ensures.visited;
         serves = c.serve_refilled.ensures.bytes (own_lane s) (lane_of s (own_lane s))
             (got_of (Some p) (known_of (view s.pass.now) (parent (own_lane s)))) p (omega arith)
             (ap (λ (h : Handed). h.key) e) (ap (λ (h : Handed). h.generation) e) c.requires.fills

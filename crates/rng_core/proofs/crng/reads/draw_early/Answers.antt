@@ -5,11 +5,11 @@ use Rattle.rng_core.proofs.SiteLemmas.{does_map}
 use Rattle.rng_core.proofs.SiteReads.{serves_base}
 use Rattle.rng_core.proofs.crng.reads.draw_early.Goals as goal
 
-pub leave_base-requires-clause-makes : goal.leave_base-requires-clause-makes
-leave_base-requires-clause-makes c =
+pub visit_base-requires-clause-makes : goal.visit_base-requires-clause-makes
+visit_base-requires-clause-makes c =
     c.draw-rest.ensures.made _ nothing (lent _ _ _ _ c.state_mut.ensures.value c.requires.holds.value)
 
 pub returns-clause-does : goal.returns-clause-does
 returns-clause-does c = does_map _ _ _ (λ deeds h. record { form = inr h.form; bytes_are = h.bytes_are })
-    (serves_base _ _ _ _ _ c.leave_base.ensures
+    (serves_base _ _ _ _ _ c.visit_base.ensures
     (c.draw-rest.ensures.rest _ (lent _ _ _ _ c.state_mut.ensures.value c.requires.holds.value)))

@@ -9,8 +9,8 @@ use Rattle.rng_core.proofs.SiteLemmas.{does_map}
 use Rattle.rng_core.proofs.SiteReads.{serves_rooted}
 use Rattle.rng_core.proofs.crng.reads.draw_rooted.Goals as goal
 
-pub leave_base-requires-clause-makes : goal.leave_base-requires-clause-makes
-leave_base-requires-clause-makes g c = let e = c.extract-root.ensures in let place = c.extract-root.result.place in
+pub visit_base-requires-clause-makes : goal.visit_base-requires-clause-makes
+visit_base-requires-clause-makes g c = let e = c.extract-root.ensures in let place = c.extract-root.result.place in
     c.draw_rooted-rest.ensures.made _ (got_of (Some place) (known_of (view c.extract-root.new.self.pass.now) 0)) place
     e.key
     (lent _ _ _ _ c.state_mut.ensures.value e.holds.value)
@@ -18,5 +18,5 @@ leave_base-requires-clause-makes g c = let e = c.extract-root.ensures in let pla
 pub returns-clause-does : goal.returns-clause-does
 returns-clause-does g c = let e = c.extract-root.ensures in
     does_map _ _ _ (λ deeds h. record { form = inl h.form; bytes_are = h.bytes_are })
-    (serves_rooted _ _ _ (λ (r : ℕ). Draw (Some r) c.args.taken) _ _ _ _ e.same e.room e.visited.1 c.leave_base.ensures
+    (serves_rooted _ _ _ (λ (r : ℕ). Draw (Some r) c.args.taken) _ _ _ _ e.same e.room e.visited.1 c.visit_base.ensures
     (c.draw_rooted-rest.ensures.rest ∙ ap (λ (k : List ℕ). taken_bytes k c.args.taken) (sym e.key)))

@@ -8,8 +8,8 @@ use Rattle.rng_core.specs.Sites.{own_lane}
 use Rattle.rng_core.proofs.Parents.{parent_cpu}
 use Rattle.rng_core.proofs.crng.reads.read_refilled.Goals as goal
 
-pub leave_cpu-requires-clause-makes : goal.leave_cpu-requires-clause-makes
-leave_cpu-requires-clause-makes c = let p : ℕ = c.args.base.now.place in let s = c.args.site.now in
+pub visit_cpu-requires-clause-makes : goal.visit_cpu-requires-clause-makes
+visit_cpu-requires-clause-makes c = let p : ℕ = c.args.base.now.place in let s = c.args.site.now in
     let e : got_of (Some p) (known_of (view s.pass.now) (parent (own_lane s))) ≡ _ =
     ap (λ (l : ℕ). got_of (Some p) (known_of (view s.pass.now) l)) (parent_cpu s.set.cpu) ∙ c.requires.refill.handed in
     c.read_refilled-rest.ensures.made _ _ (got_of (Some p) (known_of (view s.pass.now) (parent (own_lane s))))

@@ -12,4 +12,4 @@ returns-then-eq g c = let a = c.enter-base.ensures in
 
 pub returns : goal.returns
 returns g c = does_map 2 _ _ (λ deeds h. inr h)
-    (does_within 1 2 _ _ (omega arith) (does_base _ _ _ _ _ _ c.enter-base.ensures c.leave_base.ensures))
+    (does_within 1 2 _ _ (omega arith) (does_base _ _ _ _ _ _ c.enter-base.ensures c.visit_base.ensures))

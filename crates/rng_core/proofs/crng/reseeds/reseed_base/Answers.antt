@@ -11,4 +11,4 @@ returns g c = let a = c.enter-base.ensures in let b = c.extract_raising-root.ens
     let now = c.args.site.now.set.now in
     does_behind (λ set visits. Rooted (setting_of set) (λ (r : ℕ). Reseed r now)) 2 _ _ _ a.walked a.trace
     (does_formed 2 _ _ (serves_rooted _ _ _ (λ (r : ℕ). Reseed r now) _ _ _ _ b.same b.room b.visited.1
-    c.leave_base.ensures refl))
+    c.visit_base.ensures refl))

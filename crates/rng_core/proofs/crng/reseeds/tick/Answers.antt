@@ -14,4 +14,4 @@ returns-then-is_due g c = let a = c.enter-base.ensures in
 
 pub returns : goal.returns
 returns g c = does_map 2 _ _ (λ deeds h. tick_idle (setting_of c.args.site.now.set) deeds h)
-    (does_within 1 2 _ _ (omega arith) (does_base _ _ _ _ _ _ c.enter-base.ensures c.leave_base.ensures))
+    (does_within 1 2 _ _ (omega arith) (does_base _ _ _ _ _ _ c.enter-base.ensures c.visit_base.ensures))

@@ -9,9 +9,10 @@ use Rattle.key_names.specs.declared.events.Answer.TheVariants.{Ok as Done}
 use Rattle.key_names.specs.declared.names.Step.{Step}
 use Rattle.key_names.specs.declared.names.Step.TheVariants.{Look}
 use Rattle.key_names.specs.SeenLine.{bytes_or_none}
+use Rattle.key_names.specs.VreadSteps.{answer_of_errno}
 use Rattle.key_names.specs.Deeds.{Deed, looked}
 use Rattle.key_names.specs.Forms.{BaseOnly, CpuReadForm, ReadForm}
-use Rattle.rng_core.specs.Makes.{Serving, setting_of, errno_answer}
+use Rattle.rng_core.specs.Makes.{Serving, setting_of}
 use Rattle.rng_core.specs.Sites.{Completes}
 use Rattle.rng_core.specs.SiteWaits.{waiting_at}
 use Rattle.rng_core.specs.Traces.{BeginsWithLook}
@@ -43,7 +44,7 @@ pub returns-in-Err-clause-does : goal.returns-in-Err-clause-does
 returns-in-Err-clause-does g c = let good = sym c.are_bad.ensures ∙ c.if-are_bad.false in let must =
     sym c.must_wait.ensures ∙ c.if-must_wait.true in let patient =
     sym c.is_nonblock.ensures ∙ c.if-is_nonblock.false in let w = c.in-Err.ensures in let s = c.args.site.now in
-    subst (λ (e : Errno). Completes (4 + waiting_at s) (Read (length c.args.buf.now) c.args.flags) (errno_answer e)
+    subst (λ (e : Errno). Completes (4 + waiting_at s) (Read (length c.args.buf.now) c.args.flags) (answer_of_errno e)
     (bytes_or_none []) s c.wait_ready.new.site) (sym w.0)
     (does_within 3 _ _ _ (omega arith) (does_map 3 _ _ (λ deeds h. sys_interrupted (setting_of s.set)
     (length c.args.buf.now) c.args.flags c.look-found.result good must patient h.holds.first h.holds.rest deeds

@@ -6,8 +6,8 @@ use Rattle.rng_core.specs.Sites.{Completes}
 use Rattle.rng_core.proofs.SiteLemmas.{does_map, does_within}
 use Rattle.rng_core.proofs.interface.system_call.random_file.Goals as goal
 
-pub returns : goal.returns
-returns g c = let s = c.args.site.now in let n = c.getrandom.new.site in
+pub returns-clause-does : goal.returns-clause-does
+returns-clause-does g c = let s = c.args.site.now in let n = c.getrandom.new.site in
     subst (λ (f : ℕ). Completes 6 (Dread (length c.args.buf.now) f) (result_answer c.getrandom.result)
     (bytes_or_none (given c.getrandom.result c.getrandom.new.buf)) s n) c.file_flags-flags.ensures
     (does_within _ 6 s n (omega arith)

@@ -11,8 +11,8 @@ use Rattle.rng_core.proofs.SampleCalls.{does_met, taken_behind}
 use Rattle.rng_core.proofs.Sampling.{dump_stands}
 use Rattle.rng_core.proofs.sources.interrupts.dump.Goals as goal
 
-pub leave_cpu-requires-clause-makes : goal.leave_cpu-requires-clause-makes
-leave_cpu-requires-clause-makes g c = c.dump-dump.ensures.made _ _ nothing (omega arith)
+pub visit_cpu-requires-clause-makes : goal.visit_cpu-requires-clause-makes
+visit_cpu-requires-clause-makes g c = c.dump-dump.ensures.made _ _ nothing (omega arith)
     (lent _ _ _ _ c.state_mut.ensures.value c.enter_own-cpu.ensures.holds.value)
 
 pub returns : goal.returns
@@ -23,5 +23,5 @@ returns g c = let e = c.enter_own-cpu.ensures in
     (taken_behind _ _ _ c.requires.idle c.requires.cpu e)
     (c.dump-dump.ensures.bytes _ _ (omega arith) value) (c.dump-dump.ensures.bits _ _ (omega arith) value) h)
     (does_in_then (λ set visits. CreditForm (setting_of set) (Mix c.dump-dump.result.bytes c.dump-dump.result.bits)) 1 3
-    _ _ _ (does_met _ _ _ _ tt c.leave_cpu.ensures)
+    _ _ _ (does_met _ _ _ _ tt c.visit_cpu.ensures)
     (does_map _ _ _ (λ deeds h. h.form) c.add.ensures)))

@@ -8,12 +8,12 @@ use Rattle.rng_core.specs.Makes.{IsOutcomeOf, setting_of}
 use Rattle.rng_core.specs.SampleDeeds.{Sampled, DumpStands}
 use Rattle.rng_core.specs.Sites.{own_places}
 use Rattle.rng_core.proofs.SiteLemmas.{does_in_map, does_in_then, does_behind, does_within}
-use Rattle.rng_core.proofs.SampleCalls.{does_met, left_below}
+use Rattle.rng_core.proofs.SampleCalls.{does_met, visit_below}
 use Rattle.rng_core.proofs.Sampling.{sample_quiet, sample_dumped}
 use Rattle.rng_core.proofs.sources.interrupts.irq.Goals as goal
 
-pub leave_cpu-requires-clause-makes : goal.leave_cpu-requires-clause-makes
-leave_cpu-requires-clause-makes g c = c.sample-due.ensures.made _ _ nothing (omega arith)
+pub visit_cpu-requires-clause-makes : goal.visit_cpu-requires-clause-makes
+visit_cpu-requires-clause-makes g c = c.sample-due.ensures.made _ _ nothing (omega arith)
     (lent _ _ _ _ c.state_mut.ensures.value c.enter_own-cpu.ensures.holds.value)
 
 pub returns-then-not-due : goal.returns-then-not-due
@@ -23,7 +23,7 @@ returns-then-not-due g c = let e = c.enter_own-cpu.ensures in
     e.walked e.trace (does_within 1 5 _ _ (omega arith)
     (does_in_map _ _ _ (λ visits deeds h. sample_quiet (setting_of c.enter_own-cpu.new.site.set) _ _ _ _ visits deeds
     (sym due ∙ c.if-not-due.true) h)
-    (does_met _ _ _ _ tt c.leave_cpu.ensures)))
+    (does_met _ _ _ _ tt c.visit_cpu.ensures)))
 
 pub returns : goal.returns
 returns g c = let e = c.enter_own-cpu.ensures in let set = c.enter_own-cpu.new.site.set in
@@ -31,6 +31,6 @@ returns g c = let e = c.enter_own-cpu.ensures in let set = c.enter_own-cpu.new.s
     does_behind (λ set. Sampled (IsOutcomeOf (setting_of set) (Irq c.args.v1 c.args.v2) Done no_data)) _ _ _ _
     e.walked e.trace
     (does_in_map _ _ _ (λ visits deeds h. sample_dumped (setting_of set) _ _ _ _ _ visits deeds
-    (sym due ∙ c.if-not-due.false) (left_below _ _ _ _ c.leave_cpu.ensures) h)
-    (does_in_then (λ set. DumpStands (setting_of set) (own_places c.leave_cpu.new.self)) 1 4 _ _ _
-    (does_met _ _ _ _ tt c.leave_cpu.ensures) c.dump.ensures))
+    (sym due ∙ c.if-not-due.false) (visit_below _ _ _ _ c.visit_cpu.ensures) h)
+    (does_in_then (λ set. DumpStands (setting_of set) (own_places c.visit_cpu.new.self)) 1 4 _ _ _
+    (does_met _ _ _ _ tt c.visit_cpu.ensures) c.dump.ensures))

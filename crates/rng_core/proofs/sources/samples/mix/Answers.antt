@@ -3,10 +3,10 @@ use Rattle.lane_table.proofs.Calls.Lent.{lent}
 use Rattle.rng_core.proofs.SiteLemmas.{does_map, does_pool}
 use Rattle.rng_core.proofs.sources.samples.mix.Goals as goal
 
-pub leave_pool-requires-clause-makes : goal.leave_pool-requires-clause-makes
-leave_pool-requires-clause-makes g c = c.mix.ensures _
+pub visit_pool-requires-clause-makes : goal.visit_pool-requires-clause-makes
+visit_pool-requires-clause-makes g c = c.mix.ensures _
     (lent _ _ _ _ c.state_mut.ensures.value c.enter-pool.ensures.holds.value)
 
 pub returns : goal.returns
 returns g c = does_map _ _ _ (λ deeds h. record { form = h; answers = refl; shows = refl })
-    (does_pool _ _ _ _ _ _ c.enter-pool.ensures c.leave_pool.ensures)
+    (does_pool _ _ _ _ _ _ c.enter-pool.ensures c.visit_pool.ensures)

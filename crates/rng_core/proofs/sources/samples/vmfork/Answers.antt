@@ -20,4 +20,4 @@ returns g c =
       shows = refl;
     })
     (does_then (λ set. IsOutcomeOf (setting_of set) Reseed (result_answer c.reseed.result) no_data) 1 3 _ _ _
-    c.device.ensures.does c.reseed.ensures)
+    c.device.ensures.does c.reseed.ensures.does)

@@ -12,4 +12,4 @@ returns-in-Vread g c = rw c.in-Vread.is (does_read c.in-Vread.field-0 (length c.
 
 pub returns-in-Reseed : goal.returns-in-Reseed
 returns-in-Reseed g c = rw c.in-Reseed.is (does_reseed c.reseed.result c.args.out.now _ _
-    (rw c.in-Reseed.is at c.requires.fits) c.reseed.ensures)
+    (rw c.in-Reseed.is at c.requires.fits) c.reseed.ensures.does)

@@ -6,10 +6,10 @@ use Rattle.rng_core.proofs.vdso.vreads.vread.Goals as goal
 
 pub invariant_of-host-clause-room : goal.invariant_of-host-clause-room
 invariant_of-host-clause-room g c =
-    let r = c.vread_local.ensures.room in let n = c.requires.new in omega (arith, n.empty, n.looks, n.calls)
+    let r = c.vread_local.ensures.reads.room in let n = c.requires.new in omega (arith, n.empty, n.looks, n.calls)
 
 pub returns-in-Served : goal.returns-in-Served
-returns-in-Served g c = let l = c.vread_local.ensures in record {
+returns-in-Served g c = let l = c.vread_local.ensures.reads in record {
   loans = record { site = l.same; acts = refl; out = refl };
   has = l.has;
   current = l.current;
@@ -18,7 +18,7 @@ returns-in-Served g c = let l = c.vread_local.ensures in record {
 }
 
 pub returns-in-NeedsSystem : goal.returns-in-NeedsSystem
-returns-in-NeedsSystem g c = let l = c.vread_local.ensures in let k = c.call_host.ensures in record {
+returns-in-NeedsSystem g c = let l = c.vread_local.ensures.reads in let k = c.call_host.ensures in record {
   loans = record { site = same_then _ _ _ l.same k.loans.site; acts = k.loans.acts; out = k.loans.out };
   has = k.has;
   current = k.current;
