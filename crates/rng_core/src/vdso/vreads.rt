@@ -16,7 +16,8 @@ use std::sync::Wait;
 use vdso_state::{Local, VEnd, VState, local, vgetrandom};
 
 /// Copies bytes of the batch over all of `buf` where the state's key is of the published generation and the batch has
-/// as many left, and else leaves `buf` as it was. It waits for nobody. A look whose value is not used is no step: the trace then stays as it was.
+/// as many left, and else leaves `buf` as it was. It waits for nobody. A look whose value is not used is no step: the
+/// trace then stays as it was.
 ///
 /// The state's generation has to be one that the pass has seen published, as it is where only these calls and wipes
 /// changed the state.
