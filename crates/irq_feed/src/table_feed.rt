@@ -89,7 +89,8 @@ pub fn feed_on_new_table<R: Threads + Wait + Sync, G: Gate>(
         queue: &queue,
         gate,
     };
-    let (mixed, _worker) = feed(rt, alloc, &intake, &mut pass, worker)?;
+    let (mixed, _worker) = feed(rt, alloc, &intake, &mut pass, worker);
+    let mixed = mixed?;
     let _visits = lanes.close(pass);
     Ok(sums(mixed.len()))
 }

@@ -46,7 +46,8 @@ fn feeders_without_threads_are_mixed_in_order(rt: HostRuntime) -> Result<(), Fai
         queue: &queue,
         gate: &gate,
     };
-    let (mixed, _worker) = feed_by(&rt, alloc, &intake, &mut pass, worker, Feeders::Nowhere)?;
+    let (mixed, _worker) = feed_by(&rt, alloc, &intake, &mut pass, worker, Feeders::Nowhere);
+    let mixed = mixed?;
     assert_eq!(rt; mixed.len(), 15);
     for i in 0..mixed.len() {
         assert_eq!(rt; mixed.get(i), (i / 5, i % 5));

@@ -116,8 +116,8 @@ fn mixed_of<R: Threads + Wait + Sync, G: Gate>(
         queue: &queue,
         gate,
     };
-    let (mixed, _worker) = feed(rt, alloc, &intake, &mut pass, worker)?;
-    Ok(mixed)
+    let (mixed, _worker) = feed(rt, alloc, &intake, &mut pass, worker);
+    mixed
 }
 
 // The samples of a feeder stand in order, each once.
