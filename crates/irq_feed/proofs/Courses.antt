@@ -18,22 +18,23 @@ use Rattle.lane_table.specs.WorldRule.{at, known_of, times}
 use Rattle.lane_table.proofs.Book.BookEnds.{ended_places}
 use Rattle.lane_table.proofs.Book.BookMarks.{MarksPlace}
 use Rattle.lane_table.proofs.Lists.Places.{stands_at}
+use Rattle.rng_core.specs.Settings.{first_setting}
 use Rattle.rng_core.proofs.Courses.{Course, IsKnown, course_none, course_then, course_told, course_visits, either, lane_of, places, stamps_of, start}
 use Rattle.irq_feed.specs.declared.samples.Sample.{Sample}
 use Rattle.irq_feed.specs.Mixing.{Mixes, in_event}
-use Rattle.irq_feed.specs.TableFeed.{first_setting, marks_of}
+use Rattle.irq_feed.specs.TableFeed.{marks_of}
 
 -- the steps of the calls that mixed some samples
-abbrev pub calls_in : (event : ℕ) (xs : List Sample) (v w : View) → Mixes first_setting event xs v w → List (List Step)
+abbrev pub calls_in : (event : ℕ) (xs : List Sample) (v w : View) → Mixes (first_setting 0) event xs v w → List (List Step)
 calls_in event [] v w m = []
 calls_in event (x ∷ xs) v w m = m.1.steps ∷ calls_in (suc event) xs m.0 w m.2
 
-pub course_in : (event : ℕ) (xs : List Sample) (v w : View) (m : Mixes first_setting event xs v w) →
+pub course_in : (event : ℕ) (xs : List Sample) (v w : View) (m : Mixes (first_setting 0) event xs v w) →
     Course v w (marks_of event (calls_in event xs v w m))
 course_in event [] v w m = subst (λ (z : View). Course v z []) (sym m) (course_none v)
 course_in event (x ∷ xs) v w (u, one, more) =
     course_then v u w (marks_from 0 event 0 one.steps) (marks_of (suc event) (calls_in (suc event) xs u w more))
-    (course_told (in_event first_setting event) v u one.steps one.did.made_steps one.did.told)
+    (course_told (in_event (first_setting 0) event) v u one.steps one.did.made_steps one.did.told)
     (course_in (suc event) xs u w more)
 
 -- ---- a table of three lanes in the end

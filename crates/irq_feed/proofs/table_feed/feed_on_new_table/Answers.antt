@@ -12,7 +12,7 @@ close-visits-requires-clause-whole g c =
     let calls = rw c.in_ok-mixed.was at c.feed-mixed.ensures.calls in
     whole_share (mixed_in c.in_ok-mixed.mixed) (view c.in_ok-lanes.pass) (view c.feed-mixed.new.pass)
     (subst (λ (s : Setting). Mixes s 0 (mixed_in c.in_ok-mixed.mixed) (view c.in_ok-lanes.pass) (view c.feed-mixed.new.pass))
-    c.first_setting.ensures calls)
+    c.first.ensures calls)
     (ap (λ (m : Seated). m.0) c.in_ok-lanes.ensures.seat)
 
 pub returns : goal.returns
@@ -24,6 +24,6 @@ returns g c =
     subst (λ (n : ℕ). Ended (n + 2) w) c.in_ok-lanes.ensures.table.0 c.close-visits.ensures.ended in
     is_fed _ _ _ _ _ c.in_ok-mixed.mixed _ (view c.in_ok-lanes.pass) w c.in_ok-feeds.ensures all
     (subst (λ (s : Setting). Mixes s 0 (mixed_in c.in_ok-mixed.mixed) (view c.in_ok-lanes.pass) w)
-    c.first_setting.ensures calls)
+    c.first.ensures calls)
     (ap (λ (m : Seated). m.0) c.in_ok-lanes.ensures.seat) ended
     (c.sums.ensures.samples ∙ c.len.ensures) (c.sums.ensures.dumps ∙ ap (λ n. n / 1024) c.len.ensures) c.sums.ensures.bits
