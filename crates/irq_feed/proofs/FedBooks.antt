@@ -48,8 +48,9 @@ use Rattle.irq_feed.specs.Fed.{AllMixed, mixed_in}
 use Rattle.irq_feed.specs.Samples.{first_samples, of_feeder}
 use Rattle.irq_feed.specs.TableFeed.{AreCalls, IsFed, IsFedBook, irq_entry, marks_of}
 use Rattle.rng_core.proofs.Courses.{Course, lane_append, lane_of, start}
-use Rattle.irq_feed.proofs.Courses.{all_here, calls_in, course_in, in_order, share_is, visits_made, wide}
+use Rattle.irq_feed.proofs.Courses.{all_here, calls_in, course_in, in_order, places_stand, share_is, visits_made, wide}
 use Rattle.irq_feed.proofs.Dumps.{Dumped, bits_at_dump, dumps_are, due_more, none_dumped, quiet_more}
+use Rattle.irq_feed.proofs.FedSamples.{lawful_samples}
 use Rattle.irq_feed.proofs.Entries.{AllThere, CountUp, Counts, count_up, cpu_here, cpu_seen, next_entry, parts_count, pool_here, pool_seen}
 
 abbrev set : CallSetting
@@ -277,6 +278,13 @@ module _ (visits : ℕ → List Visit) where
   are_calls (x ∷ xs) [] a = a
   are_calls (x ∷ xs) (steps ∷ calls) a = (a.0.holds, are_calls xs calls a.1)
 
+  stand : (xs : List Sample) (calls : List (List Step)) → AreSampled xs calls →
+      AllByRecursion (λ steps. SamplesStand fast (deeds_of lists steps)) calls
+  stand [] [] a = tt
+  stand [] (steps ∷ calls) a = absurd a
+  stand (x ∷ xs) [] a = tt
+  stand (x ∷ xs) (steps ∷ calls) a = (a.0.samples, stand xs calls a.1)
+
   are_sampled : (event : ℕ) (xs : List Sample) (v w : View) (m : Mixes (first_setting 0) event xs v w) →
       Continues 3 w visits → AreSampled xs (calls_in event xs v w m)
   are_sampled event [] v w m c = tt
@@ -417,6 +425,9 @@ module _ (xs : List Sample) (v w : View) (m : Mixes (first_setting 0) 0 xs v w) 
     lawful : LawfulLanes (lists_of book)
     lawful = subst (λ (n : ℕ). LawfulLanes (book_lists n visits_of [])) three (ended_lawful w [] low ended)
 
+    made : VisitsAre book marks
+    made = subst (λ (n : ℕ). VisitsAre (book_of n visits_of []) marks) three (visits_made w marks course ended)
+
     pub fed_book : IsFedBook xs book
     fed_book = record {
       cpus = refl;
@@ -430,7 +441,9 @@ module _ (xs : List Sample) (v w : View) (m : Mixes (first_setting 0) 0 xs v w) 
       });
       calls = calls;
       are = are_calls visits_of xs calls sampled;
-      visits = subst (λ (n : ℕ). VisitsAre (book_of n visits_of []) marks) three (visits_made w marks course ended);
+      visits = made;
+      lawful_samples = lawful_samples calls visits_of closed made (places_stand w marks course ended)
+          (stand visits_of xs calls sampled);
       last = w.stamp;
       in_order = course.climbs;
     }

@@ -5,6 +5,7 @@ use Rattle.key_names.specs.declared.entries.CpuEntry.{CpuEntry}
 use Rattle.key_names.specs.declared.entries.CpuEntry.TheVariants.{Read, Int, Irq, Dump, Prepare, Online}
 use Rattle.key_names.specs.declared.events.Event.TheVariants.{Irq as IrqEvent}
 use Rattle.key_names.specs.declared.events.Answer.TheVariants.{Ok as Done}
+use Rattle.key_names.specs.Samples.{LawfulSamples}
 use Rattle.key_names.specs.SeenLine.{no_data}
 use Rattle.key_names.specs.PoolList.{pool_after}
 use Rattle.key_names.specs.Deeds.{deeds_of}
@@ -60,8 +61,8 @@ dumps_in (e ∷ es) = dump_here e + dumps_in es
 abbrev pub irq_entry : Sample → CpuEntry
 irq_entry x = Irq x.v1 x.v2 0
 
--- the one book of a table with one CPU: it is lawful and disjoint, and has the visits of one call for each sample, one call
--- behind the other, and no others
+-- the one book of a table with one CPU: it is lawful, its samples too, and disjoint, and has the visits of one call for each
+-- sample, one call behind the other, and no others
 pub record IsFedBook (samples : List Sample) (book : Book) : Type 0 where
   pub cpus : length book.cpus ≡ 1
   pub lawful : LawfulLanes (lists_of book)
@@ -69,6 +70,7 @@ pub record IsFedBook (samples : List Sample) (book : Book) : Type 0 where
   pub calls : List (List Step)
   pub are : AreCalls (lists_of book) samples calls
   pub visits : VisitsAre book (marks_of 0 calls)
+  pub lawful_samples : LawfulSamples book
   pub last : ℕ
   pub in_order : Climbs 0 (map (λ by. by.mark.stamp) (marks_of 0 calls)) last
 
