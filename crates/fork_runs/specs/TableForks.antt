@@ -99,6 +99,7 @@ pub record AreForkedBytes (turn : Turn) (point : Point) (n : ℕ) (parent child 
       takes_key false child_end.steps ≡ true
   pub visits : VisitsAre book (marks_of 0 (added ∷ calls ++ forked ∷ []) ++ marks_of 0 (parent_end.own ∷ [])
       ++ marks_of 1 (child_end.own ∷ []))
+  -- the stamps of each caller climb; those of the two ends are not ordered beside each other
   pub at_fork : ℕ
   pub parents_last : ℕ
   pub childs_last : ℕ

@@ -243,7 +243,8 @@ fn fork_until<R: Wait>(
 /// it caller 0, whose state is wiped, wants so many bytes of vgetrandom, from 1 to 2^20, without flags. The call is
 /// held at the point of the attempt, and caller 1 forked there. A second attempt is had by a reseed while the first one
 /// stands at Serve. First the parent's call is ended, and then the child's, by its own pass; all of it on CPU 0, at
-/// moment 0, with hardware words of zeros.
+/// moment 0, with hardware words of zeros. That the parent's ends first is tested and not promised: no clause orders the
+/// visits of the two ends.
 ///
 /// A run whose call is over before the stop, or that gives no bytes, is made anew: none is known.
 ///
