@@ -1,12 +1,16 @@
 -- What calls one after another did on a table, and what they are in the end.
-use Rattle.std.proofs.Common.{◌≡◌, ℕ, ◌+◌, ◌≤◌, ◌^◌, List, [], ◌∷◌, ◌++◌, length, refl, sym, ap, ◌∙◌, subst, arith}
+use Rattle.std.proofs.Common.{◌≡◌, ℕ, ◌-◌, ◌≤◌, ◌^◌, List, [], ◌∷◌, ◌++◌, length, refl, sym, ap, ◌∙◌, subst, arith}
 use Rattle.std.specs.List.{range_with_len}
+use Rattle.std.proofs.lemmas.List.{length-map}
+use Rattle.std.proofs.lemmas.List.FromFn.{length-range_with_len}
 use Rattle.key_names.specs.declared.events.Event.TheVariants.{Add, Int32}
 use Rattle.key_names.specs.declared.events.Answer.TheVariants.{Ok as Done}
 use Rattle.key_names.specs.declared.names.Step.{Step}
+use Rattle.key_names.specs.Book.{LawfulLanes}
 use Rattle.key_names.specs.Deeds.{deeds_of}
 use Rattle.key_names.specs.IsTranscript.{MarkBy, marks_from}
 use Rattle.key_names.specs.SeenLine.{bytes_or_none, no_data}
+use Rattle.key_names.proofs.Uses.BookUses.{lawful_is_disjoint}
 use Rattle.lane_table.specs.declared.view.View.{View}
 use Rattle.lane_table.specs.declared.view.Visit.{Visit}
 use Rattle.lane_table.specs.BookLaws.{Continues}
@@ -17,10 +21,11 @@ use Rattle.lane_table.proofs.Book.BookEnds.{continues_before, ended_lanes, ended
 use Rattle.lane_table.proofs.Lists.VisitLists.{begins_refl}
 use Rattle.rng_core.specs.declared.setting.Setting.{Setting}
 use Rattle.rng_core.specs.Makes.{Makes, IsOutcomeOf, setting_of}
+use Rattle.rng_core.specs.Settings.{first_setting}
 use Rattle.rng_core.proofs.Courses.{Course, course_none, course_then, course_told, course_visits, knows, start}
 use Rattle.draw_below.specs.Draws.{Takes}
 use Rattle.draw_below.specs.LaneWords.{ReadsWord}
-use Rattle.draw_below.specs.TableDraws.{AreTableWords, AreWordCalls, first_setting, marks_of}
+use Rattle.draw_below.specs.TableDraws.{AreTableWords, AreWordCalls, marks_of}
 
 -- the calls that read some words
 record Reads (v w : View) (words : List ℕ) : Type 0 where
@@ -29,7 +34,7 @@ record Reads (v w : View) (words : List ℕ) : Type 0 where
   are : (lanes : ℕ) (visits : ℕ → List Visit) (callers : StateLists) → Continues lanes w visits →
       AreWordCalls (book_lists lanes visits callers) words calls
 
-reads_of : (v w : View) (words : List ℕ) → Takes (ReadsWord first_setting) v words w → Reads v w words
+reads_of : (v w : View) (words : List ℕ) → Takes (ReadsWord (first_setting 0)) v words w → Reads v w words
 reads_of v w [] t = record {
   calls = [];
   course = subst (λ (z : View). Course v z []) t (course_none v);
@@ -37,17 +42,17 @@ reads_of v w [] t = record {
 }
 reads_of v w (r ∷ rs) t =
     let u : View = t.0 in
-    let one : ReadsWord first_setting v r u = t.1 in
+    let one : ReadsWord (first_setting 0) v r u = t.1 in
     let rest : Reads u w rs = reads_of u w rs t.2 in
     record {
       calls = one.steps ∷ rest.calls;
       course = course_then v u w (marks_from 0 0 0 one.steps) (marks_of rest.calls)
-          (course_told first_setting v u one.steps one.did.made_steps one.did.told) rest.course;
+          (course_told (first_setting 0) v u one.steps one.did.made_steps one.did.told) rest.course;
       are = λ lanes visits callers c. (
         record {
           bytes = one.bytes;
           fulfils = subst
-              (λ (l : List Step). IsOutcomeOf (setting_of first_setting) Int32 Done (bytes_or_none one.bytes)
+              (λ (l : List Step). IsOutcomeOf (setting_of (first_setting 0)) Int32 Done (bytes_or_none one.bytes)
               (deeds_of (book_lists lanes visits callers) l)) (sym one.did.told.trace)
               (one.did.stands lanes visits callers
               (continues_before lanes u w visits rest.course.same.sized rest.course.grows c));
@@ -58,26 +63,26 @@ reads_of v w (r ∷ rs) t =
     }
 
 -- a sample was added on a new table, and then words were read
-module _ (set : Setting) (plain : set ≡ first_setting) (p q w : View) (words : List ℕ) (new : p ≡ start)
+module _ (set : Setting) (plain : set ≡ first_setting 0) (p q w : View) (words : List ℕ) (new : p ≡ start)
     (sampled : (steps : List Step)
     × Makes (IsOutcomeOf (setting_of set) (Add (range_with_len 0 32) 256) Done no_data) set (knows p []) (knows q steps))
     (gave : Takes (ReadsWord set) q words w) where
   added : (steps : List Step)
-      × Makes (IsOutcomeOf (setting_of first_setting) (Add (range_with_len 0 32) 256) Done no_data) first_setting
+      × Makes (IsOutcomeOf (setting_of (first_setting 0)) (Add (range_with_len 0 32) 256) Done no_data) (first_setting 0)
       (knows p []) (knows q steps)
   added = subst
       (λ (s : Setting). (steps : List Step)
       × Makes (IsOutcomeOf (setting_of s) (Add (range_with_len 0 32) 256) Done no_data) s (knows p []) (knows q steps))
       plain sampled
 
-  taken : Takes (ReadsWord first_setting) q words w
+  taken : Takes (ReadsWord (first_setting 0)) q words w
   taken = subst (λ (s : Setting). Takes (ReadsWord s) q words w) plain gave
 
   reads : Reads q w words
   reads = reads_of q w words taken
 
   first : Course p q (marks_from 0 0 0 added.0)
-  first = course_told first_setting p q added.0 added.1.made_steps added.1.told
+  first = course_told (first_setting 0) p q added.0 added.1.made_steps added.1.told
 
   abbrev marks : List MarkBy
   marks = marks_from 0 0 0 added.0 ++ marks_of reads.calls
@@ -106,13 +111,25 @@ module _ (set : Setting) (plain : set ≡ first_setting) (p q w : View) (words :
       closed = ended_lanes w [] low ended;
     }
 
+    lawful : LawfulLanes (book_lists (length w.lanes) (known_of w) [])
+    lawful = ended_lawful w [] low ended
+
     pub table_words : AreTableWords words
     table_words = record {
       book = book_of (length w.lanes) (known_of w) [];
-      lawful = ended_lawful w [] low ended;
+      cpus = length-map (range_with_len 0 (length w.lanes - 2)) _ ∙ length-range_with_len 0 (length w.lanes - 2)
+          ∙ (let n = wide in omega arith);
+      lawful = lawful;
+      disjoint = lawful_is_disjoint (book_lists (length w.lanes) (known_of w) []) (record {
+        lanes = lawful;
+        states = record {
+          states = λ caller state. record { comes = tt; ends = refl };
+          one_taker = λ a b read is at. absurd cc;
+        };
+      });
       added = added.0;
       adds = subst
-          (λ (l : List Step). IsOutcomeOf (setting_of first_setting) (Add (range_with_len 0 32) 256) Done no_data
+          (λ (l : List Step). IsOutcomeOf (setting_of (first_setting 0)) (Add (range_with_len 0 32) 256) Done no_data
           (deeds_of (book_lists (length w.lanes) (known_of w) []) l)) (sym added.1.told.trace)
           (added.1.stands (length w.lanes) (known_of w) []
           (continues_before (length w.lanes) q w (known_of w) reads.course.same.sized reads.course.grows goes_on));

@@ -1,9 +1,10 @@
 -- What a shuffle keeps from one draw to the next.
-use Rattle.std.proofs.Common.{◌≡◌, ◌<◌, ◌≤◌, ◌+◌, ◌-◌, ℕ, List, [], ◌∷◌, ◌++◌, length, refl, ap, sym, ◌∙◌, subst, arith, length-append}
-use Rattle.std.specs.List.{swap}
+use Rattle.std.proofs.Common.{◌≡◌, ◌<◌, ◌≤◌, ◌+◌, ◌-◌, ◌*◌, ◌%◌, ℕ, List, [], ◌∷◌, ◌++◌, length, refl, ap, sym, ◌∙◌, subst, arith, length-append, true≢false}
+use Rattle.std.specs.List.{AllByRecursion, swap}
 use Rattle.std.specs.List.Sorted.{IsPermutation}
+use Rattle.std.proofs.Math.Dec.{leb-zero}
 use Rattle.std.proofs.lemmas.List.Sorted.{IsPermutation-refl, IsPermutation-trans}
-use Rattle.draw_below.specs.Draws.{Draws}
+use Rattle.draw_below.specs.Draws.{Draws, IsRejected}
 use Rattle.draw_below.specs.Orders.{AreDraws, DrawsEach, Shuffles, exchanged}
 
 drawn_more : {W : Type 0} (gives : W → ℕ → W → Type 0) (last : ℕ) (w : W) (ds : List ℕ) (u : W) (c d : ℕ)
@@ -30,22 +31,35 @@ exchanged_more last (e ∷ ds) d xs =
     exchanged_more (last - 1) ds d (swap xs last e)
     ∙ ap (λ n. swap (exchanged (last - 1) ds (swap xs last e)) n d) (omega arith)
 
--- what a shuffle keeps: the draws so far, one fewer than the number of the next
-abbrev pub IsSoFar : {W : Type 0} → (W → ℕ → W → Type 0) → List ℕ → W → List ℕ → W → ℕ → Type 0
-IsSoFar gives before w now u done =
-    (ds : List ℕ) × (length ds + 1 ≡ done) × (length ds ≤ length before - 1) × Shuffles gives before w ds now u
-    × IsPermutation before now
+-- below 2 every word is accepted
+none_rejected : (rs : List ℕ) → AllByRecursion (IsRejected 2) rs → rs ≡ []
+none_rejected [] all = refl
+none_rejected (r ∷ rs) all = absurd (true≢false (sym (leb-zero (2 * r % 4294967296)) ∙ all.0))
 
-pub start : {W : Type 0} (gives : W → ℕ → W → Type 0) (before : List ℕ) (w : W) → IsSoFar gives before w before w 1
-start gives before w =
-    ([], refl, omega arith, record { drawn = refl; none_above = tt; exchanges = refl }, IsPermutation-refl before)
+-- what a shuffle keeps: the draws so far, one fewer than the number of the next, and that the last of them rejected these
+-- words
+abbrev pub IsSoFar : {W : Type 0} → (W → ℕ → W → Type 0) → List ℕ → W → List ℕ → W → List ℕ → ℕ → Type 0
+IsSoFar gives before w now u rejected done =
+    (ds : List ℕ) × (length ds + 1 ≡ done) × (length ds ≤ length before - 1) × Shuffles gives before w ds now u
+    × IsPermutation before now × AllByRecursion (IsRejected (length before - done + 2)) rejected
+
+pub start : {W : Type 0} (gives : W → ℕ → W → Type 0) (before : List ℕ) (w : W) (rejected : List ℕ) → rejected ≡ [] →
+    IsSoFar gives before w before w rejected 1
+start gives before w rejected none = (
+  [],
+  refl,
+  omega arith,
+  record { drawn = refl; none_above = tt; exchanges = refl },
+  IsPermutation-refl before,
+  subst (AllByRecursion (IsRejected (length before - 1 + 2))) (sym none) tt,
+)
 
 pub one_more_exchange : {W : Type 0} (gives : W → ℕ → W → Type 0) (before : List ℕ) (w : W) (now : List ℕ) (u : W)
-    (done d : ℕ) (rejected : List ℕ) (v : W) (next : List ℕ) → done < length before →
-    IsSoFar gives before w now u done → Draws gives (length before - done + 1) u rejected d v →
+    (earlier : List ℕ) (done d : ℕ) (rejected : List ℕ) (v : W) (next : List ℕ) → done < length before →
+    IsSoFar gives before w now u earlier done → Draws gives (length before - done + 1) u rejected d v →
     d < length before - done + 1 → next ≡ swap now (length before - done) d → IsPermutation now next →
-    IsSoFar gives before w next v (done + 1)
-one_more_exchange gives before w now u done d rejected v next more had draw low is moved =
+    IsSoFar gives before w next v rejected (done + 1)
+one_more_exchange gives before w now u earlier done d rejected v next more had draw low is moved =
     let ds = had.0 in
     let n : length ds + 1 ≡ done = had.1 in
     let place : length before - 1 - length ds ≡ length before - done = omega arith in
@@ -62,10 +76,17 @@ one_more_exchange gives before w now u done d rejected v next more had draw low 
             ∙ sym (exchanged_more (length before - 1) ds d before);
       },
       IsPermutation-trans before now next had.4 moved,
+      subst (λ c. AllByRecursion (IsRejected c) rejected) (omega arith) draw.rejects,
     )
 
-pub whole : {W : Type 0} (gives : W → ℕ → W → Type 0) (before : List ℕ) (w : W) (now : List ℕ) (u : W) (done : ℕ) →
-    IsSoFar gives before w now u done → length before ≤ done →
-    (ds : List ℕ) × (length ds ≡ length before - 1) × Shuffles gives before w ds now u
-whole gives before w now u done had end =
-    let n : length had.0 + 1 ≡ done = had.1 in (had.0, omega (arith, had.2), had.3)
+pub whole : {W : Type 0} (gives : W → ℕ → W → Type 0) (before : List ℕ) (w : W) (now : List ℕ) (u : W)
+    (rejected : List ℕ) (done : ℕ) → IsSoFar gives before w now u rejected done → length before ≤ done →
+    (ds : List ℕ) × (length ds ≡ length before - 1) × Shuffles gives before w ds now u × (rejected ≡ [])
+whole gives before w now u rejected done had end =
+    let n : length had.0 + 1 ≡ done = had.1 in
+    let two : length before - done + 2 ≡ 2 = omega arith in (
+      had.0,
+      omega (arith, had.2),
+      had.3,
+      none_rejected rejected (subst (λ c. AllByRecursion (IsRejected c) rejected) two had.5),
+    )

@@ -29,11 +29,12 @@ pub record Shuffles {W : Type 0} (gives : W → ℕ → W → Type 0) (before : 
   pub none_above : AreDraws (length before - 1) draws
   pub exchanges : after ≡ exchanged (length before - 1) draws before
 
--- how a shuffle ended: with a draw for each place but the first, or behind some draws with one that was spent
+-- how a shuffle ended: with a draw for each place but the first, the last of which rejects nothing, or behind some draws
+-- with one that was spent
 abbrev pub IsShuffle : {W : Type 0} → (W → ℕ → W → Type 0) → List ℕ → W → List ℕ → Result (Unit {0}) DrawSpent →
     List ℕ → W → Type 0
 IsShuffle gives before w rejected (Ok done) after u =
-    (draws : List ℕ) × (length draws ≡ length before - 1) × Shuffles gives before w draws after u
+    (draws : List ℕ) × (length draws ≡ length before - 1) × Shuffles gives before w draws after u × (rejected ≡ [])
 IsShuffle {W} gives before w rejected (Err spent) after u =
     (draws : List ℕ) × (length draws < length before - 1) × (v : W) × Shuffles gives before w draws after v
     × Spends gives (length before - length draws) v rejected u

@@ -1,5 +1,5 @@
 -- Draws of one caller on a new table, behind its first sample.
-use Rattle.std.specs.Prelude.{◌≡◌, ◌==◌, ◌++◌, ℕ, zero, suc, List, [], ◌∷◌, Option, Some, None, if◌then◌else◌, map, option_map, replicate}
+use Rattle.std.specs.Prelude.{◌≡◌, ◌==◌, ◌++◌, ℕ, zero, suc, List, [], ◌∷◌, Option, Some, None, if◌then◌else◌, map, option_map, length}
 use Rattle.std.specs.List.{flat_map, range_with_len}
 use Rattle.std.specs.Int.{from_le_bytes, w32}
 use Rattle.key_names.specs.declared.names.Step.{Step}
@@ -9,9 +9,10 @@ use Rattle.key_names.specs.Book.{Book, Lists, LawfulLanes, lists_of}
 use Rattle.key_names.specs.Deeds.{deeds_of}
 use Rattle.key_names.specs.IsTranscript.{MarkBy, VisitsAre, marks_from}
 use Rattle.key_names.specs.SeenLine.{bytes_or_none, no_data}
+use Rattle.key_names.specs.Uses.{IsDisjoint}
 use Rattle.lane_table.specs.Advances.{Climbs}
-use Rattle.rng_core.specs.declared.setting.Setting.{Setting}
 use Rattle.rng_core.specs.Makes.{IsOutcomeOf, setting_of}
+use Rattle.rng_core.specs.Settings.{first_setting}
 use Rattle.draw_below.specs.Draws.{accepts, value_of}
 use Rattle.draw_below.specs.declared.table_draws.Drawn.{Drawn}
 
@@ -34,15 +35,11 @@ draws_in c (suc n) tried (r ∷ rs) =
 abbrev pub ends_of : Drawn → List (Option ℕ)
 ends_of drawn = map Some drawn.answers.items ++ (if drawn.spent then None ∷ [] else [])
 
--- caller 0 in its first event, on CPU 0, at moment 0, with hardware words 0
-abbrev pub first_setting : Setting
-first_setting = record { caller = 0; event = 0; cpu = 0; now = 0; hw = replicate 32 0 }
-
 -- in these lists the steps are those of a call that read an integer of 4 bytes, and the word is its bytes, the lowest
 -- first
 pub record IsWordCall (lists : Lists) (word : ℕ) (steps : List Step) : Type 0 where
   pub bytes : List ℕ
-  pub fulfils : IsOutcomeOf (setting_of first_setting) Int32 Done (bytes_or_none bytes) (deeds_of lists steps)
+  pub fulfils : IsOutcomeOf (setting_of (first_setting 0)) Int32 Done (bytes_or_none bytes) (deeds_of lists steps)
   pub word_is : word ≡ from_le_bytes w32 bytes
 
 -- each word is that of its call
@@ -56,13 +53,15 @@ AreWordCalls lists (word ∷ words) (steps ∷ calls) = IsWordCall lists word st
 abbrev pub marks_of : List (List Step) → List MarkBy
 marks_of calls = flat_map (marks_from 0 0 0) calls
 
--- the visits of a lawful book are those of one `add`, which makes the core ready, and then of an integer read for each
--- word, in order; it has no others
+-- the visits of a lawful and disjoint book of one CPU are those of one `add`, which makes the core ready, and then of an
+-- integer read for each word, in order; it has no others
 pub record AreTableWords (words : List ℕ) : Type 0 where
   pub book : Book
+  pub cpus : length book.cpus ≡ 1
   pub lawful : LawfulLanes (lists_of book)
+  pub disjoint : IsDisjoint (lists_of book)
   pub added : List Step
-  pub adds : IsOutcomeOf (setting_of first_setting) (Add (range_with_len 0 32) 256) Done no_data
+  pub adds : IsOutcomeOf (setting_of (first_setting 0)) (Add (range_with_len 0 32) 256) Done no_data
       (deeds_of (lists_of book) added)
   pub reads : List (List Step)
   pub read : AreWordCalls (lists_of book) words reads

@@ -11,11 +11,11 @@ use std::sync::Wait;
 /// Puts a list of at most 65,536 items into an order in which each is as likely as every other, where every word is.
 ///
 /// From the last place down to the second, a number up to the place is drawn, and the place's item is exchanged with
-/// the item at that number. `rejected` then holds what the last of these draws rejected.
+/// the item at that number. `rejected` is empty then, since the last of these draws, which is below 2, rejects no word.
 ///
 /// # Errors
 ///
-/// A draw was spent. The exchanges that were made stand.
+/// A draw was spent: `rejected` then holds its 128 words. The exchanges that were made stand.
 pub fn shuffle<W: Words, R: Wait>(
     rt: &R,
     words: &mut W,
@@ -26,6 +26,7 @@ pub fn shuffle<W: Words, R: Wait>(
     ensures permutes { IsPermutation list.old list.new }
     ensures shuffles { IsShuffle W.gives list.old words.old rejected.new result list.new words.new }
 {
+    rejected.clear();
     let count = list.len();
     for done in 1..count {
         let last = count - done;

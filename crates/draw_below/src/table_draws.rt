@@ -11,7 +11,7 @@ ghost use Rattle.rng_core.specs.Traces.{moment};
 ghost use Rattle.rng_core.specs.Makes.{Makes, IsOutcomeOf, setting_of};
 ghost use Rattle.draw_below.specs.Draws.{Takes};
 ghost use Rattle.draw_below.specs.LaneWords.{ReadsWord, SameSource};
-ghost use Rattle.draw_below.specs.TableDraws.{AreTableDraws, draws_in, ends_of, first_setting};
+ghost use Rattle.draw_below.specs.TableDraws.{AreTableDraws, draws_in, ends_of};
 
 use crate::draws::{DrawSpent, below};
 use crate::lane_words::LaneWords;
@@ -97,19 +97,6 @@ fn draw_by_pass<R: Wait>(
     draw_from(rt, &mut words, c, count)
 }
 
-// What caller 0 has set in its first event.
-fn first_setting() -> Setting
-    ensures { result ≡ first_setting }
-{
-    Setting {
-        caller: 0,
-        event: 0,
-        cpu: 0,
-        now: 0,
-        hw: [0; 32],
-    }
-}
-
 // Adds the first sample, which makes the core ready.
 fn add_sample<R: Wait>(rt: &R, lanes: &Lanes, pass: &mut Pass, set: &Setting)
     requires has { HoldsLanes lanes.now set.now.caller [] pass.old }
@@ -145,7 +132,7 @@ pub fn draw_on_new_table<R: Wait>(
     ensures { IfOk result (λ drawn. AreTableDraws c count (ends_of drawn)) }
 {
     let (lanes, mut pass) = Lanes::start(alloc, 1, 0)?;
-    let set = first_setting();
+    let set = Setting::first(0);
     add_sample(rt, &lanes, &mut pass, &set);
     let drawn = draw_by_pass(rt, &lanes, &mut pass, set, c, count);
     let _visits = lanes.close(pass);

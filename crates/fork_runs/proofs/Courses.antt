@@ -7,7 +7,8 @@ use Rattle.key_names.specs.IsTranscript.{marks_from}
 use Rattle.lane_table.specs.declared.view.View.{View}
 use Rattle.rng_core.proofs.Courses.{Course, course_none, course_then, course_told}
 use Rattle.fork_runs.specs.Runs.{DidAll}
-use Rattle.fork_runs.specs.TableForks.{first_setting, marks_of}
+use Rattle.rng_core.specs.Settings.{first_setting}
+use Rattle.fork_runs.specs.TableForks.{marks_of}
 
 -- one call
 pub course_did : {P : List Deed → Type 0} (caller : ℕ) (v w : View) (steps : List Step) →

@@ -2,12 +2,13 @@
 use Rattle.std.proofs.Common.{◌≡◌, ℕ, ◌+◌, ◌*◌, ◌-◌, ◌^◌, ◌<◌, ◌≤◌, max, List, [], ◌∷◌, ◌++◌, length, refl, sym, ap, ◌∙◌, subst, arith}
 use Rattle.std.proofs.Math.ListN.{get_or-map}
 use Rattle.std.proofs.lemmas.List.{length-map}
+use Rattle.std.proofs.lemmas.List.FromFn.{length-range_with_len}
 use Rattle.std.specs.List.{AllByRecursion, range_with_len}
 use Rattle.key_names.specs.declared.events.Answer.TheVariants.{Ok as Done}
 use Rattle.key_names.specs.declared.events.Event.TheVariants.{Add}
 use Rattle.key_names.specs.declared.names.Step.{Step}
 use Rattle.key_names.specs.declared.point.Point.{Point}
-use Rattle.key_names.specs.Book.{Lists}
+use Rattle.key_names.specs.Book.{LawfulLanes, Lists}
 use Rattle.key_names.specs.Deeds.{Deed, deeds_of}
 use Rattle.key_names.specs.IsTranscript.{MarkBy}
 use Rattle.key_names.specs.SeenLine.{no_data}
@@ -15,6 +16,7 @@ use Rattle.key_names.specs.Vgetrandom.{HostStep}
 use Rattle.key_names.specs.VgetrandomState.{VgetrandomState, wiped_state}
 use Rattle.key_names.specs.VreadSteps.{published_by}
 use Rattle.key_names.proofs.Lists.Each.{each_append}
+use Rattle.key_names.proofs.Uses.BookUses.{lawful_is_disjoint}
 use Rattle.lane_table.specs.declared.view.LaneView.{LaneView}
 use Rattle.lane_table.specs.declared.view.View.{View}
 use Rattle.lane_table.specs.declared.view.Visit.{Visit}
@@ -40,12 +42,13 @@ use Rattle.vcall_fork.specs.Stops.{RestOfCall}
 use Rattle.vcall_fork.specs.Forks.{ForksAreTold, ChildTakesKey}
 use Rattle.rng_core.specs.declared.setting.Setting.{Setting}
 use Rattle.rng_core.specs.Makes.{IsOutcomeOf, setting_of}
+use Rattle.rng_core.specs.Settings.{first_setting}
 use Rattle.rng_core.proofs.Makings.{did_floor}
 use Rattle.rng_core.proofs.Courses.{Course, IsKnown, known_grown, marks_both, marks_in, none_made, start, three_visits}
 use Rattle.rng_core.proofs.Hosting.{published_more}
 use Rattle.fork_runs.specs.Stretches.{FinishedOver}
 use Rattle.fork_runs.specs.Runs.{knowing, DidAll, RanBy, ReachedStop, ForkedOver}
-use Rattle.fork_runs.specs.TableForks.{first_setting, marks_of, Way, IsEnd, AreForkedBytes}
+use Rattle.fork_runs.specs.TableForks.{marks_of, Way, IsEnd, AreForkedBytes}
 use Rattle.fork_runs.proofs.Courses.{course_did, course_calls}
 use Rattle.fork_runs.proofs.TwoStops.{parents_call, childs_call}
 
@@ -289,10 +292,22 @@ module _ (turn : Turn) (point : Point) (n : ℕ) (p q w x : View) (left : Stage)
     child_climbs = climbs_append reached.stop.place.published (published_by (floor (steps.child mid)))
         (published_by (floor over.child_end)) [] over.child_ends.steps published over.child_ends.climbs
 
+    lawful : LawfulLanes (book_lists (length x.lanes) (known_of x) [])
+    lawful = ended_lawful x [] low ended
+
     pub forked_bytes : AreForkedBytes turn point n parent child
     forked_bytes = record {
       book = book_of (length x.lanes) (known_of x) [];
-      lawful = ended_lawful x [] low ended;
+      cpus = length-map (range_with_len 0 (length x.lanes - 2)) _ ∙ length-range_with_len 0 (length x.lanes - 2)
+          ∙ (let e = wide in omega arith);
+      lawful = lawful;
+      disjoint = lawful_is_disjoint (book_lists (length x.lanes) (known_of x) []) (record {
+        lanes = lawful;
+        states = record {
+          states = λ caller state. record { comes = tt; ends = refl };
+          one_taker = λ a b read is at. absurd cc;
+        };
+      });
       added = sampled.0;
       adds = shown_in (length x.lanes) (known_of x) (first_setting 0) p q sampled.0 sampled.1 sample_goes;
       stop = reached.stop;

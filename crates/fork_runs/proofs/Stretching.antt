@@ -1,16 +1,15 @@
 -- What a host over the lanes did in a stretch of a call, in the words of the caller.
 use Rattle.std.proofs.Common.{◌≡◌, ℕ, ◌<◌, ◌≤◌, Bool, true, false, List, [], ◌∷◌, length, refl, sym, ap, ◌∙◌, subst}
-use Rattle.std.specs.Prelude.{◌&&◌, Result, Ok, Err}
+use Rattle.std.specs.Prelude.{◌&&◌, Result}
 use Rattle.key_names.specs.declared.errno.Errno.{Errno}
 use Rattle.key_names.specs.declared.point.Point.{Point}
-use Rattle.key_names.specs.Vgetrandom.{SystemAnswer, read, failed, HostStep, publishes, system_call, at_point, Ending, no_bytes, by_batch, by_system, Outcome}
+use Rattle.key_names.specs.Vgetrandom.{read, failed, HostStep, publishes, system_call, at_point, Ending, no_bytes, by_batch, by_system}
 use Rattle.key_names.specs.VgetrandomState.{VgetrandomState}
 use Rattle.key_names.specs.VreadSteps.{Shows, published_by}
 use Rattle.lane_table.specs.Calls.{view}
 use Rattle.lane_table.specs.Hands.{HoldsLanes}
 use Rattle.lane_table.specs.Advances.{floor}
 use Rattle.vdso_state.specs.declared.outcome.VEnd.{VEnd}
-use Rattle.vdso_state.specs.declared.outcome.VEnd.TheVariants.{Zero, Batch, System}
 use Rattle.vdso_state.specs.declared.place.Turn.{Turn}
 use Rattle.vdso_state.specs.Call.{EndsAs}
 use Rattle.vdso_state.specs.Host.{DoesAll}

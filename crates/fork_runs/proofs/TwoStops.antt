@@ -1,5 +1,5 @@
 -- A stop behind another, and what a fork at a stop leaves to parent and child.
-use Rattle.std.proofs.Common.{◌≡◌, ℕ, ◌≤◌, false, true, List, [], ◌∷◌, ◌++◌, refl, sym, ap, subst, append_assoc}
+use Rattle.std.proofs.Common.{◌≡◌, ℕ, false, true, List, [], ◌∷◌, ◌++◌, refl, sym, subst, append_assoc}
 use Rattle.std.specs.List.{AllByRecursion}
 use Rattle.key_names.specs.declared.entries.VEntry.{VEntry}
 use Rattle.key_names.specs.declared.entries.VEntry.TheVariants.{Wipe}
@@ -15,7 +15,7 @@ use Rattle.vdso_state.specs.Places.{BehindPlace}
 use Rattle.vdso_state.proofs.Leading.{points_append}
 use Rattle.vcall_fork.specs.declared.stage.Stage.TheVariants.{New}
 use Rattle.vcall_fork.specs.Forks.{ForkIsTold, ForksAreTold}
-use Rattle.fork_runs.specs.Stretches.{AreUnwiped, Stop}
+use Rattle.fork_runs.specs.Stretches.{Stop}
 
 module _ (law : ForksAreTold) (n flags : ℕ) (s : VgetrandomState) (turn : Turn) (point : Point)
     (stop : Stop (IsCall n flags s) n flags turn point) where

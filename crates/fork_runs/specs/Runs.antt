@@ -24,8 +24,8 @@ use Rattle.vcall_fork.specs.declared.stage.Stage.TheVariants.{At}
 use Rattle.rng_core.specs.declared.setting.Setting.{Setting}
 use Rattle.rng_core.specs.Traces.{Moment}
 use Rattle.rng_core.specs.Makes.{Makes, IsOutcomeOf, setting_of}
+use Rattle.rng_core.specs.Settings.{first_setting}
 use Rattle.fork_runs.specs.Stretches.{Stop, FinishedOver}
-use Rattle.fork_runs.specs.TableForks.{first_setting}
 
 -- a caller that knows this, with steps of a call that it made of its own
 abbrev pub knowing : View → List Step → Moment

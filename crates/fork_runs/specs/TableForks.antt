@@ -1,5 +1,5 @@
 -- A vgetrandom call of caller 0 on a new table that forks at a point, and what it then is of parent and child.
-use Rattle.std.specs.Prelude.{ℕ, ◌≡◌, ◌≤◌, Bool, true, false, List, [], ◌∷◌, ◌++◌, map, replicate}
+use Rattle.std.specs.Prelude.{ℕ, ◌≡◌, true, false, List, [], ◌∷◌, ◌++◌, length, map}
 use Rattle.std.specs.List.{flat_map, range_with_len}
 use Rattle.key_names.specs.declared.entries.BaseEntry.TheVariants.{Fork}
 use Rattle.key_names.specs.declared.entries.VEntry.TheVariants.{Wipe}
@@ -13,6 +13,7 @@ use Rattle.key_names.specs.Deeds.{deeds_of}
 use Rattle.key_names.specs.Forms.{BaseOnly}
 use Rattle.key_names.specs.IsTranscript.{MarkBy, VisitsAre, marks_from}
 use Rattle.key_names.specs.SeenLine.{no_data}
+use Rattle.key_names.specs.Uses.{IsDisjoint}
 use Rattle.key_names.specs.Vgetrandom.{HostStep, at_point, Outcome, outcome_behind, by_batch, IsCall}
 use Rattle.key_names.specs.VgetrandomState.{VgetrandomState, wiped_state}
 use Rattle.key_names.specs.VreadSteps.{Shows}
@@ -22,13 +23,9 @@ use Rattle.vdso_state.specs.declared.place.Turn.TheVariants.{First, Second}
 use Rattle.vdso_state.specs.declared.place.Place.{Place}
 use Rattle.vdso_state.specs.Places.{BehindPlace}
 use Rattle.vcall_fork.specs.Forks.{takes_key}
-use Rattle.rng_core.specs.declared.setting.Setting.{Setting}
 use Rattle.rng_core.specs.Makes.{IsOutcomeOf, setting_of}
+use Rattle.rng_core.specs.Settings.{first_setting}
 use Rattle.fork_runs.specs.Stretches.{AreUnwiped, Stop, GivesBytes}
-
--- a caller in its first event, on CPU 0, at moment 0, with hardware words 0
-abbrev pub first_setting : ℕ → Setting
-first_setting caller = record { caller = caller; event = 0; cpu = 0; now = 0; hw = replicate 32 0 }
 
 -- the steps of the caller's calls are what its host did
 abbrev pub IsShown : Lists → ℕ → List HostStep → List Step → Type 0
@@ -73,12 +70,14 @@ marks_of caller calls = flat_map (marks_from caller 0 0) calls
 abbrev pub stamps_of : List MarkBy → List ℕ
 stamps_of marks = map (λ by. by.mark.stamp) marks
 
--- the visits of a lawful book are those of one `add`, which makes the core ready, of the parent's vgetrandom call as
--- far as its stop, of the fork, of what is left of the parent's call, and of the child's; it has no others. What parent
--- and child give out are the bytes in which these two calls end
+-- the visits of a lawful and disjoint book of one CPU are those of one `add`, which makes the core ready, of the parent's
+-- vgetrandom call as far as its stop, of the fork, of what is left of the parent's call, and of the child's; it has no
+-- others. What parent and child give out are the bytes in which these two calls end
 pub record AreForkedBytes (turn : Turn) (point : Point) (n : ℕ) (parent child : List ℕ) : Type 0 where
   pub book : Book
+  pub cpus : length book.cpus ≡ 1
   pub lawful : LawfulLanes (lists_of book)
+  pub disjoint : IsDisjoint (lists_of book)
   pub added : List Step
   pub adds : IsOutcomeOf (setting_of (first_setting 0)) (Add (range_with_len 0 32) 256) Done no_data
       (deeds_of (lists_of book) added)
@@ -100,6 +99,7 @@ pub record AreForkedBytes (turn : Turn) (point : Point) (n : ℕ) (parent child 
       takes_key false child_end.steps ≡ true
   pub visits : VisitsAre book (marks_of 0 (added ∷ calls ++ forked ∷ []) ++ marks_of 0 (parent_end.own ∷ [])
       ++ marks_of 1 (child_end.own ∷ []))
+  -- the stamps of each caller climb; those of the two ends are not ordered beside each other
   pub at_fork : ℕ
   pub parents_last : ℕ
   pub childs_last : ℕ

@@ -14,7 +14,7 @@ ghost use Rattle.rng_core.specs.Makes.{Makes, IsOutcomeOf, setting_of};
 ghost use Rattle.vcall_fork.specs.declared.stage.Stage.TheVariants.{New};
 ghost use Rattle.vcall_fork.specs.Stages.{is_stopped, published_or};
 ghost use Rattle.fork_runs.specs.Runs.{ReachedStop, ForkedOver};
-ghost use Rattle.fork_runs.specs.TableForks.{AreForkedBytes, first_setting};
+ghost use Rattle.fork_runs.specs.TableForks.{AreForkedBytes};
 
 use crate::stretches::{Caller, HeldCall, StopAt, finish, run_to};
 use key_names::Trace;
@@ -39,19 +39,6 @@ const SAMPLE_BITS: u32 = 256;
 pub struct ForkedBytes {
     pub parent: Vec<u8>,
     pub child: Vec<u8>,
-}
-
-// What a caller has set in its first event.
-fn first_setting(caller: u32) -> Setting
-    ensures { result ≡ first_setting caller }
-{
-    Setting {
-        caller,
-        event: 0,
-        cpu: 0,
-        now: 0,
-        hw: [0; 32],
-    }
 }
 
 // Adds the first sample, which makes the core ready.
@@ -189,7 +176,7 @@ fn fork_at_stop<R: Wait>(
     let parent_gave = finish(rt, caller, pass, held, buf);
     let child = Caller {
         lanes: caller.lanes,
-        set: first_setting(1),
+        set: Setting::first(1),
     };
     let mut childs = HeldCall { call, st };
     let child_gave = finish(rt, &child, &mut child_pass, &mut childs, child_buf);
@@ -213,7 +200,7 @@ fn fork_once<R: Wait>(
     let (lanes, mut pass) = Lanes::start(alloc, 1, 0)?;
     let caller = Caller {
         lanes: &lanes,
-        set: first_setting(0),
+        set: Setting::first(0),
     };
     add_sample(rt, &caller, &mut pass);
     let mut held = HeldCall {
@@ -256,7 +243,8 @@ fn fork_until<R: Wait>(
 /// it caller 0, whose state is wiped, wants so many bytes of vgetrandom, from 1 to 2^20, without flags. The call is
 /// held at the point of the attempt, and caller 1 forked there. A second attempt is had by a reseed while the first one
 /// stands at Serve. First the parent's call is ended, and then the child's, by its own pass; all of it on CPU 0, at
-/// moment 0, with hardware words of zeros.
+/// moment 0, with hardware words of zeros. That the parent's ends first is tested and not promised: no clause orders the
+/// visits of the two ends.
 ///
 /// A run whose call is over before the stop, or that gives no bytes, is made anew: none is known.
 ///

@@ -1,11 +1,14 @@
 -- Calls one after another on a table of three lanes: where their visits stand in the end.
-use Rattle.std.proofs.Common.{◌≡◌, ℕ, suc, ◌+◌, ◌<◌, ◌≤◌, ◌^◌, List, [], ◌∷◌, ◌++◌, length, refl, sym, ap, ◌∙◌, subst, arith, Bool, true, false, nat_eq, Some}
+use Rattle.std.proofs.Common.{zero, lit<, ◌+◌, ◌≡◌, ℕ, suc, ◌<◌, ◌≤◌, ◌^◌, List, [], ◌∷◌, ◌++◌, length, refl, sym, ap, ◌∙◌, subst, arith, Bool, true, false, nat_eq, Some}
 use Rattle.std.specs.Prelude.{slice_get}
 use Rattle.std.specs.List.{AllByRecursion}
-use Rattle.std.proofs.lemmas.Bool.{eqb-true}
+use Rattle.std.proofs.lemmas.Bool.{eqb-true, ne_eqb}
+use Rattle.std.proofs.lemmas.Bool.Decides.{nat_tests}
+use Rattle.key_names.specs.declared.names.LaneId.{LaneId}
+use Rattle.key_names.specs.declared.names.LaneId.TheVariants.{Pool as PoolLane, Base as BaseLane, Cpu as CpuLane}
 use Rattle.key_names.specs.declared.names.Mark.{Mark}
 use Rattle.key_names.specs.declared.names.Step.{Step}
-use Rattle.key_names.specs.IsTranscript.{MarkBy, PlacesStand, VisitsAre, marks_from}
+use Rattle.key_names.specs.IsTranscript.{MarkBy, PlacesStand, VisitsAre, is_same_lane, lane_marks, marks_from}
 use Rattle.key_names.specs.PlacesInOrder.{ByStamp, InOrder}
 use Rattle.key_names.proofs.Lists.Each.{each_weaker}
 use Rattle.key_names.proofs.Transcripts.PlacesInOrder.{places_count_up}
@@ -18,22 +21,23 @@ use Rattle.lane_table.specs.WorldRule.{at, known_of, times}
 use Rattle.lane_table.proofs.Book.BookEnds.{ended_places}
 use Rattle.lane_table.proofs.Book.BookMarks.{MarksPlace}
 use Rattle.lane_table.proofs.Lists.Places.{stands_at}
+use Rattle.rng_core.specs.Settings.{first_setting}
 use Rattle.rng_core.proofs.Courses.{Course, IsKnown, course_none, course_then, course_told, course_visits, either, lane_of, places, stamps_of, start}
 use Rattle.irq_feed.specs.declared.samples.Sample.{Sample}
 use Rattle.irq_feed.specs.Mixing.{Mixes, in_event}
-use Rattle.irq_feed.specs.TableFeed.{first_setting, marks_of}
+use Rattle.irq_feed.specs.TableFeed.{marks_of}
 
 -- the steps of the calls that mixed some samples
-abbrev pub calls_in : (event : ℕ) (xs : List Sample) (v w : View) → Mixes first_setting event xs v w → List (List Step)
+abbrev pub calls_in : (event : ℕ) (xs : List Sample) (v w : View) → Mixes (first_setting 0) event xs v w → List (List Step)
 calls_in event [] v w m = []
 calls_in event (x ∷ xs) v w m = m.1.steps ∷ calls_in (suc event) xs m.0 w m.2
 
-pub course_in : (event : ℕ) (xs : List Sample) (v w : View) (m : Mixes first_setting event xs v w) →
+pub course_in : (event : ℕ) (xs : List Sample) (v w : View) (m : Mixes (first_setting 0) event xs v w) →
     Course v w (marks_of event (calls_in event xs v w m))
 course_in event [] v w m = subst (λ (z : View). Course v z []) (sym m) (course_none v)
 course_in event (x ∷ xs) v w (u, one, more) =
     course_then v u w (marks_from 0 event 0 one.steps) (marks_of (suc event) (calls_in (suc event) xs u w more))
-    (course_told (in_event first_setting event) v u one.steps one.did.made_steps one.did.told)
+    (course_told (in_event (first_setting 0) event) v u one.steps one.did.made_steps one.did.told)
     (course_in (suc event) xs u w more)
 
 -- ---- a table of three lanes in the end
@@ -87,6 +91,30 @@ in_lane w lane (by ∷ marks) all = go (nat_eq (index_of by.mark.lane) lane) ref
         ((m.visit, there, m.stamped), rest)
     go false is rest = rest
 
+-- a lane's marks by its number
+same_lane : (a b : LaneId) → is_same_lane a b ≡ nat_eq (index_of a) (index_of b)
+same_lane PoolLane PoolLane = refl
+same_lane PoolLane BaseLane = refl
+same_lane PoolLane (CpuLane d) = grind (arith, nat_tests)
+same_lane BaseLane PoolLane = refl
+same_lane BaseLane BaseLane = refl
+same_lane BaseLane (CpuLane d) = grind (arith, nat_tests)
+same_lane (CpuLane c) PoolLane = grind (arith, nat_tests)
+same_lane (CpuLane c) BaseLane = grind (arith, nat_tests)
+same_lane (CpuLane c) (CpuLane d) = grind (arith, nat_tests)
+
+numbered : (lane : LaneId) (marks : List MarkBy) → lane_marks lane marks ≡ lane_of (index_of lane) marks
+numbered lane [] = refl
+numbered lane (by ∷ marks) = λ i. either (same_lane by.mark.lane lane i) by.mark (numbered lane marks i)
+
+none_beyond : (w : View) (lane : ℕ) (marks : List MarkBy) → length w.lanes ≤ lane → AllByRecursion (IsKnown w) marks →
+    lane_of lane marks ≡ []
+none_beyond w lane [] beyond known = refl
+none_beyond w lane (by ∷ marks) beyond known =
+    let near = known.0.1.near in
+    ap (λ b. either b by.mark (lane_of lane marks)) (ne_eqb (index_of by.mark.lane) lane (λ e. absurd (omega arith)))
+    ∙ none_beyond w lane marks beyond known.1
+
 module _ (w : View) (marks : List MarkBy) (course : Course start w marks) where
   pub wide : length w.lanes ≡ 3
   wide = course.same.sized
@@ -106,11 +134,24 @@ module _ (w : View) (marks : List MarkBy) (course : Course start w marks) where
       pub all_here : length (lane_of lane marks) ≡ length (known_of w lane)
       all_here = made_here ∙ ended.made lane (let n = wide in omega arith)
 
-      pub in_order : InOrder 0 (lane_of lane marks)
-      in_order =
-          let stand : PlacesStand (lane_of lane marks) =
+      stand : PlacesStand (lane_of lane marks)
+      stand =
           ended_places w [] (let n = wide in omega arith) ended lane (let n = wide in omega arith) (lane_of lane marks)
           (in_lane w lane marks course.known) made_here
           (λ place. ap (times place) (sym (course.placed lane low ∙ ap (λ (l : List ℕ). l ++ places (lane_of lane marks))
-          was_none.1))) in
+          was_none.1)))
+
+      pub in_order : InOrder 0 (lane_of lane marks)
+      in_order =
           (places_count_up (lane_of lane marks)).1 (sorted lane start.stamp w.stamp marks course.climbs) stand
+
+    by_number : (lane : LaneId) → PlacesStand (lane_of (index_of lane) marks)
+    by_number PoolLane = stand 0 (lit< tt) (refl, refl)
+    by_number BaseLane = stand 1 (lit< tt) (refl, refl)
+    by_number (CpuLane zero) = stand 2 (lit< tt) (refl, refl)
+    by_number (CpuLane (suc c)) =
+        subst PlacesStand (sym (none_beyond w (suc c + 2) marks (let n = wide in omega arith) course.known))
+        (record { once = tt; rise = tt })
+
+    pub places_stand : (lane : LaneId) → PlacesStand (lane_marks lane marks)
+    places_stand lane = subst PlacesStand (sym (numbered lane marks)) (by_number lane)

@@ -23,6 +23,7 @@ use Rattle.key_names.specs.IsTranscript.{MarkBy, VisitsAre, marks_from}
 use Rattle.key_names.specs.LineSamples.{SamplesStand, Dumps, IsQuiet, IsCrossing, EntryIsQuiet}
 use Rattle.key_names.specs.PoolList.{Crossing, crossing, ready, early, none, PoolState, pool_step}
 use Rattle.key_names.specs.Samples.{MakesDue}
+use Rattle.key_names.proofs.Uses.BookUses.{lawful_is_disjoint}
 use Rattle.lane_table.specs.declared.view.View.{View}
 use Rattle.lane_table.specs.declared.view.Visit.{Visit}
 use Rattle.lane_table.specs.BookLaws.{ClosedLanes, Continues}
@@ -35,6 +36,7 @@ use Rattle.lane_table.proofs.Book.BookSamples.{fast_met}
 use Rattle.lane_table.proofs.Book.BookWhole.{cpu_listed}
 use Rattle.lane_table.proofs.Lists.VisitLists.{begins_refl}
 use Rattle.rng_core.specs.Makes.{IsOutcomeOf, setting_of}
+use Rattle.rng_core.specs.Settings.{first_setting}
 use Rattle.rng_core.specs.SampleDeeds.{Sampled, fast_in}
 use Rattle.irq_feed.specs.declared.samples.Sample.{Sample}
 use Rattle.irq_feed.specs.Mixing.{Mixes}
@@ -44,14 +46,15 @@ use Rattle.irq_feed.specs.declared.table_feed.FeedSums.{FeedSums}
 use Rattle.irq_feed.specs.Feeds.{Numbers, numbers}
 use Rattle.irq_feed.specs.Fed.{AllMixed, mixed_in}
 use Rattle.irq_feed.specs.Samples.{first_samples, of_feeder}
-use Rattle.irq_feed.specs.TableFeed.{AreCalls, IsFed, IsFedBook, first_setting, irq_entry, marks_of}
+use Rattle.irq_feed.specs.TableFeed.{AreCalls, IsFed, IsFedBook, irq_entry, marks_of}
 use Rattle.rng_core.proofs.Courses.{Course, lane_append, lane_of, start}
-use Rattle.irq_feed.proofs.Courses.{all_here, calls_in, course_in, in_order, share_is, visits_made, wide}
+use Rattle.irq_feed.proofs.Courses.{all_here, calls_in, course_in, in_order, places_stand, share_is, visits_made, wide}
 use Rattle.irq_feed.proofs.Dumps.{Dumped, bits_at_dump, dumps_are, due_more, none_dumped, quiet_more}
+use Rattle.irq_feed.proofs.FedSamples.{lawful_samples}
 use Rattle.irq_feed.proofs.Entries.{AllThere, CountUp, Counts, count_up, cpu_here, cpu_seen, next_entry, parts_count, pool_here, pool_seen}
 
 abbrev set : CallSetting
-set = setting_of first_setting
+set = setting_of (first_setting 0)
 
 -- ---- what one call leaves
 
@@ -275,7 +278,14 @@ module _ (visits : ℕ → List Visit) where
   are_calls (x ∷ xs) [] a = a
   are_calls (x ∷ xs) (steps ∷ calls) a = (a.0.holds, are_calls xs calls a.1)
 
-  are_sampled : (event : ℕ) (xs : List Sample) (v w : View) (m : Mixes first_setting event xs v w) →
+  stand : (xs : List Sample) (calls : List (List Step)) → AreSampled xs calls →
+      AllByRecursion (λ steps. SamplesStand fast (deeds_of lists steps)) calls
+  stand [] [] a = tt
+  stand [] (steps ∷ calls) a = absurd a
+  stand (x ∷ xs) [] a = tt
+  stand (x ∷ xs) (steps ∷ calls) a = (a.0.samples, stand xs calls a.1)
+
+  are_sampled : (event : ℕ) (xs : List Sample) (v w : View) (m : Mixes (first_setting 0) event xs v w) →
       Continues 3 w visits → AreSampled xs (calls_in event xs v w m)
   are_sampled event [] v w m c = tt
   are_sampled event (x ∷ xs) v w (u, one, more) c =
@@ -374,7 +384,7 @@ front_is_all es front [] is long = sym (append-nil front) ∙ sym is
 front_is_all es front (x ∷ rest) is long =
     absurd (let l = ap length is ∙ length-append front (x ∷ rest) in omega arith)
 
-module _ (xs : List Sample) (v w : View) (m : Mixes first_setting 0 xs v w) (new : v ≡ start) where
+module _ (xs : List Sample) (v w : View) (m : Mixes (first_setting 0) 0 xs v w) (new : v ≡ start) where
   abbrev calls : List (List Step)
   calls = calls_in 0 xs v w m
 
@@ -412,12 +422,28 @@ module _ (xs : List Sample) (v w : View) (m : Mixes first_setting 0 xs v w) (new
     sampled : AreSampled visits_of xs calls
     sampled = are_sampled visits_of 0 xs v w m goes_on
 
+    lawful : LawfulLanes (lists_of book)
+    lawful = subst (λ (n : ℕ). LawfulLanes (book_lists n visits_of [])) three (ended_lawful w [] low ended)
+
+    made : VisitsAre book marks
+    made = subst (λ (n : ℕ). VisitsAre (book_of n visits_of []) marks) three (visits_made w marks course ended)
+
     pub fed_book : IsFedBook xs book
     fed_book = record {
-      lawful = subst (λ (n : ℕ). LawfulLanes (book_lists n visits_of [])) three (ended_lawful w [] low ended);
+      cpus = refl;
+      lawful = lawful;
+      disjoint = lawful_is_disjoint (lists_of book) (record {
+        lanes = lawful;
+        states = record {
+          states = λ caller state. record { comes = tt; ends = refl };
+          one_taker = λ a b read is at. absurd cc;
+        };
+      });
       calls = calls;
       are = are_calls visits_of xs calls sampled;
-      visits = subst (λ (n : ℕ). VisitsAre (book_of n visits_of []) marks) three (visits_made w marks course ended);
+      visits = made;
+      lawful_samples = lawful_samples calls visits_of closed made (places_stand w marks course ended)
+          (stand visits_of xs calls sampled);
       last = w.stamp;
       in_order = course.climbs;
     }
@@ -466,7 +492,7 @@ module _ (xs : List Sample) (v w : View) (m : Mixes first_setting 0 xs v w) (new
 
 -- the sums are those of the book
 pub is_fed : (first feeders each : ℕ) (feeds : Numbers) (worker : FeedPass) (mixed : Mixed) (sums : FeedSums) (v w : View) →
-    feeds ≡ numbers first feeders each → AllMixed feeds worker mixed → Mixes first_setting 0 (mixed_in mixed) v w →
+    feeds ≡ numbers first feeders each → AllMixed feeds worker mixed → Mixes (first_setting 0) 0 (mixed_in mixed) v w →
     v ≡ start → Ended 3 w → sums.samples ≡ length (mixed_in mixed) → sums.dumps ≡ length (mixed_in mixed) / 1024 →
     sums.bits ≡ min 256 (16 * sums.dumps) → IsFed first feeders each sums
 is_fed first feeders each feeds worker mixed sums v w is all m new ended samples dumps bits =

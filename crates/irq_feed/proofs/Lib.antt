@@ -7,3 +7,4 @@ pub mod Courses
 pub mod Entries
 pub mod Dumps
 pub mod FedBooks
+mod FedSamples

@@ -1,25 +1,23 @@
 -- Feeders on a new table: what then stands on its lanes, in numbers too.
-use Rattle.std.specs.Prelude.{◌≡◌, ◌<◌, ◌*◌, ◌/◌, ◌+◌, ◌++◌, ℕ, suc, min, List, [], ◌∷◌, length, map, replicate}
+use Rattle.std.specs.Prelude.{◌≡◌, ◌<◌, ◌*◌, ◌/◌, ◌+◌, ◌++◌, ℕ, suc, min, List, [], ◌∷◌, length, map}
 use Rattle.key_names.specs.declared.names.Step.{Step}
 use Rattle.key_names.specs.declared.entries.CpuEntry.{CpuEntry}
 use Rattle.key_names.specs.declared.entries.CpuEntry.TheVariants.{Read, Int, Irq, Dump, Prepare, Online}
 use Rattle.key_names.specs.declared.events.Event.TheVariants.{Irq as IrqEvent}
 use Rattle.key_names.specs.declared.events.Answer.TheVariants.{Ok as Done}
+use Rattle.key_names.specs.Samples.{LawfulSamples}
 use Rattle.key_names.specs.SeenLine.{no_data}
 use Rattle.key_names.specs.PoolList.{pool_after}
 use Rattle.key_names.specs.Deeds.{deeds_of}
 use Rattle.key_names.specs.Book.{Book, Lists, LawfulLanes, lists_of, cpu_list}
 use Rattle.key_names.specs.IsTranscript.{MarkBy, VisitsAre, marks_from}
+use Rattle.key_names.specs.Uses.{IsDisjoint}
 use Rattle.lane_table.specs.Advances.{Climbs}
-use Rattle.rng_core.specs.declared.setting.Setting.{Setting}
 use Rattle.rng_core.specs.Makes.{IsOutcomeOf, setting_of}
+use Rattle.rng_core.specs.Settings.{first_setting}
 use Rattle.irq_feed.specs.declared.samples.Sample.{Sample}
 use Rattle.irq_feed.specs.declared.table_feed.FeedSums.{FeedSums}
 use Rattle.irq_feed.specs.Samples.{numbers, first_samples, of_feeder}
-
--- caller 0 in its first event, on CPU 0, at moment 0, with hardware words 0
-abbrev pub first_setting : Setting
-first_setting = record { caller = 0; event = 0; cpu = 0; now = 0; hw = replicate 32 0 }
 
 -- each call is the interrupt of its sample: behind its steps stands what such a call may do
 abbrev pub AreCalls : Lists → List Sample → List (List Step) → Type 0
@@ -27,7 +25,7 @@ AreCalls lists [] [] = Unit {0}
 AreCalls lists [] (steps ∷ calls) = ⊥
 AreCalls lists (x ∷ xs) [] = ⊥
 AreCalls lists (x ∷ xs) (steps ∷ calls) =
-    IsOutcomeOf (setting_of first_setting) (IrqEvent x.v1 x.v2) Done no_data (deeds_of lists steps)
+    IsOutcomeOf (setting_of (first_setting 0)) (IrqEvent x.v1 x.v2) Done no_data (deeds_of lists steps)
     × AreCalls lists xs calls
 
 -- the visits that these calls made, in events that are numbered from this one on
@@ -63,13 +61,16 @@ dumps_in (e ∷ es) = dump_here e + dumps_in es
 abbrev pub irq_entry : Sample → CpuEntry
 irq_entry x = Irq x.v1 x.v2 0
 
--- the one book of a table with one CPU: it is lawful, and has the visits of one call for each sample, one call behind the
--- other, and no others
+-- the one book of a table with one CPU: it is lawful, its samples too, and disjoint, and has the visits of one call for each
+-- sample, one call behind the other, and no others
 pub record IsFedBook (samples : List Sample) (book : Book) : Type 0 where
+  pub cpus : length book.cpus ≡ 1
   pub lawful : LawfulLanes (lists_of book)
+  pub disjoint : IsDisjoint (lists_of book)
   pub calls : List (List Step)
   pub are : AreCalls (lists_of book) samples calls
   pub visits : VisitsAre book (marks_of 0 calls)
+  pub lawful_samples : LawfulSamples book
   pub last : ℕ
   pub in_order : Climbs 0 (map (λ by. by.mark.stamp) (marks_of 0 calls)) last
 

@@ -29,28 +29,30 @@ use std::thread::{Scope, Threads};
 /// numbered from 0. The samples of a feeder that got no thread it mixes itself, behind all others, with the gate before
 /// each. Samples of one feeder keep their order; of different feeders any order may come. No memory is taken once the
 /// first feeder has started, but for threads. The call waits for the lanes and for its feeders. The worker's pass comes
-/// back with all that it took from the queue.
+/// back in every case, after a call that mixed with all that it took from the queue.
 ///
 /// # Errors
 ///
-/// `NoMemory` where there is no memory for the list of what was mixed. Nothing was mixed then.
+/// `NoMemory` where there is no memory for the list of what was mixed. Nothing was mixed then, and the worker's pass
+/// comes back as it was given, so that the call can be made again.
 pub fn feed<'a, R: Threads + Wait + Sync, G: Gate>(
     rt: &R,
     alloc: Global,
     intake: &Intake<'a, G>,
     pass: &mut Pass,
     worker: FeedPass,
-) -> Result<(Mixed, FeedPass), NoMemory>
+) -> (Result<Mixed, NoMemory>, FeedPass)
     requires has { HoldsLanes intake.now.lanes.now intake.now.set.caller [] pass.old }
     requires cpu { intake.now.set.cpu < intake.now.lanes.now.cpus }
     requires moment { intake.now.set.now < 2 ^ 40 }
     requires new { AreNew intake.now.queue.now intake.now.feeds.now worker }
     ensures has { HoldsLanes intake.now.lanes.now intake.now.set.caller [] pass.new }
-    ensures all { IfOk result (λ r. AllMixed intake.now.feeds.now r.1 r.0) }
-    ensures calls { IfOk result (λ r. Mixes intake.now.set 0 (mixed_in r.0) (view pass.old) (view pass.new)) }
-    ensures entries { IfOk result (λ r. Put intake.now.set (mixed_in r.0) (view pass.old) (view pass.new)) }
-    ensures worker { IfOk result (λ r. IsPassOf intake.now.queue.now r.1 × (next_number r.1 ≡ intake.now.feeds.now.feeders)) }
-    ensures err { OnErr result (pass.new ≡ pass.old) }
+    ensures all { IfOk result.0 (λ m. AllMixed intake.now.feeds.now result.1 m) }
+    ensures calls { IfOk result.0 (λ m. Mixes intake.now.set 0 (mixed_in m) (view pass.old) (view pass.new)) }
+    ensures entries { IfOk result.0 (λ m. Put intake.now.set (mixed_in m) (view pass.old) (view pass.new)) }
+    ensures worker { IfOk result.0 (λ m. IsPassOf intake.now.queue.now result.1
+        × (next_number result.1 ≡ intake.now.feeds.now.feeders)) }
+    ensures err { OnErr result.0 ((pass.new ≡ pass.old) × (result.1 ≡ worker)) }
 {
     feed_by(rt, alloc, intake, pass, worker, Feeders::InThreads)
 }
@@ -63,19 +65,23 @@ pub(crate) fn feed_by<'a, R: Threads + Wait + Sync, G: Gate>(
     pass: &mut Pass,
     worker: FeedPass,
     feeders: Feeders,
-) -> Result<(Mixed, FeedPass), NoMemory>
+) -> (Result<Mixed, NoMemory>, FeedPass)
     requires has { HoldsLanes intake.now.lanes.now intake.now.set.caller [] pass.old }
     requires cpu { intake.now.set.cpu < intake.now.lanes.now.cpus }
     requires moment { intake.now.set.now < 2 ^ 40 }
     requires new { AreNew intake.now.queue.now intake.now.feeds.now worker }
     ensures has { HoldsLanes intake.now.lanes.now intake.now.set.caller [] pass.new }
-    ensures all { IfOk result (λ r. AllMixed intake.now.feeds.now r.1 r.0) }
-    ensures calls { IfOk result (λ r. Mixes intake.now.set 0 (mixed_in r.0) (view pass.old) (view pass.new)) }
-    ensures entries { IfOk result (λ r. Put intake.now.set (mixed_in r.0) (view pass.old) (view pass.new)) }
-    ensures worker { IfOk result (λ r. IsPassOf intake.now.queue.now r.1 × (next_number r.1 ≡ intake.now.feeds.now.feeders)) }
-    ensures err { OnErr result (pass.new ≡ pass.old) }
+    ensures all { IfOk result.0 (λ m. AllMixed intake.now.feeds.now result.1 m) }
+    ensures calls { IfOk result.0 (λ m. Mixes intake.now.set 0 (mixed_in m) (view pass.old) (view pass.new)) }
+    ensures entries { IfOk result.0 (λ m. Put intake.now.set (mixed_in m) (view pass.old) (view pass.new)) }
+    ensures worker { IfOk result.0 (λ m. IsPassOf intake.now.queue.now result.1
+        × (next_number result.1 ≡ intake.now.feeds.now.feeders)) }
+    ensures err { OnErr result.0 ((pass.new ≡ pass.old) × (result.1 ≡ worker)) }
 {
-    let mixed = Mixed::with_room(alloc, intake.feeds)?;
+    let mixed = match Mixed::with_room(alloc, intake.feeds) {
+        Ok(mixed) => mixed,
+        Err(error) => return (Err(error), worker),
+    };
     let call = Call {
         intake,
         feeders,
@@ -92,7 +98,7 @@ pub(crate) fn feed_by<'a, R: Threads + Wait + Sync, G: Gate>(
         ..
     } = drain_feeders(rt, &call, pass, hand);
     mix_rest(rt, intake, pass, &mut mixed);
-    Ok((mixed, worker))
+    (Ok(mixed), worker)
 }
 
 // Feeders and worker, until all that comes through the queue is mixed and each thread is joined.

@@ -6,12 +6,6 @@ use io_edges::NoMemory;
 use std::alloc::Global;
 use std::marker::Model;
 
-/// How many feeders there are at most.
-pub const MOST_FEEDERS: u32 = 16;
-
-/// How many samples a feeder has at most.
-pub const MOST_EACH: u32 = 10_000;
-
 /// A sample of an interrupt: two words of the machine's state, the feeder that took them, and how many it took before.
 #[derive(Clone, Copy, Debug, PartialEq, Eq)]
 pub struct Sample {

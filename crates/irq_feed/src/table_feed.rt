@@ -1,6 +1,6 @@
 //! Feeders on a new table.
 ghost use Rattle.std.specs.Prelude.{◌≡◌, ◌≤◌, ◌*◌, ◌/◌, min, IfOk};
-ghost use Rattle.irq_feed.specs.TableFeed.{IsFed, first_setting};
+ghost use Rattle.irq_feed.specs.TableFeed.{IsFed};
 
 use crate::intake::Intake;
 use crate::queue::FeedQueue;
@@ -31,19 +31,6 @@ pub struct FeedSums {
     pub dumps: u32,
     /// The bits of the pool behind them.
     pub bits: u32,
-}
-
-// What caller 0 has set in its first event.
-fn first_setting() -> Setting
-    ensures { result ≡ first_setting }
-{
-    Setting {
-        caller: 0,
-        event: 0,
-        cpu: 0,
-        now: 0,
-        hw: [0; 32],
-    }
 }
 
 // What so many samples come to.
@@ -84,12 +71,13 @@ pub fn feed_on_new_table<R: Threads + Wait + Sync, G: Gate>(
     let (lanes, mut pass) = Lanes::start(alloc, 1, 0)?;
     let intake = Intake {
         lanes: &lanes,
-        set: first_setting(),
+        set: Setting::first(0),
         feeds: &feeds,
         queue: &queue,
         gate,
     };
-    let (mixed, _worker) = feed(rt, alloc, &intake, &mut pass, worker)?;
+    let (mixed, _worker) = feed(rt, alloc, &intake, &mut pass, worker);
+    let mixed = mixed?;
     let _visits = lanes.close(pass);
     Ok(sums(mixed.len()))
 }

@@ -10,14 +10,6 @@ use std::sync::Wait;
 use std::sync::atomic::{AtomicU64, Ordering};
 use std::test::Fail;
 
-const SET: Setting = Setting {
-    caller: 0,
-    event: 0,
-    cpu: 0,
-    now: 0,
-    hw: [0; 32],
-};
-
 // Counts its calls.
 #[derive(Drop)]
 struct CountingGate {
@@ -41,12 +33,13 @@ fn feeders_without_threads_are_mixed_in_order(rt: HostRuntime) -> Result<(), Fai
     let (queue, worker) = FeedQueue::of(alloc, &feeds)?;
     let intake = Intake {
         lanes: &lanes,
-        set: SET,
+        set: Setting::first(0),
         feeds: &feeds,
         queue: &queue,
         gate: &gate,
     };
-    let (mixed, _worker) = feed_by(&rt, alloc, &intake, &mut pass, worker, Feeders::Nowhere)?;
+    let (mixed, _worker) = feed_by(&rt, alloc, &intake, &mut pass, worker, Feeders::Nowhere);
+    let mixed = mixed?;
     assert_eq!(rt; mixed.len(), 15);
     for i in 0..mixed.len() {
         assert_eq!(rt; mixed.get(i), (i / 5, i % 5));

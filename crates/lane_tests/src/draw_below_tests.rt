@@ -92,6 +92,9 @@ fn a_shuffle(rt: HostRuntime) -> Result<(), Fail> {
         Err(DrawSpent)
     );
     assert_eq!(rt; three, [1, 2, 3]);
+    assert_eq!(rt; rejected.len(), 128);
+    assert_eq!(rt; shuffle(&rt, &mut words, &mut [1], &mut rejected), Ok(()));
+    assert_eq!(rt; rejected.len(), 0);
     Ok(())
 }
 

@@ -17,14 +17,6 @@ use std::thread::Threads;
 // More turns than a thread that runs needs to be seen.
 const TURNS: u32 = 100_000_000;
 
-const SET: Setting = Setting {
-    caller: 0,
-    event: 0,
-    cpu: 0,
-    now: 0,
-    hw: [0; 32],
-};
-
 // Counts its calls.
 #[derive(Drop)]
 struct CountingGate {
@@ -111,13 +103,13 @@ fn mixed_of<R: Threads + Wait + Sync, G: Gate>(
     let (queue, worker) = FeedQueue::of(alloc, feeds)?;
     let intake = Intake {
         lanes: &lanes,
-        set: SET,
+        set: Setting::first(0),
         feeds,
         queue: &queue,
         gate,
     };
-    let (mixed, _worker) = feed(rt, alloc, &intake, &mut pass, worker)?;
-    Ok(mixed)
+    let (mixed, _worker) = feed(rt, alloc, &intake, &mut pass, worker);
+    mixed
 }
 
 // The samples of a feeder stand in order, each once.

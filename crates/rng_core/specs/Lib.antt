@@ -8,6 +8,7 @@ pub mod Integers
 pub mod Hosted
 pub mod Hosting
 pub mod Reading
+pub mod Settings
 pub mod SampleDeeds
 pub mod Traces
 pub mod VreadMakes

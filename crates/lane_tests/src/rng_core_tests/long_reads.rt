@@ -3,11 +3,10 @@ ghost use Rattle.std.specs.Prelude.{◌<◌, ◌≤◌, ◌^◌, [], length, vec
 ghost use Rattle.lane_table.specs.Hands.{HoldsLanes};
 
 use super::added;
-use super::waits::setting_of;
 use crate::passes::{split_off, started};
 use key_names::{Step, Trace};
 use lane_table::{Lanes, Pass};
-use rng_core::{Site, kernel_read};
+use rng_core::{Setting, Site, kernel_read};
 use std::alloc::{AllocError, Global};
 use std::sync::Wait;
 use std::sync::atomic::{AtomicBool, Ordering};
@@ -48,7 +47,7 @@ fn read<R: Wait>(rt: &R, lanes: &Lanes, pass: &mut Pass, caller: u32, buf: &mut 
         lanes,
         pass,
         trace: &mut trace,
-        set: setting_of(caller),
+        set: Setting::first(caller),
     };
     kernel_read(rt, &mut site, buf);
     last_place(&trace)
@@ -92,7 +91,7 @@ fn short_reads<R: Wait>(rt: &R, lanes: &Lanes, mut pass: Pass, is_over: &AtomicB
 fn reads_beside<R: Threads + Wait + Sync>(rt: &R, alloc: Global) -> Result<u64, AllocError> {
     let buf = vec![in alloc; 0; LONG]?;
     let (lanes, mut pass) = started(alloc, 1, 0)?;
-    added(rt, &lanes, &mut pass, &setting_of(0), &[], 256, &[]);
+    added(rt, &lanes, &mut pass, &Setting::first(0), &[], 256, &[]);
     let other = split_off(&lanes, &mut pass, 1);
     let (table, is_over) = (&lanes, &AtomicBool::new(false));
     let (place, last) = thread::join(

@@ -18,20 +18,6 @@ use std::thread;
 use std::thread::Threads;
 use vdso_state::{Local, VState};
 
-pub(crate) fn setting_of(caller: u32) -> Setting
-    ensures caller { result.caller ≡ caller }
-    ensures cpu { result.cpu ≡ 0 }
-    ensures now { result.now ≡ 0 }
-{
-    Setting {
-        caller,
-        event: 0,
-        cpu: 0,
-        now: 0,
-        hw: [0; 32],
-    }
-}
-
 // One call of the caller 0 that visits this lane alone. It is not made before the lane is held.
 fn visit_of<R: Wait>(
     rt: &R,
@@ -50,7 +36,7 @@ fn visit_of<R: Wait>(
         lanes,
         pass: &mut pass,
         trace: &mut trace,
-        set: setting_of(0),
+        set: Setting::first(0),
     };
     match lane {
         LaneId::Pool => {
@@ -135,7 +121,7 @@ fn local_read(lanes: &Lanes, pass: &mut Pass) -> Option<Local>
         lanes,
         pass,
         trace: &mut trace,
-        set: setting_of(1),
+        set: Setting::first(1),
     };
     let local = vread_local(&mut site, &mut st, &mut bytes, 0);
     has_steps(&trace, &[]).then_some(local)

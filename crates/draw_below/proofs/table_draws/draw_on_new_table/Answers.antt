@@ -7,7 +7,7 @@ use Rattle.draw_below.proofs.table_draws.draw_on_new_table.Goals as goal
 pub close-visits-requires-clause-whole : goal.close-visits-requires-clause-whole
 close-visits-requires-clause-whole g c =
     let drawn = c.draw_by_pass-drawn.ensures.drawn in
-    share_is c.first_setting-set.result c.first_setting-set.ensures (view c.in_ok-lanes.pass)
+    share_is c.first-set.result c.first-set.ensures (view c.in_ok-lanes.pass)
     (view c.add_sample.new.pass) (view c.draw_by_pass-drawn.new.pass) drawn.0
     (ap (λ (m : Seated). m.0) c.in_ok-lanes.ensures.seat) c.add_sample.ensures.did drawn.1
 
@@ -19,7 +19,7 @@ returns g c =
     subst (λ (n : ℕ). Ended (n + 2) (view w)) c.in_ok-lanes.ensures.table.0 c.close-visits.ensures.ended in
     record {
       words = drawn.0;
-      table = table_words c.first_setting-set.result c.first_setting-set.ensures (view c.in_ok-lanes.pass)
+      table = table_words c.first-set.result c.first-set.ensures (view c.in_ok-lanes.pass)
           (view c.add_sample.new.pass) (view w) drawn.0 (ap (λ (m : Seated). m.0) c.in_ok-lanes.ensures.seat)
           c.add_sample.ensures.did drawn.1 ended;
       drawn = drawn.2;

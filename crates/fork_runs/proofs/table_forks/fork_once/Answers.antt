@@ -7,11 +7,11 @@ use Rattle.fork_runs.proofs.table_forks.fork_once.Goals as goal
 
 pub close-visits-requires-clause-idle : goal.close-visits-requires-clause-idle
 close-visits-requires-clause-idle g c =
-    idle_of c.in_ok-lanes.lanes c.first_setting.result.caller c.fork_at_stop.new.pass c.fork_at_stop.ensures.has
+    idle_of c.in_ok-lanes.lanes c.first.result.caller c.fork_at_stop.new.pass c.fork_at_stop.ensures.has
 
 pub close-visits-requires-clause-whole : goal.close-visits-requires-clause-whole
 close-visits-requires-clause-whole g c =
-    let set = c.first_setting.result in
+    let set = c.first.result in
     let call = c.begin.result in
     let later = c.reach_stop.new.held.call in
     let n = length c.args.parent.now in
@@ -22,21 +22,21 @@ close-visits-requires-clause-whole g c =
     share_is c.args.stop.attempt c.args.stop.point n p q w (view c.fork_at_stop.new.pass) later.stage c.reach_stop.new.buf
     c.reach_stop.new.held.st c.fork_at_stop.new.buf c.fork_at_stop.new.child_buf
     (ap (λ (m : Seated). m.0) c.in_ok-lanes.ensures.seat)
-    (plain_sample set n call.len later.len call.flags later.flags c.wiped.result c.first_setting.ensures same
+    (plain_sample set n call.len later.len call.flags later.flags c.wiped.result c.first.ensures same
     c.reach_stop.ensures.len c.begin.ensures.flags c.reach_stop.ensures.flags c.wiped.ensures p q
     c.add_sample.ensures.did)
-    (plain_reached set n call.len later.len call.flags later.flags c.wiped.result c.first_setting.ensures same
+    (plain_reached set n call.len later.len call.flags later.flags c.wiped.result c.first.ensures same
     c.reach_stop.ensures.len c.begin.ensures.flags c.reach_stop.ensures.flags c.wiped.ensures c.args.stop.attempt
     c.args.stop.point later.stage c.reach_stop.new.buf c.reach_stop.new.held.st q w
     (c.reach_stop.ensures.reached c.if-not-reach_stop.false))
-    (plain_over set n call.len later.len call.flags later.flags c.wiped.result c.first_setting.ensures same
+    (plain_over set n call.len later.len call.flags later.flags c.wiped.result c.first.ensures same
     c.reach_stop.ensures.len c.begin.ensures.flags c.reach_stop.ensures.flags c.wiped.ensures later.stage
     c.reach_stop.new.buf c.reach_stop.new.held.st c.fork_at_stop.new.buf c.fork_at_stop.new.child_buf w
     (view c.fork_at_stop.new.pass) (c.fork_at_stop.ensures.forked c.if-not-fork_at_stop.false))
 
 pub returns : goal.returns
 returns g c = λ _.
-    let set = c.first_setting.result in
+    let set = c.first.result in
     let call = c.begin.result in
     let later = c.reach_stop.new.held.call in
     let n = length c.args.parent.now in
@@ -50,14 +50,14 @@ returns g c = λ _.
     forked_bytes c.args.stop.attempt c.args.stop.point n p q w x later.stage c.reach_stop.new.buf
     c.reach_stop.new.held.st c.fork_at_stop.new.buf c.fork_at_stop.new.child_buf
     (ap (λ (m : Seated). m.0) c.in_ok-lanes.ensures.seat)
-    (plain_sample set n call.len later.len call.flags later.flags c.wiped.result c.first_setting.ensures same
+    (plain_sample set n call.len later.len call.flags later.flags c.wiped.result c.first.ensures same
     c.reach_stop.ensures.len c.begin.ensures.flags c.reach_stop.ensures.flags c.wiped.ensures p q
     c.add_sample.ensures.did)
-    (plain_reached set n call.len later.len call.flags later.flags c.wiped.result c.first_setting.ensures same
+    (plain_reached set n call.len later.len call.flags later.flags c.wiped.result c.first.ensures same
     c.reach_stop.ensures.len c.begin.ensures.flags c.reach_stop.ensures.flags c.wiped.ensures c.args.stop.attempt
     c.args.stop.point later.stage c.reach_stop.new.buf c.reach_stop.new.held.st q w
     (c.reach_stop.ensures.reached c.if-not-reach_stop.false))
-    (plain_over set n call.len later.len call.flags later.flags c.wiped.result c.first_setting.ensures same
+    (plain_over set n call.len later.len call.flags later.flags c.wiped.result c.first.ensures same
     c.reach_stop.ensures.len c.begin.ensures.flags c.reach_stop.ensures.flags c.wiped.ensures later.stage
     c.reach_stop.new.buf c.reach_stop.new.held.st c.fork_at_stop.new.buf c.fork_at_stop.new.child_buf w x
     (c.fork_at_stop.ensures.forked c.if-not-fork_at_stop.false))

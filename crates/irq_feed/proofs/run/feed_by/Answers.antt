@@ -6,8 +6,8 @@ use Rattle.irq_feed.proofs.run.feed_by.Goals as goal
 
 pub drain_feeders-worker-requires-clause-start : goal.drain_feeders-worker-requires-clause-start
 drain_feeders-worker-requires-clause-start g c κs within =
-    first_start _ _ c.args.worker c.in_ok-mixed.mixed c.requires.new c.in_ok-mixed.ensures.none
-    c.in_ok-mixed.ensures.room c.in_ok-mixed.ensures.few
+    first_start _ _ c.args.worker c.in-Ok.mixed c.requires.new c.in-Ok.ensures.none
+    c.in-Ok.ensures.room c.in-Ok.ensures.few
 
 pub returns-clause-all : goal.returns-clause-all
 returns-clause-all g c =

@@ -1,6 +1,6 @@
 use Rattle.std.proofs.Common.{sym, ◌∙◌, ap, subst}
 use Rattle.lane_table.specs.declared.view.View.{View}
-use Rattle.lane_table.specs.Steps.{Seated, both_of}
+use Rattle.lane_table.specs.Steps.{Seated}
 use Rattle.lane_table.specs.Calls.{view}
 use Rattle.lane_table.proofs.Calls.HandLemmas.{has_joined}
 use Rattle.caller_run.specs.Families.{SameShare}
