@@ -33,10 +33,7 @@ pub struct StateBatch {
 fn named_span(key: Option<KeyName>, from: u64, len: u64) -> Option<Span>
     ensures { result ≡ named_span key from len }
 {
-    match key {
-        Some(key) => Some(Span { key, from, len }),
-        None => None,
-    }
+    key.map(|key| Span { key, from, len })
 }
 
 /// The rest of a CPU's batch. No memory has room for so many integers that their bytes have no number.
@@ -51,12 +48,8 @@ pub fn fill_rest(width: u64, fill: Option<Fill>) -> Result<Option<Span>, AllocEr
     let Some(Fill { key, count }) = fill else {
         return Ok(None);
     };
-    let Some(served) = width.checked_mul(count) else {
-        return Err(AllocError);
-    };
-    let Some(from) = served.checked_add(BATCH_START) else {
-        return Err(AllocError);
-    };
+    let served = width.checked_mul(count).ok_or(AllocError)?;
+    let from = served.checked_add(BATCH_START).ok_or(AllocError)?;
     Ok(named_span(key, from, BATCH_BYTES.saturating_sub(served)))
 }
 

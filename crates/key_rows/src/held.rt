@@ -124,7 +124,7 @@ impl Held {
     ///
     /// # Errors
     ///
-    /// `AllocError` where there is no memory for it.
+    /// `AllocError` where there is no memory for it, or where a byte of a batch would have no number below 2^64.
     pub fn add_cpu(&mut self, cpu: u32, lane: &[KeptCpu]) -> Result<(), AllocError>
         ensures keys { (base : List BookBase) → OnOk result (self.new.keys.items
             ≡ self.old.keys.items ++ held_key (Cpu cpu) (cpu_after base cpu (cpu_entries lane.now)).key) }
@@ -141,7 +141,7 @@ impl Held {
     ///
     /// # Errors
     ///
-    /// `AllocError` where there is no memory for it.
+    /// `AllocError` where there is no memory for it, or where a byte of a batch would have no number below 2^64.
     pub fn add_state(&mut self, of: StateOf, entries: &[VEntry]) -> Result<(), AllocError>
         ensures keys { OnOk result (self.new.keys.items ≡ self.old.keys.items
             ++ held_key (State of) (state_after of.caller of.state entries.now).key) }

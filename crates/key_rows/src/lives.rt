@@ -272,7 +272,7 @@ impl Lives {
     ///
     /// # Errors
     ///
-    /// `AllocError` where there is no memory for it.
+    /// `AllocError` where there is no memory for it, or where a byte of a batch would have no number below 2^64.
     pub fn cpu(&mut self, cpu: u32, lane: &[KeptCpu]) -> Result<(), AllocError>
         ensures births { (base : List BookBase) → OnOk result (self.new.births.items ≡ self.old.births.items
             ++ told_from (cpu_births_at cpu) (cpu_step base cpu) cpu_start (cpu_entries lane.now)) }
@@ -333,7 +333,7 @@ impl Lives {
     ///
     /// # Errors
     ///
-    /// `AllocError` where there is no memory for it.
+    /// `AllocError` where there is no memory for it, or where a byte of a batch would have no number below 2^64.
     pub fn state(&mut self, of: StateOf, entries: &[VEntry]) -> Result<(), AllocError>
         ensures births { OnOk result (self.new.births.items ≡ self.old.births.items
             ++ told_from (state_births_at of) (state_step of.caller of.state) state_start entries.now) }

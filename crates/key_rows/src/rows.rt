@@ -143,10 +143,7 @@ fn ended_by(all: &[Ending], key: KeyName) -> Option<Origin>
     requires { EndingsByKey all.now }
     ensures { result ≡ option_map (λ ending. ending.by) (slice_get (endings_of key all.now) 0) }
 {
-    match endings_of(all, key).first() {
-        Some(ending) => Some(ending.by),
-        None => None,
-    }
+    endings_of(all, key).first().map(|ending| ending.by)
 }
 
 // The row of a key that is made.
