@@ -8,8 +8,7 @@ use crate::leaving::Leaving;
 use crate::outline::Outline;
 use crate::stamps::behind_call;
 use key_names::Event;
-use line_orders::bare::BareLine;
-use line_orders::called::{ActLine, Called};
+use line_orders::called::Called;
 use std::alloc::{AllocError, Global};
 use std::marker::Model;
 
@@ -59,10 +58,9 @@ impl Model for Caller {
 }
 
 impl Caller {
-    ghost use Rattle.std.specs.Prelude.{◌≡◌, ◌++◌, IfOk, OnOk, map, slice_set};
-    ghost use Rattle.line_orders.specs.Called.{seen_act, seen_call};
+    ghost use Rattle.std.specs.Prelude.{◌≡◌, ◌++◌, IfOk, OnOk, slice_set};
+    ghost use Rattle.line_orders.specs.Called.{seen_call};
     ghost use Rattle.state_entries.specs.Callers.{current_outline, with_outline};
-    ghost use Rattle.state_entries.specs.Left.{nothing_left, vread_left};
     ghost use Rattle.state_entries.specs.Entries.{call_entries};
     ghost use Rattle.state_entries.specs.Stamped.{States, first_states, current_list, over, left_over, lists_over};
     ghost use Rattle.state_entries.specs.Stamped.{states_after, states_after_event};
@@ -151,24 +149,6 @@ impl Caller {
         Ok(())
     }
 
-    // A `vread` that is over at a stamp.
-    fn vread(
-        &mut self,
-        alloc: Global,
-        len: u32,
-        flags: u32,
-        line: BareLine<'_>,
-        acts: &[ActLine<'_>],
-        done: u64,
-    ) -> Result<(), AllocError>
-        ensures { OnOk result (self.new ≡ left_over done (vread_left len flags (map seen_act acts.now)
-            (nothing_left (current_outline self.old.outlines)) line.entry.steps.now) self.old) }
-    {
-        let mut left = Leaving::begin(alloc, self.outline(), self.stamp);
-        left.vread(len, flags, acts, line.steps)?;
-        self.keep(&left, done, line.event)
-    }
-
     /// Goes through a call.
     ///
     /// # Errors
@@ -185,7 +165,11 @@ impl Caller {
                 flags,
                 line,
                 acts,
-            } => self.vread(alloc, *len, *flags, *line, acts, done),
+            } => {
+                let mut left = Leaving::begin(alloc, self.outline(), self.stamp);
+                left.vread(*len, *flags, acts, line.steps)?;
+                self.keep(&left, done, line.event)
+            }
             Called::Unbound(_) | Called::Ending(_) => {
                 self.stamp = done;
                 Ok(())

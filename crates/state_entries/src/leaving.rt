@@ -28,10 +28,10 @@ const END: u8 = 4;
 
 /// A visit of a CPU that reads a key.
 #[derive(Clone, Copy)]
-pub struct KeyRead {
-    pub cpu: u32,
-    pub place: u64,
-    pub stamp: u64,
+pub(crate) struct KeyRead {
+    pub(crate) cpu: u32,
+    pub(crate) place: u64,
+    pub(crate) stamp: u64,
 }
 
 /// What an attempt came to: the key's next block, whether the generation that was published in the end is the state's,
@@ -107,10 +107,7 @@ fn second_key(steps: &[Step]) -> Option<(KeyRead, &[Step])>
 {
     match steps {
         [] => None,
-        [second, rest @ ..] => match key_read(*second) {
-            Some(key) => Some((key, rest)),
-            None => None,
-        },
+        [second, rest @ ..] => Some((key_read(*second)?, rest)),
     }
 }
 
@@ -156,6 +153,7 @@ impl Leaving {
         }
     }
 
+    /// What the state is by now.
     pub fn outline(&self) -> Outline
         ensures { result ≡ self.now.outline }
     {
