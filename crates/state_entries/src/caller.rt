@@ -38,7 +38,7 @@ fn put_behind(
 /// The sixteen vgetrandom states of a caller, one of which is the current one: their outlines and their lists so far,
 /// and the stamp of the caller's last visit.
 #[derive(Drop)]
-pub struct Caller {
+pub(crate) struct Caller {
     outlines: Vec<Outline>,
     lists: Vec<Vec<StateEntry>>,
     current: usize,
@@ -70,7 +70,7 @@ impl Caller {
     /// # Errors
     ///
     /// `AllocError` where there is no memory for the states.
-    pub fn start(alloc: Global, stamp: u64) -> Result<Caller, AllocError>
+    pub(crate) fn start(alloc: Global, stamp: u64) -> Result<Caller, AllocError>
         ensures { IfOk result (λ caller. caller ≡ first_states stamp) }
     {
         let mut outlines = Vec::with_capacity(alloc, STATES)?;
@@ -154,7 +154,7 @@ impl Caller {
     /// # Errors
     ///
     /// `AllocError` where there is no memory for the entries that it leaves.
-    pub fn call(&mut self, alloc: Global, call: &Called<'_>) -> Result<(), AllocError>
+    pub(crate) fn call(&mut self, alloc: Global, call: &Called<'_>) -> Result<(), AllocError>
         ensures { OnOk result (self.new ≡ states_after self.old (seen_call call.now)) }
     {
         let done = behind_call(self.stamp, call);
@@ -178,7 +178,7 @@ impl Caller {
     }
 
     /// The lists of the states.
-    pub fn lists(self) -> Vec<Vec<StateEntry>>
+    pub(crate) fn lists(self) -> Vec<Vec<StateEntry>>
         ensures { lists_over result.items ≡ self.lists }
     {
         self.lists
