@@ -1,13 +1,13 @@
 -- The calls that were over by a stamp are the first of each caller, and what they left are the entries of a book behind
 -- it. Answers and data have no part in which these are.
 use Rattle.std.proofs.Common.{◌≡◌, ℕ, zero, suc, ◌+◌, ◌<◌, ◌≤◌, List, [], ◌∷◌, ◌++◌, length, map, inl, inr, refl, sym, subst, ap, ◌∙◌, arith}
-use Rattle.std.specs.Prelude.{◌==◌, drop, if◌then◌else◌, nat_le, take}
+use Rattle.std.specs.Prelude.{if◌then◌else◌, nat_le, take}
 use Rattle.std.proofs.lemmas.List.{append-nil, append_cancel_right, length-map}
 use Rattle.key_names.specs.declared.names.Step.{Step}
 use Rattle.key_names.specs.Book.{Lists, list_at}
 use Rattle.key_names.specs.CallerOrders.{start_of}
-use Rattle.key_names.specs.Calls.{BoundAct, Call, Setting, alone, ending, unbound, vread_call}
-use Rattle.key_names.specs.History.{call_steps, calls_steps, cut_behind_rekey, steps_at_point}
+use Rattle.key_names.specs.Calls.{Call, Setting}
+use Rattle.key_names.specs.History.{call_steps, calls_steps}
 use Rattle.key_names.specs.IsTranscript.{CallerMeans, EachCaller, script_calls, state_lists}
 use Rattle.key_names.specs.Meaning.{CallMeaning}
 use Rattle.key_names.specs.SameSteps.{bare}

@@ -1,6 +1,6 @@
 -- What the words of a command line spell.
 use Rattle.std.proofs.Common.{◌≡◌, ℕ, ◌<◌, ◌≤◌, true, List, [], ◌∷◌, ◌++◌, Option, Some, None, length, get_or, append_assoc, sym, subst, ap, ◌∙◌, arith}
-use Rattle.std.specs.Prelude.{Bool, String, codes, decimal, map, slice_index_or, string_bytes}
+use Rattle.std.specs.Prelude.{Bool, IsSomeAnd, MatchOption, String, codes, decimal, map, slice_index_or, string_bytes}
 use Rattle.std.specs.Str.{bytes_eq}
 use Rattle.std.proofs.lemmas.Slice.Eq.{bytes_eq-Decides}
 use Rattle.key_names.specs.Texts.ScriptFaults.{number_below}
@@ -66,7 +66,7 @@ not_both : (word : List ℕ) → word ≡ codes "live" → word ≡ codes "line"
 not_both word live line =
     let third = ap (λ (xs : List ℕ). get_or xs 2 0) (sym live ∙ line) in absurd (omega (arith, third))
 
-pub live_only : (word with : List ℕ) (stamp : ℕ) → word ≡ codes "live" →
+live_only : (word with : List ℕ) (stamp : ℕ) → word ≡ codes "live" →
     Some stamp ≡ number_below 18446744073709551616 with → (ask : Ask) → AskTexts (word ∷ with ∷ []) ask →
     Some (Live stamp) ≡ Some ask
 live_only word with stamp is read Keys asks = absurd (keys_are_one word with asks)
@@ -79,7 +79,7 @@ live_only word with stamp is read (Live n) asks =
 live_only word with stamp is read (OneLine line) asks =
     absurd (not_both word is (second word with (codes "line") (line_text line) asks.1).0)
 
-pub live_none : (word with : List ℕ) → word ≡ codes "live" → None ≡ number_below 18446744073709551616 with →
+live_none : (word with : List ℕ) → word ≡ codes "live" → None ≡ number_below 18446744073709551616 with →
     (ask : Ask) → AskTexts (word ∷ with ∷ []) ask → ⊥
 live_none word with is none Keys asks = keys_are_one word with asks
 live_none word with is none (Live n) asks =
@@ -90,27 +90,13 @@ live_none word with is none (Live n) asks =
 live_none word with is none (OneLine line) asks =
     not_both word is (second word with (codes "line") (line_text line) asks.1).0
 
-pub line_only : (word with : List ℕ) (found : Option Line) (line : Line) → word ≡ codes "line" → found ≡ Some line →
-    ((l : Line) → LineFits l → with ≡ line_text l → found ≡ Some l) → (ask : Ask) → AskTexts (word ∷ with ∷ []) ask →
-    Some (OneLine line) ≡ Some ask
-line_only word with found line is read only Keys asks = absurd (keys_are_one word with asks)
-line_only word with found line is read only (Live n) asks =
-    absurd (not_both word (second word with (codes "live") (decimal n) asks.1).0 is)
-line_only word with found line is read only (OneLine l) asks =
-    let both = second word with (codes "line") (line_text l) asks.1 in
-    let again : found ≡ Some l = only l asks.0 both.1 in
-    let same : line ≡ l = cc in
-    ap (λ (k : Line). Some (OneLine k)) same
-
-pub line_none : (word with : List ℕ) (found : Option Line) → word ≡ codes "line" → found ≡ None →
-    ((l : Line) → LineFits l → with ≡ line_text l → found ≡ Some l) → (ask : Ask) → AskTexts (word ∷ with ∷ []) ask → ⊥
-line_none word with found is none only Keys asks = keys_are_one word with asks
-line_none word with found is none only (Live n) asks =
-    not_both word (second word with (codes "live") (decimal n) asks.1).0 is
-line_none word with found is none only (OneLine l) asks =
-    let both = second word with (codes "line") (line_text l) asks.1 in
-    let again : found ≡ Some l = only l asks.0 both.1 in
-    absurd cc
+pub live_found : (word with : List ℕ) (found : Option ℕ) (result : Option Ask) → word ≡ codes "live" →
+    found ≡ number_below 18446744073709551616 with →
+    MatchOption found (result ≡ None) (λ n. IsSomeAnd result (λ ask. ask ≡ Live n)) → (ask : Ask) →
+    AskTexts (word ∷ with ∷ []) ask → result ≡ Some ask
+live_found word with None result is read made ask asks = absurd (live_none word with is read ask asks)
+live_found word with (Some n) None is read made ask asks = absurd made
+live_found word with (Some n) (Some one) is read made ask asks = ap Some made ∙ live_only word with n is read ask asks
 
 -- a test that was passed
 pub same_text : (text wanted : List ℕ) (b : Bool) → b ≡ bytes_eq text wanted → b ≡ true → text ≡ wanted

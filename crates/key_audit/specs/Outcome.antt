@@ -12,6 +12,7 @@ use Rattle.key_uses.specs.HeldUnused.{HoldsUnused}
 use Rattle.key_rows.specs.declared.moments.Moments.{Moments}
 use Rattle.key_rows.specs.declared.rows.Row.{Row}
 use Rattle.key_rows.specs.declared.told.Told.{Told}
+use Rattle.key_rows.specs.MadeOrder.{RowsByMaking}
 use Rattle.key_rows.specs.Rows.{IsRow, all_pieces, birth_of}
 use Rattle.key_rows.specs.Told.{book_tells, tells_of}
 use Rattle.tool_ends.specs.Pairs.{FailsAsText, IsPair, TellsFault, no_line}
@@ -33,12 +34,13 @@ pub record AreRows (book : Book) (rows : List Row) : Type 0 where
   pub each : IsPermutation told.lives.births.items (map birth_of rows)
   pub say : All (IsRow (all_pieces told) told.lives.endings.items) rows
 
--- the text of the rows
+-- the text of the rows, in the order in which their keys were made
 pub record TellsKeys (book : Book) (output : List ℕ) : Type 0 where
   pub moments : Moments
   pub are_moments : AreMoments book moments
   pub rows : List Row
   pub are : AreRows book rows
+  pub ordered : RowsByMaking moments rows
   pub text : output ≡ rows_text moments rows
 
 -- the lines of what is in memory behind a stamp, and of what can be computed from it, of which nothing is said yet

@@ -1,7 +1,6 @@
 -- The texts of names, entries and rows.
-use Rattle.std.specs.Prelude.{ℕ, Option, Some, None, List, [], ◌∷◌, ◌++◌, codes, slice_get, unwrap_or}
+use Rattle.std.specs.Prelude.{ℕ, Option, Some, None, List, [], ◌∷◌, ◌++◌, codes, unwrap_or}
 use Rattle.std.specs.Fmt.{decimal}
-use Rattle.std.specs.Global.{Vec}
 use Rattle.std.specs.List.{flat_map}
 use Rattle.key_names.specs.declared.names.KeyName.{KeyName}
 use Rattle.key_names.specs.declared.names.KeyName.TheVariants.{Root, Base, Cpu, Call, Vdso}
@@ -19,35 +18,16 @@ use Rattle.key_rows.specs.declared.rows.Fate.{Fate}
 use Rattle.key_rows.specs.declared.rows.Fate.TheVariants.{Became, Served, GivenUp, Held}
 use Rattle.key_rows.specs.declared.rows.Piece.{Piece}
 use Rattle.key_rows.specs.declared.rows.Row.{Row}
+use Rattle.key_rows.specs.MadeOrder.{moment_at as moment_told}
 
 -- ---- moments
 
 abbrev pub no_moment : Moment
 no_moment = record { stamp = 0; line = record { caller = 0; event = 0 } }
 
-abbrev pub moments_of : Option (Vec Moment) → List Moment
-moments_of None = []
-moments_of (Some list) = list.items
-
-abbrev pub states_of : Option (Vec (Vec Moment)) → List (Vec Moment)
-states_of None = []
-states_of (Some lists) = lists.items
-
--- the moments of a lane, or of a vgetrandom state
-abbrev pub lane_moments : Moments → LaneId → List Moment
-lane_moments moments PoolLane = moments.pool.items
-lane_moments moments BaseLane = moments.base.items
-lane_moments moments (CpuLane c) = moments_of (slice_get moments.cpus.items c)
-
-abbrev pub state_moments : Moments → ℕ → ℕ → List Moment
-state_moments moments caller state =
-    moments_of (slice_get (states_of (slice_get moments.callers.items caller)) state)
-
 -- the moment of an entry
 abbrev pub moment_at : Moments → Origin → Moment
-moment_at moments (Lane lane place) = unwrap_or (slice_get (lane_moments moments lane) place) no_moment
-moment_at moments (State caller state place) =
-    unwrap_or (slice_get (state_moments moments caller state) place) no_moment
+moment_at moments at = unwrap_or (moment_told moments at) no_moment
 
 -- ---- texts
 

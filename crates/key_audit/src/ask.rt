@@ -31,10 +31,8 @@ fn halves(text: &[u8]) -> Option<(&[u8], &[u8])>
     ensures { MatchOption result (lacks 46 text.now ≡ true)
         (λ both. (text.now ≡ both.0.now ++ 46 ∷ both.1.now) × (lacks 46 both.0.now ≡ true)) }
 {
-    match memchr(b'.', text) {
-        Some(place) => Some((&text[..place], &text[place + 1..])),
-        None => None,
-    }
+    let place = memchr(b'.', text)?;
+    Some((&text[..place], &text[place + 1..]))
 }
 
 /// The line that a text names, as `0.4`.
@@ -42,15 +40,9 @@ fn line_of(text: &[u8]) -> Option<Line>
     ensures found { IfSome result (λ line. LineFits line × (text.now ≡ line_text line)) }
     ensures only { (line : LineName) → LineFits line → text.now ≡ line_text line → result ≡ Some line }
 {
-    let Some((caller, event)) = halves(text) else {
-        return None;
-    };
-    let Some(caller) = number_up_to(MOST_NUMBER, caller) else {
-        return None;
-    };
-    let Some(event) = number_up_to(MOST_NUMBER, event) else {
-        return None;
-    };
+    let (caller, event) = halves(text)?;
+    let caller = number_up_to(MOST_NUMBER, caller)?;
+    let event = number_up_to(MOST_NUMBER, event)?;
     Some(Line {
         caller: caller as u32,
         event: event as u32,
@@ -63,16 +55,10 @@ fn ask_by(word: &str, with: &str) -> Option<Ask>
     ensures only { (ask : Ask) → AskTexts (word.now ∷ with.now ∷ []) ask → result ≡ Some ask }
 {
     if word == "live" {
-        return match number_up_to(u64::MAX, with.as_bytes()) {
-            Some(stamp) => Some(Ask::Live(stamp)),
-            None => None,
-        };
+        return number_up_to(u64::MAX, with.as_bytes()).map(Ask::Live);
     }
     if word == "line" {
-        return match line_of(with.as_bytes()) {
-            Some(line) => Some(Ask::Line(line)),
-            None => None,
-        };
+        return line_of(with.as_bytes()).map(Ask::Line);
     }
     None
 }

@@ -4,6 +4,7 @@ ghost use Rattle.key_names.specs.Book.{Book};
 ghost use Rattle.key_names.specs.Calls.{Call};
 ghost use Rattle.key_names.specs.Meaning.{CallMeaning};
 ghost use Rattle.key_names.specs.SeenLine.{SeenLine};
+ghost use Rattle.key_rows.specs.MadeOrder.{RowsByMaking};
 ghost use Rattle.key_audit.specs.Kept.{KeepsBook};
 ghost use Rattle.key_audit.specs.Outcome.{AreRows, TellsKeys};
 
@@ -26,8 +27,9 @@ pub(crate) fn rows_of(
     book: &KeptBook,
     moments: &Moments,
 ) -> Result<Vec<Row>, AllocError>
-    ensures { (t : List (List SeenLine)) (callers : List (List Call)) (of : Book) (ms : List (List CallMeaning)) →
+    ensures are { (t : List (List SeenLine)) (callers : List (List Call)) (of : Book) (ms : List (List CallMeaning)) →
         KeepsBook book.now t callers of ms → IfOk result (λ rows. AreRows of rows.items) }
+    ensures ordered { IfOk result (λ rows. RowsByMaking moments.now rows.items) }
 {
     let entries = all_entries(alloc, &book.states)?;
     let told = tell_book(alloc, &book.lanes, &entries)?;

@@ -11,6 +11,15 @@ use key_rows::rows::{Fate, Piece, Row};
 use key_uses::used::Origin;
 use std::alloc::{AllocError, Global};
 
+/// Where no moment is told of an entry.
+const NO_MOMENT: Moment = Moment {
+    stamp: 0,
+    line: Line {
+        caller: 0,
+        event: 0,
+    },
+};
+
 /// A text while it is written.
 #[derive(Drop)]
 pub(crate) struct Text {
@@ -20,35 +29,7 @@ pub(crate) struct Text {
 pub(crate) fn moment_at(moments: &Moments, at: Origin) -> Moment
     ensures { result ≡ moment_at moments.now at }
 {
-    let found = match at {
-        Origin::Lane(LaneId::Pool, place) => moments.pool.get(place as usize),
-        Origin::Lane(LaneId::Base, place) => moments.base.get(place as usize),
-        Origin::Lane(LaneId::Cpu(cpu), place) => {
-            moments
-                .cpus
-                .get(cpu as usize)
-                .and_then(|lane| lane.get(place as usize))
-        }
-        Origin::State {
-            caller,
-            state,
-            place,
-        } => moments
-            .callers
-            .get(caller as usize)
-            .and_then(|states| states.get(state as usize))
-            .and_then(|list| list.get(place as usize)),
-    };
-    match found {
-        Some(moment) => *moment,
-        None => Moment {
-            stamp: 0,
-            line: Line {
-                caller: 0,
-                event: 0,
-            },
-        },
-    }
+    moments.at(at).unwrap_or(NO_MOMENT)
 }
 
 impl Text {

@@ -1,16 +1,18 @@
 -- What stands together in a list that is sorted by a key.
-use Rattle.std.proofs.Common.{◌≡◌, ◌≤◌, ◌<◌, ◌+◌, ℕ, Bool, true, false, List, [], ◌∷◌, ◌++◌, length, take, drop, get_or, refl, sym, ap, subst, ◌∙◌, append-nil, arith}
-use Rattle.std.specs.Prelude.{All, not, ◌&&◌, ◌==◌, filter, IsSortedByKey}
-use Rattle.std.specs.Cmp.{IsTotalOrder, then_total, on_total, nat_cmp_total, unsigned_ties, both_tied}
+use Rattle.std.proofs.Common.{◌≡◌, ◌≤◌, ◌<◌, ◌+◌, ◌-◌, ℕ, Bool, true, false, List, [], ◌∷◌, ◌++◌, length, take, drop, get_or, refl, sym, ap, subst, ◌∙◌, append-nil, arith}
+use Rattle.std.specs.Prelude.{All, not, ◌&&◌, filter, IsSortedByKey}
+use Rattle.std.specs.Cmp.{IsTotalOrder}
 use Rattle.std.specs.List.Sorted.{IsNonDecreasingBy, IsPartitionedBy, IsPartitionPoint, ties}
-use Rattle.std.specs.Ordering.{is_lt, is_le, is_eq, ordering_index, ordering_then, ordering_reverse, nat_cmp}
+use Rattle.std.specs.Ordering.{is_lt, is_le, is_eq, ordering_index, ordering_reverse}
 use Rattle.std.specs.declared.cmp.Ordering.{Ordering}
 use Rattle.std.specs.declared.cmp.Ordering.TheVariants.{Less, Equal, Greater}
-use Rattle.std.proofs.lemmas.List.{take-append-drop, length-take, length-drop, get_or-take, get_or-drop}
+use Rattle.std.proofs.lemmas.List.{take_all, take-append-drop, length-take, length-drop, get_or-take, get_or-drop}
 use Rattle.std.proofs.lemmas.List.Elements.{All-head, All-tail, filter-append, filter_agree}
 use Rattle.std.proofs.lemmas.List.Sorted.{searchable_from_sorted, IsNonDecreasingBy-drop}
-use Rattle.key_rows.specs.Rows.{is_same_rank}
-use Rattle.key_rows.specs.Ranks.{by_rank}
+use Rattle.key_names.specs.declared.names.KeyName.{KeyName}
+use Rattle.key_names.specs.contracts.names.KeyNameOrd.TheImpl.{ghosts as order}
+use Rattle.key_names.specs.contracts.names.KeyNameOrd.TheImpl.Laws.{total-law, matches_eq-law}
+use Rattle.key_names.specs.contracts.names.KeyNamePartialEq.TheImpl.{ghosts as names}
 
 filter_all : {X : Type 0} (p : X → Bool) (xs : List X) → All (λ x. p x ≡ true) xs → filter p xs ≡ xs
 filter_all p [] all = refl
@@ -57,11 +59,11 @@ module _ {X K : Type 0} {R : K → K → Ordering} (o : IsTotalOrder R) (key : X
   rises : (xs : List X) → IsSortedByKey key R xs → IsNonDecreasingBy (λ x. ordering_index (R (key x) k)) xs
   rises xs sorted = searchable_from_sorted o key xs k sorted
 
-  pub first_parted : (xs : List X) → IsSortedByKey key R xs → IsPartitionedBy (λ x. is_lt (R (key x) k)) xs
+  first_parted : (xs : List X) → IsSortedByKey key R xs → IsPartitionedBy (λ x. is_lt (R (key x) k)) xs
   first_parted xs sorted i j d le below last =
       lower (R (key (get_or xs i d)) k) (R (key (get_or xs j d)) k) (rises xs sorted i j d le below) last
 
-  pub count_parted : (xs : List X) (first : ℕ) → IsSortedByKey key R xs →
+  count_parted : (xs : List X) (first : ℕ) → IsSortedByKey key R xs →
       IsPartitionedBy (λ x. is_le (R (key x) k)) (drop first xs)
   count_parted xs first sorted i j d le below last =
       not_above (R (key (get_or (drop first xs) i d)) k) (R (key (get_or (drop first xs) j d)) k)
@@ -71,7 +73,7 @@ module _ {X K : Type 0} {R : K → K → Ordering} (o : IsTotalOrder R) (key : X
   is_at x = is_eq (R (key x) k)
 
   -- what stands from the first place on that is not before the key, up to the last that is not behind it
-  pub group_is : (xs : List X) (first count : ℕ) → first ≤ length xs →
+  group_is : (xs : List X) (first count : ℕ) → first ≤ length xs →
       IsPartitionPoint (λ x. is_lt (R (key x) k) ≡ true) (λ x. is_lt (R (key x) k) ≡ false) xs first →
       IsPartitionPoint (λ x. is_le (R (key x) k) ≡ true) (λ x. is_le (R (key x) k) ≡ false) (drop first xs) count →
       count ≤ length (drop first xs) →
@@ -111,27 +113,38 @@ module _ {X K : Type 0} {R : K → K → Ordering} (o : IsTotalOrder R) (key : X
           (behind_is_not (R (key (get_or (drop first xs) (count + i) d)) k)
           (counts.1 (count + i) d (omega arith) (omega (arith, below, size, high))))
 
-pub ranks_total : IsTotalOrder by_rank
-ranks_total = then_total (then_total (then_total (on_total (λ (a : ℕ × ℕ × ℕ × ℕ). a.0) nat_cmp_total)
-    (on_total (λ (a : ℕ × ℕ × ℕ × ℕ). a.1) nat_cmp_total)) (on_total (λ (a : ℕ × ℕ × ℕ × ℕ). a.2) nat_cmp_total))
-    (on_total (λ (a : ℕ × ℕ × ℕ × ℕ). a.3) nat_cmp_total)
+-- the order of names
+abbrev cmp : KeyName → KeyName → Ordering
+cmp = order.cmp
 
-both_same : (s t : Bool) (a b : Ordering) → s ≡ is_eq a → t ≡ is_eq b → is_eq (ordering_then a b) ≡ (s && t)
-both_same s t a b p q = sym (both_tied s t a b p q)
+module _ {X : Type 0} (key : X → KeyName) (k : KeyName) where
+  pub starts_parted : (all : List X) → IsSortedByKey key cmp all → IsPartitionedBy (λ x. is_lt (cmp (key x) k)) all
+  starts_parted = first_parted total-law key k
 
-same_is : (a b : ℕ × ℕ × ℕ × ℕ) → is_eq (by_rank a b) ≡ is_same_rank a b
-same_is a b =
-    both_same ((a.0 == b.0 && a.1 == b.1) && a.2 == b.2) (a.3 == b.3) _ (nat_cmp a.3 b.3)
-    (sym (both_same (a.0 == b.0 && a.1 == b.1) (a.2 == b.2) _ (nat_cmp a.2 b.2)
-    (sym (both_same (a.0 == b.0) (a.1 == b.1) (nat_cmp a.0 b.0) (nat_cmp a.1 b.1) (unsigned_ties a.0 b.0)
-    (unsigned_ties a.1 b.1))) (unsigned_ties a.2 b.2))) (unsigned_ties a.3 b.3)
+  whole : (all : List X) (first : ℕ) → take (length all - first) (drop first all) ≡ drop first all
+  whole all first =
+      take_all (length all - first) (drop first all) (let size = length-drop first all in omega (arith, size))
 
-module _ {X : Type 0} (rank : X → ℕ × ℕ × ℕ × ℕ) where
-  -- the group of a rank, as the definitions have it
-  pub ranked : (k : ℕ × ℕ × ℕ × ℕ) (xs : List X) →
-      filter (λ x. is_eq (by_rank (rank x) k)) xs ≡ filter (λ x. is_same_rank (rank x) k) xs
-  ranked k xs = filter_agree (λ x. is_eq (by_rank (rank x) k)) (λ x. is_same_rank (rank x) k) (λ x. same_is (rank x) k) xs
+  pub behind_parted : (all : List X) (first : ℕ) → IsSortedByKey key cmp all →
+      IsPartitionedBy (λ x. is_le (cmp (key x) k)) (take (length all - first) (drop first all))
+  behind_parted all first sorted = rw (whole all first) (count_parted total-law key k all first sorted)
 
+  -- the group of a name
+  pub named : (all : List X) (first count : ℕ) → first ≤ length all →
+      IsPartitionPoint (λ x. is_lt (cmp (key x) k) ≡ true) (λ x. is_lt (cmp (key x) k) ≡ false) all first →
+      IsPartitionPoint (λ x. is_le (cmp (key x) k) ≡ true) (λ x. is_le (cmp (key x) k) ≡ false)
+      (take (length all - first) (drop first all)) count →
+      count ≤ length (take (length all - first) (drop first all)) →
+      take count (take (length all - first) (drop first all)) ≡ filter (λ x. names.eq (key x) k) all
+  named all first count low starts counts high =
+      rw (whole all first)
+      (group_is total-law key k all first count low starts
+      (subst (λ (xs : List X). IsPartitionPoint (λ x. is_le (cmp (key x) k) ≡ true)
+      (λ x. is_le (cmp (key x) k) ≡ false) xs count) (whole all first) counts)
+      (subst (λ (xs : List X). count ≤ length xs) (whole all first) high)
+      ∙ filter_agree (λ x. is_eq (cmp (key x) k)) (λ x. names.eq (key x) k) (λ x. sym (matches_eq-law (key x) k)) all)
+
+module _ {X : Type 0} (key : X → KeyName) where
   ties_are : (a b : Ordering) → b ≡ ordering_reverse a → (not (is_lt a) && not (is_lt b)) ≡ is_eq b
   ties_are Less b e = rw e refl
   ties_are Equal b e = rw e refl
@@ -139,14 +152,14 @@ module _ {X : Type 0} (rank : X → ℕ × ℕ × ℕ × ℕ) where
 
   -- a stable sort leaves each group
   pub group_stays : (x : X) (xs ys : List X) →
-      filter (ties (λ a b. is_lt (by_rank (rank a) (rank b))) x) ys
-      ≡ filter (ties (λ a b. is_lt (by_rank (rank a) (rank b))) x) xs →
-      filter (λ y. is_same_rank (rank y) (rank x)) ys ≡ filter (λ y. is_same_rank (rank y) (rank x)) xs
+      filter (ties (λ a b. is_lt (cmp (key a) (key b))) x) ys
+      ≡ filter (ties (λ a b. is_lt (cmp (key a) (key b))) x) xs →
+      filter (λ y. names.eq (key y) (key x)) ys ≡ filter (λ y. names.eq (key y) (key x)) xs
   group_stays x xs ys stable = sym (tied ys) ∙ stable ∙ tied xs
     where
-      tied : (zs : List X) → filter (ties (λ a b. is_lt (by_rank (rank a) (rank b))) x) zs
-          ≡ filter (λ y. is_same_rank (rank y) (rank x)) zs
-      tied zs = filter_agree (ties (λ a b. is_lt (by_rank (rank a) (rank b))) x)
-          (λ y. is_same_rank (rank y) (rank x))
-          (λ y. ties_are (by_rank (rank x) (rank y)) (by_rank (rank y) (rank x)) (ranks_total.antisymm (rank y) (rank x))
-          ∙ same_is (rank y) (rank x)) zs
+      tied : (zs : List X) → filter (ties (λ a b. is_lt (cmp (key a) (key b))) x) zs
+          ≡ filter (λ y. names.eq (key y) (key x)) zs
+      tied zs = filter_agree (ties (λ a b. is_lt (cmp (key a) (key b))) x)
+          (λ y. names.eq (key y) (key x))
+          (λ y. ties_are (cmp (key x) (key y)) (cmp (key y) (key x)) (total-law.antisymm (key y) (key x))
+          ∙ sym (matches_eq-law (key y) (key x))) zs

@@ -1,5 +1,5 @@
 -- The lists of a book up to a stamp.
-use Rattle.std.specs.Prelude.{ℕ, ◌≡◌, Bool, false, Option, Some, None, List, [], map, nat_le}
+use Rattle.std.specs.Prelude.{ℕ, ◌≡◌, Bool, false, Option, Some, None, List, [], ◌∷◌, map, nat_le, if◌then◌else◌}
 use Rattle.std.specs.Global.{Vec}
 use Rattle.key_names.specs.Book.{Book, Visit, entries_of}
 use Rattle.key_uses.specs.KeptEntries.{base_entries}
@@ -22,6 +22,13 @@ lane_moments (Some lane) = lane.items
 abbrev pub is_by : ℕ → Option Moment → Bool
 is_by stamp None = false
 is_by stamp (Some moment) = nat_le moment.stamp stamp
+
+-- of what is kept of visits, with their moments, what is kept of those up to a stamp
+abbrev pub list_to : {K : Type 0} → ℕ → List Moment → List K → List K
+list_to stamp moments [] = []
+list_to stamp [] (k ∷ kept) = []
+list_to stamp (m ∷ moments) (k ∷ kept) =
+    if nat_le m.stamp stamp then k ∷ list_to stamp moments kept else list_to stamp moments kept
 
 abbrev pub visit_stamps : {E : Type 0} → List (Visit E) → List ℕ
 visit_stamps visits = map (λ v. v.stamp) visits

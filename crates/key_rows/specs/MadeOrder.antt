@@ -1,9 +1,6 @@
 -- The order in which keys were made.
-use Rattle.std.specs.Prelude.{ℕ, ◌+◌, Bool, true, false, List, [], Option, None, Some, slice_get, IsSortedByKey}
-use Rattle.std.specs.Ordering.{ordering_then, nat_cmp, bool_cmp}
-use Rattle.std.specs.declared.cmp.Ordering.{Ordering}
+use Rattle.std.specs.Prelude.{ℕ, Bool, true, false, List, [], Option, None, Some, slice_get, IsSortedByKey}
 use Rattle.std.specs.Global.{Vec}
-use Rattle.key_names.specs.declared.names.LaneId.{LaneId}
 use Rattle.key_names.specs.declared.names.LaneId.TheVariants.{Pool, Base, Cpu}
 use Rattle.key_names.specs.declared.names.KeyName.{KeyName}
 use Rattle.key_names.specs.declared.names.KeyName.TheVariants.{Root, Base as BaseKey, Cpu as CpuKey, Call, Vdso}
@@ -13,7 +10,8 @@ use Rattle.key_rows.specs.declared.moments.Moment.{Moment}
 use Rattle.key_rows.specs.declared.moments.Moments.{Moments}
 use Rattle.key_rows.specs.declared.rows.Row.{Row}
 use Rattle.key_rows.specs.Cut.{lane_moments}
-use Rattle.key_rows.specs.Ranks.{by_rank}
+use Rattle.key_rows.specs.declared.rows.MadeRank.{MadeRank}
+use Rattle.key_rows.specs.contracts.rows.MadeRankOrd.TheImpl.{ghosts as ranks}
 
 abbrev pub state_moments : Option (Vec (Vec Moment)) → ℕ → List Moment
 state_moments None state = []
@@ -31,17 +29,6 @@ abbrev pub stamp_or_0 : Option Moment → ℕ
 stamp_or_0 None = 0
 stamp_or_0 (Some moment) = moment.stamp
 
--- the pool, the base, and then the CPUs
-abbrev pub lane_number : LaneId → ℕ
-lane_number Pool = 0
-lane_number Base = 1
-lane_number (Cpu cpu) = 2 + cpu
-
--- lanes before vgetrandom states, and then by place
-abbrev pub origin_rank : Origin → ℕ × ℕ × ℕ × ℕ
-origin_rank (Lane lane place) = (0, lane_number lane, 0, place)
-origin_rank (State caller state place) = (1, caller, state, place)
-
 abbrev pub is_call_key : KeyName → Bool
 is_call_key (Root p) = false
 is_call_key (BaseKey i) = false
@@ -50,12 +37,13 @@ is_call_key (Call lane i) = true
 is_call_key (Vdso caller state n) = false
 
 -- by the stamp of the entry that made the key, then by the entry; of two keys of one visit the call key comes second
-abbrev pub made_rank : Moments → Row → ℕ × (ℕ × ℕ × ℕ × ℕ) × Bool
-made_rank moments row = (stamp_or_0 (moment_at moments row.made), origin_rank row.made, is_call_key row.key)
-
-abbrev pub by_making : ℕ × (ℕ × ℕ × ℕ × ℕ) × Bool → ℕ × (ℕ × ℕ × ℕ × ℕ) × Bool → Ordering
-by_making a b = ordering_then (ordering_then (nat_cmp a.0 b.0) (by_rank a.1 b.1)) (bool_cmp a.2 b.2)
+abbrev pub made_rank : Moments → Row → MadeRank
+made_rank moments row = record {
+  stamp = stamp_or_0 (moment_at moments row.made);
+  made = row.made;
+  is_call_key = is_call_key row.key;
+}
 
 -- rows stand in the order in which their keys were made
 abbrev pub RowsByMaking : Moments → List Row → Type 0
-RowsByMaking moments rows = IsSortedByKey (made_rank moments) by_making rows
+RowsByMaking moments rows = IsSortedByKey (made_rank moments) ranks.cmp rows

@@ -1,10 +1,9 @@
 -- The row of a key: what holds it, which entry made it and which ended it, and what became of its bytes.
-use Rattle.std.specs.Prelude.{ℕ, ◌≡◌, Bool, ◌&&◌, ◌==◌, List, ◌++◌, map, filter}
+use Rattle.std.specs.Prelude.{◌≡◌, List, ◌++◌, map, filter}
 use Rattle.std.specs.Prelude.{slice_get, option_map, IsPermutation}
 use Rattle.std.specs.List.Sorted.{IsNonDecreasingBy}
-use Rattle.key_names.specs.declared.names.LaneId.TheVariants.{Pool as PoolLane, Base as BaseLane, Cpu as CpuLane}
 use Rattle.key_names.specs.declared.names.KeyName.{KeyName}
-use Rattle.key_names.specs.declared.names.KeyName.TheVariants.{Root, Base, Cpu, Call, Vdso}
+use Rattle.key_names.specs.contracts.names.KeyNamePartialEq.TheImpl.{ghosts as names}
 use Rattle.key_uses.specs.declared.used.Used.{Used}
 use Rattle.key_uses.specs.declared.used.Origin.{Origin}
 use Rattle.key_uses.specs.declared.used.Purpose.{Purpose}
@@ -18,23 +17,6 @@ use Rattle.key_rows.specs.declared.rows.Fate.{Fate}
 use Rattle.key_rows.specs.declared.rows.Fate.TheVariants.{Became, Served as ServedAt, GivenUp as GivenUpAt, Held}
 use Rattle.key_rows.specs.declared.rows.Piece.{Piece}
 use Rattle.key_rows.specs.declared.rows.Row.{Row}
-
--- the kind of a name, and its numbers
-abbrev pub rank_of : KeyName → ℕ × ℕ × ℕ × ℕ
-rank_of (Root p) = (0, p, 0, 0)
-rank_of (Base i) = (1, i, 0, 0)
-rank_of (Cpu c i) = (2, c, i, 0)
-rank_of (Call PoolLane i) = (3, i, 0, 0)
-rank_of (Call BaseLane i) = (4, i, 0, 0)
-rank_of (Call (CpuLane c) i) = (5, c, i, 0)
-rank_of (Vdso caller state n) = (6, caller, state, n)
-
--- names are the same where their kinds and their numbers are
-abbrev pub is_same_rank : ℕ × ℕ × ℕ × ℕ → ℕ × ℕ × ℕ × ℕ → Bool
-is_same_rank a b = ((a.0 == b.0 && a.1 == b.1) && a.2 == b.2) && a.3 == b.3
-
-abbrev pub is_same_name : KeyName → KeyName → Bool
-is_same_name a b = is_same_rank (rank_of a) (rank_of b)
 
 -- what became of the bytes of a use
 abbrev pub fate_of : Origin → Purpose → Fate
@@ -56,10 +38,10 @@ all_pieces told = map used_piece told.uses.items ++ map given_up_piece told.live
     ++ map held_piece told.held.rests.items
 
 abbrev pub pieces_of : KeyName → List Piece → List Piece
-pieces_of key pieces = filter (λ piece. is_same_name piece.span.key key) pieces
+pieces_of key pieces = filter (λ piece. names.eq piece.span.key key) pieces
 
 abbrev pub endings_of : KeyName → List Ending → List Ending
-endings_of key endings = filter (λ ending. is_same_name ending.key key) endings
+endings_of key endings = filter (λ ending. names.eq ending.key key) endings
 
 abbrev pub birth_of : Row → Birth
 birth_of row = record { key = row.key; holder = row.holder; by = row.made }

@@ -25,18 +25,15 @@ const BATCH_START: u64 = 32;
 
 /// The keys of a vgetrandom state, and the first byte of its batch that was not served.
 #[derive(Clone, Copy)]
-pub struct StateBatch {
-    pub keys: StateKeys,
-    pub pos: u64,
+pub(crate) struct StateBatch {
+    pub(crate) keys: StateKeys,
+    pub(crate) pos: u64,
 }
 
 fn named_span(key: Option<KeyName>, from: u64, len: u64) -> Option<Span>
     ensures { result ≡ named_span key from len }
 {
-    match key {
-        Some(key) => Some(Span { key, from, len }),
-        None => None,
-    }
+    key.map(|key| Span { key, from, len })
 }
 
 /// The rest of a CPU's batch. No memory has room for so many integers that their bytes have no number.
@@ -44,25 +41,21 @@ fn named_span(key: Option<KeyName>, from: u64, len: u64) -> Option<Span>
 /// # Errors
 ///
 /// `AllocError` where they have none.
-pub fn fill_rest(width: u64, fill: Option<Fill>) -> Result<Option<Span>, AllocError>
+pub(crate) fn fill_rest(width: u64, fill: Option<Fill>) -> Result<Option<Span>, AllocError>
     ensures { (book : Option BookFill) → fill ≡ fill_of book →
         IfOk result (λ span. span ≡ fill_rest width book) }
 {
     let Some(Fill { key, count }) = fill else {
         return Ok(None);
     };
-    let Some(served) = width.checked_mul(count) else {
-        return Err(AllocError);
-    };
-    let Some(from) = served.checked_add(BATCH_START) else {
-        return Err(AllocError);
-    };
+    let served = width.checked_mul(count).ok_or(AllocError)?;
+    let from = served.checked_add(BATCH_START).ok_or(AllocError)?;
     Ok(named_span(key, from, BATCH_BYTES.saturating_sub(served)))
 }
 
 impl StateBatch {
     /// Before its first entry a state has no key and no batch.
-    pub fn start() -> StateBatch
+    pub(crate) fn start() -> StateBatch
         ensures { BatchStands state_start 0 result }
     {
         StateBatch {
@@ -76,7 +69,7 @@ impl StateBatch {
     /// # Errors
     ///
     /// `AllocError` where there are more refills than any memory has room for.
-    pub fn step(&mut self, of: StateOf, entry: VEntry) -> Result<(), AllocError>
+    pub(crate) fn step(&mut self, of: StateOf, entry: VEntry) -> Result<(), AllocError>
         ensures { (s : NamedState) (place : ℕ) → BatchStands s place self.old →
             OnOk result (BatchStands (state_step of.caller of.state s entry) (place + 1) self.new) }
     {
@@ -95,7 +88,7 @@ impl StateBatch {
     /// # Errors
     ///
     /// `AllocError` where its first byte has no number.
-    pub fn rest(&self) -> Result<Option<Span>, AllocError>
+    pub(crate) fn rest(&self) -> Result<Option<Span>, AllocError>
         ensures { (s : NamedState) (place : ℕ) → BatchStands s place self.now →
             IfOk result (λ span. span ≡ state_rest s) }
     {
@@ -109,7 +102,7 @@ impl StateBatch {
 }
 
 /// The base's key behind its entries.
-pub fn base_end(base: &[KeptBase]) -> Option<KeyName>
+pub(crate) fn base_end(base: &[KeptBase]) -> Option<KeyName>
     ensures { result ≡ (base_after (base_entries base.now)).key }
 {
     let mut key = None;
@@ -124,7 +117,7 @@ pub fn base_end(base: &[KeptBase]) -> Option<KeyName>
 /// # Errors
 ///
 /// `AllocError` where there are more integers than any memory has room for.
-pub fn cpu_end(cpu: u32, lane: &[KeptCpu]) -> Result<CpuKeys, AllocError>
+pub(crate) fn cpu_end(cpu: u32, lane: &[KeptCpu]) -> Result<CpuKeys, AllocError>
     ensures { (base : List BookBase) → let s = cpu_after base cpu (cpu_entries lane.now) in
         IfOk result (λ keys. CpuStands s s.place keys) }
 {
@@ -140,7 +133,7 @@ pub fn cpu_end(cpu: u32, lane: &[KeptCpu]) -> Result<CpuKeys, AllocError>
 /// # Errors
 ///
 /// `AllocError` where there are more refills than any memory has room for.
-pub fn state_end(of: StateOf, entries: &[VEntry]) -> Result<StateBatch, AllocError>
+pub(crate) fn state_end(of: StateOf, entries: &[VEntry]) -> Result<StateBatch, AllocError>
     ensures { let s = state_after of.caller of.state entries.now in
         IfOk result (λ batch. BatchStands s s.place batch) }
 {

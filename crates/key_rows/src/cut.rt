@@ -1,15 +1,13 @@
 //! The lists of a book up to a stamp.
-ghost use Rattle.std.specs.Prelude.{◌≡◌, IfOk, List, map, slice_get};
-ghost use Rattle.key_names.specs.declared.entries.BaseEntry.{BaseEntry as BookBase};
-ghost use Rattle.key_names.specs.declared.entries.CpuEntry.{CpuEntry as BookCpu};
-ghost use Rattle.key_names.specs.Book.{Book, Visit, entries_of};
-ghost use Rattle.key_uses.specs.KeptEntries.{base_entries, cpu_entries};
+ghost use Rattle.std.specs.Prelude.{◌≡◌, IfOk, map, slice_get};
+ghost use Rattle.key_names.specs.Book.{Book, entries_of};
+ghost use Rattle.key_uses.specs.KeptEntries.{base_entries};
 ghost use Rattle.key_uses.specs.Moments.{visits_to};
 ghost use Rattle.key_rows.specs.Told.{cpu_lists};
-ghost use Rattle.key_rows.specs.Cut.{is_by, stamps_of, visit_stamps, KeepsVisits};
+ghost use Rattle.key_rows.specs.Cut.{is_by, list_to, KeepsVisits};
 
 use crate::moments::{Moment, Moments};
-use list_replay::{KeptBase, KeptCpu, Lists};
+use list_replay::{KeptCpu, Lists};
 use std::alloc::{AllocError, Global};
 
 // Whether the visit at a place was made at this stamp or before.
@@ -22,41 +20,19 @@ fn is_by(moments: &[Moment], place: usize, stamp: u64) -> bool
     }
 }
 
-// The visits of the base up to a stamp.
-fn base_to(
+// What is kept of a lane's visits up to a stamp.
+fn list_to<T: Copy + Drop>(
     alloc: Global,
     stamp: u64,
-    base: &[KeptBase],
+    kept: &[T],
     moments: &[Moment],
-) -> Result<Vec<KeptBase>, AllocError>
-    ensures { (visits : List (Visit BookBase)) → base_entries base.now ≡ entries_of visits →
-        stamps_of moments.now ≡ visit_stamps visits →
-        IfOk result (λ cut. base_entries cut.items ≡ entries_of (visits_to stamp visits)) }
+) -> Result<Vec<T>, AllocError>
+    ensures { IfOk result (λ cut. cut.items ≡ list_to stamp moments.now kept.now) }
 {
     let mut cut = Vec::new(alloc);
-    for (place, kept) in base.iter().enumerate() {
+    for (place, one) in kept.iter().enumerate() {
         if is_by(moments, place, stamp) {
-            cut.push(*kept)?;
-        }
-    }
-    Ok(cut)
-}
-
-// The visits of a CPU up to a stamp.
-fn cpu_to(
-    alloc: Global,
-    stamp: u64,
-    lane: &[KeptCpu],
-    moments: &[Moment],
-) -> Result<Vec<KeptCpu>, AllocError>
-    ensures { (visits : List (Visit BookCpu)) → cpu_entries lane.now ≡ entries_of visits →
-        stamps_of moments.now ≡ visit_stamps visits →
-        IfOk result (λ cut. cpu_entries cut.items ≡ entries_of (visits_to stamp visits)) }
-{
-    let mut cut = Vec::new(alloc);
-    for (place, kept) in lane.iter().enumerate() {
-        if is_by(moments, place, stamp) {
-            cut.push(*kept)?;
+            cut.push(*one)?;
         }
     }
     Ok(cut)
@@ -74,7 +50,7 @@ fn cpus_to(
 {
     let mut cpus = Vec::new(alloc);
     for (cpu, lane) in kept.cpus.iter().enumerate() {
-        cpus.push(cpu_to(alloc, stamp, lane, moments.of_cpu(cpu))?)?;
+        cpus.push(list_to(alloc, stamp, lane, moments.of_cpu(cpu))?)?;
     }
     Ok(cpus)
 }
@@ -95,7 +71,7 @@ pub fn kept_to(
     ensures cpus { (book : Book) → KeepsVisits book kept.now moments.now →
         IfOk result (λ cut. cpu_lists cut.cpus.items ≡ map entries_of (map (visits_to stamp) book.cpus)) }
 {
-    let base = base_to(alloc, stamp, &kept.base, &moments.base)?;
+    let base = list_to(alloc, stamp, &kept.base, &moments.base)?;
     let cpus = cpus_to(alloc, stamp, kept, moments)?;
     Ok(Lists {
         pool: Vec::new(alloc),

@@ -60,7 +60,7 @@ pub struct Held {
 
 impl Held {
     /// Nothing is held.
-    pub fn none(alloc: Global) -> Held
+    pub(crate) fn none(alloc: Global) -> Held
         ensures keys { result.keys.items ≡ [] }
         ensures rests { result.rests.items ≡ [] }
     {
@@ -112,7 +112,7 @@ impl Held {
     /// # Errors
     ///
     /// `AllocError` where there is no memory for it.
-    pub fn add_base(&mut self, base: &[KeptBase]) -> Result<(), AllocError>
+    pub(crate) fn add_base(&mut self, base: &[KeptBase]) -> Result<(), AllocError>
         ensures keys { OnOk result (self.new.keys.items
             ≡ self.old.keys.items ++ held_key Base (base_after (base_entries base.now)).key) }
         ensures rests { self.new.rests.items ≡ self.old.rests.items }
@@ -124,8 +124,8 @@ impl Held {
     ///
     /// # Errors
     ///
-    /// `AllocError` where there is no memory for it.
-    pub fn add_cpu(&mut self, cpu: u32, lane: &[KeptCpu]) -> Result<(), AllocError>
+    /// `AllocError` where there is no memory for it, or where a byte of a batch would have no number below 2^64.
+    pub(crate) fn add_cpu(&mut self, cpu: u32, lane: &[KeptCpu]) -> Result<(), AllocError>
         ensures keys { (base : List BookBase) → OnOk result (self.new.keys.items
             ≡ self.old.keys.items ++ held_key (Cpu cpu) (cpu_after base cpu (cpu_entries lane.now)).key) }
         ensures rests { (base : List BookBase) → OnOk result (self.new.rests.items
@@ -141,8 +141,8 @@ impl Held {
     ///
     /// # Errors
     ///
-    /// `AllocError` where there is no memory for it.
-    pub fn add_state(&mut self, of: StateOf, entries: &[VEntry]) -> Result<(), AllocError>
+    /// `AllocError` where there is no memory for it, or where a byte of a batch would have no number below 2^64.
+    pub(crate) fn add_state(&mut self, of: StateOf, entries: &[VEntry]) -> Result<(), AllocError>
         ensures keys { OnOk result (self.new.keys.items ≡ self.old.keys.items
             ++ held_key (State of) (state_after of.caller of.state entries.now).key) }
         ensures rests { OnOk result (self.new.rests.items ≡ self.old.rests.items

@@ -10,7 +10,7 @@
 //! `key_uses` gives.
 #![tactic(auto)]
 
-pub mod batches;
+mod batches;
 pub mod cut;
 pub mod held;
 pub mod laws;

@@ -69,7 +69,7 @@ pub struct Lives {
 
 impl Lives {
     /// No keys.
-    pub fn none(alloc: Global) -> Lives
+    pub(crate) fn none(alloc: Global) -> Lives
         ensures births { result.births.items ≡ [] }
         ensures endings { result.endings.items ≡ [] }
         ensures given_up { result.given_up.items ≡ [] }
@@ -191,7 +191,7 @@ impl Lives {
     /// # Errors
     ///
     /// `AllocError` where there is no memory for it.
-    pub fn base(&mut self, base: &[KeptBase]) -> Result<(), AllocError>
+    pub(crate) fn base(&mut self, base: &[KeptBase]) -> Result<(), AllocError>
         ensures births { OnOk result (self.new.births.items ≡ self.old.births.items
             ++ told_from base_births_at base_step base_start (base_entries base.now)) }
         ensures endings { OnOk result (self.new.endings.items ≡ self.old.endings.items
@@ -272,8 +272,8 @@ impl Lives {
     ///
     /// # Errors
     ///
-    /// `AllocError` where there is no memory for it.
-    pub fn cpu(&mut self, cpu: u32, lane: &[KeptCpu]) -> Result<(), AllocError>
+    /// `AllocError` where there is no memory for it, or where a byte of a batch would have no number below 2^64.
+    pub(crate) fn cpu(&mut self, cpu: u32, lane: &[KeptCpu]) -> Result<(), AllocError>
         ensures births { (base : List BookBase) → OnOk result (self.new.births.items ≡ self.old.births.items
             ++ told_from (cpu_births_at cpu) (cpu_step base cpu) cpu_start (cpu_entries lane.now)) }
         ensures endings { (base : List BookBase) → OnOk result (self.new.endings.items ≡ self.old.endings.items
@@ -333,8 +333,8 @@ impl Lives {
     ///
     /// # Errors
     ///
-    /// `AllocError` where there is no memory for it.
-    pub fn state(&mut self, of: StateOf, entries: &[VEntry]) -> Result<(), AllocError>
+    /// `AllocError` where there is no memory for it, or where a byte of a batch would have no number below 2^64.
+    pub(crate) fn state(&mut self, of: StateOf, entries: &[VEntry]) -> Result<(), AllocError>
         ensures births { OnOk result (self.new.births.items ≡ self.old.births.items
             ++ told_from (state_births_at of) (state_step of.caller of.state) state_start entries.now) }
         ensures endings { OnOk result (self.new.endings.items ≡ self.old.endings.items

@@ -2,16 +2,16 @@
 ghost use Rattle.std.specs.Prelude.{◌≡◌, ◌++◌, IfOk, OnOk, All, map, option_map, slice_get, IsPermutation};
 ghost use Rattle.std.specs.List.Sorted.{IsNonDecreasingBy};
 ghost use Rattle.key_names.specs.declared.names.KeyName.{KeyName as BookName};
-ghost use Rattle.key_rows.specs.Rows.{rank_of, used_piece, given_up_piece, held_piece, all_pieces};
+ghost use Rattle.key_rows.specs.Rows.{used_piece, given_up_piece, held_piece, all_pieces};
 ghost use Rattle.key_rows.specs.Rows.{pieces_of, endings_of, birth_of, IsRow};
 ghost use Rattle.key_rows.specs.Ranks.{PiecesByKey, EndingsByKey};
-ghost use Rattle.key_rows.specs.MadeOrder.{lane_number, origin_rank, stamp_or_0, is_call_key, made_rank, RowsByMaking};
+ghost use Rattle.key_rows.specs.MadeOrder.{made_rank, RowsByMaking};
 
 use crate::held::HeldRest;
 use crate::lives::{Birth, Ending, GivenUp, Holder};
-use crate::moments::{Moment, Moments};
+use crate::moments::Moments;
 use crate::told::Told;
-use key_names::{KeyName, LaneId, Span};
+use key_names::{KeyName, Span};
 use key_uses::used::{Origin, Purpose, Used};
 use std::alloc::{AllocError, Global};
 
@@ -105,30 +105,14 @@ fn all_pieces(alloc: Global, told: &Told) -> Result<Vec<Piece>, AllocError>
     Ok(pieces)
 }
 
-// Where a name stands among all names: by its kind, and then by its numbers.
-fn rank_of(key: KeyName) -> (u64, u64, u64, u64)
-    ensures { result ≡ rank_of key }
-{
-    match key {
-        KeyName::Root(place) => (0, place, 0, 0),
-        KeyName::Base(place) => (1, place, 0, 0),
-        KeyName::Cpu(cpu, place) => (2, u64::from(cpu), place, 0),
-        KeyName::Call(LaneId::Pool, place) => (3, place, 0, 0),
-        KeyName::Call(LaneId::Base, place) => (4, place, 0, 0),
-        KeyName::Call(LaneId::Cpu(cpu), place) => (5, u64::from(cpu), place, 0),
-        KeyName::Vdso(caller, state, number) => (6, u64::from(caller), u64::from(state), number),
-    }
-}
-
 // The pieces of a key among those of all keys, which stand in the order of their names.
 fn pieces_of(all: &[Piece], key: KeyName) -> &[Piece]
     requires { PiecesByKey all.now }
     ensures { result.now ≡ pieces_of key all.now }
 {
-    let rank = rank_of(key);
-    let first = all.partition_point(|piece| rank_of(piece.span.key).cmp(&rank).is_lt());
+    let first = all.partition_point(|piece| piece.span.key < key);
     let behind = &all[first..];
-    let count = behind.partition_point(|piece| rank_of(piece.span.key).cmp(&rank).is_le());
+    let count = behind.partition_point(|piece| piece.span.key <= key);
     &behind[..count]
 }
 
@@ -137,10 +121,9 @@ fn endings_of(all: &[Ending], key: KeyName) -> &[Ending]
     requires { EndingsByKey all.now }
     ensures { result.now ≡ endings_of key all.now }
 {
-    let rank = rank_of(key);
-    let first = all.partition_point(|ending| rank_of(ending.key).cmp(&rank).is_lt());
+    let first = all.partition_point(|ending| ending.key < key);
     let behind = &all[first..];
-    let count = behind.partition_point(|ending| rank_of(ending.key).cmp(&rank).is_le());
+    let count = behind.partition_point(|ending| ending.key <= key);
     &behind[..count]
 }
 
@@ -160,10 +143,7 @@ fn ended_by(all: &[Ending], key: KeyName) -> Option<Origin>
     requires { EndingsByKey all.now }
     ensures { result ≡ option_map (λ ending. ending.by) (slice_get (endings_of key all.now) 0) }
 {
-    match endings_of(all, key).first() {
-        Some(ending) => Some(ending.by),
-        None => None,
-    }
+    endings_of(all, key).first().map(|ending| ending.by)
 }
 
 // The row of a key that is made.
@@ -194,7 +174,7 @@ fn sorted_pieces(alloc: Global, told: &Told) -> Result<Vec<Piece>, AllocError>
         ≡ pieces_of key (all_pieces told.now)) }
 {
     let mut pieces = all_pieces(alloc, told)?;
-    pieces.sort_by_key(|piece| rank_of(piece.span.key))?;
+    pieces.sort_by_key(|piece| piece.span.key)?;
     Ok(pieces)
 }
 
@@ -204,7 +184,7 @@ fn sorted_endings(alloc: Global, all: &[Ending]) -> Result<Vec<Ending>, AllocErr
     ensures same { (key : BookName) → IfOk result (λ endings. endings_of key endings.items ≡ endings_of key all.now) }
 {
     let mut endings = Vec::from_slice(alloc, all)?;
-    endings.sort_by_key(|ending| rank_of(ending.key))?;
+    endings.sort_by_key(|ending| ending.key)?;
     Ok(endings)
 }
 
@@ -242,57 +222,24 @@ pub fn make_rows(alloc: Global, told: &Told) -> Result<Vec<Row>, AllocError>
     Ok(rows)
 }
 
-// Where a lane stands among all lanes: the pool, the base, and then the CPUs.
-fn lane_number(lane: LaneId) -> u64
-    ensures { result ≡ lane_number lane }
-{
-    match lane {
-        LaneId::Pool => 0,
-        LaneId::Base => 1,
-        LaneId::Cpu(cpu) => 2 + u64::from(cpu),
-    }
+/// Where a row stands in the order in which keys were made. Of two keys of one visit the one that the erasure kept comes
+/// first.
+#[derive(Clone, Copy, PartialEq, Eq, PartialOrd, Ord)]
+struct MadeRank {
+    /// The stamp of the entry that made the key, or 0 where none is told.
+    stamp: u64,
+    made: Origin,
+    is_call_key: bool,
 }
 
-// Where an entry stands among all entries with its stamp: lanes before vgetrandom states, and then by place.
-fn origin_rank(origin: Origin) -> (u64, u64, u64, u64)
-    ensures { result ≡ origin_rank origin }
-{
-    match origin {
-        Origin::Lane(lane, place) => (0, lane_number(lane), 0, place),
-        Origin::State {
-            caller,
-            state,
-            place,
-        } => (1, u64::from(caller), u64::from(state), place),
-    }
-}
-
-// The stamp of an entry, or 0 where it has none.
-fn stamp_of(moment: Option<Moment>) -> u64
-    ensures { result ≡ stamp_or_0 moment }
-{
-    match moment {
-        Some(moment) => moment.stamp,
-        None => 0,
-    }
-}
-
-// Of two keys of one visit the one that the erasure kept comes first.
-fn is_second(key: KeyName) -> bool
-    ensures { result ≡ is_call_key key }
-{
-    matches!(key, KeyName::Call(..))
-}
-
-// Where a row stands in the order in which keys were made: by stamp, then by entry.
-fn made_rank(moments: &Moments, row: &Row) -> (u64, (u64, u64, u64, u64), bool)
+fn made_rank(moments: &Moments, row: &Row) -> MadeRank
     ensures { result ≡ made_rank moments.now row.now }
 {
-    (
-        stamp_of(moments.at(row.made)),
-        origin_rank(row.made),
-        is_second(row.key),
-    )
+    MadeRank {
+        stamp: moments.at(row.made).map_or(0, |moment| moment.stamp),
+        made: row.made,
+        is_call_key: matches!(row.key, KeyName::Call(..)),
+    }
 }
 
 /// Puts rows in the order in which their keys were made.

@@ -89,14 +89,11 @@ fn rekeyed_places(
     Ok(places)
 }
 
-// The number of a CPU, of a caller or of a state. No memory has room for a list that has none.
+// The number of a CPU, of a caller or of a state. No book has so many that one has none.
 fn number_of(index: usize) -> Result<u32, AllocError>
     ensures { IfOk result (λ number. number ≡ index) }
 {
-    if index > u32::MAX as usize {
-        return Err(AllocError);
-    }
-    Ok(index as u32)
+    u32::try_from(index).map_err(|_| AllocError)
 }
 
 impl Told {
@@ -203,7 +200,8 @@ impl Told {
 ///
 /// # Errors
 ///
-/// `AllocError` where there is no memory for it.
+/// `AllocError` where there is no memory for it, where a byte of a key would have no number below 2^64, or where there
+/// are more than 2^32 CPUs, callers or states of a caller.
 pub fn tell_book(
     alloc: Global,
     kept: &Lists,

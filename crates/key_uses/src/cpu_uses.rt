@@ -68,13 +68,8 @@ pub fn key_after(cpu: u32, place: u64, entry: CpuEntry, key: Option<KeyName>) ->
 fn next_byte(width: u8, count: u64) -> Result<u64, AllocError>
     ensures { IfOk result (λ from. from ≡ 32 + width * count) }
 {
-    let Some(served) = u64::from(width).checked_mul(count) else {
-        return Err(AllocError);
-    };
-    let Some(from) = served.checked_add(32) else {
-        return Err(AllocError);
-    };
-    Ok(from)
+    let served = u64::from(width).checked_mul(count).ok_or(AllocError)?;
+    served.checked_add(32).ok_or(AllocError)
 }
 
 // Adds what the next integer of a batch puts to use.
@@ -108,9 +103,7 @@ fn one_more(fill: Option<Fill>) -> Result<Option<Fill>, AllocError>
     let Some(Fill { key, count }) = fill else {
         return Ok(None);
     };
-    let Some(count) = count.checked_add(1) else {
-        return Err(AllocError);
-    };
+    let count = count.checked_add(1).ok_or(AllocError)?;
     Ok(Some(Fill { key, count }))
 }
 
@@ -229,7 +222,7 @@ fn rekeys_at(rekeyed: &[bool], place: u64) -> bool
 ///
 /// # Errors
 ///
-/// `AllocError` where there is no memory for them.
+/// `AllocError` where there is no memory for them, or where a byte of a batch would have no number below 2^64.
 pub fn cpu_uses(
     alloc: Global,
     cpu: u32,

@@ -43,13 +43,8 @@ pub struct StateKeys {
 pub fn byte_of(block: u64, more: u64) -> Result<u64, AllocError>
     ensures { IfOk result (λ byte. byte ≡ 64 * block + more) }
 {
-    let Some(byte) = BLOCK_BYTES.checked_mul(block) else {
-        return Err(AllocError);
-    };
-    let Some(byte) = byte.checked_add(more) else {
-        return Err(AllocError);
-    };
-    Ok(byte)
+    let byte = BLOCK_BYTES.checked_mul(block).ok_or(AllocError)?;
+    byte.checked_add(more).ok_or(AllocError)
 }
 
 impl StateKeys {
@@ -136,7 +131,7 @@ impl StateKeys {
 ///
 /// # Errors
 ///
-/// `AllocError` where there is no memory for them.
+/// `AllocError` where there is no memory for them, or where a byte of a key would have no number below 2^64.
 pub fn state_uses(alloc: Global, of: StateOf, entries: &[VEntry]) -> Result<Vec<Used>, AllocError>
     ensures { IfOk result (λ uses. uses_seen uses.items
         ≡ uses_from state_uses_at (state_step of.caller of.state) state_start entries.now) }

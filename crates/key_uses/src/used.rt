@@ -1,8 +1,9 @@
 //! A use of bytes of a key, and the entry that it is of.
 use key_names::{KeyName, LaneId, Span};
 
-/// An entry that makes, uses or erases a key: at a place of a lane, or of the list of a caller's vgetrandom state.
-#[derive(Clone, Copy, Debug, PartialEq, Eq)]
+/// An entry that makes, uses or erases a key: at a place of a lane, or of the list of a caller's vgetrandom state. Lanes
+/// stand before states.
+#[derive(Clone, Copy, Debug, PartialEq, Eq, PartialOrd, Ord)]
 pub enum Origin {
     Lane(LaneId, u64),
     State { caller: u32, state: u32, place: u64 },

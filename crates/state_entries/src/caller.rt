@@ -8,8 +8,7 @@ use crate::leaving::Leaving;
 use crate::outline::Outline;
 use crate::stamps::behind_call;
 use key_names::Event;
-use line_orders::bare::BareLine;
-use line_orders::called::{ActLine, Called};
+use line_orders::called::Called;
 use std::alloc::{AllocError, Global};
 use std::marker::Model;
 
@@ -39,7 +38,7 @@ fn put_behind(
 /// The sixteen vgetrandom states of a caller, one of which is the current one: their outlines and their lists so far,
 /// and the stamp of the caller's last visit.
 #[derive(Drop)]
-pub struct Caller {
+pub(crate) struct Caller {
     outlines: Vec<Outline>,
     lists: Vec<Vec<StateEntry>>,
     current: usize,
@@ -59,10 +58,9 @@ impl Model for Caller {
 }
 
 impl Caller {
-    ghost use Rattle.std.specs.Prelude.{◌≡◌, ◌++◌, IfOk, OnOk, map, slice_set};
-    ghost use Rattle.line_orders.specs.Called.{seen_act, seen_call};
+    ghost use Rattle.std.specs.Prelude.{◌≡◌, ◌++◌, IfOk, OnOk, slice_set};
+    ghost use Rattle.line_orders.specs.Called.{seen_call};
     ghost use Rattle.state_entries.specs.Callers.{current_outline, with_outline};
-    ghost use Rattle.state_entries.specs.Left.{nothing_left, vread_left};
     ghost use Rattle.state_entries.specs.Entries.{call_entries};
     ghost use Rattle.state_entries.specs.Stamped.{States, first_states, current_list, over, left_over, lists_over};
     ghost use Rattle.state_entries.specs.Stamped.{states_after, states_after_event};
@@ -72,7 +70,7 @@ impl Caller {
     /// # Errors
     ///
     /// `AllocError` where there is no memory for the states.
-    pub fn start(alloc: Global, stamp: u64) -> Result<Caller, AllocError>
+    pub(crate) fn start(alloc: Global, stamp: u64) -> Result<Caller, AllocError>
         ensures { IfOk result (λ caller. caller ≡ first_states stamp) }
     {
         let mut outlines = Vec::with_capacity(alloc, STATES)?;
@@ -151,30 +149,12 @@ impl Caller {
         Ok(())
     }
 
-    // A `vread` that is over at a stamp.
-    fn vread(
-        &mut self,
-        alloc: Global,
-        len: u32,
-        flags: u32,
-        line: BareLine<'_>,
-        acts: &[ActLine<'_>],
-        done: u64,
-    ) -> Result<(), AllocError>
-        ensures { OnOk result (self.new ≡ left_over done (vread_left len flags (map seen_act acts.now)
-            (nothing_left (current_outline self.old.outlines)) line.entry.steps.now) self.old) }
-    {
-        let mut left = Leaving::begin(alloc, self.outline(), self.stamp);
-        left.vread(len, flags, acts, line.steps)?;
-        self.keep(&left, done, line.event)
-    }
-
     /// Goes through a call.
     ///
     /// # Errors
     ///
     /// `AllocError` where there is no memory for the entries that it leaves.
-    pub fn call(&mut self, alloc: Global, call: &Called<'_>) -> Result<(), AllocError>
+    pub(crate) fn call(&mut self, alloc: Global, call: &Called<'_>) -> Result<(), AllocError>
         ensures { OnOk result (self.new ≡ states_after self.old (seen_call call.now)) }
     {
         let done = behind_call(self.stamp, call);
@@ -185,7 +165,11 @@ impl Caller {
                 flags,
                 line,
                 acts,
-            } => self.vread(alloc, *len, *flags, *line, acts, done),
+            } => {
+                let mut left = Leaving::begin(alloc, self.outline(), self.stamp);
+                left.vread(*len, *flags, acts, line.steps)?;
+                self.keep(&left, done, line.event)
+            }
             Called::Unbound(_) | Called::Ending(_) => {
                 self.stamp = done;
                 Ok(())
@@ -194,7 +178,7 @@ impl Caller {
     }
 
     /// The lists of the states.
-    pub fn lists(self) -> Vec<Vec<StateEntry>>
+    pub(crate) fn lists(self) -> Vec<Vec<StateEntry>>
         ensures { lists_over result.items ≡ self.lists }
     {
         self.lists

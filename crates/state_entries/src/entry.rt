@@ -3,10 +3,10 @@ use key_names::VEntry;
 
 /// An entry that a call left of a vgetrandom state.
 #[derive(Clone, Copy, Debug, PartialEq, Eq)]
-pub struct LeftEntry {
-    pub entry: VEntry,
+pub(crate) struct LeftEntry {
+    pub(crate) entry: VEntry,
     /// The stamp of the last visit that its caller had made before it, or 0 where there was none.
-    pub stamp: u64,
+    pub(crate) stamp: u64,
 }
 
 /// An entry of a vgetrandom state, when and by whom it was left.

@@ -28,19 +28,19 @@ const END: u8 = 4;
 
 /// A visit of a CPU that reads a key.
 #[derive(Clone, Copy)]
-pub struct KeyRead {
-    pub cpu: u32,
-    pub place: u64,
-    pub stamp: u64,
+pub(crate) struct KeyRead {
+    pub(crate) cpu: u32,
+    pub(crate) place: u64,
+    pub(crate) stamp: u64,
 }
 
 /// What an attempt came to: the key's next block, whether the generation that was published in the end is the state's,
 /// and the steps behind its own.
 #[derive(Clone, Copy)]
-pub struct Tried<'a> {
-    pub next_block: u64,
-    pub holds: bool,
-    pub rest: &'a [Step],
+pub(crate) struct Tried<'a> {
+    pub(crate) next_block: u64,
+    pub(crate) holds: bool,
+    pub(crate) rest: &'a [Step],
 }
 
 impl<'a> Tried<'a> {
@@ -107,16 +107,13 @@ fn second_key(steps: &[Step]) -> Option<(KeyRead, &[Step])>
 {
     match steps {
         [] => None,
-        [second, rest @ ..] => match key_read(*second) {
-            Some(key) => Some((key, rest)),
-            None => None,
-        },
+        [second, rest @ ..] => Some((key_read(*second)?, rest)),
     }
 }
 
 /// A vgetrandom state in a call: its outline, what the call left, and the stamp of the caller's last visit so far.
 #[derive(Drop)]
-pub struct Leaving {
+pub(crate) struct Leaving {
     outline: Outline,
     entries: Vec<LeftEntry>,
     stamp: u64,
@@ -146,7 +143,7 @@ impl Leaving {
     ghost use Rattle.state_entries.specs.Left.{from_look, vread_left};
 
     /// A call begins on a state of this outline, and its caller's last visit has this stamp.
-    pub fn begin(alloc: Global, outline: Outline, stamp: u64) -> Leaving
+    pub(crate) fn begin(alloc: Global, outline: Outline, stamp: u64) -> Leaving
         ensures { result ≡ nothing_left outline }
     {
         Leaving {
@@ -156,14 +153,15 @@ impl Leaving {
         }
     }
 
-    pub fn outline(&self) -> Outline
+    /// What the state is by now.
+    pub(crate) fn outline(&self) -> Outline
         ensures { result ≡ self.now.outline }
     {
         self.outline
     }
 
     /// What the call left.
-    pub fn entries(&self) -> &[LeftEntry]
+    pub(crate) fn entries(&self) -> &[LeftEntry]
         ensures { call_entries result.now ≡ self.now.entries }
     {
         &self.entries
@@ -184,7 +182,7 @@ impl Leaving {
     /// # Errors
     ///
     /// `AllocError` where there is no memory for its entry.
-    pub fn wipe(&mut self) -> Result<(), AllocError>
+    pub(crate) fn wipe(&mut self) -> Result<(), AllocError>
         ensures { OnOk result (self.new ≡ wiped self.old) }
     {
         self.push(VEntry::Wipe)?;
@@ -405,7 +403,7 @@ impl Leaving {
     /// # Errors
     ///
     /// `AllocError` where there is no memory for its entries.
-    pub fn vread(
+    pub(crate) fn vread(
         &mut self,
         len: u32,
         flags: u32,

@@ -12,10 +12,10 @@
 //! It stands on the calls of `line_orders`. What it answers where steps are not those of a call is not said.
 #![tactic(auto)]
 
-pub mod caller;
+mod caller;
 pub mod entry;
 pub mod laws;
-pub mod leaving;
+mod leaving;
 pub mod lists;
 pub mod outline;
 mod stamps;

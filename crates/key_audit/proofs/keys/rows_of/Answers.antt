@@ -6,8 +6,8 @@ use Rattle.state_entries.specs.Entries.{all_lists_in}
 use Rattle.key_audit.proofs.KeptEntries.{has_entries}
 use Rattle.key_audit.proofs.keys.rows_of.Goals as goal
 
-pub returns : goal.returns
-returns c t callers of ms keeps = record {
+pub returns-clause-are : goal.returns-clause-are
+returns-clause-are c t callers of ms keeps = record {
   told = c.in_ok-told.told;
   tells = c.in_ok-told.ensures (lists_of of) (rw c.deref-2.ensures.value
       (has_entries c.args.book.now.lanes (lists_of of) keeps.lanes c.in_ok-entries.entries.items

@@ -21,7 +21,7 @@ returns c t callers of ms keeps =
       moments = c.in_ok-moments.moments;
       are_moments = are;
       rows = c.in_ok-rows.rows.items;
-      are = c.in_ok-rows.ensures t callers of ms keeps;
+      are = c.in_ok-rows.ensures.are t callers of ms keeps;
       numbers = c.in_ok-numbers.numbers.items;
       held = ap (λ (rows : List Row). map (name_at rows) c.in_ok-numbers.numbers.items)
           (sym (c.in_ok-graph.ensures ∙ c.deref.ensures.value))

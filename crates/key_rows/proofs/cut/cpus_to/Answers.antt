@@ -9,7 +9,7 @@ use Rattle.key_uses.specs.KeptEntries.{cpu_entries}
 use Rattle.key_uses.specs.Moments.{visits_to}
 use Rattle.key_rows.specs.Told.{cpu_lists}
 use Rattle.key_rows.specs.Cut.{moment_lists}
-use Rattle.key_rows.proofs.Cuts.{moments_at, lane_more}
+use Rattle.key_rows.proofs.Cuts.{moments_at, lane_more, visits_kept}
 use Rattle.key_rows.proofs.cut.cpus_to.Goals as goal
 
 pub loop-cpu-preserved : goal.loop-cpu-preserved
@@ -18,7 +18,7 @@ loop-cpu-preserved c = λ book h.
     let lanes = c.args.kept.now.cpus.items in
     let given = c.deref-lane-items.result.now in
     let same = c.deref-lane-items.ensures.value in
-    let cut : Vec KeptCpu = c.in_ok-cpu_to.field-0 in
+    let cut : Vec KeptCpu = c.in_ok-list_to.field-0 in
     ap cpu_lists c.in_ok-push.ensures.items
     ∙ map-append (λ (lane : Vec KeptCpu). cpu_entries lane.items) c.loop-cpu.cpus.items (cut ∷ [])
     ∙ ap (λ (ess : List _). ess ++ cpu_entries cut.items ∷ []) (c.loop-cpu.invariant book h)
@@ -28,5 +28,6 @@ loop-cpu-preserved c = λ book h.
     c.of_cpu.result.now h.cpus h.cpu_stamps
     (found given lanes cpu c.lane-item.result same c.loop-cpu-test.true ∙ ap Some (sym c.lane-item.is))
     (c.of_cpu.ensures ∙ moments_at c.args.moments.now.cpus.items cpu)
-    (λ visits e. c.in_ok-cpu_to.ensures visits
-    (ap (λ (ks : List KeptCpu). cpu_entries ks) c.deref.ensures.value ∙ e)))
+    (λ visits e s. ap (λ (ks : List KeptCpu). cpu_entries ks) c.in_ok-list_to.ensures
+    ∙ visits_kept (λ (k : KeptCpu). k.entry) c.args.stamp c.deref.result.now c.of_cpu.result.now visits
+    (ap (λ (ks : List KeptCpu). cpu_entries ks) c.deref.ensures.value ∙ e) s))
