@@ -1,5 +1,5 @@
 -- What the run of a caller asks, and what it tells of itself and of all that it forks.
-use Rattle.std.specs.Prelude.{replicate, ◌≡◌, ℕ, ◌+◌, ◌*◌, ◌<◌, ◌≤◌, ◌^◌, List, [], ◌∷◌, ◌++◌, length, map, sum_by, All, vec_len, vec_capacity}
+use Rattle.std.specs.Prelude.{◌≡◌, ℕ, ◌+◌, ◌*◌, ◌<◌, ◌≤◌, ◌^◌, List, [], ◌∷◌, ◌++◌, length, map, sum_by, All, vec_len, vec_capacity}
 use Rattle.std.specs.List.{AllByRecursion}
 use Rattle.std.specs.Global.{Vec as GlobalVec}
 use Rattle.key_names.specs.declared.events.Event.{Event}
@@ -71,10 +71,6 @@ kids_of w = grove_of (map plot w.kids.items)
 -- where a child calls
 abbrev pub child_set : ℕ → Setting → Setting
 child_set child set = record set { caller = child; event = 0 }
-
--- where caller 0 calls first
-abbrev pub root_set : Setting
-root_set = record { caller = 0; event = 0; cpu = 0; now = 0; hw = replicate 32 0 }
 
 -- a start with this setting, where the pass is so
 abbrev pub start_of : Setting → Pass → Start

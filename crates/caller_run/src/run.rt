@@ -211,14 +211,7 @@ pub(crate) fn run_plan<R: Threads + Wait + Sync, G: Gate>(
         → WholeRan shared.now.script.now result.1 (view result.0) }
 {
     let Plan { root, mut slots } = plan;
-    let set = Setting {
-        caller: 0,
-        event: 0,
-        cpu: 0,
-        now: 0,
-        hw: [0; 32],
-    };
-    let (mut pass, room) = run_family(shared, pass, set, root);
+    let (mut pass, room) = run_family(shared, pass, Setting::first(0), root);
     shared.lanes.settle(&mut pass);
     gather(&mut slots, room);
     (pass, Transcript::of(slots))

@@ -13,6 +13,8 @@ use Rattle.key_names.specs.Texts.ScriptGrammar.{Script}
 use Rattle.key_names.proofs.Unique.BareLines.{bare_marks}
 use Rattle.key_names.proofs.Unique.BareMeanings.{steps_make_the_book}
 use Rattle.line_orders.specs.declared.begin.Parts.{Parts}
+use Rattle.line_orders.specs.declared.clause.Clause.{Clause}
+use Rattle.line_orders.specs.declared.clause.Clause.TheVariants.{Lines, Marks}
 use Rattle.line_orders.specs.Begun.{IsEarlyFault, PartsStand}
 use Rattle.line_orders.specs.Called.{seen_calls}
 use Rattle.line_orders.specs.Marks.{seen_mark}
@@ -35,12 +37,11 @@ use Rattle.key_audit.proofs.CutStates.{cut_states, over_bare}
 use Rattle.key_audit.proofs.VisitMarks.{marks_visits}
 
 -- where lines or marks do not stand no book is made
-pub not_begun : (script : Script) (t : List (List SeenLine)) (number : ℕ) → IsEarlyFault script t number →
+pub not_begun : (script : Script) (t : List (List SeenLine)) (clause : Clause) → IsEarlyFault script t clause →
     MadeBook script t → ⊥
-not_begun script t number fault m = elim fault [
-  | inl lines ↦ lines.1 m.lines
-  | inr marks ↦ marks.1.1 m.marks
-]
+not_begun script t Lines fault m = fault m.lines
+not_begun script t Marks fault m = fault.1 m.marks
+not_begun script t clause fault m = absurd fault
 
 pub is_book : (script : Script) (t : List (List SeenLine)) (m : MadeBook script t) → IsBookOf script t m.book
 is_book script t m = record { cpus = m.forms.cpus; visits = m.forms.visits }

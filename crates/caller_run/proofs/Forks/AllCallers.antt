@@ -26,7 +26,8 @@ use Rattle.caller_run.specs.Grove.{Grove, cleared, planted, Plot, tree, told_in,
 use Rattle.caller_run.specs.Laws.{Run, LawfulRuns, lines_of_all}
 use Rattle.caller_run.specs.Plans.{IsNewRoom, IsPlanned, HaveSlots, put_in}
 use Rattle.caller_run.specs.Standing.{Start}
-use Rattle.caller_run.specs.Ways.{ArePrepared, CanRun, Returned, WholeRan, IsFirst, numbered, root_set, start_of}
+use Rattle.rng_core.specs.Settings.{first_setting}
+use Rattle.caller_run.specs.Ways.{ArePrepared, CanRun, Returned, WholeRan, IsFirst, numbered, start_of}
 use Rattle.caller_run.proofs.Law.Whole.{lawful_runs}
 use Rattle.caller_run.proofs.Orders.InOrder.{number, numbers_of, AllOnce, in_order, in_order_of}
 use Rattle.caller_run.proofs.Planning.OnceEach.{times_in, below, once_each}
@@ -77,16 +78,16 @@ can_caller t script set caller p a has fits well cpus room = record {
 }
 
 pub can_all : (t : Lanes) (script : Script) (p : Pass) (a : Plot) (slots : List Gathered) → HoldsLanes t 0 [] p →
-    WellFormed script → t.cpus ≡ script.cpus → IsPlanned script a slots → CanRun t script root_set p a
+    WellFormed script → t.cpus ≡ script.cpus → IsPlanned script a slots → CanRun t script (first_setting 0) p a
 can_all t script p a slots has well cpus planned =
-    can_caller t script root_set 0 p a has (let some = well.cpus.0 in (omega arith, omega arith)) well cpus planned.root
+    can_caller t script (first_setting 0) 0 p a has (let some = well.cpus.0 in (omega arith, omega arith)) well cpus planned.root
 
 low_of : (n : ℕ) (rs : List Run) → AllByRecursion (λ x. x < n) (numbers_of rs) → AllByRecursion (λ r. number r < n) rs
 low_of n [] low = tt
 low_of n (r ∷ rs) low = (low.0, low_of n rs low.1)
 
-module _ (t : Lanes) (script : Script) (p : Pass) (a : Plot) (q : Pass) (b : Plot) (can : CanRun t script root_set p a)
-    (back : Returned t script (start_of root_set p) a q b) where
+module _ (t : Lanes) (script : Script) (p : Pass) (a : Plot) (q : Pass) (b : Plot) (can : CanRun t script (first_setting 0) p a)
+    (back : Returned t script (start_of (first_setting 0) p) a q b) where
   abbrev f : Forest
   f = more a.caller (tree a.kids) no_more
 
@@ -131,7 +132,7 @@ module _ (t : Lanes) (script : Script) (p : Pass) (a : Plot) (q : Pass) (b : Plo
         ((view q).share ≡ 2 ^ (view q).halvings → Ended (count_of t) (view q)) → IsFirst (view p) →
         (view p).share ≡ 2 ^ (view p).halvings → WholeRan script t' (view r)
     whole_ran r kept ends first whole_at =
-        let root : Start = start_of root_set p in
+        let root : Start = start_of (first_setting 0) p in
         let none : MadeNothing root.view = record { places = first.places; made = first.made } in
         let wide : length (view q).lanes ≡ script.cpus + 2 = back.has.pass.sized ∙ ap (λ (n : ℕ). n + 2) can.cpus in
         let ended : Ended (script.cpus + 2) (view q) =
