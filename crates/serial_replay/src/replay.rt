@@ -1,6 +1,9 @@
 //! A transcript from its steps.
-ghost use Rattle.std.specs.Prelude.{◌≡◌, ◌∷◌, [], ◌++◌, length, Some, IfOk, OnOk, slice_get};
+ghost use Rattle.std.specs.Prelude.{◌≡◌, ◌∷◌, [], ◌++◌, List, length, Some, IfOk, OnOk, slice_get};
 ghost use Rattle.std.specs.List.{AllByRecursion};
+ghost use Rattle.key_names.specs.IsTranscript.{IsTranscript, Clause, clause_number};
+ghost use Rattle.key_names.specs.SameSteps.{SameSteps};
+ghost use Rattle.key_names.specs.SeenLine.{SeenLine};
 ghost use Rattle.key_names.specs.Texts.ScriptGrammar.{WellFormed};
 ghost use Rattle.key_names.specs.Texts.TranscriptGrammar.{LineFits, ShownFits};
 ghost use Rattle.key_names.specs.declared.events.Word.{Word as EventWord};
@@ -8,7 +11,7 @@ ghost use Rattle.transcript_text.specs.Views.{seen, seen_shown};
 ghost use Rattle.caller_answers.specs.Said.{shown_by};
 ghost use Rattle.serial_replay.specs.Agreement.{Agrees, AllAgree};
 ghost use Rattle.serial_replay.specs.Remade.{said_lists};
-ghost use Rattle.serial_replay.specs.Replayed.{IsReplay};
+ghost use Rattle.serial_replay.specs.Replayed.{IsReplay, StepsFail};
 ghost use Rattle.serial_replay.specs.Written.{bytes_said, said_of, lines_said, said_into, IsFor, MayShow};
 
 use crate::remake::{Remade, remake};
@@ -146,13 +149,8 @@ fn all_lines(
     Ok(Transcript::of(callers))
 }
 
-/// The transcript that has these words and steps, its answers and data made anew. Answers and data of the argument are
-/// not read.
-///
-/// # Errors
-///
-/// `AllocError` where there is no memory for it.
-pub fn replay(alloc: Global, script: &Script, steps: &Transcript) -> Result<Replayed, AllocError>
+// The transcript of these words and steps, or the first clause that fails.
+fn replay_steps(alloc: Global, script: &Script, steps: &Transcript) -> Result<Replayed, AllocError>
     requires { WellFormed script.now }
     ensures { IfOk result (λ replayed. IsReplay script.now steps.now replayed) }
 {
@@ -164,4 +162,21 @@ pub fn replay(alloc: Global, script: &Script, steps: &Transcript) -> Result<Repl
         return Ok(Replayed::No(7));
     }
     Ok(Replayed::Made(all_lines(alloc, steps, &made.callers)?))
+}
+
+/// The transcript that has these words and steps, its answers and data made anew. Answers and data of the argument are
+/// not read.
+///
+/// # Errors
+///
+/// `AllocError` where there is no memory for it.
+pub fn replay(alloc: Global, script: &Script, steps: &Transcript) -> Result<Replayed, AllocError>
+    requires { WellFormed script.now }
+    ensures replay { IfOk result (λ replayed. IsReplay script.now steps.now replayed) }
+    ensures made { (t : List (List SeenLine)) → SameSteps steps.now t → IsTranscript script.now t
+        → IfOk result (λ replayed. replayed ≡ Replayed.Made t) }
+    ensures stops { (clause : Clause) → StepsFail script.now steps.now clause
+        → IfOk result (λ replayed. replayed ≡ Replayed.No (clause_number clause)) }
+{
+    replay_steps(alloc, script, steps)
 }
