@@ -11,6 +11,7 @@ use Rattle.serial_replay.specs.declared.replay.Replayed.{Replayed}
 use Rattle.serial_replay.specs.declared.replay.Replayed.TheVariants.{Made, No}
 use Rattle.serial_replay.specs.Replayed.{IsReplay, StepsFail}
 use Rattle.serial_replay.proofs.BareMade.{same_looks}
+use Rattle.serial_replay.proofs.Replays.{lawful_book}
 
 module _ (script : Script) (t : List (List SeenLine)) where
   -- a book is made, or a clause before it fails
@@ -44,17 +45,8 @@ module _ (script : Script) (t : List (List SeenLine)) where
   none_stops u same is c f =
       fails.1 (subst (λ (X : Type 0). X) (sym (same_looks script t u same fails.0.book is.0 one)) is.2.looks)
     where
-      other : MadeBook script u
-      other = record {
-        book = is.0;
-        meanings = is.1;
-        lines = is.2.lines;
-        marks = is.2.marks;
-        forms = is.2.forms;
-      }
-
       made : (made : MadeBook script t) × (made.book ≡ is.0)
-      made = let m = steps_make_the_book script u t (sym same) other in (m.0, m.1)
+      made = let m = steps_make_the_book script u t (sym same) (lawful_book script u is) in (m.0, m.1)
 
       fails : StepsFail script t looks_clause
       fails = subst (StepsFail script t) (at_looks c made.0 f) f
