@@ -1,5 +1,5 @@
 -- What is made of bare lines is made of the lines themselves.
-use Rattle.std.proofs.Common.{◌≡◌, ℕ, suc, List, [], ◌∷◌, map, sym, subst, ◌∙◌}
+use Rattle.std.proofs.Common.{◌≡◌, ℕ, suc, List, [], ◌∷◌, map, sym, subst, ap, ◌∙◌}
 use Rattle.std.specs.Prelude.{Result, Ok, Err, IfOk}
 use Rattle.key_names.specs.Texts.TranscriptGrammar.{StepFits, LineFits}
 use Rattle.std.specs.List.{AllByRecursion}
@@ -9,11 +9,11 @@ use Rattle.key_names.specs.BaseList.{base_after}
 use Rattle.key_names.specs.Book.{Book, lists_of}
 use Rattle.key_names.specs.Calls.{Call, alone, vread_call, unbound, ending, BoundAct}
 use Rattle.key_names.specs.Deeds.{deeds_of}
-use Rattle.key_names.specs.History.{LooksStand}
+use Rattle.key_names.specs.History.{LooksStand, caller_orders}
 use Rattle.key_names.specs.Meaning.{LineMeaning, CallMeaning}
 use Rattle.key_names.specs.Texts.ScriptGrammar.{Script}
 use Rattle.key_names.specs.SeenLine.{SeenLine}
-use Rattle.key_names.specs.SameSteps.{bare}
+use Rattle.key_names.specs.SameSteps.{bare, SameSteps}
 use Rattle.key_names.specs.IsTranscript.{EachCaller, EachAct, EachOfCall, EachLine, script_calls, SeenStands}
 use Rattle.key_names.specs.IsTranscript.{FirstFails}
 use Rattle.line_orders.specs.Clauses.{clause_of}
@@ -62,6 +62,17 @@ callers_say saids c (calls ∷ callers) [] all = absurd all
 callers_say saids c (calls ∷ callers) (ms ∷ mss) all =
     (calls_say (saids c) calls ms all.0, callers_say saids (suc c) callers mss all.1)
 
+-- the same looks stand of lines with the same steps
+pub same_looks : (script : Script) (t u : List (List SeenLine)) → SameSteps t u → (one other : Book) → one ≡ other →
+    SeenStands script t (lists_of one) ≡ SeenStands script u (lists_of other)
+same_looks script t u same one other books =
+    let P : List (List Step) → Book → Type 0 = λ orders book.
+    AllByRecursion (λ order. LooksStand (base_after (lists_of book).base).generation [] (deeds_of (lists_of book) order))
+    orders in
+    let orders : caller_orders (script_calls script t) ≡ caller_orders (script_calls script u) =
+    sym (orders_both script t) ∙ ap (λ v. caller_orders (script_calls script v)) same ∙ orders_both script u in
+    λ i. P (orders i) (books i)
+
 module _ (script : Script) (t : List (List SeenLine)) where
   abbrev bares : List (List SeenLine)
   bares = map (map bare) t
@@ -87,11 +98,8 @@ module _ (script : Script) (t : List (List SeenLine)) where
       (subst (λ (calls : List (List Call)).
       EachCaller (λ c calls ms. EachLine (SaysIt (saids c)) calls ms) 0 calls a.made.meanings)
       (bare_all script.callers t) a.says) in
-      let P : List (List Step) → Book → Type 0 = λ orders book.
-      AllByRecursion (λ order. LooksStand (base_after (lists_of book).base).generation [] (deeds_of (lists_of book) order))
-      orders in
       let looks : SeenStands script bares (lists_of a.made.book) ≡ SeenStands script t (lists_of other.0.book) =
-      (λ i. P (orders_both script t i) (sym other.1 i)) in
+      same_looks script bares t (same_bare t) a.made.book other.0.book (sym other.1) in
       record {
         made = other.0;
         long = a.long ∙ length-map t (map bare);

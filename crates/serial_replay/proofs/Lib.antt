@@ -11,3 +11,4 @@ pub mod OneCaller
 pub mod ShownKinds
 pub mod WrittenLines
 pub mod Replays
+pub mod OneReplay

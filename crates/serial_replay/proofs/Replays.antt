@@ -105,6 +105,16 @@ same_callers saids (u ∷ us) (v ∷ vs) e a b x y =
     (λ c low. b (suc c) (omega arith)) (λ c low. x (suc c) (omega arith)) (λ c low. y (suc c) (omega arith)) in
     λ i. one i ∷ more i
 
+-- the book that a lawful transcript has
+abbrev pub lawful_book : (script : Script) (t : List (List SeenLine)) → IsTranscript script t → MadeBook script t
+lawful_book script t is = record {
+  book = is.0;
+  meanings = is.1;
+  lines = is.2.lines;
+  marks = is.2.marks;
+  forms = is.2.forms;
+}
+
 module _ (script : Script) (t : List (List SeenLine)) (m : Made Said) (of : AllMade itself script (map (map bare) t) m) where
   -- what is made of lines with the same steps
   made_for : (v : List (List SeenLine)) → SameSteps t v → AllMade itself script v m
@@ -115,18 +125,8 @@ module _ (script : Script) (t : List (List SeenLine)) (m : Made Said) (of : AllM
     a : AllMade itself script v m
     a = made_for v same
 
-    other : MadeBook script v
-    other = record {
-      book = is.0;
-      meanings = is.1;
-      lines = is.2.lines;
-      marks = is.2.marks;
-      forms = is.2.forms;
-    }
-
     one : is.1 ≡ a.made.meanings
-    unfolding other
-    one = (book_is_unique script v other a.made).1
+    one = (book_is_unique script v (lawful_book script v is) a.made).1
 
     answers_agree : AllAgree SameAnswer (made_by m) v
     answers_agree = (answers_both script v a.made.meanings (made_by m) a.made.lines a.says).0

@@ -38,6 +38,8 @@ pub struct Made<T: Drop> {
     pub looks_stand: bool,
 }
 
+/// What a transcript's steps make: notes of each caller's lines, or the first of the clauses on lines, marks and forms
+/// that fails. Looks alone stop nothing here.
 #[derive(Drop)]
 pub enum Remade<T: Drop> {
     Made(Made<T>),

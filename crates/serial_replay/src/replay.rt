@@ -1,14 +1,17 @@
 //! A transcript from its steps.
-ghost use Rattle.std.specs.Prelude.{◌≡◌, ◌∷◌, [], ◌++◌, length, Some, IfOk, OnOk, slice_get};
+ghost use Rattle.std.specs.Prelude.{◌≡◌, ◌^◌, ◌<◌, ◌∷◌, [], ◌++◌, List, length, Some, IfOk, OnOk, slice_get};
 ghost use Rattle.std.specs.List.{AllByRecursion};
+ghost use Rattle.key_names.specs.IsTranscript.{IsTranscript, clause_number};
+ghost use Rattle.key_names.specs.SameSteps.{SameSteps};
+ghost use Rattle.key_names.specs.SeenLine.{SeenLine};
 ghost use Rattle.key_names.specs.Texts.ScriptGrammar.{WellFormed};
 ghost use Rattle.key_names.specs.Texts.TranscriptGrammar.{LineFits, ShownFits};
 ghost use Rattle.key_names.specs.declared.events.Word.{Word as EventWord};
-ghost use Rattle.transcript_text.specs.Views.{seen, seen_shown};
+ghost use Rattle.transcript_text.specs.Views.{bytes_of, seen, seen_shown};
 ghost use Rattle.caller_answers.specs.Said.{shown_by};
 ghost use Rattle.serial_replay.specs.Agreement.{Agrees, AllAgree};
 ghost use Rattle.serial_replay.specs.Remade.{said_lists};
-ghost use Rattle.serial_replay.specs.Replayed.{IsReplay};
+ghost use Rattle.serial_replay.specs.Replayed.{IsReplay, StepsFail};
 ghost use Rattle.serial_replay.specs.Written.{bytes_said, said_of, lines_said, said_into, IsFor, MayShow};
 
 use crate::remake::{Remade, remake};
@@ -26,14 +29,12 @@ pub enum Replayed {
     No(u8),
 }
 
-// One more line, with this in the place of what it shows. A line keeps fewer than 2^32 bytes.
+// One more line.
 fn push_line(lines: &mut CallerLines, line: LineView<'_>) -> Result<(), AllocError>
-    requires { LineFits (seen line) }
+    requires fits { LineFits (seen line) }
+    requires short { length (bytes_of line.shown) < 2 ^ 32 }
     ensures { OnOk result (lines.new.lines ≡ lines.old.lines ++ seen line.entry ∷ []) }
 {
-    if line.shown.bytes().len() > u32::MAX as usize {
-        return Err(AllocError);
-    }
     lines.reserve(line)?;
     lines.push(line);
     Ok(())
@@ -41,7 +42,8 @@ fn push_line(lines: &mut CallerLines, line: LineView<'_>) -> Result<(), AllocErr
 
 // The bytes that a line shows, in the place of those in the buffer.
 fn put_bytes(buffer: &mut Vec<u8>, said: &Said) -> Result<(), AllocError>
-    ensures { OnOk result (buffer.new.items ≡ bytes_said said.now.shows) }
+    ensures bytes { OnOk result (buffer.new.items ≡ bytes_said said.now.shows) }
+    ensures short { OnOk result (length buffer.new.items < 2 ^ 32) }
 {
     buffer.clear();
     match &said.shows {
@@ -52,8 +54,10 @@ fn put_bytes(buffer: &mut Vec<u8>, said: &Said) -> Result<(), AllocError>
 
 // What a line shows, its bytes being these.
 fn shown_as<'a>(said: &Said, bytes: &'a [u8]) -> Shown<'a>
-    requires { bytes.now ≡ bytes_said said.now.shows }
+    requires bytes { bytes.now ≡ bytes_said said.now.shows }
+    requires short { length bytes.now < 2 ^ 32 }
     ensures shown { seen_shown result ≡ shown_by said.now.shows }
+    ensures short { length (bytes_of result) < 2 ^ 32 }
     ensures fits { (word : EventWord) → IsFor word (seen_shown result) → ShownFits word (seen_shown result) }
 {
     match &said.shows {
@@ -68,7 +72,9 @@ fn told_line<'a>(line: LineView<'a>, said: &Said, bytes: &'a [u8]) -> LineView<'
     requires fits { LineFits (seen line) }
     requires kind { MayShow (seen line) said.now }
     requires bytes { bytes.now ≡ bytes_said said.now.shows }
+    requires short { length bytes.now < 2 ^ 32 }
     ensures told { seen result ≡ said_of (seen line.entry) (Some said.now) }
+    ensures short { length (bytes_of result.shown) < 2 ^ 32 }
     ensures fits { LineFits (seen result) }
 {
     let shown = shown_as(said, bytes);
@@ -111,7 +117,7 @@ fn push_made(
 {
     match said.get(line.event as usize) {
         Some(one) => push_said(lines, line, one, buffer),
-        None => push_line(lines, line),
+        None => unreachable!(),
     }
 }
 
@@ -147,13 +153,8 @@ fn all_lines(
     Ok(Transcript::of(callers))
 }
 
-/// The transcript that has these words and steps, its answers and data made anew. Answers and data of the argument are
-/// not read.
-///
-/// # Errors
-///
-/// `AllocError` where there is no memory for it.
-pub fn replay(alloc: Global, script: &Script, steps: &Transcript) -> Result<Replayed, AllocError>
+// The transcript of these words and steps, or the first clause that fails.
+fn replay_steps(alloc: Global, script: &Script, steps: &Transcript) -> Result<Replayed, AllocError>
     requires { WellFormed script.now }
     ensures { IfOk result (λ replayed. IsReplay script.now steps.now replayed) }
 {
@@ -165,4 +166,21 @@ pub fn replay(alloc: Global, script: &Script, steps: &Transcript) -> Result<Repl
         return Ok(Replayed::No(Clause::Looks.number()));
     }
     Ok(Replayed::Made(all_lines(alloc, steps, &made.callers)?))
+}
+
+/// The transcript that has these words and steps, its answers and data made anew. Answers and data of the argument are
+/// not read.
+///
+/// # Errors
+///
+/// `AllocError` where there is no memory for it.
+pub fn replay(alloc: Global, script: &Script, steps: &Transcript) -> Result<Replayed, AllocError>
+    requires { WellFormed script.now }
+    ensures replay { IfOk result (λ replayed. IsReplay script.now steps.now replayed) }
+    ensures made { (t : List (List SeenLine)) → SameSteps steps.now t → IsTranscript script.now t
+        → IfOk result (λ replayed. replayed ≡ Replayed.Made t) }
+    ensures stops { (clause : Clause) → StepsFail script.now steps.now (clause_of clause)
+        → IfOk result (λ replayed. replayed ≡ Replayed.No (clause_number (clause_of clause))) }
+{
+    replay_steps(alloc, script, steps)
 }

@@ -1,9 +1,10 @@
 -- The bytes of a recipe, in parts.
-use Rattle.std.proofs.Common.{◌≡◌, ℕ, ◌+◌, ◌-◌, ◌≤◌, List, ◌++◌, length, take, drop, refl, sym, ap, ◌∙◌, append_assoc, arith}
+use Rattle.std.proofs.Common.{◌≡◌, ℕ, ◌+◌, ◌-◌, ◌≤◌, ◌<◌, ◌^◌, List, ◌++◌, length, take, drop, refl, sym, subst, ap, ◌∙◌, append_assoc, arith}
 use Rattle.std.specs.Prelude.{slice_range}
 use Rattle.std.proofs.Math.Seq.{take-add, take-append_seam, drop-append_seam}
 use Rattle.std.proofs.lemmas.List.{length-append, length-take-le, take-append-drop}
 use Rattle.key_names.specs.Keystream.{keystream}
+use Rattle.vread_course.specs.Recipe.{Recipe, bytes_made}
 use Rattle.key_names.proofs.Standards.Keystreams.{length-keystream, keystream-append, slice_range-keystream}
 
 pub length_made : (front key : List ℕ) (k from len : ℕ) → k ≤ length front →
@@ -12,6 +13,12 @@ length_made front key k from len within =
     ap (λ n. n + len) (sym (length-take-le k front within))
     ∙ ap (λ n. length (take k front) + n) (sym (length-keystream key from len))
     ∙ sym (length-append (take k front) (keystream key from len))
+
+-- fewer than 2^32 bytes are made
+pub few_made : (front key : List ℕ) (k from len : ℕ) (r : Recipe) → k ≤ length front → k + len < 2 ^ 32 →
+    record { front = take k front; key = key; from = from; len = len } ≡ r → length (bytes_made r) < 2 ^ 32
+few_made front key k from len r within few is =
+    subst (λ n. n < 2 ^ 32) (length_made front key k from len within ∙ ap (λ r. length (bytes_made r)) is) few
 
 -- one more piece behind those that are there
 pub put_more : (old items more part key : List ℕ) (from done next : ℕ) → items ≡ old ++ keystream key from done →

@@ -15,7 +15,7 @@ const PIECE_BYTES: usize = 4096;
 const SHORT_BYTES: usize = 128;
 
 /// The bytes that a read serves, as a recipe: at most 96 that are there, and then a piece of a key's stream, of which
-/// nothing is made before it is asked for.
+/// nothing is made before it is asked for. There are fewer than 2^32.
 #[derive(Drop)]
 pub struct Served {
     front: [u8; 96],
@@ -33,7 +33,7 @@ impl Model for Served {
 
     ghost view = { λ s. record { front = take s.front_len s.front; key = s.key; from = s.from; len = s.len } };
 
-    ghost invariant = { λ s. (s.front_len ≤ 96) × (s.from < 2 ^ 32) };
+    ghost invariant = { λ s. (s.front_len ≤ 96) × (s.from < 2 ^ 32) × (s.front_len + s.len < 2 ^ 32) };
 }
 
 impl Served {
@@ -121,7 +121,7 @@ impl Served {
     /// How many bytes there are.
     pub fn len(&self) -> usize
         ensures bytes { result ≡ length (bytes_made self.now) }
-        ensures short { result < 2 ^ 33 }
+        ensures short { result < 2 ^ 32 }
     {
         usize::from(self.front_len) + self.len as usize
     }
@@ -132,7 +132,8 @@ impl Served {
     ///
     /// Want of memory; `out` may then have got some of the bytes.
     pub fn put(&self, out: &mut Vec<u8>) -> Result<(), AllocError>
-        ensures { IfOk result (λ _. out.new.items ≡ out.old.items ++ bytes_made self.now) }
+        ensures short { length (bytes_made self.now) < 2 ^ 32 }
+        ensures made { IfOk result (λ _. out.new.items ≡ out.old.items ++ bytes_made self.now) }
     {
         out.extend_from_slice(&self.front[..usize::from(self.front_len)])?;
         put_key(&self.key, self.from, self.len as usize, out)

@@ -6,13 +6,13 @@ use Rattle.rng_tool.proofs.judge.say_replayed.Goals as goal
 
 pub returns-in-Ok-clause-ends : goal.returns-in-Ok-clause-ends
 returns-in-Ok-clause-ends g c =
-    let is = rw c.in-Ok-Made.field-0-is at c.in-Ok-Made.ensures in
+    let is = rw c.in-Ok-Made.field-0-is at c.in-Ok-Made.ensures.replay in
     let fits = subst TranscriptFits c.made.view_is c.made.invariant in
     (_, gives_back c.args.script.now c.args.t.now c.in-Ok-Made.made fits is, c.in-Ok.ensures.whole)
 
 pub returns-in-Ok-Made-clause-ends : goal.returns-in-Ok-Made-clause-ends
 returns-in-Ok-Made-clause-ends g c =
-    let is = rw c.in-Ok-Made.field-0-is at c.in-Ok-Made.ensures in
+    let is = rw c.in-Ok-Made.field-0-is at c.in-Ok-Made.ensures.replay in
     let fits = subst TranscriptFits c.made.view_is c.made.invariant in (
       _,
       (Done, tt, gives_back c.args.script.now c.args.t.now c.in-Ok-Made.made fits is),

@@ -1,24 +1,18 @@
-use Rattle.std.proofs.Common.{◌≡◌, true, false}
-use Rattle.serial_replay.proofs.Replays.{is_the_transcript, looks_stop}
-use Rattle.serial_replay.proofs.ShownKinds.{all_kinds}
+use Rattle.std.proofs.Common.{◌≡◌}
+use Rattle.key_names.specs.IsTranscript.{clause_number}
+use Rattle.line_orders.specs.Clauses.{clause_of}
+use Rattle.serial_replay.specs.declared.replay.Replayed.TheVariants.{Made, No}
+use Rattle.serial_replay.specs.Replayed.{IsReplay}
+use Rattle.serial_replay.proofs.BareMade.{if_ok}
+use Rattle.serial_replay.proofs.OneReplay.{made_of, no_of}
 use Rattle.serial_replay.proofs.replay.replay.Goals as goal
 
-pub returns-then-not-made : goal.returns-then-not-made
-returns-then-not-made c =
-    let a = rw c.in-Made.is at c.in_ok-clause.ensures.made in
-    looks_stop c.args.script.now c.args.steps.now c.in-Made.made c.number-then-not-made.result c.number-then-not-made.ensures a
-    (λ stand. let fall : c.in-Made.made.looks_stand ≡ false = c.if-not-made.true in
-    let stands : c.in-Made.made.looks_stand ≡ true = stand in cc)
+pub returns-clause-made : goal.returns-clause-made
+returns-clause-made c = λ t same is.
+    if_ok (IsReplay c.args.script.now c.args.steps.now) (λ r. r ≡ Made t)
+    (λ r j. made_of c.args.script.now c.args.steps.now r t j same is) c.replay_steps.result c.replay_steps.ensures
 
-pub all_lines-requires-clause-kinds : goal.all_lines-requires-clause-kinds
-all_lines-requires-clause-kinds c =
-    let a = rw c.in-Made.is at c.in_ok-clause.ensures.made in
-    rw c.deref.ensures.value (all_kinds c.args.script.now c.args.steps.now c.in-Made.made a)
-
-pub returns : goal.returns
-returns c =
-    let a = rw c.in-Made.is at c.in_ok-clause.ensures.made in
-    let of = rw c.in-Made.is at c.in_ok-clause.ensures.of_steps in
-    rw (c.in_ok-all_lines.ensures, c.deref.ensures.value)
-    (is_the_transcript c.args.script.now c.args.steps.now c.in-Made.made of a.long
-    (all_kinds c.args.script.now c.args.steps.now c.in-Made.made a) c.if-not-made.false)
+pub returns-clause-stops : goal.returns-clause-stops
+returns-clause-stops c = λ clause fails.
+    if_ok (IsReplay c.args.script.now c.args.steps.now) (λ r. r ≡ No (clause_number (clause_of clause)))
+    (λ r j. no_of c.args.script.now c.args.steps.now r (clause_of clause) j fails) c.replay_steps.result c.replay_steps.ensures

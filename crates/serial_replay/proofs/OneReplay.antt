@@ -1,0 +1,65 @@
+-- A replay is the only one: the clause that stops it is one, and stops no steps of a lawful transcript.
+use Rattle.std.proofs.Common.{◌≡◌, ◌⊎◌, List, inl, inr, refl, sym, subst, ap, ◌∙◌}
+use Rattle.key_names.specs.Texts.ScriptGrammar.{Script}
+use Rattle.key_names.specs.SeenLine.{SeenLine}
+use Rattle.key_names.specs.SameSteps.{SameSteps}
+use Rattle.key_names.specs.IsTranscript.{IsTranscript, MadeBook, FirstFails, Clause, clause_number}
+use Rattle.key_names.specs.IsTranscript.{lines_clause, marks_clause, forms_clause, answers_clause, data_clause, looks_clause}
+use Rattle.key_names.proofs.Unique.BareMeanings.{steps_make_the_book}
+use Rattle.key_names.proofs.Unique.UniqueBook.{book_is_unique, first_fail_is_unique}
+use Rattle.serial_replay.specs.declared.replay.Replayed.{Replayed}
+use Rattle.serial_replay.specs.declared.replay.Replayed.TheVariants.{Made, No}
+use Rattle.serial_replay.specs.Replayed.{IsReplay, StepsFail}
+use Rattle.serial_replay.proofs.BareMade.{same_looks}
+use Rattle.serial_replay.proofs.Replays.{lawful_book}
+
+module _ (script : Script) (t : List (List SeenLine)) where
+  -- a book is made, or a clause before it fails
+  before_book : (c : Clause) → StepsFail script t c → FirstFails script t c ⊎ MadeBook script t
+  before_book lines_clause f = inl f
+  before_book marks_clause f = inl f
+  before_book forms_clause f = inl f
+  before_book answers_clause f = absurd f
+  before_book data_clause f = absurd f
+  before_book looks_clause f = inr f.0
+
+  -- where a book is made only looks can fail
+  at_looks : (c : Clause) → MadeBook script t → StepsFail script t c → c ≡ looks_clause
+  at_looks lines_clause made f = absurd (f made.lines)
+  at_looks marks_clause made f = absurd (f.1 made.marks)
+  at_looks forms_clause made f = absurd (f.2 made)
+  at_looks answers_clause made f = absurd f
+  at_looks data_clause made f = absurd f
+  at_looks looks_clause made f = refl
+
+  one_stops : (c d : Clause) → StepsFail script t c → StepsFail script t d → c ≡ d
+  one_stops c d f g = elim (before_book c f) [
+    | inr made ↦ at_looks c made f ∙ sym (at_looks d made g)
+    | inl first ↦ elim (before_book d g) [
+      | inr made ↦ at_looks c made f ∙ sym (at_looks d made g)
+      | inl other ↦ (first_fail_is_unique script t c first).0 d other
+    ]
+  ]
+
+  none_stops : (u : List (List SeenLine)) → SameSteps t u → IsTranscript script u → (c : Clause) → StepsFail script t c → ⊥
+  none_stops u same is c f =
+      fails.1 (subst (λ (X : Type 0). X) (sym (same_looks script t u same fails.0.book is.0 one)) is.2.looks)
+    where
+      made : (made : MadeBook script t) × (made.book ≡ is.0)
+      made = let m = steps_make_the_book script u t (sym same) (lawful_book script u is) in (m.0, m.1)
+
+      fails : StepsFail script t looks_clause
+      fails = subst (StepsFail script t) (at_looks c made.0 f) f
+
+      one : fails.0.book ≡ is.0
+      one = (book_is_unique script t fails.0 made.0).0 ∙ made.1
+
+pub made_of : (script : Script) (t : List (List SeenLine)) (r : Replayed) (u : List (List SeenLine)) → IsReplay script t r →
+    SameSteps t u → IsTranscript script u → r ≡ Made u
+made_of script t (Made v) u j same is = ap Made (sym (j.only u same is))
+made_of script t (No number) u j same is = absurd (none_stops script t u same is j.clause j.fails)
+
+pub no_of : (script : Script) (t : List (List SeenLine)) (r : Replayed) (clause : Clause) → IsReplay script t r →
+    StepsFail script t clause → r ≡ No (clause_number clause)
+no_of script t (Made u) clause j f = absurd (none_stops script t u j.same j.lawful clause f)
+no_of script t (No number) clause j f = ap No (j.is ∙ ap clause_number (one_stops script t j.clause clause j.fails f))
