@@ -7,6 +7,7 @@ ghost use Rattle.key_names.specs.SeenLine.{SeenLine};
 ghost use Rattle.key_names.specs.Texts.ScriptGrammar.{WellFormed};
 ghost use Rattle.key_names.specs.Texts.TranscriptGrammar.{LineFits, ShownFits};
 ghost use Rattle.key_names.specs.declared.events.Word.{Word as EventWord};
+ghost use Rattle.line_orders.specs.Clauses.{clause_of};
 ghost use Rattle.transcript_text.specs.Views.{bytes_of, seen, seen_shown};
 ghost use Rattle.caller_answers.specs.Said.{shown_by};
 ghost use Rattle.serial_replay.specs.Agreement.{Agrees, AllAgree};
