@@ -5,6 +5,7 @@ use crate::view::{Plan, View, Visit};
 use atomic_table::{Join, Play, Split, TableRule};
 use std::marker::{Brand, PhantomData};
 
+/// The rule of all lanes' words, slots and passes.
 pub struct World;
 
 impl TableRule<Slot, View, Plan> for World {
