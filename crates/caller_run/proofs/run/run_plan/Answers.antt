@@ -10,7 +10,7 @@ use Rattle.caller_run.proofs.Planning.Planned.{slots_back}
 use Rattle.caller_run.proofs.run.run_plan.Goals as goal
 
 pub run_family-pass-requires : goal.run_family-pass-requires
-run_family-pass-requires g c = (
+run_family-pass-requires g c = rw c.first.ensures (
   search rules,
   (
     search rules,
@@ -20,23 +20,25 @@ run_family-pass-requires g c = (
 )
 
 pub settle-requires-clause-idle : goal.settle-requires-clause-idle
-settle-requires-clause-idle g c = idle_of c.args.shared.now.lanes.now 0 c.run_family-pass.result.0 c.run_family-pass.ensures.has
+settle-requires-clause-idle g c =
+    let back = rw c.first.ensures at c.run_family-pass.ensures in
+    idle_of c.args.shared.now.lanes.now 0 c.run_family-pass.result.0 back.has
 
 pub gather-requires : goal.gather-requires
 gather-requires g c =
-    let a = c.args in let r = c.requires in
+    let a = c.args in let r = c.requires in let back = rw c.first.ensures at c.run_family-pass.ensures in
     slots_there a.shared.now.lanes.now a.shared.now.script.now a.pass (plot a.plan.root) c.run_family-pass.result.0
     (plot c.run_family-pass.result.1)
     (can_all a.shared.now.lanes.now a.shared.now.script.now a.pass (plot a.plan.root) a.plan.slots.items r.has r.well r.cpus r.plan)
-    c.run_family-pass.ensures (length c.deref_mut.result.now) (ap length c.deref_mut.ensures.value ∙ r.plan.slots')
+    back (length c.deref_mut.result.now) (ap length c.deref_mut.ensures.value ∙ r.plan.slots')
 
 pub of-requires-clause-last : goal.of-requires-clause-last
 of-requires-clause-last g c =
-    let a = c.args in let r = c.requires in
+    let a = c.args in let r = c.requires in let back = rw c.first.ensures at c.run_family-pass.ensures in
     last_there a.shared.now.lanes.now a.shared.now.script.now a.pass (plot a.plan.root) c.run_family-pass.result.0
     (plot c.run_family-pass.result.1)
     (can_all a.shared.now.lanes.now a.shared.now.script.now a.pass (plot a.plan.root) a.plan.slots.items r.has r.well r.cpus r.plan)
-    c.run_family-pass.ensures (lines_in a.plan.slots.items) _
+    back (lines_in a.plan.slots.items) _
     (length-map a.plan.slots.items (λ (x : Gathered). x.lines) ∙ r.plan.slots')
     (slots_back a.plan.slots.len a.plan.slots.items c.deref_mut.result.now c.gather.new.slots
     (told_by (plot c.run_family-pass.result.1)) c.deref_mut.ensures.value (omega (arith, a.plan.slots.ok.0))
@@ -44,11 +46,11 @@ of-requires-clause-last g c =
 
 pub returns-clause-whole : goal.returns-clause-whole
 returns-clause-whole g c =
-    let a = c.args in let r = c.requires in
+    let a = c.args in let r = c.requires in let back = rw c.first.ensures at c.run_family-pass.ensures in
     whole_ran a.shared.now.lanes.now a.shared.now.script.now a.pass (plot a.plan.root) c.run_family-pass.result.0
     (plot c.run_family-pass.result.1)
     (can_all a.shared.now.lanes.now a.shared.now.script.now a.pass (plot a.plan.root) a.plan.slots.items r.has r.well r.cpus r.plan)
-    c.run_family-pass.ensures (lines_in a.plan.slots.items) c.of.result
+    back (lines_in a.plan.slots.items) c.of.result
     (length-map a.plan.slots.items (λ (x : Gathered). x.lines) ∙ r.plan.slots')
     (c.of.ensures.lines
     ∙ slots_back a.plan.slots.len a.plan.slots.items c.deref_mut.result.now c.gather.new.slots
