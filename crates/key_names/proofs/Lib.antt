@@ -1,3 +1,4 @@
+pub mod Points
 pub mod Standards
 pub mod Lists
 pub mod Script

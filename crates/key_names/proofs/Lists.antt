@@ -5,3 +5,4 @@ pub mod Growing
 pub mod LaneGrowth
 pub mod BookGrowth
 pub mod Chunks
+pub mod ListFacts

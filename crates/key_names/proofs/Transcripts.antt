@@ -12,3 +12,4 @@ pub mod TranscriptLaws
 pub mod LaneCounts
 pub mod PlacesInOrder
 pub mod QuietForms
+pub mod Settings

@@ -9,6 +9,7 @@ use Rattle.key_names.specs.declared.events.Event.TheVariants.{Int64}
 use Rattle.key_names.specs.declared.events.Event.TheVariants.{Reseed, Tick, Drop, Fork, Inside, Prepare, Online, Vmfork}
 use Rattle.key_names.specs.declared.events.Event.TheVariants.{State}
 use Rattle.key_names.specs.declared.events.InsideAct.{InsideAct}
+use Rattle.key_names.specs.declared.point.Point.{Point}
 use Rattle.key_names.specs.SeenLine.{SeenLine}
 
 -- what a caller has set: its CPU, its moment in milliseconds and its hardware words
@@ -53,7 +54,7 @@ setting_after set (State number) = set
 
 -- an act that waits for a point of a vread: the point, what it does, and its line
 pub record BoundAct : Type 0 where
-  pub point : ℕ
+  pub point : Point
   pub act : InsideAct
   pub line : SeenLine
 

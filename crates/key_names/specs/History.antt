@@ -1,10 +1,13 @@
 -- In what order a caller's steps happen, with those of its ancestors before it, and what it has seen.
-use Rattle.std.specs.Prelude.{ℕ, zero, suc, ◌≤◌, ◌==◌, max, Bool, true, false, ⊤, Option, Some, None, List, []}
+use Rattle.std.specs.Prelude.{ℕ, zero, suc, ◌≤◌, max, Bool, true, false, ⊤, Option, Some, None, List, []}
 use Rattle.std.specs.Prelude.{◌∷◌, ◌++◌, length, take, drop, slice_get, if◌then◌else◌}
 use Rattle.std.specs.Option.{option_map_or}
 use Rattle.std.specs.List.{flat_map, fold}
 use Rattle.key_names.specs.declared.names.Step.{Step}
 use Rattle.key_names.specs.declared.names.Step.TheVariants.{Look, Visit as Marked}
+use Rattle.key_names.specs.declared.point.Point.{Point}
+use Rattle.key_names.specs.declared.point.Point.TheVariants.{Start, Written, Serve, End}
+use Rattle.key_names.specs.Points.{is_same_point}
 use Rattle.key_names.specs.Book.{list_at}
 use Rattle.key_names.specs.Calls.{Call, alone, vread_call, unbound, ending, BoundAct, Parent, parent_from}
 use Rattle.key_names.specs.Deeds.{Deed, looked, at_pool, at_base, at_cpu, nothing_there}
@@ -19,10 +22,11 @@ through_visit [] = []
 through_visit (step ∷ steps) = if is_mark step then step ∷ [] else step ∷ through_visit steps
 
 -- the steps of the acts at a point, in the order of the script
-abbrev pub steps_at_point : List BoundAct → ℕ → List Step
+abbrev pub steps_at_point : List BoundAct → Point → List Step
 steps_at_point [] point = []
 steps_at_point (bound ∷ acts) point =
-    if bound.point == point then bound.line.steps ++ steps_at_point acts point else steps_at_point acts point
+    if is_same_point bound.point point then bound.line.steps ++ steps_at_point acts point
+    else steps_at_point acts point
 
 -- the steps cut in two behind the visits that stand together at the front
 abbrev pub cut_behind_visits : List Step → List Step × List Step
@@ -30,8 +34,8 @@ cut_behind_visits [] = ([], [])
 cut_behind_visits (step ∷ steps) =
     if is_mark step then (let cut = cut_behind_visits steps in (step ∷ cut.0, cut.1)) else ([], step ∷ steps)
 
--- the steps of a vread from the third on, cut in two at its points 3 and 4: where its fifth step is a visit, they are
--- behind the visits that stand together from the fifth on, and else where points 1 and 2 are
+-- the steps of a vread from the third on, cut in two at its points Serve and End: where its fifth step is a visit, they
+-- are behind the visits that stand together from the fifth on, and else where Start and Written are
 abbrev pub cut_behind_rekey : List Step → List Step × List Step
 cut_behind_rekey steps =
     if option_map_or is_mark (slice_get steps 2) false
@@ -41,8 +45,8 @@ cut_behind_rekey steps =
 abbrev pub vread_steps : List Step → List BoundAct → List Step
 vread_steps steps acts =
     let cut = cut_behind_rekey (drop 2 steps) in
-    take 2 steps ++ steps_at_point acts 1 ++ steps_at_point acts 2 ++ cut.0 ++ steps_at_point acts 3
-    ++ steps_at_point acts 4 ++ cut.1
+    take 2 steps ++ steps_at_point acts Start ++ steps_at_point acts Written ++ cut.0 ++ steps_at_point acts Serve
+    ++ steps_at_point acts End ++ cut.1
 
 abbrev pub call_steps : Call → List Step
 call_steps (alone event line) = line.steps

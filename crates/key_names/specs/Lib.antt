@@ -13,6 +13,7 @@ pub mod Samples
 pub mod LineSamples
 pub mod KeyInUse
 pub mod Flags
+pub mod Points
 pub mod Calls
 pub mod Deeds
 pub mod Forms

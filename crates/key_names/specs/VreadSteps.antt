@@ -1,6 +1,6 @@
 -- How a call of vgetrandom shows in the steps of a vread's line and of the lines of the acts inside it: the host of the
 -- call is the caller itself, over the lanes.
-use Rattle.std.specs.Prelude.{ℕ, zero, suc, ◌≡◌, ◌≤◌, Bool, true, false, ◌&&◌, ◌==◌, ⊤, Option, Some, None, List, []}
+use Rattle.std.specs.Prelude.{ℕ, zero, suc, ◌≡◌, ◌≤◌, Bool, true, false, ◌&&◌, ⊤, Option, Some, None, List, []}
 use Rattle.std.specs.Prelude.{◌∷◌, ◌++◌, if◌then◌else◌}
 use Rattle.std.specs.List.{list_any, AllByRecursion}
 use Rattle.key_names.specs.declared.events.InsideAct.{InsideAct}
@@ -13,7 +13,8 @@ use Rattle.key_names.specs.declared.errno.Errno.{Errno}
 use Rattle.key_names.specs.declared.errno.Errno.TheVariants.{Again as EAGAIN, Invalid as EINVAL, NoData as ENODATA}
 use Rattle.key_names.specs.declared.errno.Errno.TheVariants.{Interrupted as EINTR}
 use Rattle.key_names.specs.declared.point.Point.{Point}
-use Rattle.key_names.specs.declared.point.Point.TheVariants.{Start, Written, Serve, End}
+use Rattle.key_names.specs.declared.point.Point.TheVariants.{Start}
+use Rattle.key_names.specs.Points.{is_same_point}
 use Rattle.key_names.specs.Calls.{Setting, BoundAct}
 use Rattle.key_names.specs.Deeds.{Deed, looked, at_pool, at_base, at_cpu, nothing_there}
 use Rattle.key_names.specs.Forms.{SysForm, Looked}
@@ -88,14 +89,8 @@ points_of (publishes g ∷ steps) = points_of steps
 points_of (system_call n flags answer ∷ steps) = points_of steps
 points_of (at_point point wiped ∷ steps) = record { point = point; wiped = wiped } ∷ points_of steps
 
-abbrev pub number_of : Point → ℕ
-number_of Start = 1
-number_of Written = 2
-number_of Serve = 3
-number_of End = 4
-
 abbrev pub is_start : PointReached → Bool
-is_start reached = number_of reached.point == 1
+is_start reached = is_same_point reached.point Start
 
 -- the points before the next start of an attempt, and those from it on
 abbrev pub before_start : List PointReached → List PointReached
@@ -122,7 +117,7 @@ is_wipe ReseedAct = false
 
 -- whether an act at this point wipes
 abbrev pub is_wiped : List BoundAct → Point → Bool
-is_wiped acts point = list_any (λ bound. bound.point == number_of point && is_wipe bound.act) acts
+is_wiped acts point = list_any (λ bound. is_same_point bound.point point && is_wipe bound.act) acts
 
 -- the acts happen in the first attempt alone
 pub record WipesStand (acts : List BoundAct) (points : List PointReached) : Type 0 where
@@ -131,7 +126,7 @@ pub record WipesStand (acts : List BoundAct) (points : List PointReached) : Type
 
 -- whether the first attempt came to the point of an act
 abbrev pub is_reached : List PointReached → BoundAct → Bool
-is_reached points bound = list_any (λ reached. number_of reached.point == bound.point) (first_points points)
+is_reached points bound = list_any (λ reached. is_same_point reached.point bound.point) (first_points points)
 
 -- the answer and the data of a line, by how its call ended
 abbrev pub answer_of_errno : Errno → Answer

@@ -3,6 +3,7 @@ ghost use Rattle.std.specs.Prelude.{◌≡◌, ◌≤◌, length};
 ghost use Rattle.key_names.specs.Texts.ScriptGrammar.{event_word};
 ghost use Rattle.key_names.specs.Texts.Spelling.{word_text};
 
+use crate::point::Point;
 use crate::text::Text;
 
 /// What an act inside a call does.
@@ -79,7 +80,7 @@ pub enum Event {
         child: u32,
     },
     Inside {
-        point: u8,
+        point: Point,
         act: InsideAct,
     },
     Prepare {

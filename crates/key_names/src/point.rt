@@ -1,4 +1,6 @@
 //! The four points of a vgetrandom call.
+ghost use Rattle.std.specs.Prelude.{◌≡◌};
+ghost use Rattle.key_names.specs.Points.{is_same_point, point_numbered};
 
 /// A point inside a vgetrandom call, where memory that the state lies in may be wiped.
 #[derive(Clone, Copy, Debug, PartialEq, Eq)]
@@ -11,4 +13,26 @@ pub enum Point {
     Serve = 3,
     /// All bytes were copied, and the published generation was not read again yet.
     End = 4,
+}
+
+impl Point {
+    /// The point of this number, which is 1 to 4, as a script and the words of a command have it.
+    pub fn of_number(number: u64) -> Option<Point>
+        ensures { result ≡ point_numbered number }
+    {
+        match number {
+            1 => Some(Point::Start),
+            2 => Some(Point::Written),
+            3 => Some(Point::Serve),
+            4 => Some(Point::End),
+            _ => None,
+        }
+    }
+
+    /// Whether it is this point.
+    pub fn is(self, other: Point) -> bool
+        ensures { result ≡ is_same_point self other }
+    {
+        self == other
+    }
 }

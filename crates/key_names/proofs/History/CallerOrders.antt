@@ -33,7 +33,7 @@ long_ancestors callers (suc n) =
 
 -- Starts
 
-below : (c n : ℕ) → c < suc n → (c < n) ⊎ (c ≡ n)
+pub below : (c n : ℕ) → c < suc n → (c < n) ⊎ (c ≡ n)
 below c n low = dite (ℕ_discrete c n) (λ e. inr e) (λ ne. inl (omega arith))
 
 start_at : (callers : List (List Call)) (n c : ℕ) → c < n → list_at (ancestors_steps callers n) c ≡ start_of callers c

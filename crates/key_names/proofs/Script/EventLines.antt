@@ -6,7 +6,9 @@ use Rattle.key_names.specs.declared.events.Event.{Event}
 use Rattle.key_names.specs.declared.events.Event.TheVariants.{At, On, Hw, Device, Write, Add, Credit, Irq, Input, Read, Vread, Kread, Dread, Uread, Fork, Inside, Prepare, Online, Vmfork, State}
 use Rattle.key_names.specs.declared.events.InsideAct.{InsideAct}
 use Rattle.key_names.specs.declared.events.InsideAct.TheVariants.{Wipe, Vread as VreadAct, Reseed as ReseedAct}
+use Rattle.key_names.specs.Points.{number_of}
 use Rattle.key_names.specs.Texts.ScriptGrammar.{ActInRange, InRange, act_fields, arguments, event_fields, event_word}
+use Rattle.key_names.proofs.Points.{number_small}
 use Rattle.key_names.proofs.Script.LinedTexts.{Clean, clean_by, clean_decimal, clean_hex, clean_word}
 
 clean_act : (act : InsideAct) → ActInRange act → AllByRecursion Clean (act_fields act)
@@ -41,7 +43,7 @@ clean_arguments version cpus (Dread len flag) few range =
     (clean_decimal len (omega arith), (clean_decimal flag (omega arith), tt))
 clean_arguments version cpus (Uread len) few range = (clean_decimal len (omega arith), tt)
 clean_arguments version cpus (Fork child) few range = (clean_decimal child (omega arith), tt)
-clean_arguments version cpus (Inside point act) few range = (clean_decimal point (omega arith), clean_act act range.2)
+clean_arguments version cpus (Inside point act) few range = (clean_decimal (number_of point) (omega (arith, number_small point)), clean_act act range)
 clean_arguments version cpus (Prepare cpu) few range = (clean_decimal cpu (omega arith), tt)
 clean_arguments version cpus (Online cpu) few range = (clean_decimal cpu (omega arith), tt)
 clean_arguments version cpus (Vmfork word text) few range = (clean_decimal word range.1, (clean_hex text range.2, tt))

@@ -7,14 +7,15 @@ use Rattle.std.proofs.lemmas.Slice.Eq.{bytes_eq-Decides}
 use Rattle.key_names.specs.declared.events.Event.{Event}
 use Rattle.key_names.specs.declared.events.Event.TheVariants.{At, On, Hw, Device, Write, Add, Credit, Bits, Irq, Input, Read, Vread, Kread, Dread, Uread, Int8, Int16, Int32, Int64, Reseed, Tick, Drop, Fork, Inside, Prepare, Online, Vmfork, State}
 use Rattle.key_names.specs.declared.events.InsideAct.{InsideAct}
+use Rattle.key_names.specs.declared.point.Point.{Point}
 use Rattle.key_names.specs.declared.events.InsideAct.TheVariants.{Wipe, Vread as VreadAct, Reseed as ReseedAct}
 use Rattle.key_names.specs.declared.events.Word.{Word}
 use Rattle.key_names.specs.declared.events.Word.TheVariants as words
 use Rattle.key_names.specs.declared.faults.FaultKind.{FaultKind}
 use Rattle.key_names.specs.declared.faults.FaultKind.TheVariants.{UnknownWord}
 use Rattle.key_names.specs.Texts.ScriptGrammar.{ActInRange, InRange, act_fields, arguments, event_word}
-use Rattle.key_names.specs.Texts.ScriptFaults.{◌>>=◌, event_of, four_fields, input_of, inside_of, number, number_in, one_field, since, two_fields, vread_at}
-use Rattle.key_names.proofs.Script.FieldReaders.{Takes, binary_again, binary_takes, byte_fields, hardware_fields, numbers, numbers_in, one_is, plain_takes, same_ok, step_ok, two_are, unary_again, unary_takes}
+use Rattle.key_names.specs.Texts.ScriptFaults.{◌>>=◌, event_of, four_fields, input_of, inside_of, number, point_of, one_field, since, two_fields, vread_at}
+use Rattle.key_names.proofs.Script.FieldReaders.{points, Takes, binary_again, binary_takes, byte_fields, hardware_fields, numbers, numbers_in, one_is, plain_takes, same_ok, step_ok, two_are, unary_again, unary_takes}
 
 -- the fields are those behind this word of the event, which is in its range
 pub record IsEvent (version cpus : ℕ) (by : Word) (fields : List (List ℕ)) (event : Event) : Type 0 where
@@ -71,27 +72,27 @@ IsAct version cpus fields e = IsEvent version cpus words.Inside fields e
 
 act_takes : (version cpus : ℕ) (point act : List ℕ) (what : InsideAct) (e : Event) → act_fields what ≡ act ∷ [] →
     ActInRange what
-    → (number_in 1 5 point >>= λ p. Ok (Inside p what)) ≡ Ok e → IsAct version cpus (point ∷ act ∷ []) e
+    → (point_of point >>= λ p. Ok (Inside p what)) ≡ Ok e → IsAct version cpus (point ∷ act ∷ []) e
 act_takes version cpus point act what e spelt fits is =
-    let step = step_ok (number_in 1 5 point) (λ p. Ok (Inside p what)) e is in
-    let p = (numbers_in 1 5 (omega arith)).takes point step.0 step.1 in
+    let step = step_ok (point_of point) (λ p. Ok (Inside p what)) e is in
+    let p = points.takes point step.0 step.1 in
     subst (λ x. IsAct version cpus (point ∷ act ∷ []) x) (same_ok {E = FaultKind} (Inside step.0 what) e step.2)
-    (record { word = refl; spelt = cc (p.0, spelt); range = (omega (arith, p.1.0), omega (arith, p.1.1), fits) })
+    (record { word = refl; spelt = cc (p.0, spelt); range = fits })
 
 vread_takes : (version cpus : ℕ) (point act len : List ℕ) (e : Event) → act ≡ codes "vread"
-    → (number_in 1 5 point >>= λ p. number 1048577 len >>= λ n. Ok (Inside p (VreadAct n))) ≡ Ok e →
+    → (point_of point >>= λ p. number 1048577 len >>= λ n. Ok (Inside p (VreadAct n))) ≡ Ok e →
     IsAct version cpus (point ∷ act ∷ len ∷ []) e
 vread_takes version cpus point act len e spelt is =
-    let step = step_ok (number_in 1 5 point) (λ p. number 1048577 len >>= λ n. Ok (Inside p (VreadAct n))) e is in
+    let step = step_ok (point_of point) (λ p. number 1048577 len >>= λ n. Ok (Inside p (VreadAct n))) e is in
     let last = step_ok (number 1048577 len) (λ n. Ok (Inside step.0 (VreadAct n))) e step.2 in
-    let p = (numbers_in 1 5 (omega arith)).takes point step.0 step.1 in
+    let p = points.takes point step.0 step.1 in
     let n = (numbers 1048577 (omega arith)).takes len last.0 last.1 in
     subst (λ x. IsAct version cpus (point ∷ act ∷ len ∷ []) x)
     (same_ok {E = FaultKind} (Inside step.0 (VreadAct last.0)) e last.2)
     (record {
       word = refl;
       spelt = cc (p.0, n.0, spelt);
-      range = (omega (arith, p.1.0), omega (arith, p.1.1), omega (arith, n.1));
+      range = omega (arith, n.1);
     })
 
 text_is : (field text : List ℕ) → bytes_eq field text ≡ true → field ≡ text
@@ -123,17 +124,12 @@ inside_takes version cpus (point ∷ act ∷ len ∷ more) e is =
     subst (λ others. IsAct version cpus (point ∷ act ∷ others) e) (sym (one_is (len ∷ more) step.0 step.1))
     (vread_takes version cpus point act step.0 e (text_is act (codes "vread") chosen.0) chosen.1)
 
-inside_again : (point : ℕ) (act : InsideAct) → (0 < point) × (point ≤ 4) × ActInRange act
+inside_again : (point : Point) (act : InsideAct) → ActInRange act
     → inside_of (arguments (Inside point act)) ≡ Ok (Inside point act)
-inside_again point Wipe range = rw ((numbers_in 1 5 (omega arith)).again point (omega arith, omega (arith, range.1)))
-    refl
+inside_again point Wipe range = rw (points.again point tt) refl
 inside_again point (VreadAct len) range =
-    rw (
-      (numbers_in 1 5 (omega arith)).again point (omega arith, omega (arith, range.1)),
-      (numbers 1048577 (omega arith)).again len (omega (arith, range.2)),
-    ) refl
-inside_again point ReseedAct range = rw ((numbers_in 1 5 (omega arith)).again point
-    (omega arith, omega (arith, range.1))) refl
+    rw (points.again point tt, (numbers 1048577 (omega arith)).again len (omega (arith, range))) refl
+inside_again point ReseedAct range = rw (points.again point tt) refl
 
 -- ---- all words
 

@@ -1,5 +1,6 @@
 -- A field, or all the fields behind a word, are read if and only if they are spelt so.
-use Rattle.std.proofs.Common.{◌≡◌, ℕ, ◌^◌, ◌<◌, ◌≤◌, ◌==◌, ltb, Bool, true, false, cond, Option, Some, None, Result, Ok, Err, List, [], ◌∷◌, length, refl, sym, ap, subst, ◌∙◌}
+use Rattle.std.proofs.Common.{◌≡◌, ℕ, ◌^◌, ◌<◌, ◌≤◌, ◌==◌, arith, ltb, Bool, true, false, cond, Option, Some, None, Result, Ok, Err, List, [], ◌∷◌, length, refl, sym, ap, subst, ◌∙◌}
+use Rattle.std.specs.Prelude.{⊤}
 use Rattle.std.specs.Fmt.{decimal}
 use Rattle.std.specs.Option.{ok_or}
 use Rattle.std.proofs.lemmas.Bool.{eq-eqb, eqb-true, le-ltb, ltb-false}
@@ -7,8 +8,10 @@ use Rattle.hex.specs.Hex.{IsBytes}
 use Rattle.key_names.specs.declared.events.Event.{Event}
 use Rattle.key_names.specs.declared.faults.FaultKind.{FaultKind}
 use Rattle.key_names.specs.declared.faults.FaultKind.TheVariants.{BadNumber, BadHex}
+use Rattle.key_names.specs.Points.{number_of, point_numbered}
 use Rattle.key_names.specs.Texts.Spelling.{hex}
-use Rattle.key_names.specs.Texts.ScriptFaults.{◌>>=◌, binary, bytes, bytes_of, hardware_words, no_field, number, number_below, number_in, one_field, plain, two_fields, unary}
+use Rattle.key_names.specs.Texts.ScriptFaults.{◌>>=◌, binary, bytes, bytes_of, hardware_words, no_field, number, point_of, number_below, number_in, one_field, plain, two_fields, unary}
+use Rattle.key_names.proofs.Points.{point_again, number_small, numbered}
 use Rattle.key_names.proofs.Script.HexFields.{bytes_again, bytes_takes}
 use Rattle.key_names.proofs.Script.Numbers.{number_again, number_takes}
 
@@ -62,6 +65,15 @@ pub numbers_in : (least limit : ℕ) → limit ≤ 2 ^ 64 →
 numbers_in least limit wide = record {
   takes = in_takes least limit wide;
   again = λ n range. rw ((numbers limit wide).again n range.1, le-ltb n least range.0) refl;
+}
+
+pub points : Spells point_of (λ p. decimal (number_of p)) (λ p. ⊤)
+points = record {
+  takes = λ field p e.
+      let step = step_ok (number 5 field) (λ n. ok_or (point_numbered n) BadNumber) p e in
+      let is = (numbers 5 (omega arith)).takes field step.0 step.1 in
+      (is.0 ∙ ap decimal (numbered step.0 p (found (point_numbered step.0) BadNumber p step.2)), tt);
+  again = λ p fits. rw ((numbers 5 (omega arith)).again (number_of p) (omega (arith, number_small p)), point_again p) refl;
 }
 
 pub byte_fields : Spells bytes hex IsBytes

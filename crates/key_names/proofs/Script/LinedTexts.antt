@@ -128,7 +128,7 @@ pub none_unprintable : (line : List ℕ) → Printable line → list_any is_unpr
 none_unprintable [] fine = refl
 none_unprintable (b ∷ line) fine = or_from _ _ fine.0 (none_unprintable line fine.1)
 
-not_feed : (b : ℕ) → is_unprintable b ≡ false → (b == 10) ≡ false
+pub not_feed : (b : ℕ) → is_unprintable b ≡ false → (b == 10) ≡ false
 not_feed b fine = ne_eqb b 10 (λ e. let bad : is_unprintable 10 ≡ false = rw e at fine in absurd cc)
 
 feedless : (line : List ℕ) → Printable line → AllByRecursion (λ b. (b == 10) ≡ false) line

@@ -4,6 +4,7 @@ use Rattle.std.specs.Prelude.{if◌then◌else◌}
 use Rattle.key_names.specs.declared.events.Event.{Event}
 use Rattle.key_names.specs.declared.events.Event.TheVariants.{Vread, Inside}
 use Rattle.key_names.specs.declared.events.InsideAct.{InsideAct}
+use Rattle.key_names.specs.declared.point.Point.{Point}
 use Rattle.key_names.specs.Calls.{Call, alone, vread_call, unbound, ending, BoundAct, has_vread, calls_from}
 use Rattle.key_names.specs.SeenLine.{SeenLine}
 
@@ -11,7 +12,7 @@ use Rattle.key_names.specs.SeenLine.{SeenLine}
 abbrev pub OfCalls : Type 1
 OfCalls = List BoundAct → List Event → List SeenLine → List Call → Type 0
 
-abbrev pub act_of : ℕ → InsideAct → SeenLine → BoundAct
+abbrev pub act_of : Point → InsideAct → SeenLine → BoundAct
 act_of point act line = record { point = point; act = act; line = line }
 
 pub record EachStep (Q : OfCalls) : Type 0 where
@@ -22,16 +23,16 @@ pub record EachStep (Q : OfCalls) : Type 0 where
   pub reads : (waiting : List BoundAct) (n flags : ℕ) (es : List Event) (line : SeenLine) (lines : List SeenLine)
       (calls : List Call) →
       Q [] es lines calls → Q waiting (Vread n flags ∷ es) (line ∷ lines) (vread_call n flags line waiting ∷ calls)
-  pub binds : (waiting : List BoundAct) (point : ℕ) (act : InsideAct) (es : List Event) (line : SeenLine)
+  pub binds : (waiting : List BoundAct) (point : Point) (act : InsideAct) (es : List Event) (line : SeenLine)
       (lines : List SeenLine) (calls : List Call) → Q (waiting ++ act_of point act line ∷ []) es lines calls →
       Q waiting (Inside point act ∷ es) (line ∷ lines) calls
-  pub leaves : (waiting : List BoundAct) (point : ℕ) (act : InsideAct) (es : List Event) (line : SeenLine)
+  pub leaves : (waiting : List BoundAct) (point : Point) (act : InsideAct) (es : List Event) (line : SeenLine)
       (lines : List SeenLine) (calls : List Call) → Q waiting es lines calls →
       Q waiting (Inside point act ∷ es) (line ∷ lines) (unbound (act_of point act line) ∷ calls)
   pub goes : (waiting : List BoundAct) (event : Event) (es : List Event) (line : SeenLine) (lines : List SeenLine)
       (calls : List Call) → Q waiting es lines calls → Q waiting (event ∷ es) (line ∷ lines) (alone event line ∷ calls)
 
-inside : (Q : OfCalls) → EachStep Q → (waiting : List BoundAct) (point : ℕ) (act : InsideAct) (es : List Event)
+inside : (Q : OfCalls) → EachStep Q → (waiting : List BoundAct) (point : Point) (act : InsideAct) (es : List Event)
     (line : SeenLine) (lines : List SeenLine) (b : Bool) (later calls : List Call) →
     Q (waiting ++ act_of point act line ∷ []) es lines later → Q waiting es lines calls →
     Q waiting (Inside point act ∷ es) (line ∷ lines) (if b then later else unbound (act_of point act line) ∷ calls)

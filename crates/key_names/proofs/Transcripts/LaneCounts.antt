@@ -19,6 +19,11 @@ use Rattle.key_names.proofs.Lists.Each.{each_weaker}
 use Rattle.key_names.proofs.History.SortedVisits.{one_if}
 use Rattle.key_names.proofs.Unique.UniqueMarks.{found}
 
+pub lane_itself : (lane : LaneId) → is_same_lane lane lane ≡ true
+lane_itself PoolLane = refl
+lane_itself BaseLane = refl
+lane_itself (CpuLane c) = eq-eqb c c refl
+
 pub same_lane : (a b : LaneId) → is_same_lane a b ≡ true → a ≡ b
 same_lane PoolLane PoolLane is = refl
 same_lane PoolLane BaseLane is = cc

@@ -6,6 +6,9 @@ use Rattle.std.proofs.lemmas.List.{map-append, length-map}
 use Rattle.key_names.specs.declared.names.Step.{Step}
 use Rattle.key_names.specs.declared.events.Event.{Event}
 use Rattle.key_names.specs.declared.events.Event.TheVariants.{Vread, Inside, Fork}
+use Rattle.key_names.specs.declared.point.Point.{Point}
+use Rattle.key_names.specs.declared.point.Point.TheVariants.{Start, Written, Serve, End}
+use Rattle.key_names.specs.Points.{is_same_point}
 use Rattle.key_names.specs.Book.{list_at}
 use Rattle.key_names.specs.Calls.{Setting, Call, alone, vread_call, unbound, ending, BoundAct, has_vread, calls_from}
 use Rattle.key_names.specs.Calls.{all_calls, setting_after_call, ForkPoint, with_call_before, fork_point}
@@ -70,17 +73,17 @@ bare_marks (lines ∷ t) = λ i. lines_marks lines i ++ bare_marks t i
 
 -- Their steps
 
-bare_at_point : (acts : List BoundAct) (p : ℕ) → steps_at_point (map bare_act acts) p ≡ steps_at_point acts p
+bare_at_point : (acts : List BoundAct) (p : Point) → steps_at_point (map bare_act acts) p ≡ steps_at_point acts p
 bare_at_point [] p = refl
 bare_at_point (b ∷ acts) p =
-    ap (λ (rest : List Step). if b.point == p then b.line.steps ++ rest else rest) (bare_at_point acts p)
+    ap (λ (rest : List Step). if is_same_point b.point p then b.line.steps ++ rest else rest) (bare_at_point acts p)
 
-bare_steps : (c : Call) → call_steps (bare_call c) ≡ call_steps c
+pub bare_steps : (c : Call) → call_steps (bare_call c) ≡ call_steps c
 bare_steps (alone event line) = refl
 bare_steps (vread_call n flags line acts) =
     let cut : List Step × List Step = cut_behind_rekey (drop 2 line.steps) in
-    λ i. take 2 line.steps ++ bare_at_point acts 1 i ++ bare_at_point acts 2 i ++ cut.0 ++ bare_at_point acts 3 i
-    ++ bare_at_point acts 4 i ++ cut.1
+    λ i. take 2 line.steps ++ bare_at_point acts Start i ++ bare_at_point acts Written i ++ cut.0 ++ bare_at_point acts Serve i
+    ++ bare_at_point acts End i ++ cut.1
 bare_steps (unbound bound) = refl
 bare_steps (ending line) = refl
 

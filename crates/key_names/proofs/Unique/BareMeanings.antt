@@ -15,8 +15,9 @@ use Rattle.key_names.specs.Flags.{is_bad}
 use Rattle.key_names.specs.History.{caller_orders, stamps_of}
 use Rattle.key_names.specs.SeenLine.{SeenLine}
 use Rattle.key_names.specs.Texts.ScriptGrammar.{event_word}
+use Rattle.key_names.specs.Points.{is_same_point}
 use Rattle.key_names.specs.VreadSteps.{PointReached, points_of, first_points, is_wiped, is_wipe}
-use Rattle.key_names.specs.VreadSteps.{is_reached, number_of, published_by}
+use Rattle.key_names.specs.VreadSteps.{is_reached, published_by}
 use Rattle.key_names.specs.Meaning.{CallerState, caller_start, current_state, LineMeaning, CallMeaning, AloneMeans}
 use Rattle.key_names.specs.Meaning.{ActMeans, ActsMean, unused_line, ByVgetrandom, tries_local, LocalOrCall}
 use Rattle.key_names.specs.Meaning.{VreadMeans, Means}
@@ -82,7 +83,7 @@ has_lines c (es ∷ callers) (ls ∷ t) (ks ∷ u) e has = (
 wiped_bare : (acts : List BoundAct) (point : Point) → is_wiped (map bare_act acts) point ≡ is_wiped acts point
 wiped_bare [] point = refl
 wiped_bare (bound ∷ acts) point =
-    ap (λ (b : Bool). (bound.point == number_of point && is_wipe bound.act) || b) (wiped_bare acts point)
+    ap (λ (b : Bool). (is_same_point bound.point point && is_wipe bound.act) || b) (wiped_bare acts point)
 
 acts_mean : (set : Setting) (points : List PointReached) (acts others : List BoundAct) (ms : List LineMeaning) →
     map bare_act acts ≡ map bare_act others → ActsMean set (is_reached points) acts ms →

@@ -34,7 +34,7 @@ AllReady ds = AllByRecursion (λ g. 1 ≤ g) (looks_of ds)
 pub ready_at : {ds xs : List Deed} → ds ≡ xs → AllReady ds → AllReady xs
 ready_at {ds = ds} {xs = xs} p ready = let P : List Deed → Type 0 = λ x. AllReady x in subst P p ready
 
-not_zero : (g : ℕ) → 1 ≤ g → (g == 0) ≡ false
+pub not_zero : (g : ℕ) → 1 ≤ g → (g == 0) ≡ false
 not_zero g some = go (g == 0) refl
   where
     go : (b : Bool) → (g == 0) ≡ b → (g == 0) ≡ false

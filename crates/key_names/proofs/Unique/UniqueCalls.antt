@@ -16,7 +16,8 @@ use Rattle.key_names.specs.Vgetrandom.{SystemAnswer, HostStep, publishes, system
 use Rattle.key_names.specs.Vgetrandom.{not_keyed, Attempt, IsAttempt, no_bytes, by_batch, by_system, Outcome, BySystem}
 use Rattle.key_names.specs.Vgetrandom.{ByBatch, ByNothing, AfterAttempt, AttemptAndRest, AfterBoth, state_after_call}
 use Rattle.key_names.specs.Vgetrandom.{SecondAttempt, FirstAttempt, FromPublished, FromLook, IsCall}
-use Rattle.key_names.specs.VreadSteps.{published_by, answer_behind, Shows, PointReached, points_of, number_of}
+use Rattle.key_names.specs.Points.{number_of}
+use Rattle.key_names.specs.VreadSteps.{published_by, answer_behind, Shows, PointReached, points_of}
 use Rattle.key_names.specs.VreadSteps.{before_start, from_start, is_wiped, WipesStand, looks_of, NeverFall}
 use Rattle.key_names.proofs.Unique.TwoBooks.{SameSteps, AllTold, same_at, told_at, told_nothing, same_deeds}
 use Rattle.key_names.proofs.Unique.UniqueForms.{told_system}
@@ -25,7 +26,7 @@ use Rattle.key_names.proofs.Unique.UniqueAttempts.{match_both, AllReady, Here, h
 use Rattle.key_names.proofs.Unique.UniqueTries.{reached, attempt_alike}
 
 -- no look is below the first
-all_ready : (g : ℕ) (gs : List ℕ) → 1 ≤ g → NeverFall (g ∷ gs) → AllByRecursion (λ g. 1 ≤ g) gs
+pub all_ready : (g : ℕ) (gs : List ℕ) → 1 ≤ g → NeverFall (g ∷ gs) → AllByRecursion (λ g. 1 ≤ g) gs
 all_ready g [] some fall = tt
 all_ready g (next ∷ gs) some fall =
     let le : g ≤ next = fall.0 in let more : 1 ≤ next = omega arith in (more, all_ready next gs more fall.1)

@@ -12,7 +12,8 @@ use Rattle.key_names.specs.BatchCopy.{copy_bytes, state_after_copy, block_after_
 use Rattle.key_names.specs.Vgetrandom.{CpuPlace, SystemAnswer, HostStep, holds, outdated, Attempt, wipe_entry}
 use Rattle.key_names.specs.Vgetrandom.{rekey_entry, AtPoint, FromEnd, FromServe, Keyed, AfterKeyRead, FromWritten}
 use Rattle.key_names.specs.Vgetrandom.{FromStart, IsAttempt}
-use Rattle.key_names.specs.VreadSteps.{PointReached, points_of, number_of}
+use Rattle.key_names.specs.Points.{number_of}
+use Rattle.key_names.specs.VreadSteps.{PointReached, points_of}
 use Rattle.key_names.proofs.Unique.UniqueStates.{SameState, SameAttempt, same_left, same_generation, same_keyed, same_entries}
 use Rattle.key_names.proofs.Unique.UniqueStates.{same_block, same_copy, same_behind, attempts_at}
 use Rattle.key_names.proofs.Unique.UniqueAttempts.{match_both, Here, Further, here_at, at_look, at_key}

@@ -16,6 +16,14 @@ use Rattle.key_names.proofs.Uses.BatchBytes.{StartsZero, zeros_front, zeros_more
 use Rattle.key_names.specs.Keystream.{keystream}
 use Rattle.key_names.proofs.Lists.Growing.{lawful_append}
 
+pub copy_keeps_generation : (s : VgetrandomState) (c n : ℕ) → (state_after_copy s c n).generation ≡ s.generation
+copy_keeps_generation s c n = go (has_left s n)
+  where
+    go : (b : Bool) → (if b then state_of_same_batch s n else state_of_new_batch s (c + whole_blocks s n)
+        (new_batch_bytes s n)).generation ≡ s.generation
+    go true = refl
+    go false = refl
+
 -- the state and the end of its list go together, and no entry asks for another
 pub record Settled (t : NamedState) (s : VgetrandomState) : Type 0 where
   pub same_pos : t.pos ≡ s.pos

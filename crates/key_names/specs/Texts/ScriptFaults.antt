@@ -22,6 +22,8 @@ use Rattle.key_names.specs.declared.faults.FaultKind.TheVariants.{TooLong, BadBy
 use Rattle.key_names.specs.declared.faults.FaultKind.TheVariants.{BadNumber, BadHex, BadCaller, BadFork, Unforked}
 use Rattle.key_names.specs.declared.faults.FaultKind.TheVariants.{TooMany, Unfinished}
 use Rattle.key_names.specs.declared.faults.ScriptFault.{ScriptFault}
+use Rattle.key_names.specs.declared.point.Point.{Point}
+use Rattle.key_names.specs.Points.{point_numbered}
 use Rattle.key_names.specs.Texts.Spelling.{hex, word_text}
 use Rattle.key_names.specs.Texts.ScriptGrammar.{InRange, Script, most_cpus, times_forked, bytes_read, acts_after}
 
@@ -126,15 +128,21 @@ input_of fields = do
   value ← number 256 all.1.1
   Ok (Input word kind code value)
 
+-- the point that a field is the number of
+abbrev pub point_of : List ℕ → Result Point FaultKind
+point_of field = do
+  n ← number 5 field
+  ok_or (point_numbered n) BadNumber
+
 -- an act without a field of its own, at a point
 abbrev pub act_at : List ℕ → InsideAct → Result Event FaultKind
 act_at point act = do
-  p ← number_in 1 5 point
+  p ← point_of point
   Ok (Inside p act)
 
 abbrev pub vread_at : List ℕ → List ℕ → Result Event FaultKind
 vread_at point len = do
-  p ← number_in 1 5 point
+  p ← point_of point
   n ← number 1048577 len
   Ok (Inside p (VreadAct n))
 

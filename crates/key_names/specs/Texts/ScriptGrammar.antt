@@ -13,6 +13,7 @@ use Rattle.key_names.specs.declared.events.InsideAct.{InsideAct}
 use Rattle.key_names.specs.declared.events.InsideAct.TheVariants.{Wipe, Vread as VreadAct, Reseed as ReseedAct}
 use Rattle.key_names.specs.declared.events.Word.{Word}
 use Rattle.key_names.specs.declared.events.Word.TheVariants as words
+use Rattle.key_names.specs.Points.{number_of}
 use Rattle.key_names.specs.Texts.Spelling.{hex, spaced, lined, word_text}
 
 -- a script: its version, its number of CPUs, and the events of each caller
@@ -75,7 +76,7 @@ arguments (Kread len) = decimal len ∷ []
 arguments (Dread len flag) = decimal len ∷ decimal flag ∷ []
 arguments (Uread len) = decimal len ∷ []
 arguments (Fork child) = decimal child ∷ []
-arguments (Inside point act) = decimal point ∷ act_fields act
+arguments (Inside point act) = decimal (number_of point) ∷ act_fields act
 arguments (Prepare cpu) = decimal cpu ∷ []
 arguments (Online cpu) = decimal cpu ∷ []
 arguments (Vmfork word text) = decimal word ∷ hex text ∷ []
@@ -135,7 +136,7 @@ InRange version cpus (Kread len) = len ≤ 1048576
 InRange version cpus (Dread len flag) = (len ≤ 1048576) × (flag < 2)
 InRange version cpus (Uread len) = len ≤ 1048576
 InRange version cpus (Fork child) = (0 < child) × (child < 64)
-InRange version cpus (Inside point act) = (0 < point) × (point ≤ 4) × ActInRange act
+InRange version cpus (Inside point act) = ActInRange act
 InRange version cpus (Prepare cpu) = (2 ≤ version) × (cpu < cpus)
 InRange version cpus (Online cpu) = (2 ≤ version) × (cpu < cpus)
 InRange version cpus (Vmfork word text) = (2 ≤ version) × (word < 2 ^ 64) × IsBytes text

@@ -202,7 +202,7 @@ stand_append v caller event n (visited mark e ∷ xs) ys h k = (
       (let e : n + suc (length xs) ≡ suc n + length xs = omega arith in e) k),
 )
 
-looks_append : (xs ys : List MadeStep) → looks_in (xs ++ ys) ≡ looks_in xs ++ looks_in ys
+pub looks_append : (xs ys : List MadeStep) → looks_in (xs ++ ys) ≡ looks_in xs ++ looks_in ys
 looks_append [] ys = refl
 looks_append (looked g ∷ xs) ys = ap (λ (l : List ℕ). g ∷ l) (looks_append xs ys)
 looks_append (visited mark e ∷ xs) ys = looks_append xs ys

@@ -1,0 +1,22 @@
+-- The points of a vgetrandom call, and their numbers.
+use Rattle.std.specs.Prelude.{ℕ, ◌==◌, Bool, Option, Some, None, if◌then◌else◌}
+use Rattle.key_names.specs.declared.point.Point.{Point}
+use Rattle.key_names.specs.declared.point.Point.TheVariants.{Start, Written, Serve, End}
+
+abbrev pub number_of : Point → ℕ
+number_of Start = 1
+number_of Written = 2
+number_of Serve = 3
+number_of End = 4
+
+abbrev pub is_same_point : Point → Point → Bool
+is_same_point a b = number_of a == number_of b
+
+-- the point of a number
+abbrev pub point_numbered : ℕ → Option Point
+point_numbered n =
+    if n == 1 then Some Start
+    else if n == 2 then Some Written
+    else if n == 3 then Some Serve
+    else if n == 4 then Some End
+    else None
