@@ -2,7 +2,7 @@
 ghost use Rattle.std.specs.Prelude.{◌≡◌, ◌+◌, ◌*◌, ◌<◌, ◌≤◌, ◌^◌, ◌∷◌, ℕ, [], length, slice_set};
 ghost use Rattle.std.specs.List.{AllByRecursion};
 ghost use Rattle.key_names.specs.Texts.TranscriptGrammar.{StepFits};
-ghost use Rattle.key_names.specs.VreadSteps.{number_of};
+ghost use Rattle.key_names.specs.Points.{number_of};
 ghost use Rattle.key_names.specs.declared.events.Event.TheVariants.{Inside};
 ghost use Rattle.lane_table.specs.declared.lanes.Lanes.{Lanes};
 ghost use Rattle.rng_core.specs.Acts.{all_wanted, ask_of, asks_of, outcome_of, outcomes_of};

@@ -5,7 +5,8 @@ use Rattle.std.specs.List.{AllByRecursion}
 use Rattle.key_names.specs.declared.point.Point.{Point}
 use Rattle.key_names.specs.Deeds.{Deed}
 use Rattle.key_names.specs.Vgetrandom.{HostStep, publishes, system_call, at_point}
-use Rattle.key_names.specs.VreadSteps.{published_by, Shows, PointReached, points_of, before_start, from_start, first_points, second_points, number_of}
+use Rattle.key_names.specs.Points.{number_of}
+use Rattle.key_names.specs.VreadSteps.{published_by, Shows, PointReached, points_of, before_start, from_start, first_points, second_points}
 use Rattle.lane_table.specs.declared.view.View.{View}
 use Rattle.lane_table.specs.Advances.{looked, floor}
 use Rattle.vdso_state.specs.Host.{Does, DoesAll}

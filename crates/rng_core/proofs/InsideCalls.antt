@@ -14,7 +14,8 @@ use Rattle.key_names.specs.SeenLine.{Shown, bytes_or_none}
 use Rattle.key_names.specs.Texts.TranscriptGrammar.{StepFits}
 use Rattle.key_names.specs.Vgetrandom.{IsCall}
 use Rattle.key_names.specs.VgetrandomState.{VgetrandomState}
-use Rattle.key_names.specs.VreadSteps.{published_by, Shows, WipesStand, PointReached, points_of, first_points, is_wiped, is_reached, is_wipe, number_of, ending_answer, ending_shown, NeverFall}
+use Rattle.key_names.specs.Points.{number_of}
+use Rattle.key_names.specs.VreadSteps.{published_by, Shows, WipesStand, PointReached, points_of, first_points, is_wiped, is_reached, is_wipe, ending_answer, ending_shown, NeverFall}
 use Rattle.key_names.proofs.Vgetrandom.Attempts.{match_false}
 use Rattle.key_names.proofs.Lists.Each.{each_weaker}
 use Rattle.lane_table.specs.declared.view.View.{View}

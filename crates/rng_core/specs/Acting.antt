@@ -4,7 +4,7 @@ use Rattle.key_names.specs.declared.point.Point.{Point}
 use Rattle.key_names.specs.Flags.{is_bad}
 use Rattle.key_names.specs.Vgetrandom.{SystemAnswer, HostStep, Outcome, IsCall}
 use Rattle.key_names.specs.VgetrandomState.{VgetrandomState}
-use Rattle.key_names.specs.VreadSteps.{number_of}
+use Rattle.key_names.specs.Points.{number_of}
 use Rattle.lane_table.specs.WorldRule.{Consistent}
 use Rattle.vdso_state.specs.Host.{Doings, DoesAll, doings}
 use Rattle.rng_core.specs.declared.vdso.attempt.Attempt.{Attempt}

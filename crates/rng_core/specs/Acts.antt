@@ -9,7 +9,8 @@ use Rattle.key_names.specs.declared.point.Point.{Point}
 use Rattle.key_names.specs.Deeds.{Deed}
 use Rattle.key_names.specs.Meaning.{LineMeaning, ActMeans}
 use Rattle.key_names.specs.SeenLine.{bytes_or_none}
-use Rattle.key_names.specs.VreadSteps.{number_of, is_wipe}
+use Rattle.key_names.specs.Points.{number_of}
+use Rattle.key_names.specs.VreadSteps.{is_wipe}
 use Rattle.lane_table.specs.declared.view.View.{View}
 use Rattle.rng_core.specs.declared.vdso.acts.Bound.{Bound}
 use Rattle.rng_core.specs.declared.setting.Setting.{Setting}

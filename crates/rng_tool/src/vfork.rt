@@ -3,7 +3,7 @@ ghost use Rattle.std.specs.Prelude.{◌≡◌, ◌≤◌, ◌+◌, ◌*◌, ◌^
 ghost use Rattle.hex.specs.Hex.{encode_lower};
 ghost use Rattle.io_edges.specs.Faults.{Rose};
 ghost use Rattle.key_names.specs.declared.point.Point.{Point};
-ghost use Rattle.key_names.specs.VreadSteps.{number_of};
+ghost use Rattle.key_names.specs.Points.{number_of};
 ghost use Rattle.vdso_state.specs.declared.place.Turn.{Turn};
 ghost use Rattle.vdso_state.specs.Turns.{turn_number};
 ghost use Rattle.rng_tool.specs.VforkOutcome.{AskVfork, IsSmallVfork, IsVfork, VforkEnds, VforkOf, end_line, vfork_text};

@@ -10,7 +10,7 @@ use Rattle.key_names.specs.declared.point.Point.TheVariants.{Start, Written, Ser
 use Rattle.key_names.specs.BatchCopy.{has_left, state_after_copy, copy_bytes, block_after_copy, copy_entries}
 use Rattle.key_names.specs.Vgetrandom.{SystemAnswer, read, failed, HostStep, publishes, system_call, at_point, Attempt, AttemptEnd, holds, outdated, not_keyed, attempt_behind, wipe_entry, rekey_entry, Outcome, outcome_behind, by_batch, by_system, AtPoint, FromEnd, FromServe, FromWritten, FromStart, IsAttempt, AfterAttempt, AfterKeyRead, AfterBoth, BySystem, SecondAttempt, state_after_call}
 use Rattle.key_names.specs.VgetrandomState.{VgetrandomState, wiped_state, state_left}
-use Rattle.key_names.specs.VreadSteps.{number_of}
+use Rattle.key_names.specs.Points.{number_of}
 use Rattle.vdso_state.specs.declared.place.Turn.{Turn}
 use Rattle.vdso_state.specs.declared.place.Turn.TheVariants.{First, Second}
 use Rattle.vdso_state.specs.Host.{Doings, doings}

@@ -8,7 +8,7 @@ use Rattle.key_names.specs.PrintedBytes.{at_state, origin_uses}
 use Rattle.key_names.specs.Uses.{IsUsed}
 use Rattle.key_names.specs.Vgetrandom.{read, failed, HostStep, publishes, system_call, at_point, Outcome, outcome_behind, by_batch}
 use Rattle.key_names.specs.VgetrandomState.{VgetrandomState, wiped_state}
-use Rattle.key_names.specs.VreadSteps.{number_of}
+use Rattle.key_names.specs.Points.{number_of}
 use Rattle.vdso_state.specs.declared.place.Place.{Place}
 use Rattle.vdso_state.specs.Places.{BehindPlace, AtPlace, Climbs}
 use Rattle.vcall_fork.specs.declared.stage.Stage.{Stage}

@@ -4,7 +4,8 @@ use Rattle.key_names.specs.declared.errno.Errno.{Errno}
 use Rattle.key_names.specs.declared.point.Point.{Point}
 use Rattle.key_names.specs.Vgetrandom.{HostStep, Outcome, IsCall}
 use Rattle.key_names.specs.VgetrandomState.{VgetrandomState}
-use Rattle.key_names.specs.VreadSteps.{PointReached, points_of, number_of}
+use Rattle.key_names.specs.Points.{number_of}
+use Rattle.key_names.specs.VreadSteps.{PointReached, points_of}
 use Rattle.vdso_state.specs.declared.outcome.VEnd.{VEnd}
 use Rattle.vdso_state.specs.declared.place.Turn.{Turn}
 use Rattle.vdso_state.specs.declared.place.Place.{Place}

@@ -1,7 +1,7 @@
 //! A call of vgetrandom that can be stopped.
 
 ghost use Rattle.std.specs.Prelude.{◌≡◌, ◌^◌, ◌≤◌, true, length};
-ghost use Rattle.key_names.specs.VreadSteps.{number_of};
+ghost use Rattle.key_names.specs.Points.{number_of};
 ghost use Rattle.key_names.specs.VgetrandomState.{wiped_state};
 ghost use Rattle.vdso_state.specs.Host.{doings};
 ghost use Rattle.vdso_state.specs.Turns.{turn_number, turns_before};

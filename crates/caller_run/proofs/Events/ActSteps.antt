@@ -5,7 +5,7 @@ use Rattle.std.specs.List.{AllByRecursion}
 use Rattle.std.proofs.lemmas.Bool.{eqb-true, eqb-false, eq-eqb, ne_eqb}
 use Rattle.key_names.specs.declared.names.Step.{Step}
 use Rattle.key_names.specs.declared.point.Point.{Point}
-use Rattle.key_names.specs.VreadSteps.{number_of}
+use Rattle.key_names.specs.Points.{number_of}
 use Rattle.lane_table.specs.declared.view.View.{View}
 use Rattle.rng_core.specs.declared.setting.Setting.{Setting}
 use Rattle.rng_core.specs.Acts.{Ask, ActOutcome, ActRan, ActsAt}

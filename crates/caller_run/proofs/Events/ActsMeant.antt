@@ -16,7 +16,7 @@ use Rattle.key_names.specs.FastPool.{FastPool}
 use Rattle.key_names.specs.IsTranscript.{EachAct}
 use Rattle.key_names.specs.Meaning.{LineMeaning, ActMeans, unused_line}
 use Rattle.key_names.specs.SeenLine.{SeenLine, bytes_or_none, no_data}
-use Rattle.key_names.specs.VreadSteps.{number_of}
+use Rattle.key_names.specs.Points.{number_of}
 use Rattle.lane_table.specs.declared.view.View.{View}
 use Rattle.lane_table.specs.declared.view.Visit.{Visit}
 use Rattle.lane_table.specs.BookLists.{StateLists, book_lists}

@@ -5,7 +5,7 @@ use Rattle.key_names.specs.declared.events.Event.{Event}
 use Rattle.key_names.specs.declared.events.Event.TheVariants.{Vread, Inside}
 use Rattle.key_names.specs.SeenLine.{SeenLine}
 use Rattle.key_names.specs.Calls.{Call, alone, vread_call, unbound, ending, BoundAct, has_vread, calls_from, calls_of}
-use Rattle.key_names.specs.VreadSteps.{number_of}
+use Rattle.key_names.specs.Points.{number_of}
 use Rattle.key_names.proofs.Lists.Each.{each_more}
 use Rattle.rng_core.specs.Acts.{Ask}
 use Rattle.caller_run.specs.Waiting.{told_anew, bound_by, all_bound, IsAlone, CallsSoFar}

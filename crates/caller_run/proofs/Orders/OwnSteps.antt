@@ -8,7 +8,7 @@ use Rattle.key_names.specs.declared.point.Point.{Point}
 use Rattle.key_names.specs.Flags.{is_bad}
 use Rattle.key_names.specs.History.{is_mark}
 use Rattle.key_names.specs.Vgetrandom.{SystemAnswer, HostStep, publishes, system_call, at_point}
-use Rattle.key_names.specs.VreadSteps.{number_of}
+use Rattle.key_names.specs.Points.{number_of}
 use Rattle.lane_table.specs.declared.view.View.{View}
 use Rattle.lane_table.specs.Advances.{MadeStep, looked, step_of}
 use Rattle.vdso_state.specs.Host.{DoesAll}

@@ -15,7 +15,7 @@ use Rattle.key_names.specs.SeenLine.{SeenLine, no_data}
 use Rattle.caller_run.proofs.Planning.LogFills.{Fills, fills_act, new_bound}
 use Rattle.caller_run.proofs.Forks.HasAdvanced.{gone_on}
 use Rattle.caller_run.proofs.Events.CanAdvance.{can_next}
-use Rattle.key_names.specs.VreadSteps.{number_of}
+use Rattle.key_names.specs.Points.{number_of}
 use Rattle.key_names.proofs.Lists.Each.{each_more}
 use Rattle.lane_table.specs.declared.lanes.Lanes.{Lanes}
 use Rattle.lane_table.specs.Calls.{view}

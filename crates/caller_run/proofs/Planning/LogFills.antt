@@ -17,7 +17,7 @@ use Rattle.rng_core.specs.InsideMakes.{IsWaitingAct}
 use Rattle.caller_run.specs.Kinds.{IsCall}
 use Rattle.caller_run.specs.Says.{most_shown}
 use Rattle.transcript_text.specs.Gathered.{Gathered}
-use Rattle.key_names.specs.VreadSteps.{number_of}
+use Rattle.key_names.specs.Points.{number_of}
 use Rattle.caller_run.specs.Standing.{read_inside}
 use Rattle.caller_run.proofs.Orders.ToldAnew.{AreTold, told_more}
 

@@ -1,7 +1,8 @@
 //! Acts inside a vgetrandom call.
 ghost use Rattle.std.specs.Prelude.{◌≡◌, ◌==◌, ◌&&◌, ◌<◌, ◌≤◌, [], true, false, Ok, length};
 ghost use Rattle.key_names.specs.Meaning.{ActMeans};
-ghost use Rattle.key_names.specs.VreadSteps.{number_of, is_wipe};
+ghost use Rattle.key_names.specs.Points.{number_of};
+ghost use Rattle.key_names.specs.VreadSteps.{is_wipe};
 ghost use Rattle.lane_table.specs.Calls.{view};
 ghost use Rattle.rng_core.specs.Acts.{wants, ask_of, asks_of, outcome_of, outcomes_of, wipes_at, is_ready};
 ghost use Rattle.rng_core.specs.Acts.{AreReady, done_line, ActRan, ActAt, ActsAt};
