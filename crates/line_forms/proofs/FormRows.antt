@@ -23,6 +23,7 @@ use Rattle.key_names.specs.Forms.{Form, IntForm, ReseedForm, CreditForm, IrqForm
 use Rattle.key_names.specs.Forms.{VmforkForm, PoolOnly, CpuOnly, DrawForm, CpuReadForm, Rooted, BaseOnly, SysForm}
 use Rattle.key_names.specs.Forms.{LookedForm}
 use Rattle.key_names.specs.Forms.{WaitedInVain, Waited}
+use Rattle.key_names.proofs.Unique.UniqueAttempts.{not_zero}
 use Rattle.input_pool.specs.declared.pool.Crossing.{Crossing as Crossed}
 use Rattle.input_pool.specs.declared.pool.Crossing.TheVariants.{None as Nothing, Early as CrossedEarly}
 use Rattle.input_pool.specs.declared.pool.Crossing.TheVariants.{Ready as CrossedReady}
@@ -35,14 +36,14 @@ use Rattle.line_forms.specs.Rows.{IsReseed, IsVmfork}
 use Rattle.line_forms.specs.LaneFacts.{LaneFacts, AllFit, first_crossing}
 use Rattle.input_pool.specs.PoolStands.{crossing_of}
 use Rattle.line_forms.specs.Laws.{FormIsRow, EndFormIsRow, SystemFormIsRow}
-use Rattle.line_forms.proofs.RowShapes.{row_of, look_kind_is, deed_kind, is_zero, is_some}
+use Rattle.line_forms.proofs.RowShapes.{row_of, look_kind_is, deed_kind, is_zero}
 use Rattle.line_forms.proofs.ToldReads.{fit_at}
 
 unready : (g : ℕ) → g ≡ 0 → look_kind g ≡ Unready
 unready g p = look_kind_is 0 g true (is_zero g p)
 
 is_ready : (g : ℕ) → 1 ≤ g → look_kind g ≡ Ready
-is_ready g p = look_kind_is 0 g false (is_some g p)
+is_ready g p = look_kind_is 0 g false (not_zero g p)
 
 -- a CPU's look found something
 read_known : (s : CpuState) (e : CpuEntry) (look : ℕ) (refill : Option ℕ) (taken : Taken) →

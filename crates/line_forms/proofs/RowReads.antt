@@ -10,6 +10,7 @@ use Rattle.key_names.specs.Flags.{is_bad, is_nonblock, is_insecure}
 use Rattle.key_names.specs.Calls.{Setting}
 use Rattle.key_names.specs.Deeds.{Deed, looked, at_pool, at_base, at_cpu, nothing_there, BaseVisit, CpuVisit}
 use Rattle.key_names.specs.Forms.{DrawForm, CpuReadForm, ReadForm, LookedForm, SysForm, WaitedInVain, Waited}
+use Rattle.key_names.proofs.Unique.UniqueAttempts.{not_zero}
 use Rattle.line_forms.specs.declared.kind.Kind.{Kind}
 use Rattle.line_forms.specs.declared.kind.Kind.TheVariants.{Unready, Ready, Pool, Base, Resumed, Cpu}
 use Rattle.line_forms.specs.Kinds.{base_kind, kinds_of}
@@ -22,7 +23,7 @@ use Rattle.line_forms.specs.declared.told.Sign.{Sign}
 use Rattle.line_forms.specs.declared.told.Sign.TheVariants.{Saw as saw, Nowhere as nowhere}
 use Rattle.line_forms.specs.declared.told.BaseTold.TheVariants.{Woken as woken}
 use Rattle.line_forms.proofs.ToldReads.{same_taken}
-use Rattle.line_forms.proofs.RowShapes.{Shape, deeds_in, shaped, kinds_in, is_zero, is_some}
+use Rattle.line_forms.proofs.RowShapes.{Shape, deeds_in, shaped, kinds_in, is_zero}
 
 pub no_more : (cpu : ℕ) (ds : List Deed) → kinds_of cpu ds ≡ [] → ds ≡ []
 no_more cpu [] p = refl
@@ -217,7 +218,7 @@ system_by c set sooner n flags first a b0 deeds fill row = go (is_bad flags) row
         by s.0.0.0 true (is_zero s.0.0.0 s.0.0.1) rest s.0.1 s.1 behind
     go false (inr (rest, p, behind)) =
         let s = shaped set.cpu (Ready ∷ rest) deeds p in
-        by s.0.0.0 false (is_some s.0.0.0 s.0.0.1) rest s.0.1 s.1 behind
+        by s.0.0.0 false (not_zero s.0.0.0 s.0.0.1) rest s.0.1 s.1 behind
 
 module _ (c : LaneFacts) (set : Setting) (taken : Taken) (first : Sign) where
   pub unlike : (a b : Sign) (ds : List Deed) → AllFill (Fills c set (reads taken) first) a b ds →

@@ -5,15 +5,13 @@ use Rattle.std.proofs.lemmas.Bool.Decides.{nat_tests}
 use Rattle.key_names.specs.declared.entries.BaseEntry.{BaseEntry}
 use Rattle.key_names.specs.declared.entries.BaseEntry.TheVariants.{Resume}
 use Rattle.key_names.specs.Deeds.{Deed, looked, at_pool, at_base, at_cpu, nothing_there, PoolVisit, BaseVisit, CpuVisit}
+use Rattle.key_names.proofs.Unique.UniqueAttempts.{not_zero}
 use Rattle.line_forms.specs.declared.kind.Kind.{Kind}
 use Rattle.line_forms.specs.declared.kind.Kind.TheVariants.{Unready, Ready, Pool, Base, Resumed, Cpu, OtherCpu}
 use Rattle.line_forms.specs.Kinds.{look_kind, base_kind, cpu_kind, kind_of, kinds_of}
 
 pub is_zero : (g : ℕ) → g ≡ 0 → (g == 0) ≡ true
 is_zero g p = grind (arith, nat_tests)
-
-pub is_some : (g : ℕ) → 1 ≤ g → (g == 0) ≡ false
-is_some g p = grind (arith, nat_tests)
 
 module _ (cpu : ℕ) where
   -- what stands behind a step of a kind
@@ -96,7 +94,7 @@ module _ (cpu : ℕ) where
 
   pub deed_kind : (k : Kind) (x : One k) → kind_of cpu (deed k x) ≡ k
   deed_kind Unready x = look_kind_is x.0 true (is_zero x.0 x.1)
-  deed_kind Ready x = look_kind_is x.0 false (is_some x.0 x.1)
+  deed_kind Ready x = look_kind_is x.0 false (not_zero x.0 x.1)
   deed_kind Pool x = refl
   deed_kind Base x = x.1
   deed_kind Resumed x = x.1

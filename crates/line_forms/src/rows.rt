@@ -36,13 +36,13 @@ pub fn is_read(ready: bool, kinds: &[Kind]) -> bool
 pub fn is_behind_look(len: u32, flags: u32, ready: bool, kinds: &[Kind]) -> bool
     ensures { IsTrue result ↔ IsBehindLook len flags ready kinds.now }
 {
-    if ready || flags / flags::GRND_INSECURE % 2 == 1 {
+    if ready || flags::is_insecure(flags) {
         if len == 0 {
             kinds.is_empty()
         } else {
             is_read(ready, kinds)
         }
-    } else if flags % 2 == 1 {
+    } else if flags::is_nonblock(flags) {
         kinds.is_empty()
     } else {
         match kinds {
