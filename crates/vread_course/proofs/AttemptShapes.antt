@@ -1,7 +1,6 @@
 -- The shapes of an attempt: what stands behind its steps, what it gives, and that its course is told.
 use Rattle.std.proofs.Common.{◌≡◌, ℕ, zero, suc, ◌<◌, ◌≤◌, ◌^◌, Bool, true, false, List, [], ◌∷◌, ◌++◌, Some, None, ◌⊎◌, inl, inr, refl, sym, subst, ap, ◌∙◌, append_assoc, arith}
 use Rattle.std.specs.Prelude.{◌==◌, ◌&&◌, not, ⊤, MatchBool, Option, if◌then◌else◌}
-use Rattle.key_names.specs.declared.point.Point.{Point}
 use Rattle.key_names.specs.declared.point.Point.TheVariants.{Start, Written, Serve, End}
 use Rattle.key_names.specs.declared.entries.Taken.TheVariants.{User}
 use Rattle.key_names.specs.declared.entries.VEntry.{VEntry}
@@ -19,7 +18,8 @@ use Rattle.key_names.specs.Vgetrandom.{CpuPlace, SystemAnswer, read, HostStep, p
 use Rattle.key_names.specs.Vgetrandom.{rekey_entry, AtPoint, FromServe, Keyed, AfterKeyRead, FromWritten, FromStart, IsAttempt}
 use Rattle.key_names.specs.VreadSteps.{PointReached, points_of, published_by, Shows, answer_behind, answer_with, errno_of, last_place}
 use Rattle.key_names.proofs.Vgetrandom.Attempts.{copy_attempt}
-use Rattle.line_forms.proofs.RowShapes.{is_some}
+use Rattle.key_names.proofs.Unique.UniqueAttempts.{not_zero}
+use Rattle.key_names.proofs.Unique.UniqueTries.{reached}
 use Rattle.line_forms.specs.Kinds.{base_kind}
 use Rattle.vread_course.specs.declared.seen.Seen.{Seen}
 use Rattle.vread_course.specs.declared.seen.Seen.TheVariants.{Ready, Base}
@@ -37,7 +37,7 @@ published_is (suc g) some small = omega arith
 
 pub published_some : (g : ℕ) → 1 ≤ g → (published_by g == 0) ≡ false
 published_some zero some = absurd (omega arith)
-published_some (suc g) some = is_some (suc (suc g)) (omega arith)
+published_some (suc g) some = not_zero (suc (suc g)) (omega arith)
 
 -- each look found the core ready, and is one that a transcript can have
 abbrev pub Known : List Deed → Type 0
@@ -50,9 +50,6 @@ Known (nothing_there ∷ ds) = Known ds
 
 pub known_at : {ds xs : List Deed} → ds ≡ xs → Known ds → Known xs
 known_at {ds = ds} {xs = xs} p h = let P : List Deed → Type 0 = λ x. Known x in subst P p h
-
-abbrev pub reached : Point → Bool → PointReached
-reached point wiped = record { point = point; wiped = wiped }
 
 -- an attempt that read a key came to Written
 abbrev pub with_written : Bool → Bool → List PointReached → List PointReached
@@ -133,7 +130,7 @@ module _ (set : Setting) (more : List HostStep) where
       answer_behind 0 (looked g ∷ ds) ≡ read (served_bytes (looked g ∷ ds)) (last_place (looked g ∷ ds))
   key_answer g ds some stopped =
       ap (λ x. answer_with (errno_of x) (looked g ∷ ds)) (answered 0 (looked g ∷ ds) false false refl
-      (ap (λ b. b && (is_nonblock 0 && not (is_insecure 0))) (is_some g some)) stopped)
+      (ap (λ b. b && (is_nonblock 0 && not (is_insecure 0))) (not_zero g some)) stopped)
 
   module _ (seen : List Seen) (ds call rest : List Deed) (answer : SystemAnswer) (deeds_are : ds ≡ call ++ rest)
       (answers : answer ≡ answer_behind 0 call) (sees : AllSeen set.cpu seen ds) (known : Known ds) where
@@ -183,7 +180,7 @@ module _ (set : Setting) (more : List HostStep) where
         }
 
     key_read : SysForm set 32 0 call → KeyRead seen rest answer
-    key_read (g, r, is, form) = go (subst P (is_some g some) form)
+    key_read (g, r, is, form) = go (subst P (not_zero g some) form)
       where
         some : 1 ≤ g
         some = (known_at (deeds_are ∙ ap (λ x. x ++ rest) is) known).0

@@ -13,6 +13,7 @@ use Rattle.key_names.specs.BatchCopy.{state_after_copy}
 use Rattle.key_names.specs.Vgetrandom.{read, HostStep, Attempt, IsAttempt}
 use Rattle.key_names.specs.VreadSteps.{points_of, Shows, answer_behind, answer_with, errno_of, last_place}
 use Rattle.key_names.proofs.Vgetrandom.Attempts.{current_attempt, current_steps, keyed_attempt, keyed_steps}
+use Rattle.key_names.proofs.Unique.UniqueTries.{reached}
 use Rattle.line_forms.specs.LaneFacts.{LaneFacts}
 use Rattle.line_forms.specs.declared.kind.Kind.{Kind}
 use Rattle.line_forms.specs.Kinds.{kinds_of}
@@ -31,7 +32,7 @@ use Rattle.vread_course.specs.Course.{published, Behind, looked_again, key_in_fr
 use Rattle.vread_course.proofs.SeenShapes.{Shape, deeds_in, kinds_seen, shape_seen}
 use Rattle.vread_course.proofs.CalledRows.{called_row}
 use Rattle.vread_course.proofs.CalledSays.{called_says}
-use Rattle.vread_course.proofs.AttemptShapes.{published_is, reached, with_written, Matches}
+use Rattle.vread_course.proofs.AttemptShapes.{published_is, with_written, Matches}
 
 -- what is read off kinds, of a call that is told
 pub row_of_called : (set : Setting) (n flags : ℕ) (seen : List Seen) (s : Shape set.cpu seen) (c : Called) →

@@ -1,15 +1,18 @@
 -- The points of a call: where the acts stand, and which of them the first attempt came to.
 use Rattle.std.proofs.Common.{◌≡◌, ◌⊎◌, inl, inr, Bool, true, false, List, [], ◌∷◌, refl, sym, subst, ap, ◌∙◌}
-use Rattle.std.specs.Prelude.{MatchBool}
+use Rattle.std.specs.Prelude.{not, MatchBool}
 use Rattle.std.specs.List.{AllByRecursion}
+use Rattle.key_names.specs.declared.point.Point.{Point}
 use Rattle.key_names.specs.declared.point.Point.TheVariants.{Start, Written, Serve, End}
+use Rattle.key_names.specs.Points.{is_same_point}
 use Rattle.key_names.specs.Calls.{Setting, BoundAct}
 use Rattle.key_names.specs.VreadSteps.{PointReached, WipesStand, is_wiped, is_reached}
 use Rattle.key_names.specs.Meaning.{LineMeaning, ActMeans, ActsMean, unused_line}
 use Rattle.vread_course.specs.declared.inside.Inside.{Inside}
-use Rattle.vread_course.specs.declared.inside.Reached.TheVariants.{Nothing}
+use Rattle.vread_course.specs.declared.inside.Reached.TheVariants.{Nothing, AllButWritten, All}
 use Rattle.vread_course.specs.Inside.{inside_of, includes, reached_by}
-use Rattle.vread_course.proofs.AttemptShapes.{reached, with_written}
+use Rattle.key_names.proofs.Unique.UniqueTries.{reached}
+use Rattle.vread_course.proofs.AttemptShapes.{with_written}
 
 -- the points of an attempt with these wipes, and those behind it
 abbrev pub attempt_points : Bool → Bool → Bool → Bool → Bool → List PointReached → List PointReached
@@ -75,6 +78,18 @@ wipes_stand acts keyed all ps is behind =
         subst P (sym is) (record { first = (refl, (refl, (refl, tt))); second = (refl, (refl, (refl, tt))) })
 
 -- ---- which points were reached
+
+pub all_included : (point : Point) → true ≡ includes All point
+all_included Start = refl
+all_included Written = refl
+all_included Serve = refl
+all_included End = refl
+
+pub included_but_written : (point : Point) → not (is_same_point point Written) ≡ includes AllButWritten point
+included_but_written Start = refl
+included_but_written Written = refl
+included_but_written Serve = refl
+included_but_written End = refl
 
 pub none_reached : (ps : List PointReached) → ps ≡ [] → (act : BoundAct) → is_reached ps act ≡ includes Nothing act.point
 none_reached ps is act = ap (λ x. is_reached x act) is

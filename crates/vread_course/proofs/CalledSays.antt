@@ -20,13 +20,13 @@ use Rattle.key_names.specs.Answers.{system_answer, served_bytes, found_unready, 
 use Rattle.key_names.specs.SeenLine.{bytes_or_none}
 use Rattle.key_names.specs.VreadSteps.{answer_behind, answer_with, errno_of, answer_of_errno}
 use Rattle.key_names.specs.VreadSteps.{system_line_answer, system_line_shown}
+use Rattle.key_names.proofs.Unique.UniqueAttempts.{not_zero}
 use Rattle.line_forms.specs.declared.kind.Kind.TheVariants.{Base as BaseKind, Resumed as ResumedKind}
 use Rattle.line_forms.specs.Kinds.{base_kind}
 use Rattle.line_forms.specs.LaneFacts.{LaneFacts}
 use Rattle.line_forms.specs.Told.{AllFill, FillsPart}
 use Rattle.line_forms.specs.declared.told.Sign.{Sign}
 use Rattle.line_forms.specs.declared.told.Sign.TheVariants.{Saw as saw}
-use Rattle.line_forms.proofs.RowShapes.{is_some}
 use Rattle.vread_course.specs.declared.seen.Seen.{Seen}
 use Rattle.vread_course.specs.declared.seen.Seen.TheVariants.{Unready, Ready, Pool, Base, Resumed, Cpu}
 use Rattle.vread_course.specs.declared.system_call.Called.{Called}
@@ -263,5 +263,5 @@ called_says cf set sooner n flags first a b seen s c f e = go (is_bad flags) ref
     go false good (Unready ∷ seen) s f e =
         behind_says cf set sooner n flags first good 0 false refl b seen s.1 c f.1 e
     go false good (Ready g ∷ seen) s f e =
-        behind_says cf set sooner n flags first good g true (is_some g s.0) b seen s.1 c f.1 e
+        behind_says cf set sooner n flags first good g true (not_zero g s.0) b seen s.1 c f.1 e
     go false good _ s f e = absurd cc

@@ -5,9 +5,10 @@ use Rattle.std.proofs.lemmas.Bool.Decides.{nat_tests}
 use Rattle.key_names.specs.declared.entries.BaseEntry.TheVariants.{Resume}
 use Rattle.key_names.specs.Deeds.{Deed, looked, at_pool, at_base, at_cpu, nothing_there, PoolVisit, BaseVisit, CpuVisit}
 use Rattle.key_names.specs.Deeds.{base_serves}
+use Rattle.key_names.proofs.Unique.UniqueAttempts.{not_zero}
 use Rattle.line_forms.specs.declared.kind.Kind.TheVariants.{Base as BaseKind}
 use Rattle.line_forms.specs.Kinds.{base_kind, cpu_kind, kind_of, kinds_of}
-use Rattle.line_forms.proofs.RowShapes.{is_zero, is_some, look_kind_is}
+use Rattle.line_forms.proofs.RowShapes.{is_zero, look_kind_is}
 use Rattle.vread_course.specs.declared.seen.Seen.{Seen}
 use Rattle.vread_course.specs.declared.seen.Seen.TheVariants.{Unready, Ready, Pool, Base, Resumed, Cpu, Elsewhere}
 use Rattle.vread_course.specs.Seen.{seen_kind, ServesBy, IsSeen, AllSeen}
@@ -79,7 +80,7 @@ module _ (cpu : ℕ) where
   kind_seen : (x : Seen) (d : Deed) → IsSeen cpu x d → kind_of cpu d ≡ seen_kind x
   kind_seen Unready (looked g) h = look_kind_is cpu g true (is_zero g h)
   kind_seen (Ready found) (looked g) h =
-      let P : ℕ → Type 0 = λ n. 1 ≤ n in look_kind_is cpu g false (is_some g (subst P (sym h.0) h.1))
+      let P : ℕ → Type 0 = λ n. 1 ≤ n in look_kind_is cpu g false (not_zero g (subst P (sym h.0) h.1))
   kind_seen Pool (at_pool v) h = refl
   kind_seen (Base key) (at_base v) h = h.0
   kind_seen Resumed (at_base v) h = ap base_kind h.0

@@ -6,6 +6,8 @@ use Rattle.std.proofs.lemmas.Bool.Decides.{nat_tests}
 use Rattle.key_names.specs.declared.entries.VEntry.{VEntry}
 use Rattle.key_names.specs.declared.events.Answer.TheVariants.{Ok as Done}
 use Rattle.key_names.specs.Flags.{is_bad}
+use Rattle.key_names.specs.declared.point.Point.TheVariants.{Start, Written, Serve, End}
+use Rattle.key_names.specs.Points.{is_same_point}
 use Rattle.key_names.specs.Calls.{Setting, BoundAct}
 use Rattle.key_names.specs.Deeds.{Deed, looked, at_cpu, nothing_there}
 use Rattle.key_names.specs.Forms.{Looked}
@@ -18,9 +20,11 @@ use Rattle.key_names.specs.Meaning.{ByLocalCopy, ByVgetrandom, LocalOrCall, Vrea
 use Rattle.line_forms.specs.LaneFacts.{LaneFacts, AllFit}
 use Rattle.key_names.specs.declared.entries.Taken.TheVariants.{User}
 use Rattle.key_names.specs.Answers.{system_answer, served_bytes}
+use Rattle.key_names.proofs.Lists.ListFacts.{both_true}
+use Rattle.key_names.proofs.Unique.UniqueAttempts.{not_zero}
 use Rattle.line_forms.specs.Told.{AllFill, FillsPart, first_sign}
 use Rattle.line_forms.specs.declared.told.Sign.TheVariants.{Nowhere as nowhere}
-use Rattle.line_forms.proofs.RowShapes.{is_zero, is_some}
+use Rattle.line_forms.proofs.RowShapes.{is_zero}
 use Rattle.vread_course.specs.declared.seen.Seen.{Seen}
 use Rattle.vread_course.specs.declared.seen.Seen.TheVariants.{Unready, Ready, Pool, Base, Resumed, Cpu, Elsewhere}
 use Rattle.vread_course.specs.declared.inside.Reached.TheVariants.{Nothing}
@@ -38,12 +42,8 @@ use Rattle.vread_course.proofs.CallsFollowed.{vgetrandom_followed}
 
 -- ---- looks
 
-and_true : (a b : Bool) → (a && b) ≡ true → (a ≡ true) × (b ≡ true)
-and_true true b e = (refl, e)
-and_true false b e = absurd cc
-
-both_true : (a b : Bool) → a ≡ true → b ≡ true → (a && b) ≡ true
-both_true a b p q = ap (λ x. x && b) p ∙ q
+true_both : (a b : Bool) → a ≡ true → b ≡ true → (a && b) ≡ true
+true_both a b p q = ap (λ x. x && b) p ∙ q
 
 le_of : (a b : ℕ) → nat_le a b ≡ true → a ≤ b
 le_of a b e = grind (arith, nat_tests)
@@ -65,12 +65,12 @@ rise_looks : (cpu last : ℕ) (seen : List Seen) (s : Shape cpu seen) → rises 
     From last (looks_of (deeds_in cpu seen s))
 rise_looks cpu last [] s e = tt
 rise_looks cpu last (Unready ∷ seen) s e =
-    let p = and_true (last == 0) (rises last seen) e in
+    let p = both_true (last == 0) (rises last seen) e in
     let none : last ≡ 0 = zero_of last p.0 in
     let P : ℕ → Type 0 = λ x. From x (looks_of (deeds_in cpu seen s.1)) in
     (omega arith, subst P none (rise_looks cpu last seen s.1 p.1))
 rise_looks cpu last (Ready g ∷ seen) s e =
-    let p = and_true (nat_le last g) (rises g seen) e in (le_of last g p.0, rise_looks cpu g seen s.1 p.1)
+    let p = both_true (nat_le last g) (rises g seen) e in (le_of last g p.0, rise_looks cpu g seen s.1 p.1)
 rise_looks cpu last (Pool ∷ seen) s e = rise_looks cpu last seen s.1 e
 rise_looks cpu last (Base key ∷ seen) s e = rise_looks cpu last seen s.1 e
 rise_looks cpu last (Resumed ∷ seen) s e = rise_looks cpu last seen s.1 e
@@ -85,9 +85,9 @@ looks_rise cpu last [] s h = refl
 looks_rise cpu last (Unready ∷ seen) s h =
     let none : last ≡ 0 = omega (arith, h.0) in
     let P : ℕ → Type 0 = λ x. From x (looks_of (deeds_in cpu seen s.1)) in
-    both_true (last == 0) (rises last seen) (is_zero last none) (looks_rise cpu last seen s.1 (subst P (sym none) h.1))
+    true_both (last == 0) (rises last seen) (is_zero last none) (looks_rise cpu last seen s.1 (subst P (sym none) h.1))
 looks_rise cpu last (Ready g ∷ seen) s h =
-    both_true (nat_le last g) (rises g seen) (le_is last g h.0) (looks_rise cpu g seen s.1 h.1)
+    true_both (nat_le last g) (rises g seen) (le_is last g h.0) (looks_rise cpu g seen s.1 h.1)
 looks_rise cpu last (Pool ∷ seen) s h = looks_rise cpu last seen s.1 h
 looks_rise cpu last (Base key ∷ seen) s h = looks_rise cpu last seen s.1 h
 looks_rise cpu last (Resumed ∷ seen) s h = looks_rise cpu last seen s.1 h
@@ -135,14 +135,14 @@ no_acts_left : (set : Setting) (f : BoundAct → Bool) (acts : List BoundAct) (m
 no_acts_left set f [] [] none h = refl
 no_acts_left set f [] (m ∷ ms) none h = absurd h
 no_acts_left set f (act ∷ acts) ms none h =
-    (let p : (suc (length acts) == 0) ≡ false = is_some (suc (length acts)) (omega arith) in absurd cc)
+    (let p : (suc (length acts) == 0) ≡ false = not_zero (suc (length acts)) (omega arith) in absurd cc)
 
 -- with no acts, none of them is done
 none_done : (set : Setting) (f : BoundAct → Bool) (acts : List BoundAct) (ms : List LineMeaning) →
     (length acts == 0) ≡ true → ms ≡ [] → ActsMean set f acts ms
 none_done set f [] ms none is = let P : List LineMeaning → Type 0 = λ x. ActsMean set f [] x in subst P (sym is) tt
 none_done set f (act ∷ acts) ms none is =
-    (let p : (suc (length acts) == 0) ≡ false = is_some (suc (length acts)) (omega arith) in absurd cc)
+    (let p : (suc (length acts) == 0) ≡ false = not_zero (suc (length acts)) (omega arith) in absurd cc)
 
 module _ (cf : LaneFacts) (n flags : ℕ) (acts : List BoundAct) (before : CallerState) (ms : List LineMeaning) where
   abbrev set : Setting
@@ -442,13 +442,13 @@ any-more f (a ∷ acts) act = go (f a) (any-more f acts act)
 
 some_acts : (acts : List BoundAct) (act : BoundAct) → not (length (acts ++ act ∷ []) == 0) ≡ true
 some_acts [] act = refl
-some_acts (a ∷ acts) act = ap not (is_some (suc (length (acts ++ act ∷ []))) (omega arith))
+some_acts (a ∷ acts) act = ap not (not_zero (suc (length (acts ++ act ∷ []))) (omega arith))
 
 pub act_joins : ActJoins
 act_joins acts act = λ i. record {
   any = some_acts acts act i;
-  start = any-more (λ bound. bound.point == 1 && is_wipe bound.act) acts act i;
-  written = any-more (λ bound. bound.point == 2 && is_wipe bound.act) acts act i;
-  serve = any-more (λ bound. bound.point == 3 && is_wipe bound.act) acts act i;
-  end = any-more (λ bound. bound.point == 4 && is_wipe bound.act) acts act i;
+  start = any-more (λ bound. is_same_point bound.point Start && is_wipe bound.act) acts act i;
+  written = any-more (λ bound. is_same_point bound.point Written && is_wipe bound.act) acts act i;
+  serve = any-more (λ bound. is_same_point bound.point Serve && is_wipe bound.act) acts act i;
+  end = any-more (λ bound. is_same_point bound.point End && is_wipe bound.act) acts act i;
 }

@@ -1,7 +1,9 @@
 -- What the acts inside a call do to its state, and which of their points the call came to.
-use Rattle.std.specs.Prelude.{ℕ, ◌==◌, not, Bool, true, false, List, [], ◌∷◌, length}
+use Rattle.std.specs.Prelude.{◌==◌, not, Bool, true, false, List, [], ◌∷◌, length}
 use Rattle.std.specs.List.{list_any}
+use Rattle.key_names.specs.declared.point.Point.{Point}
 use Rattle.key_names.specs.declared.point.Point.TheVariants.{Start, Written, Serve, End}
+use Rattle.key_names.specs.Points.{is_same_point}
 use Rattle.key_names.specs.Calls.{BoundAct}
 use Rattle.key_names.specs.VreadSteps.{is_wiped}
 use Rattle.vread_course.specs.declared.inside.Inside.{Inside}
@@ -18,14 +20,14 @@ inside_of acts = record {
   end = is_wiped acts End;
 }
 
-abbrev pub points_in : Reached → List ℕ
+abbrev pub points_in : Reached → List Point
 points_in Nothing = []
-points_in AllButWritten = 1 ∷ 3 ∷ 4 ∷ []
-points_in All = 1 ∷ 2 ∷ 3 ∷ 4 ∷ []
+points_in AllButWritten = Start ∷ Serve ∷ End ∷ []
+points_in All = Start ∷ Written ∷ Serve ∷ End ∷ []
 
--- whether the first attempt came to the point of this number
-abbrev pub includes : Reached → ℕ → Bool
-includes reached point = list_any (λ p. p == point) (points_in reached)
+-- whether the first attempt came to the point
+abbrev pub includes : Reached → Point → Bool
+includes reached point = list_any (λ p. is_same_point p point) (points_in reached)
 
 -- the points of an attempt, which came to Written where it read a key
 abbrev pub reached_by : Bool → Reached

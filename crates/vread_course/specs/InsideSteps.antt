@@ -1,14 +1,17 @@
 -- One act more inside a call.
-use Rattle.std.specs.Prelude.{ℕ, ◌==◌, ◌&&◌, ◌||◌, true}
+use Rattle.std.specs.Prelude.{◌&&◌, ◌||◌, true}
+use Rattle.key_names.specs.declared.point.Point.{Point}
+use Rattle.key_names.specs.declared.point.Point.TheVariants.{Start, Written, Serve, End}
 use Rattle.key_names.specs.declared.events.InsideAct.{InsideAct}
+use Rattle.key_names.specs.Points.{is_same_point}
 use Rattle.key_names.specs.VreadSteps.{is_wipe}
 use Rattle.vread_course.specs.declared.inside.Inside.{Inside}
 
-abbrev pub inside_after : Inside → ℕ → InsideAct → Inside
+abbrev pub inside_after : Inside → Point → InsideAct → Inside
 inside_after inside point act = record {
   any = true;
-  start = inside.start || (point == 1 && is_wipe act);
-  written = inside.written || (point == 2 && is_wipe act);
-  serve = inside.serve || (point == 3 && is_wipe act);
-  end = inside.end || (point == 4 && is_wipe act);
+  start = inside.start || (is_same_point point Start && is_wipe act);
+  written = inside.written || (is_same_point point Written && is_wipe act);
+  serve = inside.serve || (is_same_point point Serve && is_wipe act);
+  end = inside.end || (is_same_point point End && is_wipe act);
 }

@@ -1,10 +1,11 @@
 //! The acts inside a call.
-ghost use Rattle.std.specs.Prelude.{◌≡◌, ◌==◌, ◌&&◌, ◌||◌, []};
+ghost use Rattle.std.specs.Prelude.{◌≡◌, ◌&&◌, ◌||◌, []};
+ghost use Rattle.key_names.specs.Points.{is_same_point};
 ghost use Rattle.key_names.specs.VreadSteps.{is_wipe};
 ghost use Rattle.vread_course.specs.Inside.{inside_of, includes};
 ghost use Rattle.vread_course.specs.InsideSteps.{inside_after};
 
-use key_names::InsideAct;
+use key_names::{InsideAct, Point};
 
 /// What the acts inside a call do to its state: whether there are any, and at which points of the first attempt one
 /// wipes it.
@@ -31,23 +32,23 @@ impl Inside {
         }
     }
 
-    /// One act more, at the point of this number (1 to 4, as [`Point`](key_names::Point) has them).
-    pub fn add(&mut self, point: u8, act: InsideAct)
+    /// One act more, at this point.
+    pub fn add(&mut self, point: Point, act: InsideAct)
         ensures { self.new ≡ inside_after self.old point act }
     {
         self.any = true;
-        self.start = is_wiped(self.start, 1, point, act);
-        self.written = is_wiped(self.written, 2, point, act);
-        self.serve = is_wiped(self.serve, 3, point, act);
-        self.end = is_wiped(self.end, 4, point, act);
+        self.start = is_wiped(self.start, Point::Start, point, act);
+        self.written = is_wiped(self.written, Point::Written, point, act);
+        self.serve = is_wiped(self.serve, Point::Serve, point, act);
+        self.end = is_wiped(self.end, Point::End, point, act);
     }
 }
 
 // Whether a point is wiped, with one act more, which may be at another point.
-fn is_wiped(wiped: bool, here: u8, point: u8, act: InsideAct) -> bool
-    ensures { result ≡ (wiped || (point == here && is_wipe act)) }
+fn is_wiped(wiped: bool, here: Point, point: Point, act: InsideAct) -> bool
+    ensures { result ≡ (wiped || (is_same_point point here && is_wipe act)) }
 {
-    wiped || (point == here && matches!(act, InsideAct::Wipe))
+    wiped || (point.is(here) && matches!(act, InsideAct::Wipe))
 }
 
 /// Which points the first attempt of a call came to.
@@ -62,14 +63,15 @@ pub enum Reached {
 }
 
 impl Reached {
-    /// Whether the point of this number is among them.
-    pub fn includes(self, point: u8) -> bool
+    /// Whether the point is among them.
+    #[tactic(auto, using(crate::proofs::CallPoints::all_included, crate::proofs::CallPoints::included_but_written))]
+    pub fn includes(self, point: Point) -> bool
         ensures { result ≡ includes self point }
     {
         match self {
             Reached::Nothing => false,
-            Reached::AllButWritten => point == 1 || point == 3 || point == 4,
-            Reached::All => point == 1 || point == 2 || point == 3 || point == 4,
+            Reached::AllButWritten => !point.is(Point::Written),
+            Reached::All => true,
         }
     }
 }

@@ -86,9 +86,9 @@ fn waited(len: u32, seen: &[Seen]) -> Option<Called>
 fn behind_look(len: u32, flags: u32, ready: bool, seen: &[Seen]) -> Option<Called>
     ensures { result ≡ behind_look len flags ready seen.now }
 {
-    if ready || flags / flags::GRND_INSECURE % 2 == 1 {
+    if ready || flags::is_insecure(flags) {
         read(len, ready, seen)
-    } else if flags % 2 == 1 {
+    } else if flags::is_nonblock(flags) {
         no_more(Answer::Again, seen)
     } else {
         waited(len, seen)
