@@ -9,6 +9,7 @@ use Rattle.key_names.specs.FastPool.{FastPool, fast_start, fast_step, dump_bytes
 use Rattle.key_names.specs.PoolNotes.{entry_of}
 use Rattle.key_names.specs.Book.{Lists, list_at, cpu_list}
 use Rattle.key_names.specs.Deeds.{CpuVisit, cpu_visit}
+use Rattle.key_names.proofs.Lists.ListFacts.{list_is}
 use Rattle.line_forms.specs.declared.told.CpuTold.{CpuTold}
 use Rattle.line_forms.specs.declared.told.CpuTold.TheVariants.{Is as cpu_is, Batch as batch}
 use Rattle.line_forms.specs.LaneFacts.{facts_of}
@@ -37,11 +38,6 @@ and_then_is f (Some a) b is = (a, refl, is)
 pub some_or_none : {A : Type 0} (o : Option A) → (o ≡ None) ⊎ ((a : A) × (o ≡ Some a))
 some_or_none None = inl refl
 some_or_none (Some a) = inr (a, refl)
-
-pub list_is : {E : Type 0} (xss : List (List E)) (c : ℕ) (xs : List E) → slice_get xss c ≡ Some xs → list_at xss c ≡ xs
-list_is [] c xs is = cc
-list_is (ys ∷ xss) zero xs is = cc
-list_is (ys ∷ xss) (suc c) xs is = list_is xss c xs is
 
 pub list_there : {E : Type 0} (xss : List (List E)) (c k : ℕ) (e : E) → slice_get (list_at xss c) k ≡ Some e →
     slice_get xss c ≡ Some (list_at xss c)

@@ -6,6 +6,7 @@ use Rattle.key_names.specs.BaseList.{BaseMayCome, base_start, base_step, root_of
 use Rattle.key_names.specs.CpuList.{CpuMayCome, cpu_start, cpu_step, base_refill_of, base_refill_at}
 use Rattle.key_names.specs.Book.{Lists, LawfulLanes, list_at, cpu_list}
 use Rattle.key_names.proofs.Lists.Growing.{may_at}
+use Rattle.key_names.proofs.Lists.ListFacts.{list_is}
 use Rattle.list_replay.specs.declared.kept.Root.{Root}
 use Rattle.list_replay.specs.declared.kept.KeptPool.{KeptPool}
 use Rattle.list_replay.specs.declared.kept.KeptBase.{KeptBase}
@@ -25,7 +26,7 @@ use Rattle.list_replay.specs.Places.{AllPlaces, AllKept}
 use Rattle.list_replay.specs.PoolLane.{MixStands, AllMixed}
 use Rattle.list_replay.specs.Tables.{Tables}
 use Rattle.list_replay.proofs.BaseSteps.{place_same}
-use Rattle.list_replay.proofs.Dumps.{and_then_is, list_is, list_there}
+use Rattle.list_replay.proofs.Dumps.{and_then_is, list_there}
 use Rattle.list_replay.proofs.Filling.{closed_fills, fills_same}
 use Rattle.list_replay.proofs.Loops.{lawful_by_place}
 use Rattle.list_replay.proofs.Moved.{kept_of_same, lawful_of_same}
