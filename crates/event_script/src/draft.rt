@@ -13,8 +13,6 @@ use key_names::{Event, FaultKind};
 use std::alloc::{AllocError, Global};
 use std::mem;
 
-const MOST_CALLERS: usize = 64;
-
 const MOST_EVENTS: usize = 65_536;
 
 const MOST_READ: u64 = 16_777_216;

@@ -208,10 +208,8 @@ fn check_end(text: &[u8]) -> Result<(), FaultKind>
     if text.is_empty() {
         return Ok(());
     }
-    match first_line(text) {
-        Ok(_) => Err(FaultKind::UnknownWord),
-        Err(kind) => Err(kind),
-    }
+    first_line(text)?;
+    Err(FaultKind::UnknownWord)
 }
 
 /// The script that goes on with a text of its fourth line and all behind it.
