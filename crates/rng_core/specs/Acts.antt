@@ -9,7 +9,7 @@ use Rattle.key_names.specs.declared.point.Point.{Point}
 use Rattle.key_names.specs.Deeds.{Deed}
 use Rattle.key_names.specs.Meaning.{LineMeaning, ActMeans}
 use Rattle.key_names.specs.SeenLine.{bytes_or_none}
-use Rattle.key_names.specs.Points.{number_of}
+use Rattle.key_names.specs.Points.{is_same_point}
 use Rattle.key_names.specs.VreadSteps.{is_wipe}
 use Rattle.lane_table.specs.declared.view.View.{View}
 use Rattle.rng_core.specs.declared.vdso.acts.Bound.{Bound}
@@ -57,7 +57,7 @@ outcomes_of (b ∷ bounds) out =
 -- whether an act at this point wipes
 abbrev pub wipes_at : List Ask → Point → Bool
 wipes_at [] point = false
-wipes_at (a ∷ asks) point = (number_of a.point == number_of point && is_wipe a.act) || wipes_at asks point
+wipes_at (a ∷ asks) point = (is_same_point a.point point && is_wipe a.act) || wipes_at asks point
 
 -- an act that can still run, or has run, and asks for no more than a read gives
 abbrev pub is_ready : Bound → Bool
@@ -89,7 +89,7 @@ pub record ActRan (set : Setting) (ask : Ask) (v w : View) (y : ActOutcome) : Ty
 
 -- at a point an act is done that is bound to it and was not done yet
 abbrev pub ActAt : Setting → Point → Ask → View → View → ActOutcome → ActOutcome → Type 0
-ActAt set point ask v w x y = MatchBool (number_of point == number_of ask.point && not x.done) (ActRan set ask v w y)
+ActAt set point ask v w x y = MatchBool (is_same_point point ask.point && not x.done) (ActRan set ask v w y)
     ((y ≡ x) × (w ≡ v))
 
 -- and so are all of a list, one after another
