@@ -1,13 +1,13 @@
 -- What acts at a point do to what a pass knows.
 use Rattle.std.proofs.Common.{◌≡◌, ℕ, ◌≤◌, Bool, true, false, not, List, [], ◌∷◌, ◌++◌, length, map, refl, sym, ap, ◌∙◌, subst, arith, append-nil, append_assoc}
-use Rattle.std.specs.Prelude.{MatchBool, ◌==◌, ◌&&◌, ◌||◌, ⊤}
+use Rattle.std.specs.Prelude.{MatchBool, ◌&&◌, ◌||◌, ⊤}
 use Rattle.std.specs.List.{AllByRecursion, list_any}
 use Rattle.key_names.specs.declared.names.Step.{Step}
 use Rattle.key_names.specs.declared.point.Point.{Point}
 use Rattle.key_names.specs.Deeds.{Deed, deeds_of}
 use Rattle.key_names.specs.Meaning.{ActMeans}
 use Rattle.key_names.specs.Texts.TranscriptGrammar.{StepFits}
-use Rattle.key_names.specs.Points.{number_of}
+use Rattle.key_names.specs.Points.{is_same_point}
 use Rattle.key_names.specs.VreadSteps.{PointReached}
 use Rattle.lane_table.specs.declared.view.View.{View}
 use Rattle.lane_table.specs.declared.view.Visit.{Visit}
@@ -17,6 +17,7 @@ use Rattle.lane_table.specs.Steps.{Grows}
 use Rattle.lane_table.specs.WorldRule.{known_of}
 use Rattle.lane_table.specs.Advances.{MadeStep, looked, visited, step_of, looks_in, Sees, floor}
 use Rattle.lane_table.proofs.Book.BookEnds.{continues_before}
+use Rattle.lane_table.proofs.Calls.AdvanceLemmas.{looks_append}
 use Rattle.rng_core.specs.declared.setting.Setting.{Setting}
 use Rattle.rng_core.specs.Traces.{Moment, TraceRecords}
 use Rattle.rng_core.specs.Makes.{MakesIn, Makes, setting_of}
@@ -62,7 +63,7 @@ did_onward set l m k = record {
 
 module _ (set : Setting) (point : Point) where
   pub at_onward : (a : Ask) (v w : View) (x y : ActOutcome) → ActAt set point a v w x y → Onward v w
-  at_onward a v w x y k = go (number_of point == number_of a.point && not x.done) k
+  at_onward a v w x y k = go (is_same_point point a.point && not x.done) k
     where
       go : (b : Bool) → MatchBool b (ActRan set a v w y) ((y ≡ x) × (w ≡ v)) → Onward v w
       go true h = did_onward _ _ _ h.did
@@ -98,11 +99,6 @@ sees_risen w low high [] h = h
 sees_risen w low high (looked g ∷ made_steps) h = (h.0, sees_risen w g high made_steps h.1)
 sees_risen w low high (visited mark e ∷ made_steps) h =
     risen_lower low h.0 high (looks_in made_steps) h.1 (sees_risen w h.0 high made_steps h.3)
-
-looks_append : (xs ys : List MadeStep) → looks_in (xs ++ ys) ≡ looks_in xs ++ looks_in ys
-looks_append [] ys = refl
-looks_append (looked g ∷ xs) ys = ap (λ (l : List ℕ). g ∷ l) (looks_append xs ys)
-looks_append (visited mark e ∷ xs) ys = looks_append xs ys
 
 -- The caller's own steps, with those of acts between them
 
@@ -221,7 +217,7 @@ ran_means set a v w y k = record {
 
 module _ (set : Setting) (point : Point) where
   one_meant : (a : Ask) (v w : View) (x y : ActOutcome) → ActAt set point a v w x y → Meant set v a x → Meant set w a y
-  one_meant a v w x y k m = go (number_of point == number_of a.point && not x.done) k
+  one_meant a v w x y k m = go (is_same_point point a.point && not x.done) k
     where
       go : (b : Bool) → MatchBool b (ActRan set a v w y) ((y ≡ x) × (w ≡ v)) → Meant set w a y
       go true h = ran_means set a v w y h
@@ -241,7 +237,7 @@ module _ (set : Setting) (point : Point) where
 
 -- whether a call came to the point of an act
 abbrev pub came : List PointReached → Ask → Bool
-came points a = list_any (λ reached. number_of reached.point == number_of a.point) points
+came points a = list_any (λ reached. is_same_point reached.point a.point) points
 
 -- the acts that were not done are done exactly where the call came to their points
 abbrev pub AllDone : List PointReached → List Ask → List ActOutcome → List ActOutcome → Type 0
@@ -271,8 +267,8 @@ module _ (set : Setting) (point : Point) (wiped : Bool) (points : List PointReac
   or_more false y z e rest f g = f ∙ ap (λ (b : Bool). b || rest) g
 
   one_done : (a : Ask) (v w : View) (x y : ActOutcome) → ActAt set point a v w x y →
-      y.done ≡ (x.done || (number_of point == number_of a.point))
-  one_done a v w x y k = go (number_of point == number_of a.point) x.done refl k
+      y.done ≡ (x.done || is_same_point point a.point)
+  one_done a v w x y k = go (is_same_point point a.point) x.done refl k
     where
       go : (e d : Bool) → x.done ≡ d → MatchBool (e && not d) (ActRan set a v w y) ((y ≡ x) × (w ≡ v)) →
           y.done ≡ (d || e)
@@ -291,7 +287,7 @@ module _ (set : Setting) (point : Point) (wiped : Bool) (points : List PointReac
   done_at (a ∷ asks) v w (x ∷ xs) [] zs k rest = absurd k
   done_at (a ∷ asks) v w (x ∷ xs) (y ∷ ys) [] k rest = absurd rest
   done_at (a ∷ asks) v w (x ∷ xs) (y ∷ ys) (z ∷ zs) k rest = (
-    or_more x.done y.done z.done (number_of point == number_of a.point) (came points a) rest.0
+    or_more x.done y.done z.done (is_same_point point a.point) (came points a) rest.0
         (one_done a v k.0 x y k.1),
     done_at asks k.0 w xs ys zs k.2 rest.1,
   )

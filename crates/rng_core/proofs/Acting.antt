@@ -1,11 +1,12 @@
 -- What a caller does as the host of a call with acts inside, step after step.
 use Rattle.std.proofs.Common.{◌≡◌, Bool, true, false, List, [], ◌∷◌, ◌++◌, length, ◌<◌, refl, sym, ap, ◌∙◌, subst, arith}
-use Rattle.std.specs.Prelude.{MatchBool, ◌==◌, ◌&&◌, if◌then◌else◌}
+use Rattle.std.specs.Prelude.{MatchBool, ◌&&◌, if◌then◌else◌}
 use Rattle.std.specs.List.{AllByRecursion}
 use Rattle.key_names.specs.declared.point.Point.{Point}
+use Rattle.key_names.specs.declared.point.Point.TheVariants.{Start}
 use Rattle.key_names.specs.Deeds.{Deed}
 use Rattle.key_names.specs.Vgetrandom.{HostStep, publishes, system_call, at_point}
-use Rattle.key_names.specs.Points.{number_of}
+use Rattle.key_names.specs.Points.{is_same_point}
 use Rattle.key_names.specs.VreadSteps.{published_by, Shows, PointReached, points_of, before_start, from_start, first_points, second_points}
 use Rattle.lane_table.specs.declared.view.View.{View}
 use Rattle.lane_table.specs.Advances.{looked, floor}
@@ -163,7 +164,7 @@ wiped_more : (asks : List Ask) (attempt : Attempt) (point : Point) (wiped : Bool
     WipedSo asks (attempt_at attempt point) points →
     WipedSo asks attempt (record { point = point; wiped = wiped } ∷ points)
 wiped_more asks Before point wiped points e rest = ((e, rest.0), rest.1)
-wiped_more asks First point wiped points e rest = go (number_of point == 1) e rest
+wiped_more asks First point wiped points e rest = go (is_same_point point Start) e rest
   where
     go : (b : Bool) → wiped ≡ (is_first (if b then Later else First) && wipes_at asks point) →
         WipedSo asks (if b then Later else First) points →
@@ -207,7 +208,7 @@ active_more : (attempt : Attempt) (point : Point) (wiped : Bool) (points : List 
     (attempt_at attempt point) points else active (attempt_at attempt point) points)
     ≡ active attempt (record { point = point; wiped = wiped } ∷ points)
 active_more Before point wiped points = refl
-active_more First point wiped points = go (number_of point == 1)
+active_more First point wiped points = go (is_same_point point Start)
   where
     go : (b : Bool) → (if is_first (if b then Later else First) then record { point = point; wiped = wiped } ∷ active
         (if b then Later else First) points else active (if b then Later else First) points)

@@ -14,7 +14,7 @@ use Rattle.key_names.specs.SeenLine.{Shown, bytes_or_none}
 use Rattle.key_names.specs.Texts.TranscriptGrammar.{StepFits}
 use Rattle.key_names.specs.Vgetrandom.{IsCall}
 use Rattle.key_names.specs.VgetrandomState.{VgetrandomState}
-use Rattle.key_names.specs.Points.{number_of}
+use Rattle.key_names.specs.Points.{is_same_point}
 use Rattle.key_names.specs.VreadSteps.{published_by, Shows, WipesStand, PointReached, points_of, first_points, is_wiped, is_reached, is_wipe, ending_answer, ending_shown, NeverFall}
 use Rattle.key_names.proofs.Vgetrandom.Attempts.{match_false}
 use Rattle.key_names.proofs.Lists.Each.{each_weaker}
@@ -101,7 +101,7 @@ wiped_is set w point [] [] all = refl
 wiped_is set w point [] (z ∷ zs) all = absurd all
 wiped_is set w point (a ∷ asks) [] all = absurd all
 wiped_is set w point (a ∷ asks) (z ∷ zs) all =
-    ap (λ (b : Bool). (number_of a.point == number_of point && is_wipe a.act) || b)
+    ap (λ (b : Bool). (is_same_point a.point point && is_wipe a.act) || b)
     (wiped_is set w point asks zs all.1)
 
 module _ (set : Setting) (w : View) (lanes : ℕ) (visits : ℕ → List Visit) (callers : StateLists)

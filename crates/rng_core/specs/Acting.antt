@@ -1,10 +1,11 @@
 -- A caller as the host of a vgetrandom call with acts inside: what it does over the lanes at each step of the host.
-use Rattle.std.specs.Prelude.{◌≡◌, ℕ, ◌==◌, ◌&&◌, Bool, true, false, MatchBool, List, if◌then◌else◌}
+use Rattle.std.specs.Prelude.{◌≡◌, ℕ, ◌&&◌, Bool, true, false, MatchBool, List, if◌then◌else◌}
 use Rattle.key_names.specs.declared.point.Point.{Point}
+use Rattle.key_names.specs.declared.point.Point.TheVariants.{Start}
 use Rattle.key_names.specs.Flags.{is_bad}
 use Rattle.key_names.specs.Vgetrandom.{SystemAnswer, HostStep, Outcome, IsCall}
 use Rattle.key_names.specs.VgetrandomState.{VgetrandomState}
-use Rattle.key_names.specs.Points.{number_of}
+use Rattle.key_names.specs.Points.{is_same_point}
 use Rattle.lane_table.specs.WorldRule.{Consistent}
 use Rattle.vdso_state.specs.Host.{Doings, DoesAll, doings}
 use Rattle.rng_core.specs.declared.vdso.attempt.Attempt.{Attempt}
@@ -16,7 +17,7 @@ use Rattle.rng_core.specs.Acts.{Ask, ActOutcome, ActsAt, wipes_at}
 -- the attempt that a call is in at a point: an attempt begins at the point Start
 abbrev pub attempt_at : Attempt → Point → Attempt
 attempt_at Before point = First
-attempt_at First point = if number_of point == 1 then Later else First
+attempt_at First point = if is_same_point point Start then Later else First
 attempt_at Later point = Later
 
 abbrev pub is_first : Attempt → Bool

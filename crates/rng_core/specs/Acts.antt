@@ -9,11 +9,12 @@ use Rattle.key_names.specs.declared.point.Point.{Point}
 use Rattle.key_names.specs.Deeds.{Deed}
 use Rattle.key_names.specs.Meaning.{LineMeaning, ActMeans}
 use Rattle.key_names.specs.SeenLine.{bytes_or_none}
-use Rattle.key_names.specs.Points.{number_of}
+use Rattle.key_names.specs.Points.{is_same_point}
 use Rattle.key_names.specs.VreadSteps.{is_wipe}
 use Rattle.lane_table.specs.declared.view.View.{View}
 use Rattle.rng_core.specs.declared.vdso.acts.Bound.{Bound}
 use Rattle.rng_core.specs.declared.setting.Setting.{Setting}
+use Rattle.rng_core.specs.Traces.{knowing}
 use Rattle.rng_core.specs.Makes.{Makes, setting_of, result_answer, given}
 
 -- what an act asks, where, and in which event
@@ -57,7 +58,7 @@ outcomes_of (b ∷ bounds) out =
 -- whether an act at this point wipes
 abbrev pub wipes_at : List Ask → Point → Bool
 wipes_at [] point = false
-wipes_at (a ∷ asks) point = (number_of a.point == number_of point && is_wipe a.act) || wipes_at asks point
+wipes_at (a ∷ asks) point = (is_same_point a.point point && is_wipe a.act) || wipes_at asks point
 
 -- an act that can still run, or has run, and asks for no more than a read gives
 abbrev pub is_ready : Bound → Bool
@@ -85,11 +86,11 @@ pub record ActRan (set : Setting) (ask : Ask) (v w : View) (y : ActOutcome) : Ty
   pub done : y.done ≡ true
   pub did : Makes (λ deeds. ActMeans (setting_of set) ask.act (done_line deeds y.answer y.bytes))
       (at_event ask.event set)
-      (record { view = v; steps = [] }) (record { view = w; steps = y.steps })
+      (knowing v []) (knowing w y.steps)
 
 -- at a point an act is done that is bound to it and was not done yet
 abbrev pub ActAt : Setting → Point → Ask → View → View → ActOutcome → ActOutcome → Type 0
-ActAt set point ask v w x y = MatchBool (number_of point == number_of ask.point && not x.done) (ActRan set ask v w y)
+ActAt set point ask v w x y = MatchBool (is_same_point point ask.point && not x.done) (ActRan set ask v w y)
     ((y ≡ x) × (w ≡ v))
 
 -- and so are all of a list, one after another

@@ -13,7 +13,6 @@ use Rattle.key_names.specs.Meaning.{unused_line}
 use Rattle.key_names.specs.SeenLine.{Shown, SeenLine, bytes_or_none, no_data}
 use Rattle.key_names.specs.Texts.TranscriptGrammar.{StepFits}
 use Rattle.key_names.specs.VgetrandomState.{VgetrandomState}
-use Rattle.key_names.specs.Points.{number_of}
 use Rattle.lane_table.specs.declared.view.Visit.{Visit}
 use Rattle.lane_table.specs.BookLists.{StateLists, book_lists}
 use Rattle.lane_table.specs.BookLaws.{Continues}
@@ -42,7 +41,7 @@ act_line set a z = record {
 }
 
 abbrev pub bound_act : Setting → Ask → ActOutcome → BoundAct
-bound_act set a z = record { point = number_of a.point; act = a.act; line = act_line set a z }
+bound_act set a z = record { point = a.point; act = a.act; line = act_line set a z }
 
 abbrev pub bound_acts : Setting → List Ask → List ActOutcome → List BoundAct
 bound_acts set [] zs = []

@@ -1,5 +1,5 @@
 -- What a fork leaves to parent and child.
-use Rattle.std.proofs.Common.{◌≡◌, ◌≢◌, ◌⊎◌, ℕ, ◌+◌, ◌<◌, ◌≤◌, Bool, true, false, List, [], ◌∷◌, ◌++◌, refl, sym, ap, subst, ◌∙◌, inl, inr, arith}
+use Rattle.std.proofs.Common.{◌≡◌, ◌≢◌, ◌⊎◌, ℕ, ◌<◌, ◌≤◌, Bool, true, false, List, [], ◌∷◌, ◌++◌, refl, sym, ap, subst, ◌∙◌, inl, inr, arith}
 use Rattle.std.specs.Prelude.{◌==◌, ◌&&◌, ◌||◌, MatchBool, if◌then◌else◌}
 use Rattle.std.proofs.lemmas.Bool.{ne_eqb}
 use Rattle.std.proofs.lemmas.Bool.Decides.{eqb_tells}
@@ -7,10 +7,11 @@ use Rattle.key_names.specs.declared.entries.VEntry.{VEntry}
 use Rattle.key_names.specs.declared.entries.VEntry.TheVariants.{Wipe}
 use Rattle.key_names.specs.declared.point.Point.{Point}
 use Rattle.key_names.specs.declared.point.Point.TheVariants.{Start, Written, Serve, End}
-use Rattle.key_names.specs.BatchCopy.{has_left, state_after_copy, copy_bytes, block_after_copy, copy_entries}
+use Rattle.key_names.specs.BatchCopy.{state_after_copy, copy_bytes, block_after_copy, copy_entries}
 use Rattle.key_names.specs.Vgetrandom.{SystemAnswer, read, failed, HostStep, publishes, system_call, at_point, Attempt, AttemptEnd, holds, outdated, not_keyed, attempt_behind, wipe_entry, rekey_entry, Outcome, outcome_behind, by_batch, by_system, AtPoint, FromEnd, FromServe, FromWritten, FromStart, IsAttempt, AfterAttempt, AfterKeyRead, AfterBoth, BySystem, SecondAttempt, state_after_call}
 use Rattle.key_names.specs.VgetrandomState.{VgetrandomState, wiped_state, state_left}
-use Rattle.key_names.specs.Points.{number_of}
+use Rattle.key_names.specs.Points.{is_same_point}
+use Rattle.key_names.proofs.Vgetrandom.CopiesKeep.{copy_keeps_generation}
 use Rattle.vdso_state.specs.declared.place.Turn.{Turn}
 use Rattle.vdso_state.specs.declared.place.Turn.TheVariants.{First, Second}
 use Rattle.vdso_state.specs.Host.{Doings, doings}
@@ -41,15 +42,7 @@ takes_append taken (system_call n flags (read bytes visit) ∷ xs) ys =
     takes_append ((n == 32 && flags == 0) || taken) xs ys
 takes_append taken (system_call n flags (failed errno) ∷ xs) ys = takes_append taken xs ys
 takes_append taken (at_point point wiped ∷ xs) ys =
-    takes_append (if number_of point == 1 then false else taken) xs ys
-
-same_either : (b : Bool) (s t u : VgetrandomState) → s.generation ≡ u.generation → t.generation ≡ u.generation →
-    (if b then s else t).generation ≡ u.generation
-same_either true s t u h k = h
-same_either false s t u h k = k
-
-copy_keeps : (s : VgetrandomState) (c n : ℕ) → (state_after_copy s c n).generation ≡ s.generation
-copy_keeps s c n = same_either (has_left s n) _ _ s refl refl
+    takes_append (if is_same_point point Start then false else taken) xs ys
 
 -- the generation of a state is one that can be published no more, or its key was read, and it is the last one
 abbrev IsFresh : Bool → ℕ → VgetrandomState → Type 0
@@ -126,7 +119,7 @@ told_behind taken high tried rest attempt after entries is told = record {
 -- at a point, Holds being what the rest needs to know of the state
 at_told : (point : Point) (GoesOn : VgetrandomState → List HostStep → Attempt → Type 0) (Holds : VgetrandomState → Type 0)
     (s : VgetrandomState) (taken now : Bool) (low high : ℕ) (tried rest : List HostStep) (attempt : Attempt) →
-    (if number_of point == 1 then false else taken) ≡ now → AtPoint point GoesOn s tried attempt →
+    (if is_same_point point Start then false else taken) ≡ now → AtPoint point GoesOn s tried attempt →
     ((wiped : Bool) → Holds (state_left wiped s)) →
     ((u : VgetrandomState) (after : List HostStep) (a : Attempt) → GoesOn u after a → Holds u →
     Climbs low high (after ++ rest) → Told now high after rest a) →
@@ -143,7 +136,7 @@ from_serve : (n c : ℕ) (s : VgetrandomState) (taken : Bool) (low high : ℕ) (
     (attempt : Attempt) → FromServe n c s tried attempt → 1 ≤ low → IsFresh taken low s →
     Climbs low high (tried ++ rest) → Told taken high tried rest attempt
 from_serve n c s taken low high tried rest attempt k some fresh climbs =
-    let copied = fresh_same taken low s (state_after_copy s c n) (copy_keeps s c n) fresh in
+    let copied = fresh_same taken low s (state_after_copy s c n) (copy_keeps_generation s c n) fresh in
     told_behind taken high tried rest attempt k.attempt_after (copy_entries s c n) k.attempt_is
     (at_told End (FromEnd (copy_bytes s c n) (block_after_copy s c n)) (IsFresh taken low) (state_after_copy s c n) taken
     taken low high tried rest k.attempt_after refl k.goes_on

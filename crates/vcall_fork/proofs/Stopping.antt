@@ -1,12 +1,14 @@
 -- Calls that go on to a point.
 use Rattle.std.proofs.Common.{◌≡◌, ℕ, ◌≤◌, Bool, true, false, Option, Some, None, List, [], ◌∷◌, ◌++◌, refl, sym, ap, ◌∙◌, append_assoc}
-use Rattle.std.specs.Prelude.{Result, ◌==◌, ◌&&◌, if◌then◌else◌}
+use Rattle.std.specs.Prelude.{Result, ◌==◌, if◌then◌else◌}
 use Rattle.key_names.specs.declared.errno.Errno.{Errno}
 use Rattle.key_names.specs.declared.point.Point.{Point}
 use Rattle.key_names.specs.declared.point.Point.TheVariants.{Start, Written, Serve, End}
 use Rattle.key_names.specs.Vgetrandom.{HostStep, at_point, Outcome}
 use Rattle.key_names.specs.VgetrandomState.{VgetrandomState, state_left}
-use Rattle.key_names.specs.Points.{number_of}
+use Rattle.key_names.specs.Points.{is_same_point}
+use Rattle.key_names.proofs.Points.{same_point}
+use Rattle.key_names.proofs.Lists.ListFacts.{both_true}
 use Rattle.key_names.specs.VreadSteps.{PointReached, points_of}
 use Rattle.vdso_state.specs.declared.outcome.VEnd.{VEnd}
 use Rattle.vdso_state.specs.declared.place.Turn.{Turn}
@@ -33,39 +35,16 @@ turn_is Second Serve = refl
 turn_is Second End = refl
 
 -- the point and the attempt that are wanted
-both : (a b : Bool) → (a && b) ≡ true → (a ≡ true) × (b ≡ true)
-both true true h = (refl, refl)
-both true false h = absurd (cc h)
-both false b h = absurd (cc h)
-
 same_turn : (a b : Turn) → (turn_number a == turn_number b) ≡ true → a ≡ b
 same_turn First First h = refl
 same_turn First Second h = absurd (cc h)
 same_turn Second First h = absurd (cc h)
 same_turn Second Second h = refl
 
-same_point : (a b : Point) → (number_of a == number_of b) ≡ true → a ≡ b
-same_point Start Start h = refl
-same_point Start Written h = absurd (cc h)
-same_point Start Serve h = absurd (cc h)
-same_point Start End h = absurd (cc h)
-same_point Written Start h = absurd (cc h)
-same_point Written Written h = refl
-same_point Written Serve h = absurd (cc h)
-same_point Written End h = absurd (cc h)
-same_point Serve Start h = absurd (cc h)
-same_point Serve Written h = absurd (cc h)
-same_point Serve Serve h = refl
-same_point Serve End h = absurd (cc h)
-same_point End Start h = absurd (cc h)
-same_point End Written h = absurd (cc h)
-same_point End Serve h = absurd (cc h)
-same_point End End h = refl
-
 pub wanted_is : (turn t : Turn) (point p : Point) → is_wanted turn point (turn_number t) p ≡ true →
     (t ≡ turn) × (p ≡ point)
 wanted_is turn t point p h =
-    let k = both (turn_number t == turn_number turn) (number_of p == number_of point) h in
+    let k = both_true (turn_number t == turn_number turn) (is_same_point p point) h in
     (same_turn t turn k.0, same_point p point k.1)
 
 if_none : (b : Bool) (o : Option ℕ) (mid : ℕ) → (if b then None else o) ≡ Some mid → (b ≡ false) × (o ≡ Some mid)

@@ -3,12 +3,13 @@ use Rattle.std.specs.Prelude.{ℕ, ◌≡◌, ◌≢◌, ◌≤◌, ◌==◌, �
 use Rattle.key_names.specs.declared.entries.VEntry.{VEntry}
 use Rattle.key_names.specs.declared.entries.VEntry.TheVariants.{Wipe}
 use Rattle.key_names.specs.declared.names.KeyName.{KeyName}
+use Rattle.key_names.specs.declared.point.Point.TheVariants.{Start}
 use Rattle.key_names.specs.Book.{Lists, LawfulBook}
 use Rattle.key_names.specs.PrintedBytes.{at_state, origin_uses}
 use Rattle.key_names.specs.Uses.{IsUsed}
 use Rattle.key_names.specs.Vgetrandom.{read, failed, HostStep, publishes, system_call, at_point, Outcome, outcome_behind, by_batch}
 use Rattle.key_names.specs.VgetrandomState.{VgetrandomState, wiped_state}
-use Rattle.key_names.specs.Points.{number_of}
+use Rattle.key_names.specs.Points.{is_same_point}
 use Rattle.vdso_state.specs.declared.place.Place.{Place}
 use Rattle.vdso_state.specs.Places.{BehindPlace, AtPlace, Climbs}
 use Rattle.vcall_fork.specs.declared.stage.Stage.{Stage}
@@ -44,7 +45,7 @@ takes_key taken [] = taken
 takes_key taken (publishes g ∷ steps) = takes_key taken steps
 takes_key taken (system_call n flags (read bytes visit) ∷ steps) = takes_key ((n == 32 && flags == 0) || taken) steps
 takes_key taken (system_call n flags (failed errno) ∷ steps) = takes_key taken steps
-takes_key taken (at_point point wiped ∷ steps) = takes_key (if number_of point == 1 then false else taken) steps
+takes_key taken (at_point point wiped ∷ steps) = takes_key (if is_same_point point Start then false else taken) steps
 
 -- a child whose bytes are out of its state read the key that made them after the fork, through its own host, in the
 -- attempt that gave them

@@ -2,9 +2,10 @@
 use Rattle.std.specs.Prelude.{ℕ, suc, ◌+◌, ◌*◌, ◌^◌, ◌≤◌, ◌≡◌, ◌==◌, ◌&&◌, Bool, true, Option, Some, None, Result, List, [], ◌∷◌, if◌then◌else◌}
 use Rattle.key_names.specs.declared.errno.Errno.{Errno}
 use Rattle.key_names.specs.declared.point.Point.{Point}
+use Rattle.key_names.specs.declared.point.Point.TheVariants.{Start}
 use Rattle.key_names.specs.Vgetrandom.{HostStep, Outcome, IsCall}
 use Rattle.key_names.specs.VgetrandomState.{VgetrandomState}
-use Rattle.key_names.specs.Points.{number_of}
+use Rattle.key_names.specs.Points.{is_same_point}
 use Rattle.key_names.specs.VreadSteps.{PointReached, points_of}
 use Rattle.vdso_state.specs.declared.outcome.VEnd.{VEnd}
 use Rattle.vdso_state.specs.declared.place.Turn.{Turn}
@@ -28,10 +29,10 @@ RestOfCall Over n flags out s steps outcome = ⊥
 
 -- the attempt that a point is in, `begun` having begun before it: an attempt begins at the point Start
 abbrev pub turn_at : ℕ → Point → ℕ
-turn_at begun point = if number_of point == 1 then suc begun else begun
+turn_at begun point = if is_same_point point Start then suc begun else begun
 
 abbrev pub is_wanted : Turn → Point → ℕ → Point → Bool
-is_wanted turn point now here = now == turn_number turn && number_of here == number_of point
+is_wanted turn point now here = now == turn_number turn && is_same_point here point
 
 -- how many attempts have begun behind some points; nothing where they come to this point of this attempt
 abbrev pub passes_by : Turn → Point → ℕ → List PointReached → Option ℕ

@@ -1,7 +1,6 @@
 //! A call of vgetrandom that can be stopped.
 
 ghost use Rattle.std.specs.Prelude.{◌≡◌, ◌^◌, ◌≤◌, true, length};
-ghost use Rattle.key_names.specs.Points.{number_of};
 ghost use Rattle.key_names.specs.VgetrandomState.{wiped_state};
 ghost use Rattle.vdso_state.specs.Host.{doings};
 ghost use Rattle.vdso_state.specs.Turns.{turn_number, turns_before};
@@ -29,17 +28,6 @@ pub struct VCall {
     ghost ready: { 1 ≤ published_or 1 stage },
 }
 
-fn number(point: Point) -> u8
-    ensures { result ≡ number_of point }
-{
-    match point {
-        Point::Start => 1,
-        Point::Written => 2,
-        Point::Serve => 3,
-        Point::End => 4,
-    }
-}
-
 fn turn(turn: Turn) -> u8
     ensures { result ≡ turn_number turn }
 {
@@ -53,7 +41,7 @@ fn turn(turn: Turn) -> u8
 fn is_at(place: Place, attempt: Turn, point: Point) -> bool
     ensures { result ≡ is_wanted attempt point (turn_number place.turn) place.point }
 {
-    turn(place.turn) == turn(attempt) && number(place.point) == number(point)
+    turn(place.turn) == turn(attempt) && place.point.is(point)
 }
 
 // From a place on, to a point of an attempt or to the end of the call.

@@ -2,7 +2,7 @@
 ghost use Rattle.std.specs.Prelude.{◌≡◌, ◌≤◌, ◌+◌, ◌==◌, ◌&&◌, ◌⊎◌, not, true, false, if◌then◌else◌, IsOk, length, []};
 ghost use Rattle.key_names.specs.declared.entries.BaseEntry.TheVariants.{Wait as WaitEntry, Resume, Interrupt};
 ghost use Rattle.key_names.specs.declared.events.Event.TheVariants.{Read, Dread};
-ghost use Rattle.key_names.specs.Flags.{is_bad, is_nonblock, is_insecure};
+ghost use Rattle.key_names.specs.Flags.{is_bad, is_insecure};
 ghost use Rattle.key_names.specs.Forms.{BaseOnly};
 ghost use Rattle.key_names.specs.SeenLine.{bytes_or_none};
 ghost use Rattle.rng_core.specs.Causes.{ReadCause};
@@ -14,7 +14,7 @@ use crate::crng::reads::{read_behind, read_cpu};
 use crate::lane_values;
 use crate::site::Site;
 use crossbeam_utils::Backoff;
-use key_names::flags::{GRND_INSECURE, GRND_NONBLOCK, are_bad};
+use key_names::flags::{GRND_NONBLOCK, are_bad, is_insecure, is_nonblock};
 use key_names::{BaseEntry, Errno, LaneId, Taken};
 use lane_table::Held;
 use std::sync::Wait;
@@ -79,13 +79,7 @@ fn wait_ready<R: Wait>(rt: &R, site: &mut Site) -> Result<(), Errno>
 fn must_wait(found: u64, flags: u32) -> bool
     ensures { result ≡ (found == 0 && not (is_insecure flags)) }
 {
-    found == 0 && flags / GRND_INSECURE % 2 != 1
-}
-
-fn is_nonblock(flags: u32) -> bool
-    ensures { result ≡ is_nonblock flags }
-{
-    flags % 2 == GRND_NONBLOCK
+    found == 0 && !is_insecure(flags)
 }
 
 /// Random bytes for a user (`getrandom(2)`, `SYSCALL_DEFINE3(getrandom)`).
@@ -113,17 +107,13 @@ pub fn getrandom<R: Wait>(rt: &R, site: &mut Site, buf: &mut [u8], flags: u32) -
             return Err(Errno::Again);
         }
         wait(rt, site);
-        match wait_ready(rt, site) {
-            Err(errno) => return Err(errno),
-            Ok(()) => {
-                if buf.is_empty() {
-                    return Ok(());
-                }
-                let taken = Taken::User(buf.len() as u32);
-                read_cpu(rt, site, buf, taken);
-                return Ok(());
-            }
+        wait_ready(rt, site)?;
+        if buf.is_empty() {
+            return Ok(());
         }
+        let taken = Taken::User(buf.len() as u32);
+        read_cpu(rt, site, buf, taken);
+        return Ok(());
     }
     if buf.is_empty() {
         return Ok(());

@@ -1,7 +1,7 @@
 //! Acts inside a vgetrandom call.
-ghost use Rattle.std.specs.Prelude.{◌≡◌, ◌==◌, ◌&&◌, ◌<◌, ◌≤◌, [], true, false, Ok, length};
+ghost use Rattle.std.specs.Prelude.{◌≡◌, ◌&&◌, ◌<◌, ◌≤◌, [], true, false, Ok, length};
 ghost use Rattle.key_names.specs.Meaning.{ActMeans};
-ghost use Rattle.key_names.specs.Points.{number_of};
+ghost use Rattle.key_names.specs.Points.{is_same_point};
 ghost use Rattle.key_names.specs.VreadSteps.{is_wipe};
 ghost use Rattle.lane_table.specs.Calls.{view};
 ghost use Rattle.rng_core.specs.Acts.{wants, ask_of, asks_of, outcome_of, outcomes_of, wipes_at, is_ready};
@@ -56,17 +56,6 @@ impl Bound {
             InsideAct::Vread(len) => len as usize,
             InsideAct::Wipe | InsideAct::Reseed => 0,
         }
-    }
-}
-
-pub(crate) fn number(point: Point) -> u8
-    ensures { result ≡ number_of point }
-{
-    match point {
-        Point::Start => 1,
-        Point::Written => 2,
-        Point::Serve => 3,
-        Point::End => 4,
     }
 }
 
@@ -136,16 +125,16 @@ fn run_at<R: Wait>(rt: &R, site: &mut Site, point: Point, bound: &mut Bound, out
     ensures ran { ActAt site.old.set point (ask_of bound.old) (view site.old.pass.now) (view site.new.pass.now)
         (outcome_of bound.old out.old) (outcome_of bound.new out.new) }
 {
-    if number(point) == number(bound.point) && !bound.done {
+    if point.is(bound.point) && !bound.done {
         run(rt, site, bound, out);
     }
 }
 
 // Whether an act wipes the state at a point.
 fn is_wiped_by(bound: &Bound, point: Point) -> bool
-    ensures { result ≡ (number_of bound.now.point == number_of point && is_wipe bound.now.act) }
+    ensures { result ≡ (is_same_point bound.now.point point && is_wipe bound.now.act) }
 {
-    number(bound.point) == number(point) && is_wipe(bound.act)
+    bound.point.is(point) && is_wipe(bound.act)
 }
 
 /// Does the acts of a list that are bound to a point and were not done yet, one after another. The answer is whether

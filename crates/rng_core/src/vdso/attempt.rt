@@ -2,7 +2,6 @@
 ghost use Rattle.std.specs.Prelude.{◌≡◌};
 ghost use Rattle.rng_core.specs.Acting.{attempt_at, is_first};
 
-use crate::vdso::acts::number;
 use key_names::Point;
 
 /// Which attempt of a call runs: acts are done in the first one alone.
@@ -22,7 +21,7 @@ impl Attempt {
         match self {
             Attempt::Before => Attempt::First,
             Attempt::First => {
-                if number(point) == 1 {
+                if point.is(Point::Start) {
                     Attempt::Later
                 } else {
                     Attempt::First
