@@ -2,30 +2,34 @@
 
 ghost use Rattle.std.specs.Prelude.{◌≡◌};
 ghost use Rattle.event_script.specs.Views.{Tells, fields_of};
-ghost use Rattle.key_names.specs.Texts.ScriptFaults.{act_at, inside_of, vread_at};
+ghost use Rattle.key_names.specs.Texts.ScriptFaults.{act_at, inside_of, point_of, vread_at};
 
 use crate::amounts::read_len;
 use crate::fields::{cut, one, spells};
-use crate::numbers::number_from;
-use key_names::{Event, FaultKind, InsideAct};
+use crate::numbers::number;
+use key_names::{Event, FaultKind, InsideAct, Point};
 
-fn act(point: &[u8], act: InsideAct) -> Result<Event, FaultKind>
-    ensures { Tells (λ event. event) result (act_at point.now act) }
+fn point(field: &[u8]) -> Result<Point, FaultKind>
+    ensures { Tells (λ point. point) result (point_of field.now) }
 {
-    let point = number_from(1, 4, point)?;
-    Ok(Event::Inside {
-        point: point as u8,
-        act,
-    })
+    let number = number(4, field)?;
+    Point::of_number(number).ok_or(FaultKind::BadNumber)
 }
 
-fn vread_act(point: &[u8], len: &[u8]) -> Result<Event, FaultKind>
-    ensures { Tells (λ event. event) result (vread_at point.now len.now) }
+fn act(at: &[u8], act: InsideAct) -> Result<Event, FaultKind>
+    ensures { Tells (λ event. event) result (act_at at.now act) }
 {
-    let point = number_from(1, 4, point)?;
+    let point = point(at)?;
+    Ok(Event::Inside { point, act })
+}
+
+fn vread_act(at: &[u8], len: &[u8]) -> Result<Event, FaultKind>
+    ensures { Tells (λ event. event) result (vread_at at.now len.now) }
+{
+    let point = point(at)?;
     let len = read_len(len)?;
     Ok(Event::Inside {
-        point: point as u8,
+        point,
         act: InsideAct::Vread(len),
     })
 }
