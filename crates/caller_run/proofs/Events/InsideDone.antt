@@ -29,7 +29,7 @@ use Rattle.rng_core.proofs.InsideCalls.{IsUndone, undone_meant}
 use Rattle.caller_run.specs.Done.{CallDone}
 use Rattle.caller_run.specs.Items.{line_items, vread_items}
 use Rattle.caller_run.proofs.Events.ActSteps.{all_untouched}
-use Rattle.caller_run.proofs.Events.ActsMeant.{points_fit, each_act, act_deeds, act_answer, act_shown, acts_samples}
+use Rattle.caller_run.proofs.Events.ActsMeant.{each_act, act_deeds, act_answer, act_shown, acts_samples}
 use Rattle.caller_run.proofs.Events.InsideCourse.{inside_part}
 use Rattle.caller_run.proofs.Orders.PartItems.{Part}
 use Rattle.caller_run.proofs.Events.VreadDone.{vread_quiet}
@@ -79,7 +79,6 @@ module _ (set : Setting) (v w : View) (s : CallerState) (n flags : ℕ) (t : Vge
     numbered_steps = part.numbered_steps;
     ran = part.ran;
     order = part.order;
-    points = points_fit set asks zs;
     meant = λ lanes visits callers c. let lists = book_lists lanes visits callers in record {
       meaning = meaning_by lists;
       before = refl;

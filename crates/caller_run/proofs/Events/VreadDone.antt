@@ -110,7 +110,6 @@ module _ (set : Setting) (v w : View) (s : CallerState) (n flags : ℕ) (t : Vge
     order = items_from_doings set.event 0 k.did.made_steps
         ∙ ap (λ (l : List Step). items_from set.event 0 l) (sym k.did.told.trace)
         ∙ sym (own_items (items_from set.event 0 steps) [] (λ p. refl));
-    points = tt;
     meant = λ lanes visits callers c. record {
       meaning = meaning_by (deeds_of (book_lists lanes visits callers) steps);
       before = refl;

@@ -199,7 +199,6 @@ module _ (set : Setting) (v u w : View) (s : CallerState) (child : ℕ) (line : 
     numbered_steps = all_steps.numbered_steps;
     ran = all_steps.ran;
     order = all_steps.order ∙ ap (λ (n : ℕ). items_from n 0 line.steps) (sym event);
-    points = tt;
     meant = λ lanes visits callers c. record {
       meaning = record {
         own = record {
