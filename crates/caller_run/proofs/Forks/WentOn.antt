@@ -17,6 +17,7 @@ use Rattle.key_names.specs.SeenLine.{SeenLine}
 use Rattle.key_names.specs.Texts.TranscriptGrammar.{StepFits}
 use Rattle.key_names.specs.VgetrandomState.{wiped_state}
 use Rattle.key_names.proofs.Lists.Each.{each_append}
+use Rattle.key_names.proofs.Lists.ListFacts.{list_is}
 use Rattle.lane_table.specs.declared.lanes.Lanes.{Lanes}
 use Rattle.lane_table.specs.declared.lanes.Pass.{Pass}
 use Rattle.lane_table.specs.declared.view.View.{View}
@@ -336,12 +337,6 @@ at_number P [] c es there all = cc
 at_number P (x ∷ xs) zero es there all = let same : x ≡ es = cc in subst P same all.0
 at_number P (x ∷ xs) (suc c) es there all = at_number P xs c es there all.1
 
-pub list_number : (callers : List (List Event)) (c : ℕ) (es : List Event) → slice_get callers c ≡ Some es →
-    list_at callers c ≡ es
-list_number [] c es there = cc
-list_number (x ∷ xs) zero es there = cc
-list_number (x ∷ xs) (suc c) es there = list_number xs c es there
-
 pub above_number : (k : ℕ) (callers : List (List Event)) (c : ℕ) (es : List Event) → slice_get callers c ≡ Some es →
     ForksAbove k callers → AreAbove (c + k) es
 above_number k [] c es there all = cc
@@ -368,7 +363,7 @@ module _ (t : Lanes) (script : Script) (set : Setting) (p : Pass) (a : Plot) (sh
     (kids : grove_of (map plot x.kids.items) ≡ a.kids) (is : a.sheet ≡ sheet)
     (there : slice_get script.callers a.caller ≡ Some events) where
   listed : list_at script.callers a.caller ≡ events
-  listed = list_number script.callers a.caller events there
+  listed = list_is script.callers a.caller events there
 
   own_there : slice_get script.callers set.caller ≡ Some events
   own_there = ap (slice_get script.callers) (sym can.is) ∙ there

@@ -1,12 +1,13 @@
 use Rattle.std.proofs.Common.{rules, ◌≡◌, ℕ, ◌+◌, ◌<◌, Some, length, map, refl, sym, ap, ◌∙◌, subst, arith}
 use Rattle.std.specs.Prelude.{slice_get}
 use Rattle.key_names.specs.Book.{list_at}
+use Rattle.key_names.proofs.Lists.ListFacts.{list_is}
 use Rattle.lane_table.proofs.Calls.HandLemmas.{idle_of}
 use Rattle.rng_core.specs.Traces.{moment}
 use Rattle.caller_run.specs.Grove.{Plot, grove_of}
 use Rattle.caller_run.specs.Plots.{plot, plot_by}
 use Rattle.caller_run.specs.Ways.{load, kids_of, SameKids, WentBeside}
-use Rattle.caller_run.proofs.Forks.WentOn.{can_still, here_floor, here_fits, can_on, thread_took, here_took, past, went_end, went_fork, can_start, returned, list_number}
+use Rattle.caller_run.proofs.Forks.WentOn.{can_still, here_floor, here_fits, can_on, thread_took, here_took, past, went_end, went_fork, can_start, returned}
 use Rattle.caller_run.proofs.run.+callers.Goals as goal
 
 -- ---- in the scope
@@ -83,7 +84,7 @@ run_family-run_from-way-requires g t c κs within =
     ap (λ ks. grove_of (map plot ks.items)) c.starting-way.ensures.rest.1 ∙ sym (ap (λ (p : Plot). p.kids) opened) in
     let there : slice_get callers a.caller ≡ Some events =
     ap (slice_get callers) (ap (λ (p : Plot). p.caller) opened) ∙ c.events-events.ensures in
-    let long : length (list_at callers a.caller) ≡ length events = ap length (list_number callers a.caller events there) in
+    let long : length (list_at callers a.caller) ≡ length events = ap length (list_is callers a.caller events there) in
     let less : load callers (kids_of way) ≡ load callers a.kids = ap (load callers) kids in
     let at : length (list_at callers a.caller) + load callers a.kids + 2 ≡ t = c.decreases in (
       (let q : length events + load callers (kids_of way) < t = omega arith in q),
