@@ -22,7 +22,8 @@ use Rattle.lane_table.proofs.Lists.VisitLists.{begins_refl}
 use Rattle.rng_core.specs.declared.setting.Setting.{Setting}
 use Rattle.rng_core.specs.Makes.{Makes, IsOutcomeOf, setting_of}
 use Rattle.rng_core.specs.Settings.{first_setting}
-use Rattle.rng_core.proofs.Courses.{Course, course_none, course_then, course_told, course_visits, knows, start}
+use Rattle.rng_core.specs.Traces.{knowing}
+use Rattle.rng_core.proofs.Courses.{Course, course_none, course_then, course_told, course_visits, start}
 use Rattle.draw_below.specs.Draws.{Takes}
 use Rattle.draw_below.specs.LaneWords.{ReadsWord}
 use Rattle.draw_below.specs.TableDraws.{AreTableWords, AreWordCalls, marks_of}
@@ -65,14 +66,14 @@ reads_of v w (r ∷ rs) t =
 -- a sample was added on a new table, and then words were read
 module _ (set : Setting) (plain : set ≡ first_setting 0) (p q w : View) (words : List ℕ) (new : p ≡ start)
     (sampled : (steps : List Step)
-    × Makes (IsOutcomeOf (setting_of set) (Add (range_with_len 0 32) 256) Done no_data) set (knows p []) (knows q steps))
+    × Makes (IsOutcomeOf (setting_of set) (Add (range_with_len 0 32) 256) Done no_data) set (knowing p []) (knowing q steps))
     (gave : Takes (ReadsWord set) q words w) where
   added : (steps : List Step)
       × Makes (IsOutcomeOf (setting_of (first_setting 0)) (Add (range_with_len 0 32) 256) Done no_data) (first_setting 0)
-      (knows p []) (knows q steps)
+      (knowing p []) (knowing q steps)
   added = subst
       (λ (s : Setting). (steps : List Step)
-      × Makes (IsOutcomeOf (setting_of s) (Add (range_with_len 0 32) 256) Done no_data) s (knows p []) (knows q steps))
+      × Makes (IsOutcomeOf (setting_of s) (Add (range_with_len 0 32) 256) Done no_data) s (knowing p []) (knowing q steps))
       plain sampled
 
   taken : Takes (ReadsWord (first_setting 0)) q words w

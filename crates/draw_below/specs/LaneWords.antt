@@ -8,6 +8,7 @@ use Rattle.key_names.specs.SeenLine.{bytes_or_none}
 use Rattle.lane_table.specs.declared.view.View.{View}
 use Rattle.lane_table.specs.Calls.{view}
 use Rattle.rng_core.specs.declared.setting.Setting.{Setting}
+use Rattle.rng_core.specs.Traces.{knowing}
 use Rattle.rng_core.specs.Makes.{Makes, IsOutcomeOf, setting_of}
 use Rattle.draw_below.specs.declared.lane_words.LaneWords.{LaneWords}
 
@@ -16,7 +17,7 @@ pub record ReadsWord (set : Setting) (before : View) (word : ℕ) (after : View)
   pub bytes : List ℕ
   pub steps : List Step
   pub did : Makes (IsOutcomeOf (setting_of set) Int32 Done (bytes_or_none bytes)) set
-      (record { view = before; steps = [] }) (record { view = after; steps = steps })
+      (knowing before []) (knowing after steps)
   pub word_is : word ≡ from_le_bytes w32 bytes
 
 -- it is over the same lanes, with the same pass and setting

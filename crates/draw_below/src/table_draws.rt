@@ -1,14 +1,7 @@
 //! Draws below one bound, one after another, and those of a caller on a new table.
 ghost use Rattle.std.specs.Prelude.{◌≡◌, ◌^◌, ◌<◌, ◌≤◌, ℕ, [], List, Some, IfOk};
-ghost use Rattle.std.specs.List.{range_with_len};
-ghost use Rattle.key_names.specs.declared.events.Event.TheVariants.{Add};
-ghost use Rattle.key_names.specs.declared.events.Answer.TheVariants.{Ok as Done};
-ghost use Rattle.key_names.specs.declared.names.Step.{Step};
-ghost use Rattle.key_names.specs.SeenLine.{no_data};
 ghost use Rattle.lane_table.specs.Calls.{view};
 ghost use Rattle.lane_table.specs.Hands.{HoldsLanes};
-ghost use Rattle.rng_core.specs.Traces.{moment};
-ghost use Rattle.rng_core.specs.Makes.{Makes, IsOutcomeOf, setting_of};
 ghost use Rattle.draw_below.specs.Draws.{Takes};
 ghost use Rattle.draw_below.specs.LaneWords.{ReadsWord, SameSource};
 ghost use Rattle.draw_below.specs.TableDraws.{AreTableDraws, draws_in, ends_of};
@@ -18,22 +11,13 @@ use crate::lane_words::LaneWords;
 use crate::rejected::Rejected;
 use crate::words::Words;
 use arrayvec::ArrayVec;
-use key_names::Trace;
 use lane_table::{Lanes, Pass};
-use rng_core::{Setting, Site, add};
+use rng_core::{Setting, add_first_sample};
 use std::alloc::{AllocError, Global};
 use std::sync::Wait;
 
 /// The most draws of one [`draw_each`].
 pub const MOST_DRAWS: usize = 1000;
-
-// The first sample: the bytes 0 to 31, with this many bits.
-const SAMPLE: [u8; 32] = [
-    0, 1, 2, 3, 4, 5, 6, 7, 8, 9, 10, 11, 12, 13, 14, 15, 16, 17, 18, 19, 20, 21, 22, 23, 24, 25,
-    26, 27, 28, 29, 30, 31,
-];
-
-const SAMPLE_BITS: u32 = 256;
 
 /// The answers of some draws in order, and whether the draw behind the last of them was spent.
 #[derive(Drop)]
@@ -97,24 +81,6 @@ fn draw_by_pass<R: Wait>(
     draw_from(rt, &mut words, c, count)
 }
 
-// Adds the first sample, which makes the core ready.
-fn add_sample<R: Wait>(rt: &R, lanes: &Lanes, pass: &mut Pass, set: &Setting)
-    requires has { HoldsLanes lanes.now set.now.caller [] pass.old }
-    requires moment { set.now.now < 2 ^ 40 }
-    ensures has { HoldsLanes lanes.now set.entry.now.caller [] pass.new }
-    ensures did { (steps : List Step) × Makes (IsOutcomeOf (setting_of set.entry.now) (Add (range_with_len 0 32) 256) Done no_data)
-        set.entry.now (moment pass.old []) (moment pass.new steps) }
-{
-    let mut trace = Trace::empty();
-    let mut site = Site {
-        lanes,
-        pass,
-        trace: &mut trace,
-        set: *set,
-    };
-    add(rt, &mut site, &SAMPLE, SAMPLE_BITS);
-}
-
 /// Makes a core with one CPU ready by a first sample, 32 bytes that count up from 0 and are credited with 256 bits.
 /// Then it draws so many numbers below `c`, at most 1,000, out of the integers of 4 bytes that caller 0 reads. All
 /// calls have CPU 0, the moment 0 and hardware words 0.
@@ -133,7 +99,7 @@ pub fn draw_on_new_table<R: Wait>(
 {
     let (lanes, mut pass) = Lanes::start(alloc, 1, 0)?;
     let set = Setting::first(0);
-    add_sample(rt, &lanes, &mut pass, &set);
+    add_first_sample(rt, &lanes, &mut pass, set);
     let drawn = draw_by_pass(rt, &lanes, &mut pass, set, c, count);
     let _visits = lanes.close(pass);
     Ok(drawn)

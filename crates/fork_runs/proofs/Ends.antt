@@ -47,7 +47,8 @@ use Rattle.rng_core.proofs.Makings.{did_floor}
 use Rattle.rng_core.proofs.Courses.{Course, IsKnown, known_grown, marks_both, marks_in, none_made, start, three_visits}
 use Rattle.rng_core.proofs.Hosting.{published_more}
 use Rattle.fork_runs.specs.Stretches.{FinishedOver}
-use Rattle.fork_runs.specs.Runs.{knowing, DidAll, RanBy, ReachedStop, ForkedOver}
+use Rattle.rng_core.specs.Traces.{knowing}
+use Rattle.fork_runs.specs.Runs.{DidAll, RanBy, ReachedStop, ForkedOver}
 use Rattle.fork_runs.specs.TableForks.{marks_of, Way, IsEnd, AreForkedBytes}
 use Rattle.fork_runs.proofs.Courses.{course_did, course_calls}
 use Rattle.fork_runs.proofs.TwoStops.{parents_call, childs_call}

@@ -24,7 +24,8 @@ use Rattle.rng_core.specs.Makes.{IsOutcomeOf, setting_of}
 use Rattle.rng_core.proofs.Makings.{did_floor}
 use Rattle.rng_core.proofs.Hosting.{published_more}
 use Rattle.fork_runs.specs.Stretches.{StoppedOver}
-use Rattle.fork_runs.specs.Runs.{knowing, DidAll, ReachedStop}
+use Rattle.rng_core.specs.Traces.{knowing}
+use Rattle.fork_runs.specs.Runs.{DidAll, ReachedStop}
 use Rattle.fork_runs.proofs.Ends.{floor_child}
 use Rattle.fork_runs.proofs.TwoStops.{stop_then}
 

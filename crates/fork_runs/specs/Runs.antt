@@ -22,14 +22,10 @@ use Rattle.vdso_state.specs.Places.{BehindPlace}
 use Rattle.vcall_fork.specs.declared.stage.Stage.{Stage}
 use Rattle.vcall_fork.specs.declared.stage.Stage.TheVariants.{At}
 use Rattle.rng_core.specs.declared.setting.Setting.{Setting}
-use Rattle.rng_core.specs.Traces.{Moment}
+use Rattle.rng_core.specs.Traces.{knowing}
 use Rattle.rng_core.specs.Makes.{Makes, IsOutcomeOf, setting_of}
 use Rattle.rng_core.specs.Settings.{first_setting}
 use Rattle.fork_runs.specs.Stretches.{Stop, FinishedOver}
-
--- a caller that knows this, with steps of a call that it made of its own
-abbrev pub knowing : View → List Step → Moment
-knowing v steps = record { view = v; steps = steps }
 
 -- one call, with steps of its own
 abbrev pub DidAll : (List Deed → Type 0) → Setting → View → List Step → View → Type 0

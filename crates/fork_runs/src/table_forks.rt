@@ -1,7 +1,6 @@
 //! A fork inside a call, on a new table.
 ghost use Rattle.std.specs.Prelude.{◌≡◌, ◌<◌, ◌≤◌, ◌^◌, true, [], List, IfOk, length};
-ghost use Rattle.std.specs.List.{range_with_len};
-ghost use Rattle.key_names.specs.declared.events.Event.TheVariants.{Add, Reseed};
+ghost use Rattle.key_names.specs.declared.events.Event.TheVariants.{Reseed};
 ghost use Rattle.key_names.specs.declared.events.Answer.TheVariants.{Ok as Done};
 ghost use Rattle.key_names.specs.declared.names.Step.{Step};
 ghost use Rattle.key_names.specs.SeenLine.{no_data};
@@ -19,44 +18,18 @@ ghost use Rattle.fork_runs.specs.TableForks.{AreForkedBytes};
 use crate::stretches::{Caller, HeldCall, StopAt, finish, run_to};
 use key_names::Trace;
 use lane_table::{Lanes, Pass};
-use rng_core::{Setting, Site, add, fork, reseed};
+use rng_core::{Setting, Site, add_first_sample, fork, reseed};
 use std::alloc::{AllocError, Global};
 use std::sync::Wait;
 use vcall_fork::laws::{child_takes_key, forks_are_told};
 use vcall_fork::{Point, Turn, VCall};
 use vdso_state::VState;
 
-// The first sample: the bytes 0 to 31, with this many bits.
-const SAMPLE: [u8; 32] = [
-    0, 1, 2, 3, 4, 5, 6, 7, 8, 9, 10, 11, 12, 13, 14, 15, 16, 17, 18, 19, 20, 21, 22, 23, 24, 25,
-    26, 27, 28, 29, 30, 31,
-];
-
-const SAMPLE_BITS: u32 = 256;
-
 /// The bytes that the two ends of a forked call give out.
 #[derive(Drop)]
 pub struct ForkedBytes {
     pub parent: Vec<u8>,
     pub child: Vec<u8>,
-}
-
-// Adds the first sample, which makes the core ready.
-fn add_sample<R: Wait>(rt: &R, caller: &Caller, pass: &mut Pass)
-    requires has { HoldsLanes caller.now.lanes.now caller.now.set.caller [] pass.old }
-    requires moment { caller.now.set.now < 2 ^ 40 }
-    ensures has { HoldsLanes caller.now.lanes.now caller.now.set.caller [] pass.new }
-    ensures did { (steps : List Step) × Makes (IsOutcomeOf (setting_of caller.now.set)
-        (Add (range_with_len 0 32) 256) Done no_data) caller.now.set (moment pass.old []) (moment pass.new steps) }
-{
-    let mut trace = Trace::empty();
-    let mut site = Site {
-        lanes: caller.lanes,
-        pass,
-        trace: &mut trace,
-        set: caller.set,
-    };
-    add(rt, &mut site, &SAMPLE, SAMPLE_BITS);
 }
 
 // Reseeds the core. The answer is whether it was ready.
@@ -202,7 +175,7 @@ fn fork_once<R: Wait>(
         lanes: &lanes,
         set: Setting::first(0),
     };
-    add_sample(rt, &caller, &mut pass);
+    add_first_sample(rt, &lanes, &mut pass, caller.set);
     let mut held = HeldCall {
         call: VCall::begin(parent.len() as u32, 0),
         st: VState::wiped(),

@@ -9,6 +9,7 @@ use mathlib.Core.Option.{some, some-injective, some-ne-none}
 use lib.ListN.{get_elem?}
 use Rattle.crossbeam_queue.specs.Fifo as fifo
 use Rattle.crossbeam_queue.proofs.Lists.{at_set}
+use Rattle.key_names.proofs.Lists.ListFacts.{some_same}
 use Rattle.irq_feed.specs.declared.samples.Sample.{Sample}
 use Rattle.irq_feed.specs.declared.known.Ended.{Ended}
 use Rattle.irq_feed.specs.declared.known.Known.{Known}
@@ -39,9 +40,6 @@ fit_set F views pass w mine others j u e =
     (λ (x : (j ≢ pass) × (get_elem? views j ≡ some u)). others j u x.0 x.1) (at_set views pass j w u e)
 
 -- ---- seats
-
-some_same : (a b : ℕ) → Some a ≡ Some b → a ≡ b
-some_same a b e = ap (λ (o : Option ℕ). elim o [ Some x ↦ x | None ↦ a ]) e
 
 no_seat : (o : Option ℕ) (a : ℕ) → o ≡ None → o ≡ Some a → ⊥
 no_seat o a none is = none-some a (sym none ∙ is)

@@ -16,7 +16,7 @@ use Rattle.lane_table.specs.Steps.{Grows}
 use Rattle.lane_table.specs.BookLists.{StateLists, book_lists}
 use Rattle.lane_table.specs.BookLaws.{Continues}
 use Rattle.rng_core.specs.declared.setting.Setting.{Setting}
-use Rattle.rng_core.specs.Traces.{Moment}
+use Rattle.rng_core.specs.Traces.{knowing}
 use Rattle.rng_core.specs.Makes.{MakesIn, IsOutcomeOf, setting_of}
 use Rattle.rng_core.specs.SampleDeeds.{Sampled}
 use Rattle.irq_feed.specs.declared.samples.Sample.{Sample}
@@ -24,14 +24,11 @@ use Rattle.irq_feed.specs.declared.samples.Sample.{Sample}
 abbrev pub in_event : Setting → ℕ → Setting
 in_event set event = record set { event = event }
 
-abbrev pub moment : View → List Step → Moment
-moment v steps = record { view = v; steps = steps }
-
 -- from v to w the pass made one interrupt of this sample, and the steps tell it
 pub record Interrupted (set : Setting) (event : ℕ) (x : Sample) (v w : View) : Type 0 where
   pub steps : List Step
   pub did : MakesIn (Sampled (IsOutcomeOf (setting_of set) (IrqEvent x.v1 x.v2) Done no_data)) (in_event set event)
-      (moment v []) (moment w steps)
+      (knowing v []) (knowing w steps)
 
 -- from v to w it made one of each sample, in order, in events that are numbered from this one on
 abbrev pub Mixes : Setting → ℕ → List Sample → View → View → Type 0

@@ -16,10 +16,10 @@ const ONES_KEY_AT_128: [u8; 32] =
 
 const ONES: [u8; 32] = [1; 32];
 
-/// A point of an attempt, both counted from 1.
+/// A point of an attempt. Attempts are counted from 1.
 #[derive(Clone, Copy, Debug, PartialEq, Eq)]
 struct Place {
-    point: u8,
+    point: Point,
     attempt: u8,
 }
 
@@ -32,15 +32,6 @@ struct ListHost {
     wipes: [Option<Place>; 2],
     attempt: u8,
     floor: u64,
-}
-
-fn number(point: Point) -> u8 {
-    match point {
-        Point::Start => 1,
-        Point::Written => 2,
-        Point::Serve => 3,
-        Point::End => 4,
-    }
 }
 
 impl ListHost {
@@ -100,7 +91,7 @@ impl VHost for ListHost {
             self.attempt = self.attempt.saturating_add(1);
         }
         let here = Place {
-            point: number(point),
+            point,
             attempt: self.attempt,
         };
         if self.wipes[0] == Some(here) || self.wipes[1] == Some(here) {
@@ -157,7 +148,7 @@ struct Wiped {
     bytes: Option<&'static [u8]>,
 }
 
-fn wipe_at(point: u8, attempt: u8) -> Option<Place> {
+fn wipe_at(point: Point, attempt: u8) -> Option<Place> {
     Some(Place { point, attempt })
 }
 
@@ -165,23 +156,23 @@ fn wipe_at(point: u8, attempt: u8) -> Option<Place> {
 // of a wiped batch are never given out, and the second attempt goes on with block 2.
 #[test]
 fn a_wipe_at_each_point(rt: HostRuntime) {
-    let last = wipe_at(4, 1);
+    let last = wipe_at(Point::End, 1);
     let anew = Some(ONES_KEY_AT_0.as_slice());
     let on = Some(ONES_KEY_AT_128.as_slice());
     let called = Some(ONES.as_slice());
     let cases = [
         Wiped {
-            wipes: [wipe_at(1, 1), None],
+            wipes: [wipe_at(Point::Start, 1), None],
             end: VEnd::Batch,
             bytes: anew,
         },
         Wiped {
-            wipes: [wipe_at(2, 1), None],
+            wipes: [wipe_at(Point::Written, 1), None],
             end: VEnd::Batch,
             bytes: zero_stream(0, 32),
         },
         Wiped {
-            wipes: [wipe_at(3, 1), None],
+            wipes: [wipe_at(Point::Serve, 1), None],
             end: VEnd::Batch,
             bytes: anew,
         },
@@ -191,22 +182,22 @@ fn a_wipe_at_each_point(rt: HostRuntime) {
             bytes: on,
         },
         Wiped {
-            wipes: [last, wipe_at(1, 2)],
+            wipes: [last, wipe_at(Point::Start, 2)],
             end: VEnd::Batch,
             bytes: on,
         },
         Wiped {
-            wipes: [last, wipe_at(2, 2)],
+            wipes: [last, wipe_at(Point::Written, 2)],
             end: VEnd::System,
             bytes: called,
         },
         Wiped {
-            wipes: [last, wipe_at(3, 2)],
+            wipes: [last, wipe_at(Point::Serve, 2)],
             end: VEnd::System,
             bytes: called,
         },
         Wiped {
-            wipes: [last, wipe_at(4, 2)],
+            wipes: [last, wipe_at(Point::End, 2)],
             end: VEnd::System,
             bytes: called,
         },
@@ -224,7 +215,7 @@ fn a_wipe_at_each_point(rt: HostRuntime) {
 
 #[test]
 fn a_wipe_at_both_ends_leaves_zeros(rt: HostRuntime) {
-    let mut host = ListHost::steady([wipe_at(4, 1), wipe_at(4, 2)]);
+    let mut host = ListHost::steady([wipe_at(Point::End, 1), wipe_at(Point::End, 2)]);
     let mut st = VState::keyed([0; 32], 2);
     let mut buf = [0; 32];
     let end = vgetrandom(&mut host, &mut st, &mut buf, 0);

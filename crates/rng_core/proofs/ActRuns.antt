@@ -17,6 +17,7 @@ use Rattle.lane_table.specs.Steps.{Grows}
 use Rattle.lane_table.specs.WorldRule.{known_of}
 use Rattle.lane_table.specs.Advances.{MadeStep, looked, visited, step_of, looks_in, Sees, floor}
 use Rattle.lane_table.proofs.Book.BookEnds.{continues_before}
+use Rattle.lane_table.proofs.Calls.AdvanceLemmas.{looks_append}
 use Rattle.rng_core.specs.declared.setting.Setting.{Setting}
 use Rattle.rng_core.specs.Traces.{Moment, TraceRecords}
 use Rattle.rng_core.specs.Makes.{MakesIn, Makes, setting_of}
@@ -98,11 +99,6 @@ sees_risen w low high [] h = h
 sees_risen w low high (looked g ∷ made_steps) h = (h.0, sees_risen w g high made_steps h.1)
 sees_risen w low high (visited mark e ∷ made_steps) h =
     risen_lower low h.0 high (looks_in made_steps) h.1 (sees_risen w h.0 high made_steps h.3)
-
-looks_append : (xs ys : List MadeStep) → looks_in (xs ++ ys) ≡ looks_in xs ++ looks_in ys
-looks_append [] ys = refl
-looks_append (looked g ∷ xs) ys = ap (λ (l : List ℕ). g ∷ l) (looks_append xs ys)
-looks_append (visited mark e ∷ xs) ys = looks_append xs ys
 
 -- The caller's own steps, with those of acts between them
 

@@ -1,12 +1,13 @@
 -- Where a call of vgetrandom ends: its state's generation is one that was published, and only a call for no bytes ends
 -- with none.
-use Rattle.std.proofs.Common.{◌≡◌, ℕ, ◌+◌, ◌≤◌, Bool, true, false, List, [], ◌∷◌, ◌++◌, refl, sym, ap, ◌∙◌, subst, arith}
-use Rattle.std.specs.Prelude.{MatchBool, ◌==◌, ⊤, if◌then◌else◌}
+use Rattle.std.proofs.Common.{◌≡◌, ℕ, ◌≤◌, Bool, true, false, List, [], ◌∷◌, ◌++◌, refl, sym, ap, ◌∙◌, subst, arith}
+use Rattle.std.specs.Prelude.{MatchBool, ◌==◌, ⊤}
 use Rattle.std.proofs.lemmas.Bool.{eqb-true}
 use Rattle.key_names.specs.declared.point.Point.{Point}
 use Rattle.key_names.specs.declared.point.Point.TheVariants.{Start, Written, Serve, End}
 use Rattle.key_names.specs.Flags.{is_bad}
-use Rattle.key_names.specs.BatchCopy.{has_left, state_after_copy, state_of_same_batch, state_of_new_batch, whole_blocks, new_batch_bytes, copy_bytes, block_after_copy}
+use Rattle.key_names.specs.BatchCopy.{state_after_copy, copy_bytes, block_after_copy}
+use Rattle.key_names.proofs.Vgetrandom.CopiesKeep.{copy_keeps_generation}
 use Rattle.key_names.specs.VgetrandomState.{VgetrandomState, state_left}
 use Rattle.key_names.specs.Vgetrandom.{SystemAnswer, read, failed, HostStep, publishes, system_call, at_point, Attempt, AttemptEnd, holds, outdated, not_keyed, AtPoint, FromEnd, FromServe, AfterKeyRead, FromWritten, FromStart, IsAttempt, no_bytes, by_batch, by_system, Outcome, BySystem, ByBatch, AfterAttempt, AttemptAndRest, AfterBoth, SecondAttempt, FirstAttempt, ByNothing, FromPublished, FromLook, IsCall}
 
@@ -28,14 +29,6 @@ up_to_rest top [] ys h = h
 up_to_rest top (publishes g ∷ xs) ys h = up_to_rest top xs ys h.1
 up_to_rest top (system_call n flags answer ∷ xs) ys h = up_to_rest top xs ys h
 up_to_rest top (at_point point wiped ∷ xs) ys h = up_to_rest top xs ys h
-
-pub copy_keeps_generation : (s : VgetrandomState) (c n : ℕ) → (state_after_copy s c n).generation ≡ s.generation
-copy_keeps_generation s c n = go (has_left s n)
-  where
-    go : (b : Bool) → (if b then state_of_same_batch s n else state_of_new_batch s (c + whole_blocks s n)
-        (new_batch_bytes s n)).generation ≡ s.generation
-    go true = refl
-    go false = refl
 
 -- how a call of n bytes ended
 pub record EndsWell (top n : ℕ) (outcome : Outcome) : Type 0 where

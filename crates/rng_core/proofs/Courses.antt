@@ -23,7 +23,7 @@ use Rattle.lane_table.proofs.Lists.Places.{stands_at}
 use Rattle.lane_table.proofs.Lists.VisitLists.{begins_refl, begins_trans}
 use Rattle.lane_table.proofs.Calls.AdvanceLemmas.{climbs_append, mark_grown}
 use Rattle.rng_core.specs.declared.setting.Setting.{Setting}
-use Rattle.rng_core.specs.Traces.{Moment, TraceRecords}
+use Rattle.rng_core.specs.Traces.{TraceRecords, knowing}
 
 -- ---- marks of one lane
 
@@ -109,12 +109,9 @@ module _ (caller event : ℕ) where
   known_by w n (looked g ∷ made_steps) stand = known_by w (suc n) made_steps stand
   known_by w n (visited mark e ∷ made_steps) stand = ((e, stand.0), known_by w (suc n) made_steps stand.1)
 
-abbrev pub knows : View → List Step → Moment
-knows v steps = record { view = v; steps = steps }
-
 -- one call
 pub course_told : (set : Setting) (v w : View) (steps : List Step) (made_steps : List MadeStep) →
-    TraceRecords set (knows v []) (knows w steps) made_steps → Course v w (marks_from set.caller set.event 0 steps)
+    TraceRecords set (knowing v []) (knowing w steps) made_steps → Course v w (marks_from set.caller set.event 0 steps)
 course_told set v w steps made_steps is =
     let c : ℕ = set.caller in
     let e : ℕ = set.event in

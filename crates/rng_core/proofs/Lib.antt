@@ -15,7 +15,6 @@ pub mod Hosting
 pub mod InsideCalls
 pub mod Inputs
 pub mod IntFulfilling
-pub mod Parents
 pub mod Readings
 pub mod Sampling
 pub mod SysFulfilling

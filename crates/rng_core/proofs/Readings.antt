@@ -28,7 +28,7 @@ use Rattle.lane_table.specs.Advances.{MadeStep, looked, visited, step_of, looks_
 use Rattle.vdso_state.specs.declared.outcome.VEnd.{VEnd}
 use Rattle.vdso_state.specs.Call.{EndsAs}
 use Rattle.rng_core.specs.declared.setting.Setting.{Setting}
-use Rattle.rng_core.specs.Traces.{Moment, TraceRecords}
+use Rattle.rng_core.specs.Traces.{Moment, TraceRecords, knowing}
 use Rattle.rng_core.specs.Makes.{Makes, setting_of, result_answer, given}
 use Rattle.rng_core.specs.VreadMakes.{done_of, LocallyServed, Refused, Unserved, LeftToSystem, Called, VreadLine, VreadMakes, vread_meaning}
 use Rattle.rng_core.proofs.ActRuns.{Risen, sees_risen}
@@ -258,7 +258,7 @@ module _ (n flags : ℕ) (s t : VgetrandomState) (answer : Answer) (shown : Show
       began = inr left;
       entries = k.outcome.entries;
       did = subst (λ (z : List Step). Makes (VreadLine (setting_of set) n flags s t answer shown k.outcome.entries) set
-          (record { view = m.view; steps = z }) o) same called_did;
+          (knowing m.view z) o) same called_did;
     }
 
 -- where the batch did not serve and nothing was done

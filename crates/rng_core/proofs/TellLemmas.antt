@@ -25,7 +25,7 @@ use Rattle.lane_table.specs.Calls.{Added, visit_by}
 use Rattle.lane_table.specs.Advances.{MadeStep, visited, maker, step_of, Advances}
 use Rattle.lane_table.proofs.Calls.AdvanceLemmas.{went_then, went_put}
 use Rattle.rng_core.specs.declared.setting.Setting.{Setting}
-use Rattle.rng_core.specs.Traces.{Moment, TraceRecords, Visited}
+use Rattle.rng_core.specs.Traces.{Moment, TraceRecords, Visited, knowing}
 
 length_map : (xs : List MadeStep) → length (map step_of xs) ≡ length xs
 length_map [] = refl
@@ -79,7 +79,7 @@ pub visited_by_put : (set : Setting) (m m' : Seated) (told told' : List Step) (m
     1 < length m.0.lanes → who ≡ maker set.caller set.event (length told)
     → told' ≡ told ++ Marked mark ∷ [] → MarkFits mark →
     Added lane (filled lane (visit_by who mark.stamp e) m.0) m m' →
-    Visited set (record { view = m.0; steps = told }) (record { view = m'.0; steps = told' }) lane mark.place
+    Visited set (knowing m.0 told) (knowing m'.0 told') lane mark.place
     (replay (known_of m.0 lane)) e (handed lane e m.0)
 visited_by_put set m m' told told' mark who e lane on there near two by trace fits k = record {
   mark = mark;
@@ -131,10 +131,10 @@ pub visited_at : (set : Setting) (m m' : Seated) (told told' : List Step) (mark 
     held < length m.0.lanes → 1 < length m.0.lanes
     → who ≡ maker set.caller set.event (length told) → told' ≡ told ++ Marked mark ∷ [] → MarkFits mark →
     Added held (filled held (visit_by who mark.stamp e) m.0) m m'
-    → Visited set (record { view = m.0; steps = told }) (record { view = m'.0; steps = told' }) lane mark.place
+    → Visited set (knowing m.0 told) (knowing m'.0 told') lane mark.place
     (replay (known_of m.0 lane)) e (handed lane e m.0)
 visited_at set m m' told told' mark who e held lane same on there near two by trace fits k =
-    subst (λ (l : ℕ). Visited set (record { view = m.0; steps = told }) (record { view = m'.0; steps = told' }) l
+    subst (λ (l : ℕ). Visited set (knowing m.0 told) (knowing m'.0 told') l
     mark.place (replay (known_of m.0 l)) e (handed l e m.0)) same
     (visited_by_put set m m' told told' mark who e held on there near two by trace fits k)
 

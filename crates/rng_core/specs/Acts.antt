@@ -14,6 +14,7 @@ use Rattle.key_names.specs.VreadSteps.{is_wipe}
 use Rattle.lane_table.specs.declared.view.View.{View}
 use Rattle.rng_core.specs.declared.vdso.acts.Bound.{Bound}
 use Rattle.rng_core.specs.declared.setting.Setting.{Setting}
+use Rattle.rng_core.specs.Traces.{knowing}
 use Rattle.rng_core.specs.Makes.{Makes, setting_of, result_answer, given}
 
 -- what an act asks, where, and in which event
@@ -85,7 +86,7 @@ pub record ActRan (set : Setting) (ask : Ask) (v w : View) (y : ActOutcome) : Ty
   pub done : y.done ≡ true
   pub did : Makes (λ deeds. ActMeans (setting_of set) ask.act (done_line deeds y.answer y.bytes))
       (at_event ask.event set)
-      (record { view = v; steps = [] }) (record { view = w; steps = y.steps })
+      (knowing v []) (knowing w y.steps)
 
 -- at a point an act is done that is bound to it and was not done yet
 abbrev pub ActAt : Setting → Point → Ask → View → View → ActOutcome → ActOutcome → Type 0

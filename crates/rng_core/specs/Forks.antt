@@ -12,7 +12,7 @@ use Rattle.lane_table.specs.Steps as steps
 use Rattle.lane_table.specs.Calls.{view}
 use Rattle.lane_table.specs.Hands.{HoldsLanes}
 use Rattle.rng_core.specs.declared.setting.Setting.{Setting}
-use Rattle.rng_core.specs.Traces.{Moment}
+use Rattle.rng_core.specs.Traces.{Moment, knowing}
 use Rattle.rng_core.specs.Makes.{Makes}
 use Rattle.rng_core.specs.declared.site.Site.{Site}
 use Rattle.rng_core.specs.Sites.{Same, Does, HasInHands, at}
@@ -20,7 +20,7 @@ use Rattle.rng_core.specs.Sites.{Same, Does, HasInHands, at}
 -- from m on the pass did what a fork does, its trace had these steps then, and what it knew was cut in half
 pub record Forked (set : Setting) (m : Moment) (told : List Step) (number : ℕ) (pass child : Pass) : Type 0 where
   pub before : View
-  pub did : Makes (BaseOnly (Fork number)) set m (record { view = before; steps = told })
+  pub did : Makes (BaseOnly (Fork number)) set m (knowing before told)
   pub mark : Mark
   pub visit : told ≡ m.steps ++ Visit mark ∷ []
   pub pass_is : view pass ≡ halved before

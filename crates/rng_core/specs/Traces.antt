@@ -24,8 +24,11 @@ pub record Moment : Type 0 where
   pub view : View
   pub steps : List Step
 
+abbrev pub knowing : View → List Step → Moment
+knowing v steps = record { view = v; steps = steps }
+
 abbrev pub moment : Pass → List Step → Moment
-moment pass steps = record { view = view pass; steps = steps }
+moment pass steps = knowing (view pass) steps
 
 -- from m to n the pass did exactly this, and the trace tells it, in numbers that a transcript can have
 pub record TraceRecords (set : Setting) (m n : Moment) (made_steps : List MadeStep) : Type 0 where

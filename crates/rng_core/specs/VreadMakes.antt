@@ -18,7 +18,7 @@ use Rattle.vdso_state.specs.declared.outcome.VEnd.{VEnd}
 use Rattle.vdso_state.specs.declared.outcome.Local.{Local}
 use Rattle.vdso_state.specs.declared.outcome.Local.TheVariants.{NeedsSystem, Served}
 use Rattle.rng_core.specs.declared.setting.Setting.{Setting}
-use Rattle.rng_core.specs.Traces.{Moment}
+use Rattle.rng_core.specs.Traces.{Moment, knowing}
 use Rattle.rng_core.specs.Traces as told
 use Rattle.rng_core.specs.Makes.{Makes, setting_of}
 use Rattle.rng_core.specs.declared.site.Site.{Site}
@@ -107,7 +107,7 @@ pub record VreadMakes (n flags : ℕ) (s t : VgetrandomState) (answer : Answer) 
       ⊎ Unserved n flags s l.view looked
   pub entries : List VEntry
   pub did : Makes (VreadLine (setting_of set) n flags s t answer shown entries) set
-      (record { view = looked; steps = l.steps }) m
+      (knowing looked l.steps) m
 
 -- Over a site
 

@@ -33,6 +33,7 @@ pub use crng::reseeds::{reseed, tick};
 pub use interface::system_call::{getrandom, random_file};
 pub use setting::Setting;
 pub use site::Site;
+pub use sources::first_sample::add_first_sample;
 pub use sources::interrupts::irq;
 pub use sources::samples::{add, bits, device, input, mix, vmfork};
 pub use vdso::acts::Bound;

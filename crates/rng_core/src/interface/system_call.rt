@@ -107,17 +107,13 @@ pub fn getrandom<R: Wait>(rt: &R, site: &mut Site, buf: &mut [u8], flags: u32) -
             return Err(Errno::Again);
         }
         wait(rt, site);
-        match wait_ready(rt, site) {
-            Err(errno) => return Err(errno),
-            Ok(()) => {
-                if buf.is_empty() {
-                    return Ok(());
-                }
-                let taken = Taken::User(buf.len() as u32);
-                read_cpu(rt, site, buf, taken);
-                return Ok(());
-            }
+        wait_ready(rt, site)?;
+        if buf.is_empty() {
+            return Ok(());
         }
+        let taken = Taken::User(buf.len() as u32);
+        read_cpu(rt, site, buf, taken);
+        return Ok(());
     }
     if buf.is_empty() {
         return Ok(());

@@ -8,8 +8,8 @@ pub close-visits-requires-clause-whole : goal.close-visits-requires-clause-whole
 close-visits-requires-clause-whole g c =
     let drawn = c.draw_by_pass-drawn.ensures.drawn in
     share_is c.first-set.result c.first-set.ensures (view c.in_ok-lanes.pass)
-    (view c.add_sample.new.pass) (view c.draw_by_pass-drawn.new.pass) drawn.0
-    (ap (λ (m : Seated). m.0) c.in_ok-lanes.ensures.seat) c.add_sample.ensures.did drawn.1
+    (view c.add_first_sample.new.pass) (view c.draw_by_pass-drawn.new.pass) drawn.0
+    (ap (λ (m : Seated). m.0) c.in_ok-lanes.ensures.seat) c.add_first_sample.ensures.did drawn.1
 
 pub returns : goal.returns
 returns g c =
@@ -20,7 +20,7 @@ returns g c =
     record {
       words = drawn.0;
       table = table_words c.first-set.result c.first-set.ensures (view c.in_ok-lanes.pass)
-          (view c.add_sample.new.pass) (view w) drawn.0 (ap (λ (m : Seated). m.0) c.in_ok-lanes.ensures.seat)
-          c.add_sample.ensures.did drawn.1 ended;
+          (view c.add_first_sample.new.pass) (view w) drawn.0 (ap (λ (m : Seated). m.0) c.in_ok-lanes.ensures.seat)
+          c.add_first_sample.ensures.did drawn.1 ended;
       drawn = drawn.2;
     }

@@ -17,14 +17,14 @@ close-visits-requires-clause-whole g c =
     let n = length c.args.parent.now in
     let same : call.len ≡ n = search rules in
     let p = view c.in_ok-lanes.pass in
-    let q = view c.add_sample.new.pass in
+    let q = view c.add_first_sample.new.pass in
     let w = view c.reach_stop.new.pass in
     share_is c.args.stop.attempt c.args.stop.point n p q w (view c.fork_at_stop.new.pass) later.stage c.reach_stop.new.buf
     c.reach_stop.new.held.st c.fork_at_stop.new.buf c.fork_at_stop.new.child_buf
     (ap (λ (m : Seated). m.0) c.in_ok-lanes.ensures.seat)
     (plain_sample set n call.len later.len call.flags later.flags c.wiped.result c.first.ensures same
     c.reach_stop.ensures.len c.begin.ensures.flags c.reach_stop.ensures.flags c.wiped.ensures p q
-    c.add_sample.ensures.did)
+    c.add_first_sample.ensures.did)
     (plain_reached set n call.len later.len call.flags later.flags c.wiped.result c.first.ensures same
     c.reach_stop.ensures.len c.begin.ensures.flags c.reach_stop.ensures.flags c.wiped.ensures c.args.stop.attempt
     c.args.stop.point later.stage c.reach_stop.new.buf c.reach_stop.new.held.st q w
@@ -42,7 +42,7 @@ returns g c = λ _.
     let n = length c.args.parent.now in
     let same : call.len ≡ n = search rules in
     let p = view c.in_ok-lanes.pass in
-    let q = view c.add_sample.new.pass in
+    let q = view c.add_first_sample.new.pass in
     let w = view c.reach_stop.new.pass in
     let x = view c.fork_at_stop.new.pass in
     let ended : Ended 3 x = subst (λ (k : ℕ). Ended (k + 2) x) c.in_ok-lanes.ensures.table.0 c.close-visits.ensures.ended
@@ -52,7 +52,7 @@ returns g c = λ _.
     (ap (λ (m : Seated). m.0) c.in_ok-lanes.ensures.seat)
     (plain_sample set n call.len later.len call.flags later.flags c.wiped.result c.first.ensures same
     c.reach_stop.ensures.len c.begin.ensures.flags c.reach_stop.ensures.flags c.wiped.ensures p q
-    c.add_sample.ensures.did)
+    c.add_first_sample.ensures.did)
     (plain_reached set n call.len later.len call.flags later.flags c.wiped.result c.first.ensures same
     c.reach_stop.ensures.len c.begin.ensures.flags c.reach_stop.ensures.flags c.wiped.ensures c.args.stop.attempt
     c.args.stop.point later.stage c.reach_stop.new.buf c.reach_stop.new.held.st q w

@@ -5,7 +5,7 @@ use Rattle.lane_table.specs.WorldRule.{known_of}
 use Rattle.lane_table.specs.Calls.{view}
 use Rattle.lane_table.proofs.Calls.Lent.{lent}
 use Rattle.rng_core.specs.Sites.{lane_of, own_lane}
-use Rattle.rng_core.proofs.Parents.{parent_cpu}
+use Rattle.lane_table.proofs.Book.BookWhole.{parent_cpu}
 use Rattle.rng_core.proofs.crng.integers.serve_refilled.Goals as goal
 
 pub visit_cpu-requires-clause-makes : goal.visit_cpu-requires-clause-makes

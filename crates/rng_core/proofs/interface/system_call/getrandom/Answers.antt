@@ -1,15 +1,14 @@
 use Rattle.std.proofs.Common.{◌≡◌, ◌<◌, ◌+◌, ◌++◌, ◌∷◌, [], ℕ, zero, suc, Bool, true, false, List, length, refl, sym, ap, ◌∙◌, subst, arith, rules, append_assoc}
 use Rattle.std.specs.Prelude.{◌==◌, ◌&&◌}
 use Rattle.std.proofs.lemmas.Bool.{ne_eqb}
+use Rattle.std.proofs.lemmas.Result.{err_from_is_err_and}
 use Rattle.key_names.specs.declared.entries.BaseEntry.TheVariants.{Wait, Resume, Interrupt}
 use Rattle.key_names.specs.declared.entries.Taken.TheVariants.{User}
-use Rattle.key_names.specs.declared.errno.Errno.{Errno}
 use Rattle.key_names.specs.declared.events.Event.TheVariants.{Read}
 use Rattle.key_names.specs.declared.events.Answer.TheVariants.{Ok as Done}
 use Rattle.key_names.specs.declared.names.Step.{Step}
 use Rattle.key_names.specs.declared.names.Step.TheVariants.{Look}
 use Rattle.key_names.specs.SeenLine.{bytes_or_none}
-use Rattle.key_names.specs.VreadSteps.{answer_of_errno}
 use Rattle.key_names.specs.Deeds.{Deed, looked}
 use Rattle.key_names.specs.Forms.{BaseOnly, CpuReadForm, ReadForm}
 use Rattle.rng_core.specs.Makes.{Serving, setting_of}
@@ -40,15 +39,15 @@ returns-then-is_nonblock-clause-does g c = let good = sym c.are_bad.ensures ∙ 
     (λ deeds e. sys_again (setting_of c.args.site.now.set) (length c.args.buf.now) c.args.flags c.look-found.result good
     must (sym c.is_nonblock.ensures ∙ c.if-is_nonblock.true) deeds e) (does_look _ _ _ c.look-found.ensures))
 
-pub returns-in-Err-clause-does : goal.returns-in-Err-clause-does
-returns-in-Err-clause-does g c = let good = sym c.are_bad.ensures ∙ c.if-are_bad.false in let must =
+pub returns-in_err-wait_ready-clause-does : goal.returns-in_err-wait_ready-clause-does
+returns-in_err-wait_ready-clause-does g c = let good = sym c.are_bad.ensures ∙ c.if-are_bad.false in let must =
     sym c.must_wait.ensures ∙ c.if-must_wait.true in let patient =
-    sym c.is_nonblock.ensures ∙ c.if-is_nonblock.false in let w = c.in-Err.ensures in let s = c.args.site.now in
-    subst (λ (e : Errno). Completes (4 + waiting_at s) (Read (length c.args.buf.now) c.args.flags) (answer_of_errno e)
-    (bytes_or_none []) s c.wait_ready.new.site) (sym w.0)
-    (does_within 3 _ _ _ (omega arith) (does_map 3 _ _ (λ deeds h. sys_interrupted (setting_of s.set)
-    (length c.args.buf.now) c.args.flags c.look-found.result good must patient h.holds.first h.holds.rest deeds
-    h.holds.before h.holds.behind
+    sym c.is_nonblock.ensures ∙ c.if-is_nonblock.false in let w = c.in_err-wait_ready.ensures in
+    let s = c.args.site.now in
+    let err = err_from_is_err_and c.from_residual.result c.from_residual.ensures.1 in
+    rw (err.1, err.2, w.0) (does_within 3 _ _ _ (omega arith) (does_map 3 _ _
+    (λ deeds h. sys_interrupted (setting_of s.set) (length c.args.buf.now) c.args.flags c.look-found.result good
+    must patient h.holds.first h.holds.rest deeds h.holds.before h.holds.behind
     (h.deeds_are ∙ ap (λ (l : List Deed). looked c.look-found.result ∷ l) h.holds.deeds_are))
     (does_found (λ set. After (BaseOnly Wait) (Serving (BaseOnly Interrupt) [])) 2 c.look-found.result _ _ _
     c.look-found.ensures.looked
@@ -57,7 +56,8 @@ returns-in-Err-clause-does g c = let good = sym c.are_bad.ensures ∙ c.if-are_b
 pub returns-then-is_empty-clause-does : goal.returns-then-is_empty-clause-does
 returns-then-is_empty-clause-does g c = let good = sym c.are_bad.ensures ∙ c.if-are_bad.false in let must =
     sym c.must_wait.ensures ∙ c.if-must_wait.true in let patient =
-    sym c.is_nonblock.ensures ∙ c.if-is_nonblock.false in let w = c.in-Ok.ensures in let s = c.args.site.now in
+    sym c.is_nonblock.ensures ∙ c.if-is_nonblock.false in let w = c.in_ok-wait_ready.ensures in
+    let s = c.args.site.now in
     let none : length c.args.buf.now ≡ 0 = search rules in
     subst (λ (z : List ℕ). Completes (4 + waiting_at s) (Read (length c.args.buf.now) c.args.flags) Done
     (bytes_or_none z) s c.wait_ready.new.site) (sym (none_left c.args.buf.now none))
@@ -69,10 +69,11 @@ returns-then-is_empty-clause-does g c = let good = sym c.are_bad.ensures ∙ c.i
     c.look-found.ensures.looked
     (does_then (λ set. Serving (BaseOnly Resume) []) 1 1 _ _ _ c.wait.ensures w.1))))
 
-pub returns-in-Ok-clause-does : goal.returns-in-Ok-clause-does
-returns-in-Ok-clause-does g c = let good = sym c.are_bad.ensures ∙ c.if-are_bad.false in let must =
+pub returns-then-must_wait-clause-does : goal.returns-then-must_wait-clause-does
+returns-then-must_wait-clause-does g c = let good = sym c.are_bad.ensures ∙ c.if-are_bad.false in let must =
     sym c.must_wait.ensures ∙ c.if-must_wait.true in let patient =
-    sym c.is_nonblock.ensures ∙ c.if-is_nonblock.false in let w = c.in-Ok.ensures in let s = c.args.site.now in
+    sym c.is_nonblock.ensures ∙ c.if-is_nonblock.false in let w = c.in_ok-wait_ready.ensures in
+    let s = c.args.site.now in
     let some : 0 < length c.args.buf.now = search rules in let n = length c.args.buf.now in
     let bytes = c.read_cpu.new.buf in
     let unseen = found_none c.look-found.result _ must in let above = c.look-found.ensures.looked.above in
@@ -134,8 +135,9 @@ returns-then-is_nonblock-clause-begins g c = let k = c.look-found.ensures.looked
   room = (let a = k.room in let b = k.above in let d = k.known in omega arith);
 }
 
-pub returns-in-Err-clause-begins : goal.returns-in-Err-clause-begins
-returns-in-Err-clause-begins g c = let k = c.look-found.ensures.looked in let w = c.in-Err.ensures.1 in
+pub returns-in_err-wait_ready-clause-begins : goal.returns-in_err-wait_ready-clause-begins
+returns-in_err-wait_ready-clause-begins g c = let k = c.look-found.ensures.looked in
+    let w = c.in_err-wait_ready.ensures.1 in
     let unseen = found_none c.look-found.result _ (sym c.must_wait.ensures ∙ c.if-must_wait.true) in record {
       begins = λ good. begun_more _ _ _ _ w.did.told.trace
           (begun_more _ _ _ _ c.wait.ensures.did.told.trace (begun _ c.look-found.result _ k.walked.told.trace));
@@ -143,16 +145,17 @@ returns-in-Err-clause-begins g c = let k = c.look-found.ensures.looked in let w 
     }
 
 pub returns-then-is_empty-clause-begins : goal.returns-then-is_empty-clause-begins
-returns-then-is_empty-clause-begins g c = let k = c.look-found.ensures.looked in let w = c.in-Ok.ensures.1 in
+returns-then-is_empty-clause-begins g c = let k = c.look-found.ensures.looked in
+    let w = c.in_ok-wait_ready.ensures.1 in
     let unseen = found_none c.look-found.result _ (sym c.must_wait.ensures ∙ c.if-must_wait.true) in record {
       begins = λ good. begun_more _ _ _ _ w.did.told.trace
           (begun_more _ _ _ _ c.wait.ensures.did.told.trace (begun _ c.look-found.result _ k.walked.told.trace));
       room = (let a = k.room in let b = k.above in let d = c.wait.ensures.room in let e = w.room in omega arith);
     }
 
-pub returns-in-Ok-clause-begins : goal.returns-in-Ok-clause-begins
-returns-in-Ok-clause-begins g c = let k = c.look-found.ensures.looked in let w = c.in-Ok.ensures in
-    let r = c.read_cpu.ensures in
+pub returns-then-must_wait-clause-begins : goal.returns-then-must_wait-clause-begins
+returns-then-must_wait-clause-begins g c = let k = c.look-found.ensures.looked in
+    let w = c.in_ok-wait_ready.ensures in let r = c.read_cpu.ensures in
     let unseen = found_none c.look-found.result _ (sym c.must_wait.ensures ∙ c.if-must_wait.true) in record {
       begins = λ good. begun_more _ _ _ _ r.did.told.trace (begun_more _ _ _ _ w.1.did.told.trace
           (begun_more _ _ _ _ c.wait.ensures.did.told.trace (begun _ c.look-found.result _ k.walked.told.trace)));

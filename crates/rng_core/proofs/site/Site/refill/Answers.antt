@@ -10,7 +10,7 @@ use Rattle.lane_table.specs.WorldRule.{known_of}
 use Rattle.lane_table.proofs.Calls.Lent.{lent, kept}
 use Rattle.rng_core.specs.declared.setting.Setting.{Setting}
 use Rattle.rng_core.specs.Sites.{HasInHands, HoldsWith, lane_of}
-use Rattle.rng_core.proofs.Parents.{parent_cpu}
+use Rattle.lane_table.proofs.Book.BookWhole.{parent_cpu}
 use Rattle.rng_core.proofs.TellLemmas.{visited_is, visited_place}
 use Rattle.rng_core.proofs.SiteLemmas.{same_then}
 use Rattle.rng_core.proofs.SiteVisits.{can_put_naming, named, kept_under, visited_behind}
