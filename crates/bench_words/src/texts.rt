@@ -73,10 +73,8 @@ fn digits_of(lines: Lines, line: &[u8]) -> Option<&[u8]> {
 fn cut_line(text: &[u8]) -> Option<(&[u8], &[u8])>
     ensures { IfSome result (λ both. length both.1.now < length text.now) }
 {
-    match memchr(b'\n', text) {
-        Some(end) => Some((&text[..end], &text[end + 1..])),
-        None => None,
-    }
+    let end = memchr(b'\n', text)?;
+    Some((&text[..end], &text[end + 1..]))
 }
 
 fn decoded(alloc: Global, lines: Lines, text: &[u8]) -> Result<u64> {

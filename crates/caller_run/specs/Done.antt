@@ -1,5 +1,5 @@
 -- What one call of a caller's script did, and what some calls did one after another.
-use Rattle.std.specs.Prelude.{◌≡◌, ℕ, ◌≤◌, ⊤, List, [], ◌∷◌, ◌++◌, map}
+use Rattle.std.specs.Prelude.{◌≡◌, ℕ, List, [], ◌∷◌, ◌++◌, map}
 use Rattle.std.specs.List.{AllByRecursion}
 use Rattle.key_names.specs.Book.{Lists}
 use Rattle.key_names.specs.Calls.{Call, alone, vread_call, unbound, ending}
@@ -26,13 +26,6 @@ lines_in_order (vread_call len flags line acts) = map (λ bound. bound.line) act
 lines_in_order (unbound bound) = bound.line ∷ []
 lines_in_order (ending line) = line ∷ []
 
--- each act has one of the four points
-abbrev pub PointsFit : Call → Type 0
-PointsFit (alone event line) = ⊤
-PointsFit (vread_call len flags line acts) = AllByRecursion (λ bound. (1 ≤ bound.point) × (bound.point ≤ 4)) acts
-PointsFit (unbound bound) = ⊤
-PointsFit (ending line) = ⊤
-
 -- a meaning of a call that goes from one state of the caller to another, and fits its lines
 pub record CallMeant (lists : Lists) (s : CallerState) (call : Call) (t : CallerState) : Type 0 where
   pub meaning : CallMeaning
@@ -53,7 +46,6 @@ pub record CallDoneBy (caller splits : ℕ) (v w : View) (s t : CallerState) (ca
   pub numbered_steps : List NumberedStep
   pub ran : RanBy caller splits v w numbered_steps
   pub order : items_of numbered_steps ≡ call_items call
-  pub points : PointsFit call
   pub meant : (lanes : ℕ) (visits : ℕ → List Visit) (callers : StateLists) → Continues lanes w visits →
       CallMeant (book_lists lanes visits callers) s call t
   pub samples : (lanes : ℕ) (visits : ℕ → List Visit) (callers : StateLists) → Continues lanes w visits →
@@ -77,7 +69,6 @@ pub record CallsDone (caller splits : ℕ) (v w : View) (s t : CallerState) (cal
   pub numbered_steps : List NumberedStep
   pub ran : RanBy caller splits v w numbered_steps
   pub order : items_of numbered_steps ≡ calls_items calls
-  pub points : AllByRecursion PointsFit calls
   pub meant : (lanes : ℕ) (visits : ℕ → List Visit) (callers : StateLists) → Continues lanes w visits →
       CallsMeant (book_lists lanes visits callers) s calls t
   pub samples : (lanes : ℕ) (visits : ℕ → List Visit) (callers : StateLists) → Continues lanes w visits →

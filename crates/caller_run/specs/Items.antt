@@ -1,10 +1,13 @@
 -- The order of a caller's calls, with the maker of each step: the event of its line, and its own number there.
-use Rattle.std.specs.Prelude.{ℕ, suc, ◌==◌, false, List, [], ◌∷◌, ◌++◌, map, take, drop, slice_get, if◌then◌else◌}
+use Rattle.std.specs.Prelude.{ℕ, suc, false, List, [], ◌∷◌, ◌++◌, map, take, drop, slice_get, if◌then◌else◌}
 use Rattle.std.specs.Option.{option_map_or}
 use Rattle.std.specs.List.{flat_map}
 use Rattle.key_names.specs.declared.names.Step.{Step}
+use Rattle.key_names.specs.declared.point.Point.{Point}
+use Rattle.key_names.specs.declared.point.Point.TheVariants.{Start, Written, Serve, End}
 use Rattle.key_names.specs.Calls.{Call, alone, vread_call, unbound, ending, BoundAct}
 use Rattle.key_names.specs.History.{is_mark}
+use Rattle.key_names.specs.Points.{is_same_point}
 use Rattle.key_names.specs.SeenLine.{SeenLine}
 
 -- a step, with the number of its event and its own number among the steps of that event's line
@@ -26,10 +29,11 @@ abbrev pub line_items : SeenLine → List Item
 line_items line = items_from line.event 0 line.steps
 
 -- the steps of the acts at a point, in the order of the script
-abbrev pub items_at_point : List BoundAct → ℕ → List Item
+abbrev pub items_at_point : List BoundAct → Point → List Item
 items_at_point [] point = []
 items_at_point (bound ∷ acts) point =
-    if bound.point == point then line_items bound.line ++ items_at_point acts point else items_at_point acts point
+    if is_same_point bound.point point then line_items bound.line ++ items_at_point acts point
+    else items_at_point acts point
 
 -- cut in two behind the visits that stand together at the front
 abbrev pub cut_items : List Item → List Item × List Item
@@ -37,7 +41,7 @@ cut_items [] = ([], [])
 cut_items (item ∷ items) =
     if is_mark item.step then (let cut = cut_items items in (item ∷ cut.0, cut.1)) else ([], item ∷ items)
 
--- the steps of a vread from the third on, cut in two at its points 3 and 4
+-- the steps of a vread from the third on, cut in two at its points Serve and End
 abbrev pub cut_rekey : List Item → List Item × List Item
 cut_rekey items =
     if option_map_or (λ item. is_mark item.step) (slice_get items 2) false
@@ -47,8 +51,8 @@ cut_rekey items =
 abbrev pub vread_items : List Item → List BoundAct → List Item
 vread_items items acts =
     let cut = cut_rekey (drop 2 items) in
-    take 2 items ++ items_at_point acts 1 ++ items_at_point acts 2 ++ cut.0 ++ items_at_point acts 3
-    ++ items_at_point acts 4 ++ cut.1
+    take 2 items ++ items_at_point acts Start ++ items_at_point acts Written ++ cut.0 ++ items_at_point acts Serve
+    ++ items_at_point acts End ++ cut.1
 
 abbrev pub call_items : Call → List Item
 call_items (alone event line) = line_items line

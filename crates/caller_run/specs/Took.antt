@@ -12,7 +12,7 @@ use Rattle.lane_table.specs.declared.view.View.{View}
 use Rattle.lane_table.specs.BookLists.{StateLists, book_lists}
 use Rattle.lane_table.specs.BookLaws.{Continues}
 use Rattle.rng_core.specs.declared.setting.Setting.{Setting}
-use Rattle.rng_core.specs.Traces.{Moment}
+use Rattle.rng_core.specs.Traces.{Moment, knowing}
 use Rattle.caller_run.specs.NumberedSteps.{NumberedStep, items_of}
 use Rattle.caller_run.specs.Items.{items_from}
 use Rattle.caller_run.specs.Ran.{RanBy}
@@ -24,16 +24,13 @@ pub record Tells (set : Setting) (splits : ℕ) (m n : Moment) (steps : List Ste
   pub ran : RanBy set.caller splits m.view n.view numbered_steps
   pub order : items_of numbered_steps ≡ items_from set.event (length m.steps) steps
 
-abbrev pub since : View → List Step → Moment
-since view steps = record { view = view; steps = steps }
-
 -- from v to w the caller took these steps, in a line that forks this number; the first of them is the visit that tells of
 -- it, behind which its pass knew u
 pub record Took (set : Setting) (child : ℕ) (v u w : View) (steps : List Step) : Type 0 where
   pub mark : Mark
   pub rest : List Step
   pub steps_are : steps ≡ Marked mark ∷ rest
-  pub first : Tells set 0 (since v []) (since u (Marked mark ∷ [])) (Marked mark ∷ [])
-  pub behind : Tells set 1 (since u (Marked mark ∷ [])) (since w steps) rest
+  pub first : Tells set 0 (knowing v []) (knowing u (Marked mark ∷ [])) (Marked mark ∷ [])
+  pub behind : Tells set 1 (knowing u (Marked mark ∷ [])) (knowing w steps) rest
   pub form : (lanes : ℕ) (visits : ℕ → List Visit) (callers : StateLists) → Continues lanes w visits →
       (set : calls.Setting) → Form set (Fork child) (deeds_of (book_lists lanes visits callers) steps)

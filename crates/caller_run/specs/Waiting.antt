@@ -6,7 +6,6 @@ use Rattle.key_names.specs.declared.events.Event.{Event}
 use Rattle.key_names.specs.declared.events.Event.TheVariants.{Vread, Inside}
 use Rattle.key_names.specs.Calls.{Call, BoundAct, has_vread, calls_from, calls_of}
 use Rattle.key_names.specs.SeenLine.{SeenLine}
-use Rattle.key_names.specs.Points.{number_of}
 use Rattle.rng_core.specs.Acts.{Ask, ActOutcome}
 use Rattle.rng_core.specs.InsideMakes.{act_line}
 use Rattle.rng_core.specs.declared.setting.Setting.{Setting}
@@ -24,7 +23,7 @@ act_lines set (a ∷ asks) [] = []
 act_lines set (a ∷ asks) (z ∷ zs) = act_line set a z ∷ act_lines set asks zs
 
 abbrev pub bound_by : Ask → SeenLine → BoundAct
-bound_by a line = record { point = number_of a.point; act = a.act; line = line }
+bound_by a line = record { point = a.point; act = a.act; line = line }
 
 -- acts, each with its line
 abbrev pub all_bound : List Ask → List SeenLine → List BoundAct

@@ -2,7 +2,6 @@
 ghost use Rattle.std.specs.Prelude.{◌≡◌, ◌+◌, ◌*◌, ◌<◌, ◌≤◌, ◌^◌, ◌∷◌, ℕ, [], length, slice_set};
 ghost use Rattle.std.specs.List.{AllByRecursion};
 ghost use Rattle.key_names.specs.Texts.TranscriptGrammar.{StepFits};
-ghost use Rattle.key_names.specs.Points.{number_of};
 ghost use Rattle.key_names.specs.declared.events.Event.TheVariants.{Inside};
 ghost use Rattle.lane_table.specs.declared.lanes.Lanes.{Lanes};
 ghost use Rattle.rng_core.specs.Acts.{all_wanted, ask_of, asks_of, outcome_of, outcomes_of};
@@ -17,18 +16,6 @@ use key_names::{Answer, Event, InsideAct, Point, Trace, Word};
 use rng_core::Bound;
 use transcript_text::{CallerLines, LineView, Shown};
 
-fn point_of(number: u8) -> Point
-    requires { (0 < number) × (number ≤ 4) }
-    ensures { number_of result ≡ number }
-{
-    match number {
-        1 => Point::Start,
-        2 => Point::Written,
-        3 => Point::Serve,
-        _ => Point::End,
-    }
-}
-
 /// How many bytes the acts read.
 pub(crate) fn all_wanted(acts: &[Bound]) -> usize
     requires { all_wanted (asks_of acts.now) < 2 ^ 32 }
@@ -42,7 +29,7 @@ pub(crate) fn all_wanted(acts: &[Bound]) -> usize
 
 impl Caller {
     /// An act waits for the caller's next `vread`. Its line says that it was not done, until that `vread` tells it anew.
-    pub(crate) fn wait(&mut self, log: &mut Log, event: &Event, point: u8, act: InsideAct)
+    pub(crate) fn wait(&mut self, log: &mut Log, event: &Event, point: Point, act: InsideAct)
         requires can { (t : Lanes) × (served : ℕ) × (inside : ℕ)
             × CanAdvance t self.old log.old served inside (event.now ∷ []) }
         requires is { event.now ≡ Inside point act }
@@ -51,7 +38,7 @@ impl Caller {
     {
         let unused = Reply::only(Answer::Unused);
         self.tell(&mut log.lines, Word::Inside, unused, &Trace::empty(), &[]);
-        let bound = Bound::of(point_of(point), act, self.set.event);
+        let bound = Bound::of(point, act, self.set.event);
         log.acts.push_reserved(bound);
         self.go_on(event);
     }

@@ -1,5 +1,5 @@
 -- What the acts inside a call mean, and their samples.
-use Rattle.std.proofs.Common.{◌≡◌, ℕ, ◌≤◌, inl, Bool, true, false, List, [], ◌∷◌, map, refl, sym, ap, subst, arith}
+use Rattle.std.proofs.Common.{◌≡◌, ℕ, inl, Bool, true, false, List, [], ◌∷◌, map, refl, sym, ap, subst}
 use Rattle.std.specs.Prelude.{if◌then◌else◌}
 use Rattle.std.specs.List.{AllByRecursion}
 use Rattle.key_names.specs.declared.events.Answer.TheVariants.{Unused}
@@ -7,8 +7,6 @@ use Rattle.key_names.specs.declared.events.Event.TheVariants.{Reseed as ReseedEv
 use Rattle.key_names.specs.declared.events.InsideAct.{InsideAct}
 use Rattle.key_names.specs.declared.events.InsideAct.TheVariants.{Wipe, Vread, Reseed}
 use Rattle.key_names.specs.declared.names.Step.{Step}
-use Rattle.key_names.specs.declared.point.Point.{Point}
-use Rattle.key_names.specs.declared.point.Point.TheVariants.{Start, Written, Serve, End}
 use Rattle.key_names.specs.Book.{Lists}
 use Rattle.key_names.specs.Calls.{Setting as CallSetting}
 use Rattle.key_names.specs.Deeds.{deeds_of}
@@ -16,7 +14,6 @@ use Rattle.key_names.specs.FastPool.{FastPool}
 use Rattle.key_names.specs.IsTranscript.{EachAct}
 use Rattle.key_names.specs.Meaning.{LineMeaning, ActMeans, unused_line}
 use Rattle.key_names.specs.SeenLine.{SeenLine, bytes_or_none, no_data}
-use Rattle.key_names.specs.Points.{number_of}
 use Rattle.lane_table.specs.declared.view.View.{View}
 use Rattle.lane_table.specs.declared.view.Visit.{Visit}
 use Rattle.lane_table.specs.BookLists.{StateLists, book_lists}
@@ -29,19 +26,6 @@ use Rattle.key_names.specs.LineSamples.{SamplesStand}
 use Rattle.rng_core.specs.SampleDeeds.{fast_in}
 use Rattle.rng_core.proofs.ActRuns.{Meant, AllMeant}
 use Rattle.key_names.proofs.Transcripts.QuietForms.{sys, form_samples}
-
--- each act has one of the four points
-pub points_fit : (set : Setting) (asks : List Ask) (zs : List ActOutcome) →
-    AllByRecursion (λ bound. (1 ≤ bound.point) × (bound.point ≤ 4)) (bound_acts set asks zs)
-points_fit set [] zs = tt
-points_fit set (a ∷ asks) [] = tt
-points_fit set (a ∷ asks) (z ∷ zs) = (go a.point, points_fit set asks zs)
-  where
-    go : (point : Point) → (1 ≤ number_of point) × (number_of point ≤ 4)
-    go Start = (omega arith, omega arith)
-    go Written = (omega arith, omega arith)
-    go Serve = (omega arith, omega arith)
-    go End = (omega arith, omega arith)
 
 module _ (set : Setting) (w : View) where
   -- the line of each act is what it means

@@ -44,7 +44,6 @@ module _ (caller : ℕ) (v w : View) (s : CallerState) (line : SeenLine) (made_s
     numbered_steps = numbered_steps_from line.event 0 made_steps;
     ran = ran_went caller line.event 0 v w made_steps went;
     order = order;
-    points = tt;
     meant = λ lanes visits callers c. let t = told lanes visits callers c in record {
       meaning = record {
         own = record {
@@ -73,7 +72,6 @@ module _ (caller : ℕ) (v w : View) (s : CallerState) (line : SeenLine) (made_s
     numbered_steps = numbered_steps_from line.event 0 made_steps;
     ran = ran_went caller line.event 0 v w made_steps went;
     order = order;
-    points = tt;
     meant = λ lanes visits callers c. record {
       meaning = record {
         own = record {
@@ -110,7 +108,6 @@ unbound_done caller v s bound none answer shown = record {
   numbered_steps = [];
   ran = ran_nothing caller v;
   order = ap (λ (l : List Step). items_from bound.line.event 0 l) (sym none);
-  points = tt;
   meant = λ lanes visits callers c. record {
     meaning = record { own = unused_line; acts = []; entries = []; before = s; after = s };
     before = refl;

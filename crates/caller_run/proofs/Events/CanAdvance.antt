@@ -1,12 +1,13 @@
 -- What a caller needs for its next event.
-use Rattle.std.proofs.Common.{◌≡◌, ℕ, ◌+◌, ◌<◌, ◌≤◌, ◌^◌, List, [], ◌∷◌, refl, sym, ap, ◌∙◌, subst, arith}
+use Rattle.std.proofs.Common.{◌≡◌, ℕ, ◌+◌, ◌<◌, ◌≤◌, ◌^◌, List, [], ◌∷◌, sym, ap, ◌∙◌, subst, arith}
 use Rattle.std.proofs.lemmas.List.Sums.{sum_by-cons}
 use Rattle.key_names.specs.declared.events.Event.{Event}
-use Rattle.key_names.specs.declared.events.Event.TheVariants.{At, On, Hw, Drop, State}
+use Rattle.key_names.specs.declared.events.Event.TheVariants.{At, On, Hw}
 use Rattle.key_names.specs.Calls.{setting_after}
 use Rattle.key_names.specs.Calls as calls
 use Rattle.key_names.specs.Meaning.{CallerState, caller_after}
 use Rattle.key_names.specs.Texts.ScriptGrammar.{InRange, FewActs}
+use Rattle.key_names.proofs.Transcripts.Settings.{setting_moves}
 use Rattle.lane_table.specs.declared.lanes.Lanes.{Lanes}
 use Rattle.lane_table.specs.declared.lanes.Pass.{Pass}
 use Rattle.lane_table.specs.Calls.{view}
@@ -24,13 +25,6 @@ use Rattle.caller_run.specs.Says.{most_shown}
 use Rattle.caller_run.specs.Standing.{read_inside, CanAdvanceWith, CanAdvance}
 use Rattle.caller_run.proofs.Law.Seeing.{seen_after}
 use Rattle.caller_run.proofs.Planning.LogFills.{Fills}
-
--- what an event by itself leaves of the setting
-
-pub setting_moves : (s : CallerState) (event : Event) → (caller_after s event).setting ≡ setting_after s.setting event
-setting_moves s Drop = refl
-setting_moves s (State number) = refl
-setting_moves s event = refl
 
 -- a setting of the table's
 record Fits (cpus : ℕ) (set : calls.Setting) : Type 0 where

@@ -17,7 +17,7 @@ use Rattle.lane_table.specs.BookLists.{StateLists, book_lists}
 use Rattle.lane_table.specs.BookLaws.{Continues}
 use Rattle.lane_table.specs.Advances.{step_of}
 use Rattle.rng_core.specs.declared.setting.Setting.{Setting}
-use Rattle.rng_core.specs.Traces.{Moment}
+use Rattle.rng_core.specs.Traces.{knowing}
 use Rattle.rng_core.specs.Makes.{Makes, IsOutcomeOf, setting_of}
 use Rattle.key_names.specs.LineSamples.{SamplesStand}
 use Rattle.rng_core.specs.SampleDeeds.{Sampled, fast_in}
@@ -26,13 +26,10 @@ use Rattle.caller_run.specs.Done.{CallDone}
 use Rattle.caller_run.proofs.Events.AloneDone.{alone_done, ending_done}
 use Rattle.key_names.proofs.Transcripts.QuietForms.{end_samples}
 
-abbrev since : View → List Step → Moment
-since view steps = record { view = view; steps = steps }
-
 -- the event's call went from v to w by these steps
 module _ (set : Setting) (v w : View) (s : CallerState) where
   pub core_done : (event : Event) (word : Word) (answer : Answer) (shown : Shown) (steps : List Step) →
-      s.setting ≡ setting_of set → Does set event answer shown (since v []) (since w steps) →
+      s.setting ≡ setting_of set → Does set event answer shown (knowing v []) (knowing w steps) →
       CallDone set.caller v w s (caller_after s event) (alone event (record {
         caller = set.caller;
         event = set.event;
@@ -67,7 +64,7 @@ module _ (set : Setting) (v w : View) (s : CallerState) where
           (sym d.told.trace) (d.stands lanes visits callers c)
 
   -- the end
-  pub end_done : (word : Word) (steps : List Step) → Makes (BaseOnly End) set (since v []) (since w steps) →
+  pub end_done : (word : Word) (steps : List Step) → Makes (BaseOnly End) set (knowing v []) (knowing w steps) →
       CallDone set.caller v w s s (ending (record {
         caller = set.caller;
         event = set.event;

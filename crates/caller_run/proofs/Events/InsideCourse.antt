@@ -1,6 +1,5 @@
 -- The course of a call with acts inside, out of what the caller did as the host of its own call.
-use Rattle.std.proofs.Common.{◌≡◌, ℕ, zero, suc, ◌<◌, ◌≤◌, ◌⊎◌, inl, inr, Bool, false, List, [], ◌∷◌, ◌++◌, length, drop, map, refl, sym, ap, subst, arith}
-use Rattle.std.specs.Prelude.{◌==◌}
+use Rattle.std.proofs.Common.{◌≡◌, ℕ, zero, suc, ◌<◌, ◌≤◌, ◌⊎◌, inl, inr, Bool, List, [], ◌∷◌, ◌++◌, length, drop, map, refl, sym, ap, subst, arith}
 use Rattle.key_names.specs.declared.names.Step.TheVariants.{Look}
 use Rattle.key_names.specs.declared.point.Point.{Point}
 use Rattle.key_names.specs.declared.point.Point.TheVariants.{Start, Written, Serve, End}
@@ -23,7 +22,7 @@ use Rattle.rng_core.specs.InsideMakes.{bound_acts}
 use Rattle.rng_core.proofs.ActRuns.{Onward, onward_then, acts_onward, did_onward}
 use Rattle.rng_core.proofs.Makings.{did_look}
 use Rattle.caller_run.specs.Items.{Item, vread_items}
-use Rattle.caller_run.proofs.Events.ActSteps.{Untouched, untouched_items}
+use Rattle.caller_run.proofs.Events.ActSteps.{Apart, Untouched, untouched_items}
 use Rattle.caller_run.proofs.Events.CallShapes.{Behind, Copies, Rekeys, Fails, Writes, Tries, call_shape}
 use Rattle.caller_run.proofs.Orders.InsideOrder.{kept_then, kept_own, kept_at, Course, course_part, quiet_part}
 use Rattle.caller_run.proofs.Events.KeyCuts.{key_cut, plain_cut, key_call}
@@ -79,8 +78,8 @@ module _ (set : Setting) (asks : List Ask) where
   record Copied (s t : Spot) : Type 0 where
     pub served : Spot
     pub ended : Spot
-    pub serve : Reached set asks 3 s served
-    pub end : Reached set asks 4 served ended
+    pub serve : Reached set asks Serve s served
+    pub end : Reached set asks End served ended
     pub items : List Item
     pub own : OwnSteps set asks ended t items
     pub unmarked : BeginsUnmarked items
@@ -122,11 +121,11 @@ module _ (set : Setting) (asks : List Ask) where
     pub first : Item
     pub second : Item
     pub looks : OwnSteps set asks s looked (first ∷ second ∷ [])
-    pub start : Reached set asks 1 looked started
+    pub start : Reached set asks Start looked started
     pub seen : 1 ≤ floor (view_at started)
     pub two : 1 < length (view_at started).lanes
 
-  module _ (s looked started t : Spot) (last : Attempt) (new : (p : ℕ) → Untouched p asks s.outcomes)
+  module _ (s looked started t : Spot) (last : Attempt) (new : (p : Point) → Untouched p asks s.outcomes)
       (k : Looked s looked started) where
     -- without a new key
     by_copy : (steps : List HostStep) → Copies steps →
@@ -145,7 +144,7 @@ module _ (set : Setting) (asks : List Ask) where
       rest = d.items;
       looks = k.looks;
       start = k.start;
-      write = reached_not set asks 2 started;
+      write = reached_not set asks Written started;
       key = own_nothing set asks started started refl;
       serve = d.serve;
       end = d.end;
@@ -153,7 +152,7 @@ module _ (set : Setting) (asks : List Ask) where
       cut = inl (plain_cut d.items d.third);
     }
 
-    module _ (written : Spot) (write : Reached set asks 2 started written)
+    module _ (written : Spot) (write : Reached set asks Written started written)
         (onward : Onward (view_at started) (view_at written)) where
       -- with a new key
       by_key : (steps : List HostStep) → Rekeys steps →
@@ -213,20 +212,20 @@ module _ (set : Setting) (asks : List Ask) where
             start = k.start;
             write = write;
             key = own.own;
-            serve = reached_not set asks 3 t;
-            end = reached_not set asks 4 t;
+            serve = reached_not set asks Serve t;
+            end = reached_not set asks End t;
             goes_on = own_nothing set asks t t refl;
-            cut = inr (none 3 refl refl own.items own.own, none 4 refl refl own.items own.own);
+            cut = inr (none Serve refl refl own.items own.own, none End refl refl own.items own.own);
           }
         where
-          none : (q : ℕ) → (1 == q) ≡ false → (2 == q) ≡ false → (items : List Item) →
+          none : (q : Point) → Apart Start q → Apart Written q → (items : List Item) →
               OwnSteps set asks written t items →
               items_at set asks t q ≡ []
           none q a b items own =
               let all = kept_then set asks q s started t
               (kept_then set asks q s looked started (kept_own set asks q s looked _ k.looks)
-              (kept_at set asks q 1 looked started a k.start))
-              (kept_then set asks q started written t (kept_at set asks q 2 started written b write)
+              (kept_at set asks q Start looked started a k.start))
+              (kept_then set asks q started written t (kept_at set asks q Written started written b write)
               (kept_own set asks q written t items own)) in
               untouched_items set q asks t.outcomes (all.untouched (new q))
 
@@ -240,7 +239,7 @@ module _ (set : Setting) (asks : List Ask) where
         go write.0 c.rest (reached_first set asks First started write.0 Written c.at_written write.1)
         (point_onward First started write.0 Written c.at_written write.1) c.keys write.2
       where
-        go : (written : Spot) (steps : List HostStep) → Reached set asks 2 started written →
+        go : (written : Spot) (steps : List HostStep) → Reached set asks Written started written →
             Onward (view_at started) (view_at written) →
             Rekeys steps ⊎ Fails steps → DoesAll acting (at set asks First written) steps (at set asks last t) →
             Course set asks s t
@@ -258,7 +257,7 @@ module _ (set : Setting) (asks : List Ask) where
   found_some g (suc found) ready is = omega arith
 
   course : (steps : List HostStep) (s t : Spot) (last : Attempt) → 1 < length (view_at s).lanes →
-      ((p : ℕ) → Untouched p asks s.outcomes) → Tries steps →
+      ((p : Point) → Untouched p asks s.outcomes) → Tries steps →
       DoesAll acting (at set asks Before s) steps (at set asks last t) →
       Course set asks s t
   course steps s t last two new c does =
@@ -287,7 +286,7 @@ module _ (set : Setting) (asks : List Ask) where
   -- what the caller did in any call, in order
   pub inside_part : (n flags : ℕ) (state : VgetrandomState) (steps : List HostStep) (outcome : Outcome) (s t : Spot)
       (last : Attempt) →
-      1 < length (view_at s).lanes → ((p : ℕ) → Untouched p asks s.outcomes) → s.moment.steps ≡ [] →
+      1 < length (view_at s).lanes → ((p : Point) → Untouched p asks s.outcomes) → s.moment.steps ≡ [] →
       IsCall n flags state steps outcome → DoesAll acting (at set asks Before s) steps (at set asks last t) →
       Part set.caller (view_at s) (view_at t) (vread_items (line_of set asks t) (bound_acts set asks t.outcomes))
   inside_part n flags state steps outcome s t last two new empty is_call does =

@@ -17,6 +17,7 @@ use Rattle.lane_table.specs.BookLists.{StateLists, book_lists}
 use Rattle.lane_table.specs.BookLaws.{Continues}
 use Rattle.rng_core.specs.declared.vdso.attempt.Attempt.TheVariants.{Before}
 use Rattle.rng_core.specs.declared.setting.Setting.{Setting}
+use Rattle.rng_core.specs.Traces.{knowing}
 use Rattle.rng_core.specs.Makes.{setting_of}
 use Rattle.rng_core.specs.Acts.{Ask, ActOutcome}
 use Rattle.rng_core.specs.Acting.{act_stand, InsideRan}
@@ -29,7 +30,7 @@ use Rattle.rng_core.proofs.InsideCalls.{IsUndone, undone_meant}
 use Rattle.caller_run.specs.Done.{CallDone}
 use Rattle.caller_run.specs.Items.{line_items, vread_items}
 use Rattle.caller_run.proofs.Events.ActSteps.{all_untouched}
-use Rattle.caller_run.proofs.Events.ActsMeant.{points_fit, each_act, act_deeds, act_answer, act_shown, acts_samples}
+use Rattle.caller_run.proofs.Events.ActsMeant.{each_act, act_deeds, act_answer, act_shown, acts_samples}
 use Rattle.caller_run.proofs.Events.InsideCourse.{inside_part}
 use Rattle.caller_run.proofs.Orders.PartItems.{Part}
 use Rattle.caller_run.proofs.Events.VreadDone.{vread_quiet}
@@ -39,11 +40,10 @@ module _ (set : Setting) (v w : View) (s : CallerState) (n flags : ℕ) (t : Vge
     (shown : Shown)
     (word : Word) (steps : List Step) (asks : List Ask) (xs zs : List ActOutcome) (same : s.setting ≡ setting_of set)
     (fresh : AllByRecursion IsUndone xs) (long : length xs ≡ length asks) (two : 1 < length v.lanes)
-    (did : InsideMakes n flags (current_state s) t answer shown set (record { view = v; steps = [] })
-    (record { view = w; steps = steps }) asks zs)
+    (did : InsideMakes n flags (current_state s) t answer shown set (knowing v []) (knowing w steps) asks zs)
     (ran : InsideRan n flags (current_state s) t
-    (act_stand (record { set = set; moment = record { view = v; steps = [] } }) Before asks xs)
-    (λ last. act_stand (record { set = set; moment = record { view = w; steps = steps } }) last asks zs)) where
+    (act_stand (record { set = set; moment = knowing v [] }) Before asks xs)
+    (λ last. act_stand (record { set = set; moment = knowing w steps }) last asks zs)) where
   abbrev line : SeenLine
   line = record { caller = set.caller; event = set.event; word = word; answer = answer; steps = steps; shown = shown }
 
@@ -52,15 +52,15 @@ module _ (set : Setting) (v w : View) (s : CallerState) (n flags : ℕ) (t : Vge
 
   meant : AllMeant set w asks zs
   meant = acted_meant ran.steps set asks
-      (act_stand (record { set = set; moment = record { view = v; steps = [] } }) Before asks xs)
-      (act_stand (record { set = set; moment = record { view = w; steps = steps } }) ran.last asks zs) refl refl
+      (act_stand (record { set = set; moment = knowing v [] }) Before asks xs)
+      (act_stand (record { set = set; moment = knowing w steps }) ran.last asks zs) refl refl
       ran.does
       (undone_meant set v asks xs fresh long)
 
   part : Part set.caller v w (vread_items (line_items line) acts)
   part = inside_part set asks n flags (current_state s) ran.steps ran.outcome
-      (record { moment = record { view = v; steps = [] }; outcomes = xs })
-      (record { moment = record { view = w; steps = steps }; outcomes = zs }) ran.last two
+      (record { moment = knowing v []; outcomes = xs })
+      (record { moment = knowing w steps; outcomes = zs }) ran.last two
       (λ p. all_untouched p asks xs fresh) refl ran.is_call ran.does
 
   abbrev meaning_by : Lists → CallMeaning
@@ -79,7 +79,6 @@ module _ (set : Setting) (v w : View) (s : CallerState) (n flags : ℕ) (t : Vge
     numbered_steps = part.numbered_steps;
     ran = part.ran;
     order = part.order;
-    points = points_fit set asks zs;
     meant = λ lanes visits callers c. let lists = book_lists lanes visits callers in record {
       meaning = meaning_by lists;
       before = refl;

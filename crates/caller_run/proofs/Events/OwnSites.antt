@@ -13,7 +13,7 @@ use Rattle.rng_core.specs.declared.site.Site.{Site}
 use Rattle.rng_core.specs.Forks.{Forked}
 use Rattle.rng_core.specs.Makes.{Makes}
 use Rattle.rng_core.specs.Sites.{Does, HasInHands, Same, at, base_lane, lane_of, seen_by}
-use Rattle.rng_core.specs.Traces.{moment}
+use Rattle.rng_core.specs.Traces.{moment, knowing}
 use Rattle.caller_run.specs.declared.states.States.{States}
 use Rattle.caller_run.specs.Calling.{HasLeft}
 use Rattle.caller_run.specs.Ways.{AtFork, RanHere}
@@ -58,7 +58,7 @@ at_fork m n {theirs = theirs} {child = child} pass trace new forked = rw pass (r
 -- and what it did before a child that ran in its place, and behind it
 pub ran_here : {l m n : Site} {v : View} {steps : List Step} → v ≡ view n.pass.now → steps ≡ n.trace.now →
     Does 1 (BaseOnly Stall) l m → Does 1 (BaseOnly Unstall) m n →
-    RanHere l.set (at l) (record { view = v; steps = steps })
+    RanHere l.set (at l) (knowing v steps)
 ran_here {m = m} {n = n} pass trace stalls unstalls = rw pass (rw trace (record {
   middle = at m;
   stall = stalls.did;

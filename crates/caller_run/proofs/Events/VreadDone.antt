@@ -22,6 +22,7 @@ use Rattle.lane_table.specs.WorldRule.{at, blank, known_of}
 use Rattle.lane_table.specs.BookLists.{book_lists}
 use Rattle.lane_table.specs.Advances.{step_of}
 use Rattle.rng_core.specs.declared.setting.Setting.{Setting}
+use Rattle.rng_core.specs.Traces.{knowing}
 use Rattle.rng_core.specs.Makes.{setting_of}
 use Rattle.rng_core.specs.VreadMakes.{VreadMakes, vread_meaning}
 use Rattle.rng_core.proofs.Readings.{Stayed, stayed}
@@ -92,8 +93,7 @@ module _ (fast : ℕ → ℕ → FastPool) where
 module _ (set : Setting) (v w : View) (s : CallerState) (n flags : ℕ) (t : VgetrandomState) (answer : Answer)
     (shown : Shown)
     (word : Word) (steps : List Step) (same : s.setting ≡ setting_of set)
-    (k : VreadMakes n flags (current_state s) t answer shown set (record { view = v; steps = [] })
-    (record { view = w; steps = steps })) where
+    (k : VreadMakes n flags (current_state s) t answer shown set (knowing v []) (knowing w steps)) where
   abbrev line : SeenLine
   line = record { caller = set.caller; event = set.event; word = word; answer = answer; steps = steps; shown = shown }
 
@@ -104,13 +104,12 @@ module _ (set : Setting) (v w : View) (s : CallerState) (n flags : ℕ) (t : Vge
   vread_done = record {
     numbered_steps = numbered_steps_from set.event 0 k.did.made_steps;
     ran = ran_then set.caller 0 0 v k.looked w [] (numbered_steps_from set.event 0 k.did.made_steps)
-        (ran_glanced set.caller v k.looked (stayed n flags (current_state s) t answer shown set
-        (record { view = v; steps = [] }) (record { view = w; steps = steps }) k))
+        (ran_glanced set.caller v k.looked (stayed n flags (current_state s) t answer shown set (knowing v [])
+        (knowing w steps) k))
         (ran_went set.caller set.event 0 k.looked w k.did.made_steps k.did.told.went);
     order = items_from_doings set.event 0 k.did.made_steps
         ∙ ap (λ (l : List Step). items_from set.event 0 l) (sym k.did.told.trace)
         ∙ sym (own_items (items_from set.event 0 steps) [] (λ p. refl));
-    points = tt;
     meant = λ lanes visits callers c. record {
       meaning = meaning_by (deeds_of (book_lists lanes visits callers) steps);
       before = refl;

@@ -77,17 +77,18 @@ can_caller t script set caller p a has fits well cpus room = record {
   ready = room.ready;
 }
 
-pub can_all : (t : Lanes) (script : Script) (p : Pass) (a : Plot) (slots : List Gathered) → HoldsLanes t 0 [] p →
+pub can_all : {t : Lanes} {script : Script} {p : Pass} {a : Plot} {slots : List Gathered} → HoldsLanes t 0 [] p →
     WellFormed script → t.cpus ≡ script.cpus → IsPlanned script a slots → CanRun t script (first_setting 0) p a
-can_all t script p a slots has well cpus planned =
-    can_caller t script (first_setting 0) 0 p a has (let some = well.cpus.0 in (omega arith, omega arith)) well cpus planned.root
+can_all {t = t} {script = script} {p = p} {a = a} has well cpus planned =
+    can_caller t script (first_setting 0) 0 p a has (let some = well.cpus.0 in (omega arith, omega arith)) well cpus
+    planned.root
 
 low_of : (n : ℕ) (rs : List Run) → AllByRecursion (λ x. x < n) (numbers_of rs) → AllByRecursion (λ r. number r < n) rs
 low_of n [] low = tt
 low_of n (r ∷ rs) low = (low.0, low_of n rs low.1)
 
-module _ (t : Lanes) (script : Script) (p : Pass) (a : Plot) (q : Pass) (b : Plot) (can : CanRun t script (first_setting 0) p a)
-    (back : Returned t script (start_of (first_setting 0) p) a q b) where
+module _ {t : Lanes} {script : Script} {p : Pass} {a : Plot} {q : Pass} {b : Plot}
+    (can : CanRun t script (first_setting 0) p a) (back : Returned t script (start_of (first_setting 0) p) a q b) where
   abbrev f : Forest
   f = more a.caller (tree a.kids) no_more
 

@@ -24,7 +24,7 @@ use Rattle.lane_table.specs.BookLaws.{Continues}
 use Rattle.lane_table.specs.Advances.{MadeStep, step_of, floor}
 use Rattle.lane_table.proofs.Book.BookEnds.{continues_before}
 use Rattle.rng_core.specs.declared.setting.Setting.{Setting}
-use Rattle.rng_core.specs.Traces.{Moment}
+use Rattle.rng_core.specs.Traces.{Moment, knowing}
 use Rattle.rng_core.specs.Traces as told
 use Rattle.rng_core.specs.Makes.{Makes, setting_of}
 use Rattle.rng_core.specs.SampleDeeds.{fast_in}
@@ -32,7 +32,7 @@ use Rattle.caller_run.specs.NumberedSteps.{numbered_steps_from, item_of}
 use Rattle.caller_run.specs.Done.{CallDoneBy}
 use Rattle.caller_run.specs.Items.{Item, items_from}
 use Rattle.caller_run.specs.Ran.{RanBy}
-use Rattle.caller_run.specs.Took.{Tells, since, Took}
+use Rattle.caller_run.specs.Took.{Tells, Took}
 use Rattle.caller_run.proofs.Orders.Chains.{items_from_doings, ran_went, ran_then}
 use Rattle.caller_run.proofs.Orders.PartItems.{items_append}
 use Rattle.key_names.proofs.Transcripts.QuietForms.{form_samples}
@@ -103,11 +103,11 @@ tells_then set a b l m n xs ys p q =
 
 -- the visit of the fork
 module _ (set : Setting) (child : ℕ) (v u : View) (mark : Mark)
-    (did : Makes (BaseOnly (Forks child)) set (since v []) (since u (Marked mark ∷ []))) where
-  first_tells : Tells set 0 (since v []) (since u (Marked mark ∷ [])) (Marked mark ∷ [])
+    (did : Makes (BaseOnly (Forks child)) set (knowing v []) (knowing u (Marked mark ∷ []))) where
+  first_tells : Tells set 0 (knowing v []) (knowing u (Marked mark ∷ [])) (Marked mark ∷ [])
   first_tells =
-      subst (λ (l : List Step). Tells set 0 (since v []) (since u (Marked mark ∷ [])) l) (sym did.told.trace)
-      (tells_told set (since v []) (since u (Marked mark ∷ [])) did.made_steps did.told)
+      subst (λ (l : List Step). Tells set 0 (knowing v []) (knowing u (Marked mark ∷ [])) l) (sym did.told.trace)
+      (tells_told set (knowing v []) (knowing u (Marked mark ∷ [])) did.made_steps did.told)
 
   first_form : (lanes : ℕ) (visits : ℕ → List Visit) (callers : StateLists) → Continues lanes u visits →
       BaseOnly (Forks child) (deeds_of (book_lists lanes visits callers) (Marked mark ∷ []))
@@ -122,32 +122,32 @@ module _ (set : Setting) (child : ℕ) (v u : View) (mark : Mark)
     rest = [];
     steps_are = refl;
     first = first_tells;
-    behind = tells_split set (since u (Marked mark ∷ []));
+    behind = tells_split set (knowing u (Marked mark ∷ []));
     form = λ lanes visits callers c any.
         inl (first_form lanes visits callers (record { long = c.long; begins = c.begins; closed = c.closed }));
   }
 
   -- the child ran here, between two more visits
   module _ (x w : View) (before steps : List Step)
-      (stall : Makes (BaseOnly Stall) set (since (halved u) (Marked mark ∷ [])) (since x before))
-      (unstall : Makes (BaseOnly Unstall) set (since x before) (since w steps)) where
+      (stall : Makes (BaseOnly Stall) set (knowing (halved u) (Marked mark ∷ [])) (knowing x before))
+      (unstall : Makes (BaseOnly Unstall) set (knowing x before) (knowing w steps)) where
     abbrev xs : List Step
     xs = map step_of stall.made_steps
 
     abbrev ys : List Step
     ys = map step_of unstall.made_steps
 
-    waits : Tells set 0 (since (halved u) (Marked mark ∷ [])) (since x before) xs
-    waits = tells_told set (since (halved u) (Marked mark ∷ [])) (since x before) stall.made_steps stall.told
+    waits : Tells set 0 (knowing (halved u) (Marked mark ∷ [])) (knowing x before) xs
+    waits = tells_told set (knowing (halved u) (Marked mark ∷ [])) (knowing x before) stall.made_steps stall.told
 
-    goes_on : Tells set 0 (since x before) (since w steps) ys
-    goes_on = tells_told set (since x before) (since w steps) unstall.made_steps unstall.told
+    goes_on : Tells set 0 (knowing x before) (knowing w steps) ys
+    goes_on = tells_told set (knowing x before) (knowing w steps) unstall.made_steps unstall.told
 
-    behind_all : Tells set 1 (since u (Marked mark ∷ [])) (since w steps) (xs ++ ys)
+    behind_all : Tells set 1 (knowing u (Marked mark ∷ [])) (knowing w steps) (xs ++ ys)
     behind_all =
-        tells_then set 1 0 (since u (Marked mark ∷ [])) (since x before) (since w steps) xs ys
-        (tells_then set 1 0 (since u (Marked mark ∷ [])) (since (halved u) (Marked mark ∷ [])) (since x before) [] xs
-        (tells_split set (since u (Marked mark ∷ []))) waits) goes_on
+        tells_then set 1 0 (knowing u (Marked mark ∷ [])) (knowing x before) (knowing w steps) xs ys
+        (tells_then set 1 0 (knowing u (Marked mark ∷ [])) (knowing (halved u) (Marked mark ∷ [])) (knowing x before) [] xs
+        (tells_split set (knowing u (Marked mark ∷ []))) waits) goes_on
 
     whole : steps ≡ Marked mark ∷ (xs ++ ys)
     whole = unstall.told.trace ∙ ap (λ (l : List Step). l ++ ys) stall.told.trace
@@ -188,10 +188,10 @@ module _ (set : Setting) (child : ℕ) (v u : View) (mark : Mark)
 module _ (set : Setting) (v u w : View) (s : CallerState) (child : ℕ) (line : SeenLine)
     (event : line.event ≡ set.event) (answer : line.answer ≡ Done) (shown : line.shown ≡ no_data)
     (t : Took set child v u w line.steps) where
-  all_steps : Tells set 1 (since v []) (since w line.steps) line.steps
+  all_steps : Tells set 1 (knowing v []) (knowing w line.steps) line.steps
   all_steps =
-      subst (λ (l : List Step). Tells set 1 (since v []) (since w line.steps) l) (sym t.steps_are)
-      (tells_then set 0 1 (since v []) (since u (Marked t.mark ∷ [])) (since w line.steps) (Marked t.mark ∷ []) t.rest
+      subst (λ (l : List Step). Tells set 1 (knowing v []) (knowing w line.steps) l) (sym t.steps_are)
+      (tells_then set 0 1 (knowing v []) (knowing u (Marked t.mark ∷ [])) (knowing w line.steps) (Marked t.mark ∷ []) t.rest
       t.first t.behind)
 
   pub fork_done : CallDoneBy set.caller 1 v w s (caller_after s (Fork child)) (alone (Fork child) line)
@@ -199,7 +199,6 @@ module _ (set : Setting) (v u w : View) (s : CallerState) (child : ℕ) (line : 
     numbered_steps = all_steps.numbered_steps;
     ran = all_steps.ran;
     order = all_steps.order ∙ ap (λ (n : ℕ). items_from n 0 line.steps) (sym event);
-    points = tt;
     meant = λ lanes visits callers c. record {
       meaning = record {
         own = record {

@@ -15,6 +15,7 @@ use Rattle.key_names.specs.IsTranscript.{LineIs, LinesFit}
 use Rattle.key_names.specs.Meaning.{CallerState, caller_start, caller_after}
 use Rattle.key_names.specs.Texts.ScriptGrammar.{event_word}
 use Rattle.key_names.specs.SeenLine.{SeenLine, no_data}
+use Rattle.key_names.proofs.Transcripts.Settings.{setting_moves}
 use Rattle.lane_table.specs.declared.lanes.Lanes.{Lanes}
 use Rattle.lane_table.specs.declared.lanes.Pass.{Pass}
 use Rattle.lane_table.specs.declared.view.View.{View}
@@ -36,7 +37,7 @@ use Rattle.caller_run.proofs.Forks.HasForked.{forked_more}
 use Rattle.caller_run.proofs.Events.CoreDone.{core_done, end_done}
 use Rattle.caller_run.proofs.Orders.LoopCalls.{alone_follows, so_far_nothing, so_far_alone, so_far_end}
 use Rattle.caller_run.proofs.Law.Seeing.{same_stand}
-use Rattle.caller_run.proofs.Events.CanAdvance.{GoesOn, setting_moves}
+use Rattle.caller_run.proofs.Events.CanAdvance.{GoesOn}
 use Rattle.caller_run.proofs.Orders.ToldAnew.{idle_more}
 
 call_alone : (event : Event) → IsCall event → IsAlone event

@@ -17,6 +17,7 @@ use Rattle.key_names.specs.SeenLine.{SeenLine}
 use Rattle.key_names.specs.Texts.TranscriptGrammar.{StepFits}
 use Rattle.key_names.specs.VgetrandomState.{wiped_state}
 use Rattle.key_names.proofs.Lists.Each.{each_append}
+use Rattle.key_names.proofs.Lists.ListFacts.{list_is}
 use Rattle.lane_table.specs.declared.lanes.Lanes.{Lanes}
 use Rattle.lane_table.specs.declared.lanes.Pass.{Pass}
 use Rattle.lane_table.specs.declared.view.View.{View}
@@ -30,7 +31,7 @@ use Rattle.rng_core.specs.declared.vdso.acts.Bound.{Bound}
 use Rattle.rng_core.specs.Acts.{Ask, asks_of, all_wanted}
 use Rattle.rng_core.specs.Makes.{Makes, setting_of}
 use Rattle.rng_core.specs.InsideMakes.{IsWaitingAct}
-use Rattle.rng_core.specs.Traces.{Moment, moment}
+use Rattle.rng_core.specs.Traces.{Moment, knowing, moment}
 use Rattle.rng_core.proofs.Makings.{did_floor}
 use Rattle.transcript_text.specs.Gathered.{Gathered}
 use Rattle.caller_run.specs.declared.caller.Caller.{Caller}
@@ -47,7 +48,7 @@ use Rattle.caller_run.specs.Laws.{Run}
 use Rattle.caller_run.specs.Plots.{plot, plot_by}
 use Rattle.caller_run.specs.Says.{most_shown}
 use Rattle.caller_run.specs.Standing.{Start, CanAdvanceWith, CanAdvance, HasAdvanced, RunEnded, waiting_in}
-use Rattle.caller_run.specs.Took.{since, Took}
+use Rattle.caller_run.specs.Took.{Took}
 use Rattle.caller_run.specs.Ways.{IsNewSheet, ArePrepared, kids_of, child_set, start_of, CanAdvanceIn, GoneIn, AreAbove, CanRun, CanAdvanceOn, CanTell, RanPlain, AtFork, RanHere, TookFrom, kid_of, numbered, Returned, WentOn, SameKids, Past, WentBeside}
 use Rattle.caller_run.proofs.Events.CanAdvance.{GoesOn, can_next}
 use Rattle.caller_run.proofs.Forks.Forking.{took_thread, took_here}
@@ -123,8 +124,8 @@ module _ (m w : Caller) (steps : List Step) (child : ℕ) (theirs : Pass) (at : 
   abbrev u : View
   u = at.forked.before
 
-  did : Makes (BaseOnly (Forks child)) m.set (since (view m.pass) []) (since u (Marked at.forked.mark ∷ []))
-  did = subst (λ (l : List Step). Makes (BaseOnly (Forks child)) m.set (since (view m.pass) []) (since u l))
+  did : Makes (BaseOnly (Forks child)) m.set (knowing (view m.pass) []) (knowing u (Marked at.forked.mark ∷ []))
+  did = subst (λ (l : List Step). Makes (BaseOnly (Forks child)) m.set (knowing (view m.pass) []) (knowing u l))
       at.forked.visit at.forked.did
 
   pub thread_took : TookFrom m w child u steps
@@ -142,8 +143,8 @@ module _ (m w : Caller) (steps : List Step) (child : ℕ) (theirs : Pass) (at : 
     set = at.set;
     states = at.states;
     took = took_here m.set child (view m.pass) u at.forked.mark did here.middle.view (view p) here.middle.steps after
-        (subst (λ (l : List Step). Makes (BaseOnly Stall) m.set (since (halved u) l) here.middle) at.forked.visit
-        (subst (λ (v : View). Makes (BaseOnly Stall) m.set (since v steps) here.middle) at.forked.pass_is
+        (subst (λ (l : List Step). Makes (BaseOnly Stall) m.set (knowing (halved u) l) here.middle) at.forked.visit
+        (subst (λ (v : View). Makes (BaseOnly Stall) m.set (knowing v steps) here.middle) at.forked.pass_is
         (subst (λ (s : Setting). Makes (BaseOnly Stall) s (moment w.pass steps) here.middle) at.set here.stall)))
         (subst (λ (s : Setting). Makes (BaseOnly Unstall) s here.middle (moment p after)) at.set here.unstall);
   }
@@ -336,12 +337,6 @@ at_number P [] c es there all = cc
 at_number P (x ∷ xs) zero es there all = let same : x ≡ es = cc in subst P same all.0
 at_number P (x ∷ xs) (suc c) es there all = at_number P xs c es there all.1
 
-pub list_number : (callers : List (List Event)) (c : ℕ) (es : List Event) → slice_get callers c ≡ Some es →
-    list_at callers c ≡ es
-list_number [] c es there = cc
-list_number (x ∷ xs) zero es there = cc
-list_number (x ∷ xs) (suc c) es there = list_number xs c es there
-
 pub above_number : (k : ℕ) (callers : List (List Event)) (c : ℕ) (es : List Event) → slice_get callers c ≡ Some es →
     ForksAbove k callers → AreAbove (c + k) es
 above_number k [] c es there all = cc
@@ -368,7 +363,7 @@ module _ (t : Lanes) (script : Script) (set : Setting) (p : Pass) (a : Plot) (sh
     (kids : grove_of (map plot x.kids.items) ≡ a.kids) (is : a.sheet ≡ sheet)
     (there : slice_get script.callers a.caller ≡ Some events) where
   listed : list_at script.callers a.caller ≡ events
-  listed = list_number script.callers a.caller events there
+  listed = list_is script.callers a.caller events there
 
   own_there : slice_get script.callers set.caller ≡ Some events
   own_there = ap (slice_get script.callers) (sym can.is) ∙ there

@@ -107,7 +107,7 @@ run_visits w caller events r has sized grows =
     let c = r.begun.caller in let done = has.ended.done in let fit = has.ended.fit in
     let stood = stood_grown r.end w c done.numbered_steps sized grows done.ran.stood in
     let items = calls_each (λ item. AllByRecursion (MarksVisit (length w.lanes) (known_of w)) (mark_of c item)) c events
-    r.lines fit done.points (subst (AllByRecursion _) done.order (items_visit c w done.numbered_steps stood)) in
+    r.lines fit (subst (AllByRecursion _) done.order (items_visit c w done.numbered_steps stood)) in
     let all : AllByRecursion (MarksVisit (length w.lanes) (known_of w)) (all_marks (r.lines ∷ [])) =
     subst (AllByRecursion (MarksVisit (length w.lanes) (known_of w)))
     (sym (marks_are c r.lines (fit_own c 0 events r.lines fit)))

@@ -14,7 +14,7 @@ use Rattle.lane_table.specs.declared.view.View.{View}
 use Rattle.lane_table.specs.BookLists.{book_lists}
 use Rattle.lane_table.proofs.Book.BookEnds.{continues_before}
 use Rattle.caller_run.specs.NumberedSteps.{item_of}
-use Rattle.caller_run.specs.Done.{PointsFit, CallMeant, CallSamples, CallDone, CallDoneBy, CallsMeant, CallsDone}
+use Rattle.caller_run.specs.Done.{CallMeant, CallSamples, CallDone, CallDoneBy, CallsMeant, CallsDone}
 use Rattle.rng_core.specs.SampleDeeds.{fast_in}
 use Rattle.caller_run.proofs.Orders.Chains.{ran_nothing, ran_then}
 
@@ -55,7 +55,6 @@ calls_done_nothing caller v s = record {
   numbered_steps = [];
   ran = ran_nothing caller v;
   order = refl;
-  points = tt;
   meant = λ lanes visits callers c. record {
     meanings = [];
     means = tt;
@@ -77,7 +76,6 @@ calls_done_then caller m n u v w s t r calls call a b = record {
   order = map-append item_of a.numbered_steps b.numbered_steps ∙ (λ i. a.order i ++ b.order i)
       ∙ sym (flat_map-append call_items calls (call ∷ [])
       ∙ ap (λ l. calls_items calls ++ l) (append-nil (call_items call)));
-  points = each_more PointsFit calls call a.points b.points;
   meant = λ lanes visits callers c.
       meant_more (book_lists lanes visits callers) s t r calls call
       (a.meant lanes visits callers (continues_before lanes v w visits b.ran.same.sized b.ran.grows c))

@@ -1,16 +1,19 @@
 -- The steps of a call in the order in which they happen are those of its lines.
-use Rattle.std.proofs.Common.{append_assoc, ◌≡◌, ℕ, zero, suc, ◌+◌, ◌≤◌, Bool, true, false, cond, List, [], ◌∷◌, ◌++◌, take, drop, map, refl, sym, ap, ◌∙◌, subst, arith, append-nil}
-use Rattle.std.specs.Prelude.{if◌then◌else◌, ◌==◌}
+use Rattle.std.proofs.Common.{append_assoc, ◌≡◌, ℕ, ◌+◌, Bool, true, false, cond, List, [], ◌∷◌, ◌++◌, take, drop, map, refl, sym, ap, ◌∙◌, subst, arith, append-nil}
+use Rattle.std.specs.Prelude.{if◌then◌else◌}
 use Rattle.std.specs.List.{AllByRecursion, flat_map, sum_by}
 use Rattle.std.proofs.lemmas.List.{take-append-drop}
 use Rattle.std.proofs.lemmas.List.Sums.{sum_by-append}
 use Rattle.std.proofs.lemmas.Grind.{flat_map-append}
+use Rattle.key_names.specs.declared.point.Point.{Point}
+use Rattle.key_names.specs.declared.point.Point.TheVariants.{Start, Written, Serve, End}
 use Rattle.key_names.specs.Calls.{Call, alone, vread_call, unbound, ending, BoundAct}
 use Rattle.key_names.specs.History.{is_mark}
+use Rattle.key_names.specs.Points.{is_same_point}
 use Rattle.caller_run.specs.Items.{Item, line_items, cut_items, cut_rekey, items_at_point, vread_items, call_items}
 use Rattle.key_names.specs.SeenLine.{SeenLine}
 use Rattle.key_names.proofs.Lists.Each.{each_append, each_parts}
-use Rattle.caller_run.specs.Done.{lines_in_order, PointsFit}
+use Rattle.caller_run.specs.Done.{lines_in_order}
 
 -- the steps of some lines
 abbrev pub lines_items : List SeenLine → List Item
@@ -45,21 +48,22 @@ rekey_whole (a ∷ b ∷ c ∷ items) = go (is_mark c.step)
 pub no_steps : (xs ys a b front : List Item) → a ≡ [] → b ≡ [] → (((front ++ xs) ++ a) ++ b) ++ ys ≡ front ++ (xs ++ ys)
 no_steps xs ys a b front e f = (λ i. (((front ++ xs) ++ e i) ++ f i) ++ ys) ∙ simp append-nil (append_assoc front xs ys)
 
--- without steps at the points 3 and 4 the cut is of no account
-pub no_late : (items : List Item) (acts : List BoundAct) → items_at_point acts 3 ≡ [] → items_at_point acts 4 ≡ [] →
-    vread_items items acts ≡ (take 2 items ++ items_at_point acts 1 ++ items_at_point acts 2) ++ drop 2 items
+-- without steps at the points Serve and End the cut is of no account
+pub no_late : (items : List Item) (acts : List BoundAct) → items_at_point acts Serve ≡ [] →
+    items_at_point acts End ≡ [] →
+    vread_items items acts ≡ (take 2 items ++ items_at_point acts Start ++ items_at_point acts Written) ++ drop 2 items
 no_late items acts e f =
     let cut = cut_rekey (drop 2 items) in
-    let front : List Item = take 2 items ++ items_at_point acts 1 ++ items_at_point acts 2 in
-    no_steps cut.0 cut.1 (items_at_point acts 3) (items_at_point acts 4) front e f
+    let front : List Item = take 2 items ++ items_at_point acts Start ++ items_at_point acts Written in
+    no_steps cut.0 cut.1 (items_at_point acts Serve) (items_at_point acts End) front e f
     ∙ ap (λ (l : List Item). front ++ l) (sym (rekey_whole (drop 2 items)))
 
 -- where no act has any the steps of the line stand as they are
-pub own_items : (items : List Item) (acts : List BoundAct) → ((p : ℕ) → items_at_point acts p ≡ []) →
+pub own_items : (items : List Item) (acts : List BoundAct) → ((p : Point) → items_at_point acts p ≡ []) →
     vread_items items acts ≡ items
 own_items items acts none =
-    no_late items acts (none 3) (none 4)
-    ∙ (λ i. (take 2 items ++ none 1 i ++ none 2 i) ++ drop 2 items)
+    no_late items acts (none Serve) (none End)
+    ∙ (λ i. (take 2 items ++ none Start i ++ none Written i) ++ drop 2 items)
     ∙ simp append-nil (take-append-drop 2 items)
 
 abbrev pub act_line : BoundAct → SeenLine
@@ -70,18 +74,21 @@ module _ (f : Item → ℕ) where
   abbrev weight : List Item → ℕ
   weight items = sum_by f items
 
-  at_one : (p w : ℕ) → 1 ≤ p → p ≤ 4 → cond (p == 1) w
-      0 + (cond (p == 2) w 0 + (cond (p == 3) w 0 + cond (p == 4) w 0)) ≡ w
-  at_one zero w from to = absurd (omega arith)
-  at_one (suc zero) w from to = omega arith
-  at_one (suc (suc zero)) w from to = omega arith
-  at_one (suc (suc (suc zero))) w from to = omega arith
-  at_one (suc (suc (suc (suc zero)))) w from to = omega arith
-  at_one (suc (suc (suc (suc (suc p))))) w from to = absurd (omega arith)
+  -- what is bound to a point weighs at that one alone
+  abbrev weight_at : Point → ℕ → Point → ℕ
+  weight_at p w point = cond (is_same_point p point) w 0
 
-  point_weight : (bound : BoundAct) (acts : List BoundAct) (point : ℕ) → weight (items_at_point (bound ∷ acts) point)
-      ≡ cond (bound.point == point) (weight (line_items bound.line)) 0 + weight (items_at_point acts point)
-  point_weight bound acts point = go (bound.point == point)
+  at_one : (p : Point) (w : ℕ) →
+      weight_at p w Start + (weight_at p w Written + (weight_at p w Serve + weight_at p w End)) ≡ w
+  at_one Start w = omega arith
+  at_one Written w = omega arith
+  at_one Serve w = omega arith
+  at_one End w = omega arith
+
+  point_weight : (bound : BoundAct) (acts : List BoundAct) (point : Point) →
+      weight (items_at_point (bound ∷ acts) point)
+      ≡ weight_at bound.point (weight (line_items bound.line)) point + weight (items_at_point acts point)
+  point_weight bound acts point = go (is_same_point bound.point point)
     where
       go : (b : Bool) → weight (if b then line_items bound.line
           ++ items_at_point acts point else items_at_point acts point)
@@ -89,29 +96,29 @@ module _ (f : Item → ℕ) where
       go true = sum_by-append f (line_items bound.line) (items_at_point acts point)
       go false = omega arith
 
-  acts_weight : (acts : List BoundAct) → AllByRecursion (λ bound. (1 ≤ bound.point) × (bound.point ≤ 4)) acts →
-      weight (items_at_point acts 1) + (weight (items_at_point acts 2)
-      + (weight (items_at_point acts 3) + weight (items_at_point acts 4))) ≡ weight (lines_items (map act_line acts))
-  acts_weight [] fit = refl
-  acts_weight (bound ∷ acts) fit =
+  acts_weight : (acts : List BoundAct) →
+      weight (items_at_point acts Start) + (weight (items_at_point acts Written)
+      + (weight (items_at_point acts Serve) + weight (items_at_point acts End)))
+      ≡ weight (lines_items (map act_line acts))
+  acts_weight [] = refl
+  acts_weight (bound ∷ acts) =
       let w : ℕ = weight (line_items bound.line) in
-      let one = at_one bound.point w fit.0.0 fit.0.1 in
-      let rest = acts_weight acts fit.1 in
-      let a = point_weight bound acts 1 in
-      let b = point_weight bound acts 2 in
-      let c = point_weight bound acts 3 in
-      let d = point_weight bound acts 4 in
+      let one = at_one bound.point w in
+      let rest = acts_weight acts in
+      let a = point_weight bound acts Start in
+      let b = point_weight bound acts Written in
+      let c = point_weight bound acts Serve in
+      let d = point_weight bound acts End in
       let e : weight (lines_items (map act_line (bound ∷ acts))) ≡ w + weight (lines_items (map act_line acts)) =
       sum_by-append f (line_items bound.line) (lines_items (map act_line acts)) in omega arith
 
   pub vread_weight : (items : List Item) (acts : List BoundAct) →
-      AllByRecursion (λ bound. (1 ≤ bound.point) × (bound.point ≤ 4)) acts →
       weight (vread_items items acts) ≡ weight (lines_items (map act_line acts)) + weight items
-  vread_weight items acts fit =
-      let a1 : List Item = items_at_point acts 1 in
-      let a2 : List Item = items_at_point acts 2 in
-      let a3 : List Item = items_at_point acts 3 in
-      let a4 : List Item = items_at_point acts 4 in
+  vread_weight items acts =
+      let a1 : List Item = items_at_point acts Start in
+      let a2 : List Item = items_at_point acts Written in
+      let a3 : List Item = items_at_point acts Serve in
+      let a4 : List Item = items_at_point acts End in
       let r : List Item = (cut_rekey (drop 2 items)).0 in
       let end : List Item = (cut_rekey (drop 2 items)).1 in
       let to2 : List Item = take 2 items ++ a1 ++ a2 in
@@ -122,7 +129,7 @@ module _ (f : Item → ℕ) where
       let w4 = sum_by-append f to2 r in
       let w5 = sum_by-append f (take 2 items ++ a1) a2 in
       let w6 = sum_by-append f (take 2 items) a1 in
-      let acts_all = acts_weight acts fit in
+      let acts_all = acts_weight acts in
       let whole : weight items ≡ weight (take 2 items) + weight (drop 2 items) =
       ap weight (sym (take-append-drop 2 items)) ∙ sum_by-append f (take 2 items) (drop 2 items) in
       let behind : weight (drop 2 items) ≡ weight r + weight end =
@@ -141,18 +148,21 @@ module _ (P : Item → Type 0) where
   Each items = AllByRecursion P items
 
   -- an act with this line, p being its point, and other acts at a point
-  abbrev At : List BoundAct → SeenLine → ℕ → ℕ → Type 0
+  abbrev At : List BoundAct → SeenLine → Point → Point → Type 0
   At acts line p point =
-      Each (if p == point then line_items line ++ items_at_point acts point else items_at_point acts point)
+      Each (if is_same_point p point then line_items line ++ items_at_point acts point else items_at_point acts point)
+
+  -- what holds of each step of the acts at every point holds of each step of some lines
+  abbrev OfAll : List BoundAct → List SeenLine → Type 0
+  OfAll acts lines = Each (items_at_point acts Start) → Each (items_at_point acts Written) →
+      Each (items_at_point acts Serve) → Each (items_at_point acts End) → Each (lines_items lines)
 
   -- those of each act are among those at its point
-  of_acts : (acts : List BoundAct) → AllByRecursion (λ bound. (1 ≤ bound.point) × (bound.point ≤ 4)) acts →
-      Each (items_at_point acts 1) → Each (items_at_point acts 2) → Each (items_at_point acts 3) →
-      Each (items_at_point acts 4) → Each (lines_items (map act_line acts))
-  of_acts [] fit a b c d = tt
-  of_acts (bound ∷ acts) fit a b c d = go bound.point fit.0.0 fit.0.1 a b c d (of_acts acts fit.1)
+  of_acts : (acts : List BoundAct) → OfAll acts (map act_line acts)
+  of_acts [] a b c d = tt
+  of_acts (bound ∷ acts) a b c d = go bound.point a b c d (of_acts acts)
     where
-      both : (point : ℕ) → Each (line_items bound.line ++ items_at_point acts point) →
+      both : (point : Point) → Each (line_items bound.line ++ items_at_point acts point) →
           (Each (items_at_point acts point) → Each (lines_items (map act_line acts))) →
           Each (line_items bound.line ++ lines_items (map act_line acts))
       both point all rest =
@@ -160,27 +170,23 @@ module _ (P : Item → Type 0) where
           (in_front P (line_items bound.line) (items_at_point acts point) all)
           (rest (behind P (line_items bound.line) (items_at_point acts point) all))
 
-      go : (p : ℕ) → 1 ≤ p → p ≤ 4 → At acts bound.line p 1 → At acts bound.line p 2 → At acts bound.line p 3 →
-          At acts bound.line p 4 →
-          (Each (items_at_point acts 1) → Each (items_at_point acts 2) → Each (items_at_point acts 3) →
-          Each (items_at_point acts 4) → Each (lines_items (map act_line acts))) →
+      go : (p : Point) → At acts bound.line p Start → At acts bound.line p Written → At acts bound.line p Serve →
+          At acts bound.line p End → OfAll acts (map act_line acts) →
           Each (line_items bound.line ++ lines_items (map act_line acts))
-      go zero from to a b c d rest = absurd (omega arith)
-      go (suc zero) from to a b c d rest = both 1 a (λ x. rest x b c d)
-      go (suc (suc zero)) from to a b c d rest = both 2 b (λ x. rest a x c d)
-      go (suc (suc (suc zero))) from to a b c d rest = both 3 c (λ x. rest a b x d)
-      go (suc (suc (suc (suc zero)))) from to a b c d rest = both 4 d (λ x. rest a b c x)
-      go (suc (suc (suc (suc (suc p))))) from to a b c d rest = absurd (omega arith)
+      go Start a b c d rest = both Start a (λ x. rest x b c d)
+      go Written a b c d rest = both Written b (λ x. rest a x c d)
+      go Serve a b c d rest = both Serve c (λ x. rest a b x d)
+      go End a b c d rest = both End d (λ x. rest a b c x)
 
   -- what holds of each step of a call holds of each step of its lines
-  pub call_each : (call : Call) → PointsFit call → Each (call_items call) → Each (lines_items (lines_in_order call))
-  call_each (alone event line) fit all = subst Each (sym (append-nil (line_items line))) all
-  call_each (vread_call len flags line acts) fit all =
+  pub call_each : (call : Call) → Each (call_items call) → Each (lines_items (lines_in_order call))
+  call_each (alone event line) all = subst Each (sym (append-nil (line_items line))) all
+  call_each (vread_call len flags line acts) all =
       let items : List Item = line_items line in
-      let a1 : List Item = items_at_point acts 1 in
-      let a2 : List Item = items_at_point acts 2 in
-      let a3 : List Item = items_at_point acts 3 in
-      let a4 : List Item = items_at_point acts 4 in
+      let a1 : List Item = items_at_point acts Start in
+      let a2 : List Item = items_at_point acts Written in
+      let a3 : List Item = items_at_point acts Serve in
+      let a4 : List Item = items_at_point acts End in
       let r : List Item = (cut_rekey (drop 2 items)).0 in
       let end : List Item = (cut_rekey (drop 2 items)).1 in
       let f4 = in_front P (take 2 items ++ a1 ++ a2 ++ r ++ a3 ++ a4) end all in
@@ -193,10 +199,10 @@ module _ (P : Item → Type 0) where
       (in_front P (take 2 items) a1 f1)
       (subst Each (sym (rekey_whole (drop 2 items))) (each_append P r end (behind P (take 2 items ++ a1 ++ a2) r fr)
       (behind P (take 2 items ++ a1 ++ a2 ++ r ++ a3 ++ a4) end all)))) in
-      let inside = of_acts acts fit (behind P (take 2 items) a1 f1) (behind P (take 2 items ++ a1) a2 f2)
+      let inside = of_acts acts (behind P (take 2 items) a1 f1) (behind P (take 2 items ++ a1) a2 f2)
       (behind P (take 2 items ++ a1 ++ a2 ++ r) a3 f3) (behind P (take 2 items ++ a1 ++ a2 ++ r ++ a3) a4 f4) in
       subst Each (sym (flat_map-append line_items (map act_line acts) (line ∷ [])))
       (each_append P (lines_items (map act_line acts)) (items ++ []) inside
       (subst Each (sym (append-nil items)) of_line))
-  call_each (unbound bound) fit all = subst Each (sym (append-nil (line_items bound.line))) all
-  call_each (ending line) fit all = subst Each (sym (append-nil (line_items line))) all
+  call_each (unbound bound) all = subst Each (sym (append-nil (line_items bound.line))) all
+  call_each (ending line) all = subst Each (sym (append-nil (line_items line))) all

@@ -10,7 +10,7 @@ use Rattle.caller_run.specs.Items.{Item, line_items, call_items, calls_items}
 use Rattle.key_names.specs.SeenLine.{SeenLine}
 use Rattle.key_names.specs.IsTranscript.{LinesFit}
 use Rattle.key_names.proofs.Lists.Each.{each_append}
-use Rattle.caller_run.specs.Done.{lines_in_order, PointsFit}
+use Rattle.caller_run.specs.Done.{lines_in_order}
 use Rattle.caller_run.proofs.Orders.CallLists.{Kept, Keeps, kept}
 use Rattle.caller_run.proofs.Orders.CallSteps.{lines_items, act_line, vread_weight, call_each, in_front, behind}
 
@@ -27,7 +27,7 @@ module _ (f : Item → ℕ) where
   weight items = sum_by f items
 
   abbrev Weighs : Kept
-  Weighs waiting events lines calls = AllByRecursion PointsFit calls →
+  Weighs waiting events lines calls =
       weight (calls_items calls) ≡ weight (lines_items (map act_line waiting)) + weight (lines_items lines)
 
   -- one call more in front, and its own line
@@ -43,73 +43,71 @@ module _ (f : Item → ℕ) where
 
   keeps_weight : (c : ℕ) → Keeps c Weighs
   keeps_weight c = record {
-    ends = λ n line is fit. omega arith;
-    does = λ waiting n event es line lines calls is rest fit.
+    ends = λ n line is. omega arith;
+    does = λ waiting n event es line lines calls is rest.
         let a = in_front_of (alone event line) line calls lines 0 (weight (lines_items (map act_line waiting)))
-        (omega arith) (rest fit.1) in omega arith;
-    reads = λ waiting n len flags es line lines calls is rest fit.
+        (omega arith) rest in omega arith;
+    reads = λ waiting n len flags es line lines calls is rest.
         let a = in_front_of (vread_call len flags line waiting) line calls lines
-        (weight (lines_items (map act_line waiting))) 0 (vread_weight f (line_items line) waiting fit.0) (rest fit.1) in
+        (weight (lines_items (map act_line waiting))) 0 (vread_weight f (line_items line) waiting) rest in
         omega arith;
-    waits = λ waiting n bound es lines calls is rest fit.
+    waits = λ waiting n bound es lines calls is rest.
         let a : weight (lines_items (map act_line (waiting ++ bound ∷ [])))
         ≡ weight (lines_items (map act_line waiting)) + weight (line_items bound.line) =
         ap weight (waiting_more waiting bound)
         ∙ sum_by-append f (lines_items (map act_line waiting)) (line_items bound.line) in
         let b : weight (lines_items (bound.line ∷ lines)) ≡ weight (line_items bound.line) + weight
         (lines_items lines) =
-        sum_by-append f (line_items bound.line) (lines_items lines) in
-        let r = rest fit in omega arith;
-    idles = λ waiting n bound es lines calls is rest fit.
+        sum_by-append f (line_items bound.line) (lines_items lines) in omega arith;
+    idles = λ waiting n bound es lines calls is rest.
         let a = in_front_of (unbound bound) bound.line calls lines 0 (weight (lines_items (map act_line waiting)))
-        (omega arith) (rest fit.1) in omega arith;
+        (omega arith) rest in omega arith;
   }
 
   -- they weigh the same
   pub calls_weight : (c : ℕ) (events : List Event) (lines : List SeenLine) → LinesFit c 0 events lines →
-      AllByRecursion PointsFit (calls_of events lines) →
       weight (calls_items (calls_of events lines)) ≡ weight (lines_items lines)
-  calls_weight c events lines fit points = let e = kept c Weighs (keeps_weight c) events lines fit points in omega arith
+  calls_weight c events lines fit = let e = kept c Weighs (keeps_weight c) events lines fit in omega arith
 
 module _ (P : Item → Type 0) where
   abbrev Each : List Item → Type 0
   Each items = AllByRecursion P items
 
   abbrev HoldsOfEach : Kept
-  HoldsOfEach waiting events lines calls = AllByRecursion PointsFit calls → Each (calls_items calls) →
+  HoldsOfEach waiting events lines calls = Each (calls_items calls) →
       Each (lines_items (map act_line waiting)) × Each (lines_items lines)
 
   keeps_each : (c : ℕ) → Keeps c HoldsOfEach
   keeps_each c = record {
-    ends = λ n line is fit all. (tt, all);
-    does = λ waiting n event es line lines calls is rest fit all.
-        let r = rest fit.1 (behind P (line_items line) (calls_items calls) all) in (
+    ends = λ n line is all. (tt, all);
+    does = λ waiting n event es line lines calls is rest all.
+        let r = rest (behind P (line_items line) (calls_items calls) all) in (
           r.0,
           each_append P (line_items line) (lines_items lines) (in_front P (line_items line) (calls_items calls) all)
               r.1,
         );
-    reads = λ waiting n len flags es line lines calls is rest fit all.
+    reads = λ waiting n len flags es line lines calls is rest all.
         let call : Call = vread_call len flags line waiting in
-        let r = rest fit.1 (behind P (call_items call) (calls_items calls) all) in
+        let r = rest (behind P (call_items call) (calls_items calls) all) in
         let here : Each (lines_items (map act_line waiting) ++ (line_items line ++ [])) =
         subst Each (flat_map-append line_items (map act_line waiting) (line ∷ []))
-        (call_each P call fit.0 (in_front P (call_items call) (calls_items calls) all)) in (
+        (call_each P call (in_front P (call_items call) (calls_items calls) all)) in (
           in_front P (lines_items (map act_line waiting)) (line_items line ++ []) here,
           each_append P (line_items line) (lines_items lines)
               (in_front P (line_items line) [] (behind P (lines_items (map act_line waiting)) (line_items line ++ [])
               here))
               r.1,
         );
-    waits = λ waiting n bound es lines calls is rest fit all.
-        let r = rest fit all in
+    waits = λ waiting n bound es lines calls is rest all.
+        let r = rest all in
         let both : Each (lines_items (map act_line waiting) ++ line_items bound.line) =
         subst Each (waiting_more waiting bound) r.0 in (
           in_front P (lines_items (map act_line waiting)) (line_items bound.line) both,
           each_append P (line_items bound.line) (lines_items lines)
               (behind P (lines_items (map act_line waiting)) (line_items bound.line) both) r.1,
         );
-    idles = λ waiting n bound es lines calls is rest fit all.
-        let r = rest fit.1 (behind P (line_items bound.line) (calls_items calls) all) in (
+    idles = λ waiting n bound es lines calls is rest all.
+        let r = rest (behind P (line_items bound.line) (calls_items calls) all) in (
           r.0,
           each_append P (line_items bound.line) (lines_items lines)
               (in_front P (line_items bound.line) (calls_items calls) all) r.1,
@@ -118,9 +116,8 @@ module _ (P : Item → Type 0) where
 
   -- what holds of each step of the calls holds of each step of the lines
   pub calls_each : (c : ℕ) (events : List Event) (lines : List SeenLine) → LinesFit c 0 events lines →
-      AllByRecursion PointsFit (calls_of events lines) → Each (calls_items (calls_of events lines)) →
-      Each (lines_items lines)
-  calls_each c events lines fit points all = (kept c HoldsOfEach (keeps_each c) events lines fit points all).1
+      Each (calls_items (calls_of events lines)) → Each (lines_items lines)
+  calls_each c events lines fit all = (kept c HoldsOfEach (keeps_each c) events lines fit all).1
 
 module _ (Q : SeenLine → Type 0) where
   abbrev EachSeen : List SeenLine → Type 0

@@ -4,26 +4,12 @@ use mathlib.Core.Logic.{dite}
 use native.Mathlib.Decide.{ℕ_discrete}
 use Rattle.std.specs.Prelude.{◌==◌}
 use Rattle.std.specs.List.{AllByRecursion, sum_by, range_with_len}
-use Rattle.std.proofs.lemmas.Bool.{eqb-true}
-use Rattle.std.proofs.lemmas.Bool.Decides.{nat_tests}
+use Rattle.std.proofs.lemmas.Bool.{eqb-true, eqb-false, eq-eqb, ne_eqb}
 use Rattle.std.proofs.lemmas.List.Sums.{sum_by-cons}
 use Rattle.key_names.proofs.Lists.Each.{each_weaker}
 use Rattle.caller_run.specs.Laws.{Run, IsOneOf}
 use Rattle.caller_run.proofs.Planning.OnceEach.{times_in}
-use Rattle.caller_run.proofs.Planning.Sums.{sum_none, sum_same, sum_both}
-
-abbrev hit : Bool → ℕ
-hit b = cond b 1 0
-
-eq_true : (c : ℕ) → (c == c) ≡ true
-eq_true c = grind (arith, nat_tests)
-
-no_match : (a b : ℕ) → (a ≡ b → ⊥) → (a == b) ≡ false
-no_match a b ne = go (a == b) refl
-  where
-    go : (t : Bool) → (a == b) ≡ t → (a == b) ≡ false
-    go true is = absurd (ne (eqb-true a b is))
-    go false is = is
+use Rattle.caller_run.proofs.Planning.Sums.{hit, hit_same, sum_none, sum_same, sum_both}
 
 abbrev pub number : Run → ℕ
 number r = r.begun.caller
@@ -31,15 +17,11 @@ number r = r.begun.caller
 abbrev pub numbers_of : List Run → List ℕ
 numbers_of runs = map number runs
 
-apart : {P : Type 0} (r : Run) (k : ℕ) → number r ≡ k → (number r == k) ≡ false → P
-apart r k same is =
-    let e : false ≡ true = sym is ∙ ap (λ (n : ℕ). n == k) same ∙ eq_true k in absurd (cc e)
-
 -- the runs of caller k among some, weighed
 abbrev of_caller : (Run → ℕ) → ℕ → Run → ℕ
 of_caller f k r = cond (number r == k) (f r) 0
 
-cons_times : (k : ℕ) (r : Run) (rs : List Run) →
+pub cons_times : (k : ℕ) (r : Run) (rs : List Run) →
     times_in k (numbers_of (r ∷ rs)) ≡ hit (number r == k) + times_in k (numbers_of rs)
 cons_times k r rs = sum_by-cons (λ x. hit (x == k)) (number r) (numbers_of rs)
 
@@ -71,8 +53,7 @@ not_there : (k : ℕ) (runs : List Run) → times_in k (numbers_of runs) ≡ 0 �
 not_there k [] none r here own = here
 not_there k (q ∷ rs) none r (inl same) own =
     let c = cons_times k q rs in
-    let h : hit (number q == k) ≡ 1 = ap (λ (n : ℕ). hit (n == k)) (ap number same ∙ own) ∙ ap hit (eq_true k) in
-    omega arith
+    let h = hit_same (number q) k (ap number same ∙ own) in omega arith
 not_there k (q ∷ rs) none r (inr rest) own =
     let c = cons_times k q rs in not_there k rs (omega arith) r rest own
 
@@ -100,7 +81,7 @@ one_of k (r ∷ rs) one = go (number r == k) refl (λ rest. one_of k rs rest)
           weighs = λ f. (let all = sum_by-cons (of_caller f k) r rs in let w = o.weighs f in
               let here : of_caller f k r ≡ 0 = ap (λ b. cond b (f r) 0) is in omega arith);
           only = λ q here own. elim here [
-            | inl same ↦ apart r k (ap number same ∙ own) is
+            | inl same ↦ absurd (eqb-false (number r) k is (ap number same ∙ own))
             | inr more ↦ o.only q more own
           ];
         }
@@ -152,7 +133,7 @@ none_in f r k zero low = refl
 none_in f r k (suc count) low =
     let all = sum_by-cons (λ c. of_caller f c r) k (range_with_len (k + 1) count) in
     let rest = none_in f r (k + 1) count (omega arith) in
-    let here : of_caller f k r ≡ 0 = ap (λ b. cond b (f r) 0) (no_match (number r) k (λ e. absurd (omega arith))) in
+    let here : of_caller f k r ≡ 0 = ap (λ b. cond b (f r) 0) (ne_eqb (number r) k (λ e. absurd (omega arith))) in
     omega arith
 
 row : (f : Run → ℕ) (r : Run) (k count : ℕ) → k ≤ number r → number r < k + count →
@@ -162,10 +143,10 @@ row f r k (suc count) low high =
     let all = sum_by-cons (λ c. of_caller f c r) k (range_with_len (k + 1) count) in
     dite (ℕ_discrete (number r) k)
     (λ same.
-    let here : of_caller f k r ≡ f r = ap (λ b. cond b (f r) 0) (ap (λ (n : ℕ). n == k) same ∙ eq_true k) in
+    let here : of_caller f k r ≡ f r = ap (λ b. cond b (f r) 0) (eq-eqb (number r) k same) in
     let rest = none_in f r (k + 1) count (omega arith) in omega arith)
     (λ ne.
-    let here : of_caller f k r ≡ 0 = ap (λ b. cond b (f r) 0) (no_match (number r) k ne) in
+    let here : of_caller f k r ≡ 0 = ap (λ b. cond b (f r) 0) (ne_eqb (number r) k ne) in
     let rest = row f r (k + 1) count (omega arith) (omega arith) in omega arith)
 
 swap : (f : Run → ℕ) (count k : ℕ) (runs : List Run) →

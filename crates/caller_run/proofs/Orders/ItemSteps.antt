@@ -1,10 +1,13 @@
 -- The order of a caller's calls, without the makers of its steps.
 use Rattle.std.proofs.Common.{◌≡◌, ℕ, suc, Bool, true, false, List, [], ◌∷◌, ◌++◌, take, drop, refl, ap, ◌∙◌}
-use Rattle.std.specs.Prelude.{if◌then◌else◌, ◌==◌}
+use Rattle.std.specs.Prelude.{if◌then◌else◌}
 use Rattle.std.proofs.lemmas.List.{map-append}
 use Rattle.key_names.specs.declared.names.Step.{Step}
+use Rattle.key_names.specs.declared.point.Point.{Point}
+use Rattle.key_names.specs.declared.point.Point.TheVariants.{Start, Written, Serve, End}
 use Rattle.key_names.specs.Calls.{Call, alone, vread_call, unbound, ending, BoundAct}
 use Rattle.key_names.specs.History.{is_mark, cut_behind_visits, cut_behind_rekey, steps_at_point, vread_steps, call_steps, calls_steps}
+use Rattle.key_names.specs.Points.{is_same_point}
 use Rattle.key_names.specs.SeenLine.{SeenLine}
 use Rattle.caller_run.specs.Items.{Item, steps_of, items_from, line_items, items_at_point, cut_items, cut_rekey, vread_items, call_items, calls_items}
 
@@ -18,9 +21,9 @@ from_steps event i (step ∷ steps) = ap (λ (l : List Step). step ∷ l) (from_
 line_steps : (line : SeenLine) → steps_of (line_items line) ≡ line.steps
 line_steps line = from_steps line.event 0 line.steps
 
-point_steps : (acts : List BoundAct) (point : ℕ) → steps_of (items_at_point acts point) ≡ steps_at_point acts point
+point_steps : (acts : List BoundAct) (point : Point) → steps_of (items_at_point acts point) ≡ steps_at_point acts point
 point_steps [] point = refl
-point_steps (bound ∷ acts) point = go (bound.point == point) (point_steps acts point)
+point_steps (bound ∷ acts) point = go (is_same_point bound.point point) (point_steps acts point)
   where
     go : (b : Bool) → steps_of (items_at_point acts point) ≡ steps_at_point acts point →
         steps_of (if b then line_items bound.line ++ items_at_point acts point else items_at_point acts point)
@@ -72,10 +75,10 @@ drop_two (a ∷ b ∷ items) = refl
 vread_each : (items : List Item) (acts : List BoundAct) →
     steps_of (vread_items items acts) ≡ vread_steps (steps_of items) acts
 vread_each items acts =
-    let a1 : List Item = items_at_point acts 1 in
-    let a2 : List Item = items_at_point acts 2 in
-    let a3 : List Item = items_at_point acts 3 in
-    let a4 : List Item = items_at_point acts 4 in
+    let a1 : List Item = items_at_point acts Start in
+    let a2 : List Item = items_at_point acts Written in
+    let a3 : List Item = items_at_point acts Serve in
+    let a4 : List Item = items_at_point acts End in
     let r : List Item = (cut_rekey (drop 2 items)).0 in
     let end : List Item = (cut_rekey (drop 2 items)).1 in
     let cut : both_steps (cut_rekey (drop 2 items)) ≡ cut_behind_rekey (drop 2 (steps_of items)) =
@@ -85,8 +88,9 @@ vread_each items acts =
     ∙ (λ i. (steps_append (take 2 items ++ a1 ++ a2 ++ r) a3
     ∙ (λ i. (steps_append (take 2 items ++ a1 ++ a2) r
     ∙ (λ i. (steps_append (take 2 items ++ a1) a2
-    ∙ (λ i. (steps_append (take 2 items) a1 ∙ (λ i. take_two items i ++ point_steps acts 1 i)) i
-    ++ point_steps acts 2 i)) i ++ (cut i).0)) i ++ point_steps acts 3 i)) i ++ point_steps acts 4 i)) i ++ (cut i).1)
+    ∙ (λ i. (steps_append (take 2 items) a1 ∙ (λ i. take_two items i ++ point_steps acts Start i)) i
+    ++ point_steps acts Written i)) i ++ (cut i).0)) i ++ point_steps acts Serve i)) i ++ point_steps acts End i)) i
+    ++ (cut i).1)
 
 one_call : (call : Call) → steps_of (call_items call) ≡ call_steps call
 one_call (alone event line) = line_steps line

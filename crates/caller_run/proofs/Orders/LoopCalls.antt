@@ -5,7 +5,6 @@ use Rattle.key_names.specs.declared.events.Event.{Event}
 use Rattle.key_names.specs.declared.events.Event.TheVariants.{Vread, Inside}
 use Rattle.key_names.specs.SeenLine.{SeenLine}
 use Rattle.key_names.specs.Calls.{Call, alone, vread_call, unbound, ending, BoundAct, has_vread, calls_from, calls_of}
-use Rattle.key_names.specs.Points.{number_of}
 use Rattle.key_names.proofs.Lists.Each.{each_more}
 use Rattle.rng_core.specs.Acts.{Ask}
 use Rattle.caller_run.specs.Waiting.{told_anew, bound_by, all_bound, IsAlone, CallsSoFar}
@@ -91,16 +90,16 @@ module _ (events es : List Event) (lines : List SeenLine) (waiting : List Ask) (
 
   -- an act that no vread follows
   pub so_far_idle : (x : Ask) (line : SeenLine) → has_vread es ≡ false →
-      CallsSoFar events (Inside (number_of x.point) x.act ∷ es) lines waiting calls →
+      CallsSoFar events (Inside x.point x.act ∷ es) lines waiting calls →
       CallsSoFar events es (lines ++ line ∷ []) waiting (calls ++ unbound (bound_by x line) ∷ [])
   so_far_idle x line none s =
-      one_more (Inside (number_of x.point) x.act) line (unbound (bound_by x line)) s s.follows
+      one_more (Inside x.point x.act) line (unbound (bound_by x line)) s s.follows
       (λ acts more. ap (λ b. if b then calls_from (acts ++ bound_by x line ∷ []) es more else
       unbound (bound_by x line) ∷ calls_from acts es more) none)
 
   -- an act that waits for a vread
   pub so_far_waits : (x : Ask) (idle : SeenLine) → has_vread es ≡ true → x.event ≡ length lines →
-      CallsSoFar events (Inside (number_of x.point) x.act ∷ es) lines waiting calls →
+      CallsSoFar events (Inside x.point x.act ∷ es) lines waiting calls →
       CallsSoFar events es (lines ++ idle ∷ []) (waiting ++ x ∷ []) calls
   so_far_waits x idle has at s = record {
     told = each_more (λ (a : Ask). a.event < length (lines ++ idle ∷ [])) waiting x

@@ -41,7 +41,7 @@ module _ (caller : ℕ) (events : List Event) (r : Run) (has : HasRun caller eve
 
     same : (f : Item → ℕ) → sum_by f (items_of numbered_steps) ≡ sum_by f (lines_items r.lines)
     same f = ap (sum_by f) has.ended.done.order
-        ∙ calls_weight f r.begun.caller events r.lines has.ended.fit has.ended.done.points
+        ∙ calls_weight f r.begun.caller events r.lines has.ended.fit
 
     near : (lane : ℕ) → lane < length r.end.lanes → lane < length r.begun.view.lanes
     near lane low = let s = has.ended.done.ran.same.sized in omega arith

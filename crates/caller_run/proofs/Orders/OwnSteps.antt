@@ -1,6 +1,6 @@
 -- The caller's own steps in a call with acts inside, and its points, one after another.
 use Rattle.std.proofs.Common.{◌≡◌, ℕ, ◌+◌, Bool, true, false, List, [], ◌∷◌, ◌++◌, length, map, refl, sym, ap, ◌∙◌, subst, arith, append_assoc, append-nil}
-use Rattle.std.specs.Prelude.{MatchBool, ◌==◌, ⊤}
+use Rattle.std.specs.Prelude.{MatchBool, ⊤}
 use Rattle.std.proofs.lemmas.List.{append_cancel_left}
 use Rattle.key_names.specs.declared.names.Step.{Step}
 use Rattle.key_names.specs.declared.names.Step.TheVariants.{Look}
@@ -8,7 +8,6 @@ use Rattle.key_names.specs.declared.point.Point.{Point}
 use Rattle.key_names.specs.Flags.{is_bad}
 use Rattle.key_names.specs.History.{is_mark}
 use Rattle.key_names.specs.Vgetrandom.{SystemAnswer, HostStep, publishes, system_call, at_point}
-use Rattle.key_names.specs.Points.{number_of}
 use Rattle.lane_table.specs.declared.view.View.{View}
 use Rattle.lane_table.specs.Advances.{MadeStep, looked, step_of}
 use Rattle.vdso_state.specs.Host.{DoesAll}
@@ -20,7 +19,7 @@ use Rattle.rng_core.specs.Acts.{Ask, ActOutcome, ActsAt}
 use Rattle.rng_core.specs.Acting.{attempt_at, is_first, acting, act_stand, ActStand, ActPublished, ActAnswered, ActPassed}
 use Rattle.caller_run.specs.Items.{Item, items_from}
 use Rattle.caller_run.proofs.Orders.PartItems.{Part, part_nothing, part_then, part_went, items_append}
-use Rattle.caller_run.proofs.Events.ActSteps.{Untouched, act_items, untouched_items, acts_part, acts_elsewhere}
+use Rattle.caller_run.proofs.Events.ActSteps.{Apart, Untouched, act_items, untouched_items, acts_part, acts_elsewhere}
 
 -- what a pass knows, the steps so far, and what came of the acts
 pub record Spot : Type 0 where
@@ -66,7 +65,7 @@ module _ (set : Setting) (asks : List Ask) where
   abbrev pub line_of : Spot → List Item
   line_of s = items_from set.event 0 s.moment.steps
 
-  abbrev pub items_at : Spot → ℕ → List Item
+  abbrev pub items_at : Spot → Point → List Item
   items_at s p = act_items set asks s.outcomes p
 
   -- One step of the host
@@ -206,13 +205,13 @@ module _ (set : Setting) (asks : List Ask) where
   -- Points
 
   -- the acts of a point were done, if the caller came to it
-  pub record Reached (p : ℕ) (s t : Spot) : Type 0 where
+  pub record Reached (p : Point) (s t : Spot) : Type 0 where
     pub line : line_of t ≡ line_of s
     pub part : Untouched p asks s.outcomes → Part set.caller (view_at s) (view_at t) (items_at t p)
-    pub elsewhere : (q : ℕ) → (p == q) ≡ false →
+    pub elsewhere : (q : Point) → Apart p q →
         (items_at t q ≡ items_at s q) × (Untouched q asks s.outcomes → Untouched q asks t.outcomes)
 
-  pub reached_not : (p : ℕ) (s : Spot) → Reached p s s
+  pub reached_not : (p : Point) (s : Spot) → Reached p s s
   reached_not p s = record {
     line = refl;
     part = λ untouched.
@@ -222,7 +221,7 @@ module _ (set : Setting) (asks : List Ask) where
   }
 
   pub reached_first : (attempt : Attempt) (s t : Spot) (point : Point) (wiped : Bool) →
-      ActPassed (at attempt s) point wiped (at First t) → Reached (number_of point) s t
+      ActPassed (at attempt s) point wiped (at First t) → Reached point s t
   reached_first attempt s t point wiped k = record {
     line = ap (items_from set.event 0) k.steps;
     part = λ untouched. acts_part set point asks (view_at s) (view_at t) s.outcomes t.outcomes k.ran untouched;

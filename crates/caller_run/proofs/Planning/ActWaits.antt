@@ -15,7 +15,6 @@ use Rattle.key_names.specs.SeenLine.{SeenLine, no_data}
 use Rattle.caller_run.proofs.Planning.LogFills.{Fills, fills_act, new_bound}
 use Rattle.caller_run.proofs.Forks.HasAdvanced.{gone_on}
 use Rattle.caller_run.proofs.Events.CanAdvance.{can_next}
-use Rattle.key_names.specs.Points.{number_of}
 use Rattle.key_names.proofs.Lists.Each.{each_more}
 use Rattle.lane_table.specs.declared.lanes.Lanes.{Lanes}
 use Rattle.lane_table.specs.Calls.{view}
@@ -49,7 +48,7 @@ idle_line c = record {
 pub record Keeps (event : Event) (c e : Caller) (before after : Gathered) (acts left : List Bound) : Type 0 where
   pub point : Point
   pub act : InsideAct
-  pub event_is : event ≡ Inside (number_of point) act
+  pub event_is : event ≡ Inside point act
   pub on : GoesOn event c e
   pub lines : after.lines ≡ before.lines ++ idle_line c ∷ []
   pub line_room : after.line_room + 1 ≡ before.line_room
@@ -78,13 +77,13 @@ module _ {event : Event} {c e : Caller} {before after : Gathered} {acts left : L
       let range = subst (InRange g.range.0 t.cpus) k.event_is g.range.1.0 in
       can_next c refl g.ready.has g.states k.on
       (subst (λ (y : Event). Fills y before after acts left) (sym k.event_is)
-      (subst (Fills (Inside (number_of k.point) k.act) before after acts) (sym k.kept)
-      (fills_act before after line k.lines k.line_room k.point k.act c.set.event acts k.step_room k.byte_room range.2 g.at g.fresh
-      g.told))) g
+      (subst (Fills (Inside k.point k.act) before after acts) (sym k.kept)
+      (fills_act before after line k.lines k.line_room k.point k.act c.set.event acts k.step_room k.byte_room range g.at
+      g.fresh g.told))) g
 
   module _ (at : c.set.event ≡ length before.lines) (begun : Start) (events rest : List Event) (kids : List Start)
-      (g : HasAdvanced begun events (Inside (number_of k.point) k.act ∷ rest) c before.lines asks kids)
-      (on : GoesOn (Inside (number_of k.point) k.act) c e) where
+      (g : HasAdvanced begun events (Inside k.point k.act ∷ rest) c before.lines asks kids)
+      (on : GoesOn (Inside k.point k.act) c e) where
     line_is : LineIs begun.caller c.set.event InsideWord line
     line_is = record { caller = g.own; event = refl; word_is = refl }
 
@@ -98,7 +97,7 @@ module _ {event : Event} {c e : Caller} {before after : Gathered} {acts left : L
 
     fit : (more : List SeenLine) → LinesFit begun.caller (suc c.set.event) rest more →
         LinesFit begun.caller 0 events ((before.lines ++ line ∷ []) ++ more)
-    fit = fit_more begun.caller c.set.event events (Inside (number_of k.point) k.act) rest before.lines line line_is g.fit
+    fit = fit_more begun.caller c.set.event events (Inside k.point k.act) rest before.lines line line_is g.fit
 
     -- no vread follows, so the act is a call of its own
     gone_idle : has_vread rest ≡ false →

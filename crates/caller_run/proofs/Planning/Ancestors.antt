@@ -1,19 +1,18 @@
 -- What each caller of a script starts with, and what its ancestors did before it: a parent has a lower number than its
 -- child.
-use Rattle.std.proofs.Common.{◌≡◌, ◌⊎◌, inl, inr, ℕ, zero, suc, ◌+◌, ◌<◌, ◌≤◌, max, Bool, true, false, None, List, [], ◌∷◌, ◌++◌, length, map, refl, sym, ap, ◌∙◌, subst, arith, length-append, append_assoc}
+use Rattle.std.proofs.Common.{◌≡◌, ◌⊎◌, inl, inr, ℕ, zero, suc, ◌<◌, ◌≤◌, max, Bool, true, false, None, List, [], ◌∷◌, ◌++◌, length, map, refl, sym, ap, ◌∙◌, subst, arith, length-append, append_assoc}
 use Rattle.std.specs.Prelude.{nat_lt, ◌&&◌, if◌then◌else◌}
 use Rattle.std.specs.List.{AllByRecursion, fold}
 use Rattle.std.proofs.lemmas.List.{map-append}
 use Rattle.std.proofs.Math.ListN.{get_or-map}
-use mathlib.Core.Logic.{dite}
-use native.Mathlib.Decide.{ℕ_discrete}
 use Rattle.key_names.specs.declared.names.Step.{Step}
 use Rattle.key_names.specs.Book.{list_at}
 use Rattle.key_names.specs.Calls.{Setting, Call, parent_from, first_setting, first_settings, setting_of, setting_after_call, inherited_setting, all_calls}
 use Rattle.key_names.specs.History.{ancestors_steps, inherited_steps, calls_steps, through_visit}
 use Rattle.key_names.specs.IsTranscript.{EachCaller, start_setting}
 use Rattle.key_names.specs.Texts.ScriptGrammar.{Script, WellFormed, times_forked}
-use Rattle.key_names.proofs.History.CallerOrders.{list_front, list_last, long_ancestors}
+use Rattle.key_names.proofs.History.CallerOrders.{below, list_front, list_last, long_ancestors}
+use Rattle.key_names.proofs.Transcripts.Settings.{setting_front, setting_last, long_settings}
 use Rattle.lane_table.specs.declared.view.LaneView.{LaneView}
 use Rattle.lane_table.specs.declared.view.View.{View}
 use Rattle.lane_table.specs.LaneNumbers.{index_of}
@@ -30,25 +29,6 @@ use Rattle.caller_run.specs.Laws.{Run, HasRun, Began, IsOneOf, lines_of_all}
 use Rattle.caller_run.specs.Ran.{RanBy}
 use Rattle.caller_run.proofs.Orders.Chains.{stood_known}
 use Rattle.caller_run.proofs.Planning.Parents.{ParentIs, parent_is, no_parent, each_of}
-
--- lists that grow at the end
-
-setting_front : (sets : List Setting) (x : Setting) (c : ℕ) → c < length sets →
-    setting_of (sets ++ x ∷ []) c ≡ setting_of sets c
-setting_front [] x c low = absurd (omega arith)
-setting_front (set ∷ sets) x zero low = refl
-setting_front (set ∷ sets) x (suc c) low = setting_front sets x c (omega arith)
-
-setting_last : (sets : List Setting) (x : Setting) → setting_of (sets ++ x ∷ []) (length sets) ≡ x
-setting_last [] x = refl
-setting_last (set ∷ sets) x = setting_last sets x
-
-long_settings : (callers : List (List Call)) (n : ℕ) → length (first_settings callers n) ≡ n
-long_settings callers zero = refl
-long_settings callers (suc n) =
-    let rest = long_settings callers n in
-    let x : Setting = inherited_setting (first_settings callers n) (parent_from n 0 callers) in
-    omega (arith, length-append (first_settings callers n) (x ∷ []))
 
 -- What was done in an order
 
@@ -120,9 +100,6 @@ course_child w v steps c = record {
   known = c.known;
 }
 
-below : (c n : ℕ) → c < n + 1 → (c < n) ⊎ (c ≡ n)
-below c n low = dite (ℕ_discrete c n) (λ e. inr e) (λ ne. inl (omega arith))
-
 at_most : (b : Bool) → (if b then 1 else 0) ≤ 1
 at_most true = omega arith
 at_most false = omega arith
@@ -176,7 +153,7 @@ module _ (script : Script) (runs : List Run) (w : View) (ok : WellFormed script)
       let sets = first_settings callers n in
       let x : Setting = inherited_setting sets (parent_from n 0 callers) in
       let long = long_settings callers n in
-      elim (below r.begun.caller n (omega arith)) [
+      elim (below r.begun.caller n low) [
         | inl less ↦ setting_front sets x r.begun.caller (omega arith) ∙ has_set n r here less
         | inr same ↦ ap (setting_of (sets ++ x ∷ [])) (same ∙ sym long) ∙ setting_last sets x
             ∙ next_set n (has_set n) r here same
@@ -232,7 +209,7 @@ module _ (script : Script) (runs : List Run) (w : View) (ok : WellFormed script)
       let lists = ancestors_steps callers n in
       let x : List Step = inherited_steps lists (parent_from n 0 callers) in
       let long = long_ancestors callers n in
-      elim (below r.begun.caller n (omega arith)) [
+      elim (below r.begun.caller n low) [
         | inl less ↦ subst (Course w r.begun.view) (sym (list_front lists x r.begun.caller (omega arith)))
             (has_course n r here less)
         | inr same ↦ subst (Course w r.begun.view)

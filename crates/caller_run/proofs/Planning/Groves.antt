@@ -1,5 +1,6 @@
 -- Rooms that are taken out of a row and put back, and what they tell.
 use Rattle.std.proofs.Common.{◌≡◌, ℕ, ◌<◌, List, [], ◌∷◌, ◌++◌, length, map, refl, ap, ◌∙◌, subst}
+use Rattle.std.proofs.lemmas.List.{map-append}
 use Rattle.key_names.specs.declared.events.Event.{Event}
 use Rattle.key_names.specs.Book.{list_at}
 use Rattle.caller_run.specs.declared.rooms.Room.{Room}
@@ -12,13 +13,9 @@ seeded_last : (f : Grove) (ps : List Plot) (p : Plot) → seeded f (ps ++ p ∷ 
 seeded_last f [] p = refl
 seeded_last f (q ∷ ps) p = seeded_last (plant q f) ps p
 
-map_push : {A B : Type 0} (f : A → B) (xs : List A) (x : A) → map f (xs ++ x ∷ []) ≡ map f xs ++ f x ∷ []
-map_push f [] x = refl
-map_push f (y ∷ xs) x = ap (λ (l : List _). f y ∷ l) (map_push f xs x)
-
 pub grove_push : (xs : List Room) (x : Room) →
     grove_of (map plot (xs ++ x ∷ [])) ≡ plant (plot x) (grove_of (map plot xs))
-grove_push xs x = ap grove_of (map_push plot xs x) ∙ seeded_last cleared (map plot xs) (plot x)
+grove_push xs x = ap grove_of (map-append plot xs (x ∷ [])) ∙ seeded_last cleared (map plot xs) (plot x)
 
 pub grove_pushed : (ys xs : List Room) (x : Room) → ys ≡ xs ++ x ∷ [] →
     grove_of (map plot ys) ≡ plant (plot x) (grove_of (map plot xs))

@@ -17,7 +17,6 @@ use Rattle.rng_core.specs.InsideMakes.{IsWaitingAct}
 use Rattle.caller_run.specs.Kinds.{IsCall}
 use Rattle.caller_run.specs.Says.{most_shown}
 use Rattle.transcript_text.specs.Gathered.{Gathered}
-use Rattle.key_names.specs.Points.{number_of}
 use Rattle.caller_run.specs.Standing.{read_inside}
 use Rattle.caller_run.proofs.Orders.ToldAnew.{AreTold, told_more}
 
@@ -34,7 +33,7 @@ pub record Fills (event : Event) (before after : Gathered) (acts left : List Bou
   pub told : AreTold (length after.lines) (asks_of left)
 
 -- an act shows at most what it reads
-shown_inside : (point : ℕ) (act : InsideAct) → most_shown (Inside point act) ≡ wants act
+shown_inside : (point : Point) (act : InsideAct) → most_shown (Inside point act) ≡ wants act
 shown_inside point Wipe = refl
 shown_inside point (ReadAct len) = refl
 shown_inside point Reseed = refl
@@ -88,13 +87,13 @@ module _ (before after : Gathered) (line : SeenLine) (lines : after.lines ≡ be
   pub fills_act : (point : Point) (act : InsideAct) (event : ℕ) (acts : List Bound) →
       before.step_room ≤ after.step_room → before.byte_room ≤ after.byte_room → ActInRange act →
       event ≡ length before.lines → AllByRecursion IsWaitingAct acts → AreTold (length before.lines) (asks_of acts) →
-      Fills (Inside (number_of point) act) before after acts (acts ++ new_bound point act event ∷ [])
+      Fills (Inside point act) before after acts (acts ++ new_bound point act event ∷ [])
   fills_act point act event acts steps bytes range at fresh told =
       let b = new_bound point act event in
       let asks : asks_of (acts ++ b ∷ []) ≡ asks_of acts ++ ask_of b ∷ [] = map-append ask_of acts (b ∷ []) in
       let more : all_wanted (asks_of (acts ++ b ∷ [])) ≡ all_wanted (asks_of acts) + wants act =
       ap all_wanted asks ∙ wanted_more (asks_of acts) (ask_of b) in
-      let shown = shown_inside (number_of point) act in
+      let shown = shown_inside point act in
       record {
         lines = one_line;
         line_room = line_room;

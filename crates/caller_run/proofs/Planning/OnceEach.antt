@@ -1,5 +1,5 @@
 -- In the tree of a well-formed script each caller stands once.
-use Rattle.std.proofs.Common.{◌≡◌, ℕ, zero, suc, ◌+◌, ◌*◌, ◌<◌, ◌≤◌, Bool, true, false, cond, List, [], ◌∷◌, ◌++◌, length, refl, sym, ap, ◌∙◌, arith}
+use Rattle.std.proofs.Common.{◌≡◌, ℕ, zero, suc, ◌+◌, ◌*◌, ◌<◌, ◌≤◌, List, [], ◌∷◌, ◌++◌, length, refl, sym, ap, ◌∙◌, arith}
 use mathlib.Core.Logic.{dite}
 use native.Mathlib.Decide.{ℕ_discrete, dec_lt}
 use Rattle.std.specs.Prelude.{count_by, ◌==◌, ◌&&◌, nat_lt, if◌then◌else◌}
@@ -10,12 +10,8 @@ use Rattle.key_names.specs.declared.events.Event.{Event}
 use Rattle.key_names.specs.declared.events.Event.TheVariants.{Fork}
 use Rattle.key_names.specs.Book.{list_at}
 use Rattle.key_names.specs.Texts.ScriptGrammar.{Script, WellFormed, is_fork_of, times_forked, ForksAbove, IsForkAbove}
-use Rattle.std.proofs.lemmas.Bool.{eqb-true}
-use Rattle.caller_run.proofs.Planning.Sums.{sum_none, sum_same, sum_both, sum_range}
+use Rattle.caller_run.proofs.Planning.Sums.{hit, hit_same, hit_other, sum_none, sum_same, sum_both, sum_range}
 use Rattle.caller_run.specs.Forest.{Forest, no_more, more, forked_by, forks, numbers, AreForked}
-
-abbrev hit : Bool → ℕ
-hit b = cond b 1 0
 
 -- how often a number stands among some
 abbrev pub times_in : ℕ → List ℕ → ℕ
@@ -56,22 +52,12 @@ module _ (callers : List (List Event)) where
 
 -- sums over numbers, by how often each stands among them
 
-pub itself : (c : ℕ) → (c == c) ≡ true
-itself c = grind (arith, nat_tests)
-
-apart : (a b : ℕ) → (a ≡ b → ⊥) → (a == b) ≡ false
-apart a b ne = go (a == b) refl
-  where
-    go : (t : Bool) → (a == b) ≡ t → (a == b) ≡ false
-    go true is = absurd (ne (eqb-true a b is))
-    go false is = is
-
 none_of : (g : ℕ → ℕ) (x first count : ℕ) → x < first →
     sum_by (λ j. hit (x == j) * g j) (range_with_len first count) ≡ 0
 none_of g x first zero low = refl
 none_of g x first (suc count) low =
     let all = sum_by-cons (λ j. hit (x == j) * g j) first (range_with_len (first + 1) count) in
-    let none : hit (x == first) ≡ 0 = ap hit (apart x first (λ e. absurd (omega arith))) in
+    let none = hit_other x first (λ e. absurd (omega arith)) in
     let here : hit (x == first) * g first ≡ 0 = ap (λ (n : ℕ). n * g first) none ∙ omega arith in
     let rest = none_of g x (first + 1) count (omega arith) in omega arith
 
@@ -83,12 +69,12 @@ pick g x first (suc count) low high =
     let all = sum_by-cons (λ j. hit (x == j) * g j) first (range_with_len (first + 1) count) in
     dite (ℕ_discrete x first)
     (λ same.
-    let one : hit (x == first) ≡ 1 = ap (λ (n : ℕ). hit (x == n)) (sym same) ∙ ap hit (itself x) in
+    let one = hit_same x first same in
     let here : hit (x == first) * g first ≡ g x = ap (λ (n : ℕ). n * g first) one ∙ omega arith
     ∙ ap g (sym same) in
     let rest = none_of g x (first + 1) count (omega arith) in omega arith)
     (λ ne.
-    let none : hit (x == first) ≡ 0 = ap hit (apart x first ne) in
+    let none = hit_other x first ne in
     let here : hit (x == first) * g first ≡ 0 = ap (λ (n : ℕ). n * g first) none ∙ omega arith in
     let rest = pick g x (first + 1) count (omega arith) (omega arith) in omega arith)
 
@@ -114,7 +100,7 @@ all_below n (x ∷ xs) none =
     let cons : (k : ℕ) → times_in k (x ∷ xs) ≡ hit (x == k) + times_in k xs =
     λ k. sum_by-cons (λ y. hit (y == k)) x xs in (
       dite (dec_lt x n) (λ low. low) (λ high.
-          let one : hit (x == x) ≡ 1 = ap hit (itself x) in
+          let one = hit_same x x refl in
           let no = none x (omega arith) in let c = cons x in absurd (omega arith)),
       all_below n xs (λ k from. let no = none k from in let c = cons k in omega arith),
     )
@@ -152,7 +138,7 @@ above_none c k (e ∷ es) all low =
     let cons = sum_by-cons (λ x. hit (is_fork_of k x)) e es in let here = one e all.0 in omega arith
   where
     one : (e : Event) → IsForkAbove c e → hit (is_fork_of k e) ≡ 0
-    one (Fork child) above = ap hit (apart child k (λ e. absurd (omega arith)))
+    one (Fork child) above = hit_other child k (λ e. absurd (omega arith))
     one e above = refl
 
 edge_above : (first k x : ℕ) (callers : List (List Event)) → ForksAbove first callers → k ≤ first + x →
@@ -176,7 +162,7 @@ module _ (script : Script) (ok : WellFormed script) (f : Forest) (are : AreForke
       let i = incoming script.callers k f (0 ∷ []) are in
       let some = ok.callers.0 in
       let front = sum_by-cons (λ x. hit (x == k)) 0 [] in
-      let zero_apart : hit (0 == k) ≡ 0 = ap hit (apart 0 k (λ e. absurd (omega arith))) in
+      let zero_apart = hit_other 0 k (λ e. absurd (omega arith)) in
       let never : times_forked script.callers k ≡ 0 = ok.forked k ∙ beyond k from in
       let out = sum_zero (edges script.callers k) all
       (λ x. let m = edge_most k x script.callers in omega arith) in omega arith
@@ -216,7 +202,7 @@ module _ (script : Script) (ok : WellFormed script) (f : Forest) (are : AreForke
       child some =
           let i = incoming script.callers k f (0 ∷ []) are in
           let front = sum_by-cons (λ x. hit (x == k)) 0 [] in
-          let none : hit (0 == k) ≡ 0 = ap hit (apart 0 k (λ e. some (sym e))) in
+          let none = hit_other 0 k (λ e. some (sym e)) in
           let weighed = sum_weighed (edges script.callers k) n all below in
           let terms = sum_range (λ i. times_in i all * edges script.callers k i) (edges script.callers k) 0 n
           (λ i small. term i (omega arith)) in

@@ -1,8 +1,8 @@
 -- Who forked a caller of a well-formed script, and where.
-use Rattle.std.proofs.Common.{◌≡◌, inl, inr, ℕ, suc, ◌+◌, ◌≤◌, Bool, true, false, cond, Some, None, List, [], ◌∷◌, ◌++◌, refl, sym, ap, ◌∙◌, subst, arith}
+use Rattle.std.proofs.Common.{◌≡◌, inl, inr, ℕ, suc, ◌+◌, ◌≤◌, Bool, true, false, Some, None, List, [], ◌∷◌, ◌++◌, refl, sym, ap, ◌∙◌, subst, arith}
 use Rattle.std.specs.Prelude.{count_by, ◌==◌, if◌then◌else◌}
 use Rattle.std.specs.List.{AllByRecursion, sum_by}
-use Rattle.std.proofs.lemmas.Bool.Decides.{nat_tests}
+use Rattle.std.proofs.lemmas.Bool.{eq-eqb}
 use Rattle.std.proofs.lemmas.List.Sums.{sum_by-cons}
 use Rattle.key_names.specs.declared.events.Event.{Event}
 use Rattle.key_names.specs.declared.events.Event.TheVariants.{Fork, Vread, Inside}
@@ -13,9 +13,7 @@ use Rattle.key_names.specs.IsTranscript.{EachCaller, LinesFit}
 use Rattle.caller_run.specs.Laws.{Run, HasRun, IsOneOf, lines_of_all}
 use Rattle.caller_run.specs.Standing.{Start, Forked}
 use Rattle.caller_run.proofs.Orders.CallLists.{Kept, Keeps, kept}
-
-abbrev hit : Bool → ℕ
-hit b = cond b 1 0
+use Rattle.caller_run.proofs.Planning.Sums.{hit, hit_same}
 
 -- how many of some calls fork this number
 abbrev pub forks_in : ℕ → List Call → ℕ
@@ -64,9 +62,6 @@ none_found c (alone (Fork child) line ∷ calls) none = go (child == c) none (λ
     go false none rest = ap (with_call_before (alone (Fork child) line)) (rest (omega arith))
 none_found c (call ∷ calls) none = ap (with_call_before call) (none_found c calls none)
 
-itself : (c : ℕ) → (c == c) ≡ true
-itself c = grind (arith, nat_tests)
-
 -- the first call that forks it is found
 pub found : (c : ℕ) (before : List Call) (line : SeenLine) (after : List Call) → forks_in c before ≡ 0 →
     fork_point c (before ++ alone (Fork c) line ∷ after) ≡ Some (record { before = before; line = line })
@@ -74,7 +69,7 @@ found c [] line after none =
     let P : Bool → Type 0 = λ b.
     (if b then Some (record { before = []; line = line }) else with_call_before (alone (Fork c) line)
     (fork_point c after)) ≡ Some (record { before = []; line = line }) in
-    subst P (sym (itself c)) refl
+    subst P (sym (eq-eqb c c refl)) refl
 found c (alone (Fork child) l ∷ before) line after none =
     go (child == c) none (λ rest. found c before line after rest)
   where
@@ -102,7 +97,7 @@ forked_once : (c : ℕ) (calls : List Call) (fork : ForkPoint) → ForksAt c cal
     (1 ≤ forks_in c calls) × (forks_in c calls ≤ 1 → fork_point c calls ≡ Some fork)
 forked_once c calls fork f =
     let sum = ap (forks_in c) f.is ∙ forks_append c fork.before (alone (Fork c) fork.line ∷ f.after) in
-    let one : hit (c == c) ≡ 1 = ap hit (itself c) in (
+    let one = hit_same c c refl in (
       omega (arith, one),
       (λ most. ap (fork_point c) f.is ∙ found c fork.before fork.line f.after (omega (arith, one))),
     )

@@ -1,8 +1,8 @@
 -- The rooms of callers, made before a run, and emptied behind it.
-use Rattle.std.proofs.Common.{◌≡◌, ℕ, ◌+◌, ◌<◌, ◌≤◌, Bool, cond, Some, List, [], ◌∷◌, ◌++◌, map, length, refl, sym, ap, ◌∙◌, subst, arith, append_assoc, append-nil, length-append, take, drop}
+use Rattle.std.proofs.Common.{◌≡◌, ℕ, ◌+◌, ◌<◌, ◌≤◌, Some, List, [], ◌∷◌, ◌++◌, map, length, refl, sym, ap, ◌∙◌, subst, arith, append_assoc, append-nil, length-append, take, drop}
 use mathlib.Core.Logic.{dite}
 use native.Mathlib.Decide.{dec_lt}
-use Rattle.std.specs.Prelude.{slice_get, slice_set, count_by, ◌==◌, ◌&&◌, nat_lt, if◌then◌else◌}
+use Rattle.std.specs.Prelude.{slice_get, slice_set, count_by, ◌&&◌, nat_lt, if◌then◌else◌}
 use Rattle.std.specs.List.{AllByRecursion}
 use Rattle.std.proofs.lemmas.Bool.Decides.{nat_tests}
 use Rattle.std.proofs.lemmas.List.{length-set, map-set, length-map, drop_all, take_all}
@@ -12,6 +12,7 @@ use Rattle.key_names.specs.declared.events.Event.TheVariants.{Fork}
 use Rattle.key_names.specs.Book.{list_at}
 use Rattle.key_names.specs.Texts.ScriptGrammar.{Script, WellFormed, is_fork_of, IsForkAbove}
 use Rattle.key_names.specs.SeenLine.{SeenLine}
+use Rattle.key_names.proofs.Lists.ListFacts.{list_is}
 use Rattle.transcript_text.specs.Gathered.{Gathered}
 use Rattle.caller_run.specs.declared.rooms.Room.{Room}
 use Rattle.caller_run.specs.declared.rooms.Sheet.{Sheet}
@@ -21,9 +22,10 @@ use Rattle.caller_run.specs.Plans.{IsNewRoom, lines_in, put_in, HaveSlots}
 use Rattle.caller_run.specs.Plots.{plot, plot_by}
 use Rattle.caller_run.specs.Ways.{IsNewSheet, ArePrepared}
 use Rattle.caller_run.proofs.Planning.Groves.{grove_pushed}
-use Rattle.caller_run.proofs.Planning.OnceEach.{itself, edge_most}
+use Rattle.caller_run.proofs.Planning.OnceEach.{edge_most}
+use Rattle.caller_run.proofs.Planning.Sums.{hit, hit_same}
 use Rattle.caller_run.proofs.Planning.Slots.{put_long, put_append}
-use Rattle.caller_run.proofs.Forks.WentOn.{list_number, above_number, few_events}
+use Rattle.caller_run.proofs.Forks.WentOn.{above_number, few_events}
 
 -- of a caller's events these are left, and the rooms of those that the others fork are there
 pub record PreparedSoFar (callers : List (List Event)) (c : ℕ) (rest : List Event) (g : Grove) : Type 0 where
@@ -44,7 +46,7 @@ pub prepared_none_yet : (callers : List (List Event)) (c : ℕ) (es : List Event
     slice_get callers c ≡ Some es → kids ≡ [] → PreparedSoFar callers c es (grove_of (map plot kids))
 prepared_none_yet callers c es kids there none = record {
   done = [];
-  all = list_number callers c es there ∙ sym (append-nil es);
+  all = list_is callers c es there ∙ sym (append-nil es);
   ready = subst (λ (l : List Room). ArePrepared callers (grove_of (map plot l)) []) (sym none) tt;
 }
 
@@ -85,13 +87,9 @@ each_mid : (P : Event → Type 0) (front : List Event) (e : Event) (back : List 
 each_mid P [] e back all = all.0
 each_mid P (x ∷ front) e back all = each_mid P front e back all.1
 
-abbrev hit : Bool → ℕ
-hit b = cond b 1 0
-
 one_there : (k : ℕ) (front back : List Event) → 1 ≤ count_by (is_fork_of k) (front ++ Fork k ∷ back)
 one_there k [] back =
-    let c = sum_by-cons (λ e. hit (is_fork_of k e)) (Fork k) back in let h : hit (k == k) ≡ 1 = ap hit (itself k) in
-    omega arith
+    let c = sum_by-cons (λ e. hit (is_fork_of k e)) (Fork k) back in let h = hit_same k k refl in omega arith
 one_there k (e ∷ front) back =
     let c = sum_by-cons (λ e. hit (is_fork_of k e)) e (front ++ Fork k ∷ back) in
     let rest = one_there k front back in omega arith
@@ -104,7 +102,7 @@ pub child_there : (script : Script) → WellFormed script → (c child : ℕ) (f
     slice_get script.callers c ≡ Some es → PreparedSoFar script.callers c rest g → rest ≡ front ++ Fork child ∷ [] →
     (c < child) × (child < length script.callers)
 child_there script ok c child front {es = es} there p is =
-    let listed = list_number script.callers c es there in
+    let listed = list_is script.callers c es there in
     let all = all_of script.callers c p front (Fork child) is in
     let above = each_mid (IsForkAbove (c + 0)) front (Fork child) p.done
     (subst (AllByRecursion (IsForkAbove (c + 0))) (sym listed ∙ all) (above_number 0 script.callers c es there ok.above)) in
@@ -132,7 +130,7 @@ prepared callers c es sheet kids a there low new p is =
     subst (IsNewRoom callers c) (sym is) (record {
       is = refl;
       there = low;
-      new = subst (IsNewSheet sheet) (sym (list_number callers c es there)) new;
+      new = subst (IsNewSheet sheet) (sym (list_is callers c es there)) new;
       ready = subst (λ (l : List Event). ArePrepared callers (grove_of (map plot kids)) (forks l)) (sym p.all) p.ready;
     })
 

@@ -1,38 +1,19 @@
 -- Lines in the slots of their callers.
-use Rattle.std.proofs.Common.{◌≡◌, inl, inr, ℕ, zero, suc, ◌+◌, ◌<◌, ◌≤◌, Bool, true, cond, Some, List, [], ◌∷◌, ◌++◌, map, length, refl, ap, ◌∙◌, arith}
-use Rattle.std.specs.Prelude.{slice_get, slice_set, ◌==◌}
+use Rattle.std.proofs.Common.{◌≡◌, inl, inr, ℕ, zero, suc, ◌+◌, ◌<◌, ◌≤◌, Some, List, [], ◌∷◌, ◌++◌, map, length, refl, ap, ◌∙◌, arith}
+use Rattle.std.specs.Prelude.{slice_get, slice_set}
 use Rattle.std.specs.List.{AllByRecursion}
-use Rattle.std.proofs.lemmas.Bool.Decides.{nat_tests}
 use Rattle.std.proofs.lemmas.List.{length-set}
-use Rattle.std.proofs.lemmas.List.Sums.{sum_by-cons}
 use Rattle.key_names.specs.declared.events.Event.{Event}
 use Rattle.key_names.specs.IsTranscript.{LinesFit}
 use Rattle.key_names.specs.SeenLine.{SeenLine}
 use Rattle.key_names.specs.Texts.TranscriptGrammar.{LastHasLines}
+use Rattle.key_names.proofs.Transcripts.TranscriptStates.{set_here, set_other}
 use Rattle.caller_run.specs.Laws.{Run, IsOneOf, lines_of_all}
 use Rattle.caller_run.specs.Plans.{put_in, HaveSlots}
 use Rattle.caller_run.specs.Ways.{numbered}
-use Rattle.caller_run.proofs.Orders.InOrder.{number, numbers_of, AllOnce, first_once, rest_once, one_of, in_order}
+use Rattle.caller_run.proofs.Orders.InOrder.{number, numbers_of, cons_times, AllOnce, first_once, rest_once, one_of, in_order}
 use Rattle.caller_run.proofs.Planning.OnceEach.{times_in}
-
-abbrev hit : Bool → ℕ
-hit b = cond b 1 0
-
-eq_true : (c : ℕ) → (c == c) ≡ true
-eq_true c = grind (arith, nat_tests)
-
-get_same : (t : List (List SeenLine)) (i : ℕ) (l : List SeenLine) → i < length t → slice_get (slice_set t i l) i ≡ Some l
-get_same [] i l low = absurd (omega arith)
-get_same (x ∷ t) zero l low = refl
-get_same (x ∷ t) (suc i) l low = get_same t i l (omega arith)
-
-get_other : (t : List (List SeenLine)) (i j : ℕ) (l : List SeenLine) → (i ≡ j → ⊥) →
-    slice_get (slice_set t i l) j ≡ slice_get t j
-get_other [] i j l ne = refl
-get_other (x ∷ t) zero zero l ne = absurd (ne refl)
-get_other (x ∷ t) zero (suc j) l ne = refl
-get_other (x ∷ t) (suc i) zero l ne = refl
-get_other (x ∷ t) (suc i) (suc j) l ne = get_other t i j l (λ e. ne (ap suc e))
+use Rattle.caller_run.proofs.Planning.Sums.{hit_same}
 
 pub put_long : (t : List (List SeenLine)) (told : List (ℕ × List SeenLine)) → length (put_in t told) ≡ length t
 put_long t [] = refl
@@ -43,17 +24,10 @@ pub put_append : (t : List (List SeenLine)) (xs ys : List (ℕ × List SeenLine)
 put_append t [] ys = refl
 put_append t (x ∷ xs) ys = put_append (slice_set t x.0 x.1) xs ys
 
-cons_times : (k : ℕ) (r : Run) (rs : List Run) →
-    times_in k (numbers_of (r ∷ rs)) ≡ hit (number r == k) + times_in k (numbers_of rs)
-cons_times k r rs = sum_by-cons (λ x. hit (x == k)) (number r) (numbers_of rs)
-
-hit_own : (k : ℕ) (r : Run) → number r ≡ k → hit (number r == k) ≡ 1
-hit_own k r own = ap hit (ap (λ (n : ℕ). n == k) own ∙ eq_true k)
-
 there_times : (k : ℕ) (rs : List Run) (r : Run) → IsOneOf r rs → number r ≡ k → 1 ≤ times_in k (numbers_of rs)
 there_times k [] r here own = absurd here
 there_times k (q ∷ rs) r (inl same) own =
-    let c = cons_times k q rs in let h = hit_own k q (ap number same ∙ own) in omega arith
+    let c = cons_times k q rs in let h = hit_same (number q) k (ap number same ∙ own) in omega arith
 there_times k (q ∷ rs) r (inr more) own =
     let c = cons_times k q rs in let rest = there_times k rs r more own in omega arith
 
@@ -64,16 +38,16 @@ left_so k t [] none = refl
 left_so k t (r ∷ rs) none =
     let c = cons_times k r rs in
     left_so k (slice_set t (number r) r.lines) rs (omega arith)
-    ∙ get_other t (number r) k r.lines (λ e. let h = hit_own k r e in absurd (omega arith))
+    ∙ set_other t (number r) k r.lines (λ e. let h = hit_same (number r) k e in absurd (omega arith))
 
 -- and one of which one tells has its lines
 put_so : (k : ℕ) (t : List (List SeenLine)) (runs : List Run) → k < length t → times_in k (numbers_of runs) ≡ 1 →
     (r : Run) → IsOneOf r runs → number r ≡ k → slice_get (put_in t (map numbered runs)) k ≡ Some r.lines
 put_so k t [] low one r here own = absurd here
 put_so k t (q ∷ rs) low one r (inl same) own =
-    let c = cons_times k q rs in let at : number q ≡ k = ap number same ∙ own in let h = hit_own k q at in
+    let c = cons_times k q rs in let at : number q ≡ k = ap number same ∙ own in let h = hit_same (number q) k at in
     left_so k (slice_set t (number q) q.lines) rs (omega arith)
-    ∙ ap (λ (n : ℕ). slice_get (slice_set t n q.lines) k) at ∙ get_same t k q.lines low
+    ∙ ap (λ (n : ℕ). slice_get (slice_set t n q.lines) k) at ∙ set_here t k q.lines low
     ∙ ap (λ (s : Run). Some s.lines) same
 put_so k t (q ∷ rs) low one r (inr more) own =
     let c = cons_times k q rs in let some = there_times k rs r more own in

@@ -1,11 +1,11 @@
 -- Sums over lists that are made of others.
-use Rattle.std.proofs.Common.{◌≡◌, ℕ, zero, suc, ◌+◌, ◌<◌, ◌≤◌, cond, List, [], ◌∷◌, length, refl, sym, ap, ◌∙◌, arith}
+use Rattle.std.proofs.Common.{◌≡◌, ℕ, zero, suc, ◌+◌, ◌<◌, ◌≤◌, Bool, cond, List, [], ◌∷◌, length, refl, ap, ◌∙◌, arith}
 use mathlib.Core.Logic.{dite}
 use native.Mathlib.Decide.{ℕ_discrete}
 use Rattle.std.specs.Prelude.{◌==◌}
 use Rattle.std.specs.List.{AllByRecursion, flat_map, sum_by, range_with_len}
 use Rattle.std.proofs.lemmas.List.Sums.{sum_by-cons, sum_by-append}
-use Rattle.std.proofs.lemmas.Bool.Decides.{nat_tests}
+use Rattle.std.proofs.lemmas.Bool.{eq-eqb, ne_eqb}
 use Rattle.key_names.proofs.Lists.Each.{each_append}
 
 pub sum_flat : {X Y : Type 0} (g : Y → ℕ) (f : X → List Y) (xs : List X) →
@@ -57,36 +57,37 @@ pub sum_none : {X : Type 0} (xs : List X) → sum_by (λ x. 0) xs ≡ 0
 sum_none [] = refl
 sum_none (x ∷ xs) = let rest = sum_none xs in let a = sum_by-cons (λ x. 0) x xs in omega arith
 
+-- what a test counts
+abbrev pub hit : Bool → ℕ
+hit b = cond b 1 0
+
+pub hit_same : (n i : ℕ) → n ≡ i → hit (n == i) ≡ 1
+hit_same n i same = ap hit (eq-eqb n i same)
+
+pub hit_other : (n i : ℕ) → (n ≡ i → ⊥) → hit (n == i) ≡ 0
+hit_other n i ne = ap hit (ne_eqb n i ne)
+
 -- a number stands once among those from first on, if it is one of them
 
-abbrev is : ℕ → ℕ → ℕ
-is n i = cond (n == i) 1 0
-
 abbrev times_in : ℕ → ℕ → ℕ → ℕ
-times_in n first count = sum_by (is n) (range_with_len first count)
+times_in n first count = sum_by (λ i. hit (n == i)) (range_with_len first count)
 
-one_more : (n first count : ℕ) → times_in n first (suc count) ≡ is n first + times_in n (first + 1) count
-one_more n first count = sum_by-cons (is n) first (range_with_len (first + 1) count)
-
-other : (n i : ℕ) → (n ≡ i → ⊥) → is n i ≡ 0
-other n i ne = grind (arith, nat_tests)
-
-itself : (n : ℕ) → is n n ≡ 1
-itself n = grind (arith, nat_tests)
+one_more : (n first count : ℕ) → times_in n first (suc count) ≡ hit (n == first) + times_in n (first + 1) count
+one_more n first count = sum_by-cons (λ i. hit (n == i)) first (range_with_len (first + 1) count)
 
 none_below : (n first count : ℕ) → n < first → times_in n first count ≡ 0
 none_below n first zero below = refl
 none_below n first (suc count) below =
-    one_more n first count ∙ (λ i. other n first (λ e. omega arith) i + none_below n (first + 1) count (omega arith) i)
+    one_more n first count ∙ (λ i. hit_other n first (λ e. omega arith) i + none_below n (first + 1) count (omega arith) i)
 
 pub once_in_range : (n first count : ℕ) → first ≤ n → n < first + count → times_in n first count ≡ 1
 once_in_range n first zero from below = absurd (omega arith)
 once_in_range n first (suc count) from below =
     one_more n first count
     ∙ dite (ℕ_discrete n first)
-    (λ same. (let here : is n first ≡ 1 = ap (is n) (sym same) ∙ itself n in
+    (λ same. (let here = hit_same n first same in
     let rest : times_in n (first + 1) count ≡ 0 = none_below n (first + 1) count (omega arith) in omega arith))
-    (λ ne. (let here : is n first ≡ 0 = other n first ne in
+    (λ ne. (let here = hit_other n first ne in
     let from' : first + 1 ≤ n = ne_above n first from ne in
     let rest : times_in n (first + 1) count ≡ 1 = once_in_range n (first + 1) count from' (omega arith) in omega arith))
   where

@@ -10,14 +10,8 @@ use Rattle.caller_run.proofs.Planning.Planned.{slots_back}
 use Rattle.caller_run.proofs.run.run_plan.Goals as goal
 
 pub run_family-pass-requires : goal.run_family-pass-requires
-run_family-pass-requires g c = rw c.first.ensures (
-  search rules,
-  (
-    search rules,
-    can_all c.args.shared.now.lanes.now c.args.shared.now.script.now c.args.pass (plot c.args.plan.root) c.args.plan.slots.items
-        c.requires.has c.requires.well c.requires.cpus c.requires.plan,
-  ),
-)
+run_family-pass-requires g c = let r = c.requires in
+    rw c.first.ensures (search rules, (search rules, can_all r.has r.well r.cpus r.plan))
 
 pub settle-requires-clause-idle : goal.settle-requires-clause-idle
 settle-requires-clause-idle g c =
@@ -26,34 +20,26 @@ settle-requires-clause-idle g c =
 
 pub gather-requires : goal.gather-requires
 gather-requires g c =
-    let a = c.args in let r = c.requires in let back = rw c.first.ensures at c.run_family-pass.ensures in
-    slots_there a.shared.now.lanes.now a.shared.now.script.now a.pass (plot a.plan.root) c.run_family-pass.result.0
-    (plot c.run_family-pass.result.1)
-    (can_all a.shared.now.lanes.now a.shared.now.script.now a.pass (plot a.plan.root) a.plan.slots.items r.has r.well r.cpus r.plan)
-    back (length c.deref_mut.result.now) (ap length c.deref_mut.ensures.value ∙ r.plan.slots')
+    let r = c.requires in let back = rw c.first.ensures at c.run_family-pass.ensures in
+    slots_there (can_all r.has r.well r.cpus r.plan) back (length c.deref_mut.result.now)
+    (ap length c.deref_mut.ensures.value ∙ r.plan.slots')
 
 pub of-requires-clause-last : goal.of-requires-clause-last
 of-requires-clause-last g c =
-    let a = c.args in let r = c.requires in let back = rw c.first.ensures at c.run_family-pass.ensures in
-    last_there a.shared.now.lanes.now a.shared.now.script.now a.pass (plot a.plan.root) c.run_family-pass.result.0
-    (plot c.run_family-pass.result.1)
-    (can_all a.shared.now.lanes.now a.shared.now.script.now a.pass (plot a.plan.root) a.plan.slots.items r.has r.well r.cpus r.plan)
-    back (lines_in a.plan.slots.items) _
-    (length-map a.plan.slots.items (λ (x : Gathered). x.lines) ∙ r.plan.slots')
-    (slots_back a.plan.slots.len a.plan.slots.items c.deref_mut.result.now c.gather.new.slots
-    (told_by (plot c.run_family-pass.result.1)) c.deref_mut.ensures.value (omega (arith, a.plan.slots.ok.0))
-    c.gather.ensures)
+    let slots = c.args.plan.slots in let r = c.requires in
+    let back = rw c.first.ensures at c.run_family-pass.ensures in
+    last_there (can_all r.has r.well r.cpus r.plan) back (lines_in slots.items) _
+    (length-map slots.items (λ (x : Gathered). x.lines) ∙ r.plan.slots')
+    (slots_back slots.len slots.items c.deref_mut.result.now c.gather.new.slots
+    (told_by (plot c.run_family-pass.result.1)) c.deref_mut.ensures.value (omega (arith, slots.ok.0)) c.gather.ensures)
 
 pub returns-clause-whole : goal.returns-clause-whole
 returns-clause-whole g c =
-    let a = c.args in let r = c.requires in let back = rw c.first.ensures at c.run_family-pass.ensures in
-    whole_ran a.shared.now.lanes.now a.shared.now.script.now a.pass (plot a.plan.root) c.run_family-pass.result.0
-    (plot c.run_family-pass.result.1)
-    (can_all a.shared.now.lanes.now a.shared.now.script.now a.pass (plot a.plan.root) a.plan.slots.items r.has r.well r.cpus r.plan)
-    back (lines_in a.plan.slots.items) c.of.result
-    (length-map a.plan.slots.items (λ (x : Gathered). x.lines) ∙ r.plan.slots')
+    let slots = c.args.plan.slots in let r = c.requires in
+    let back = rw c.first.ensures at c.run_family-pass.ensures in
+    whole_ran (can_all r.has r.well r.cpus r.plan) back (lines_in slots.items) c.of.result
+    (length-map slots.items (λ (x : Gathered). x.lines) ∙ r.plan.slots')
     (c.of.ensures.lines
-    ∙ slots_back a.plan.slots.len a.plan.slots.items c.deref_mut.result.now c.gather.new.slots
-    (told_by (plot c.run_family-pass.result.1)) c.deref_mut.ensures.value (omega (arith, a.plan.slots.ok.0))
-    c.gather.ensures)
+    ∙ slots_back slots.len slots.items c.deref_mut.result.now c.gather.new.slots
+    (told_by (plot c.run_family-pass.result.1)) c.deref_mut.ensures.value (omega (arith, slots.ok.0)) c.gather.ensures)
     c.settle.new.pass c.settle.ensures.same c.settle.ensures.ended

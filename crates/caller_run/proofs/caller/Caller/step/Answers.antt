@@ -2,12 +2,13 @@ use Rattle.std.proofs.Common.{◌≡◌, ℕ, length, refl}
 use Rattle.key_names.specs.declared.events.Event.{Event}
 use Rattle.key_names.specs.declared.events.Event.TheVariants.{Vread, Inside, Fork}
 use Rattle.key_names.specs.declared.events.InsideAct.{InsideAct}
+use Rattle.key_names.specs.declared.point.Point.{Point}
 use Rattle.caller_run.specs.Kinds.{ForksNobody, IsCall}
 use Rattle.caller_run.proofs.caller.Caller.step.Goals as goal
 
 -- what is no vread, no act and no fork is a call by itself
 is_call : (event : Event) → ForksNobody event → ((len flags : ℕ) → event ≡ Vread len flags → ⊥) →
-    ((point : ℕ) (act : InsideAct) → event ≡ Inside point act → ⊥) → IsCall event
+    ((point : Point) (act : InsideAct) → event ≡ Inside point act → ⊥) → IsCall event
 is_call (Vread len flags) plain no_vread no_act = no_vread len flags refl
 is_call (Inside point act) plain no_vread no_act = no_act point act refl
 is_call (Fork child) plain no_vread no_act = plain

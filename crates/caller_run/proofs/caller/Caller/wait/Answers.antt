@@ -1,5 +1,4 @@
-use Rattle.std.proofs.Common.{ℕ, ◌∷◌, ◌++◌, [], length, sym, ap, ◌∙◌, arith}
-use Rattle.key_names.specs.declared.events.Event.TheVariants.{Inside}
+use Rattle.std.proofs.Common.{◌∷◌, ◌++◌, [], length, ap, ◌∙◌, arith}
 use Rattle.key_names.specs.declared.events.Word.TheVariants.{Inside as InsideWord}
 use Rattle.rng_core.specs.declared.vdso.acts.Bound.{Bound}
 use Rattle.caller_run.specs.Says.{line_of}
@@ -15,9 +14,9 @@ kept c =
     let set = c.args.self.now.set in
     let lines = c.args.log.now.lines.lines in
     record {
-      point = c.point_of.result;
+      point = c.args.point;
       act = c.args.act;
-      event_is = c.requires.is ∙ ap (λ (n : ℕ). Inside n c.args.act) (sym c.point_of.ensures);
+      event_is = c.requires.is;
       on = c.go_on.ensures;
       lines = c.tell.ensures.lines
           ∙ (λ i. lines ++ line_of set InsideWord [] (c.only-unused.ensures i) (c.empty.ensures i) ∷ []);
