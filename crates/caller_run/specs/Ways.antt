@@ -62,7 +62,7 @@ module _ (callers : List (List Event)) where
   -- a number that falls along the forks
   abbrev pub load : Grove → ℕ
   load cleared = 0
-  load (planted c s ks rest) = length (list_at callers c) + 5 + (load ks + load rest)
+  load (planted c s ks rest) = length (list_at callers c) + 4 + (load ks + load rest)
 
 -- the rooms of those that a caller on its way will fork
 abbrev pub kids_of : Way → Grove

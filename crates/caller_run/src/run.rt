@@ -73,7 +73,8 @@ fn run_family<R: Threads + Wait + Sync, G: Gate>(
     (at.pass, Room::with(caller, sheet, kids))
 }
 
-// Runs a caller from where it is to its end, with all that it forks.
+// Runs a caller from where it is to its end, with all that it forks. It is one function, since forks nest: each part of
+// it would hold another `Way` on the stack.
 #[cycle(callers)]
 fn run_from<R: Threads + Wait + Sync, G: Gate>(
     shared: &Shared<'_, R, G>,
@@ -83,39 +84,15 @@ fn run_from<R: Threads + Wait + Sync, G: Gate>(
     requires { CanAdvanceOn shared.now.lanes.now shared.now.script.now events.now way }
     ensures { WentOn shared.now.lanes.now shared.now.script.now events.now way result }
 {
-    let (rt, lanes) = (shared.rt, shared.lanes);
+    let (rt, lanes, script) = (shared.rt, shared.lanes, shared.script);
+    let (gate, children) = (shared.gate, shared.children);
     let Some((child, rest)) = way.run_plain(shared, events) else {
         way.caller.finish(rt, lanes, &mut way.sheet.log);
         return way;
     };
     let mut trace = Trace::empty();
-    let forked = way.begin_fork(rt, lanes, &mut trace, child);
-    let (mut way, theirs, kid) = run_beside(shared, rest, way, trace, child, forked);
-    lanes.join(&mut way.caller.pass, theirs);
-    way.kids.push_reserved(kid);
-    way
-}
-
-// Runs a child that was forked just now, and its parent from there on, each to its end. It has no frame of its own, since
-// callers that run in their parents' threads nest.
-#[cycle(callers)]
-#[inline(always)]
-fn run_beside<R: Threads + Wait + Sync, G: Gate>(
-    shared: &Shared<'_, R, G>,
-    rest: &[Event],
-    mut way: Way,
-    mut trace: Trace,
-    child: u32,
-    forked: (Pass, Room),
-) -> (Way, Pass, Room)
-    requires { CanPart shared.now.lanes.now shared.now.script.now child rest.now way trace forked.0 (plot forked.1) }
-    ensures { WentBeside shared.now.lanes.now shared.now.script.now child rest.now way trace forked.0 (plot forked.1)
-        result.0 result.1 (plot result.2) }
-{
-    let (theirs, kid) = forked;
-    let (rt, lanes, script) = (shared.rt, shared.lanes, shared.script);
-    let (gate, children) = (shared.gate, shared.children);
-    thread::scope(
+    let (theirs, kid) = way.begin_fork(rt, lanes, &mut trace, child);
+    let (mut way, theirs, kid) = thread::scope(
         thread::scope_env(),
         rt,
         move |scope| -> (Way, Pass, Room)
@@ -182,7 +159,10 @@ fn run_beside<R: Threads + Wait + Sync, G: Gate>(
                 }
             }
         },
-    )
+    );
+    lanes.join(&mut way.caller.pass, theirs);
+    way.kids.push_reserved(kid);
+    way
 }
 
 /// Runs all callers of a script, and gathers their lines. It takes no memory beyond the plan's, but for threads.

@@ -6,20 +6,20 @@ use Rattle.lane_table.proofs.Calls.HandLemmas.{idle_of}
 use Rattle.rng_core.specs.Traces.{moment}
 use Rattle.caller_run.specs.Grove.{Plot, grove_of}
 use Rattle.caller_run.specs.Plots.{plot, plot_by}
-use Rattle.caller_run.specs.Ways.{load, kids_of, SameKids}
+use Rattle.caller_run.specs.Ways.{load, kids_of, SameKids, WentBeside}
 use Rattle.caller_run.proofs.Forks.WentOn.{can_still, here_floor, here_fits, can_on, thread_took, here_took, past, went_end, went_fork, can_start, returned}
 use Rattle.caller_run.proofs.run.+callers.Goals as goal
 
--- ---- a child beside its parent
+-- ---- in the scope
 
-pub run_beside-scope-run_from-way-requires-after_bounds : goal.run_beside-scope-run_from-way-requires-after_bounds
-run_beside-scope-run_from-way-requires-after_bounds g t c κs within =
+pub run_from-scope-run_from-way-requires-after_bounds : goal.run_from-scope-run_from-way-requires-after_bounds
+run_from-scope-run_from-way-requires-after_bounds g t c κs within =
     let k = c.captures in
     can_on k.lanes.now k.script.now k.child k.rest.now k.way c.tell_fork.new.self k.trace c.requires.1.parent_can
     c.tell_fork.ensures.kids (c.tell_fork.ensures.can k.lanes.now k.rest.now c.requires.1.parent_can.can)
 
-pub run_beside-scope-tell_fork-requires-in-Err : goal.run_beside-scope-tell_fork-requires-in-Err
-run_beside-scope-tell_fork-requires-in-Err g t c =
+pub run_from-scope-tell_fork-requires-in-Err : goal.run_from-scope-tell_fork-requires-in-Err
+run_from-scope-tell_fork-requires-in-Err g t c =
     let k = c.captures in let w = k.way.caller in let here = c.run_here-theirs in
     record {
       can = (
@@ -33,8 +33,8 @@ run_beside-scope-tell_fork-requires-in-Err g t c =
           c.requires.1.parent_can.fits;
     }
 
-pub run_beside-scope-run_from-way-requires-in-Err-after_bounds : goal.run_beside-scope-run_from-way-requires-in-Err-after_bounds
-run_beside-scope-run_from-way-requires-in-Err-after_bounds g t c κs within =
+pub run_from-scope-run_from-way-requires-in-Err-after_bounds : goal.run_from-scope-run_from-way-requires-in-Err-after_bounds
+run_from-scope-run_from-way-requires-in-Err-after_bounds g t c κs within =
     let k = c.captures in let w = k.way.caller in let here = c.run_here-theirs in
     can_on k.lanes.now k.script.now k.child k.rest.now k.way c.tell_fork-in-Err.new.self k.trace c.requires.1.parent_can
     c.tell_fork-in-Err.ensures.kids
@@ -43,8 +43,8 @@ run_beside-scope-run_from-way-requires-in-Err-after_bounds g t c κs within =
     (here_floor w.set (moment w.pass k.trace) (moment here.new.pass here.new.trace) here.ensures.here)
     c.requires.1.parent_can.can))
 
-pub run_beside-scope-returns-in-Ok : goal.run_beside-scope-returns-in-Ok
-run_beside-scope-returns-in-Ok g t c =
+pub run_from-scope-returns-in-Ok : goal.run_from-scope-returns-in-Ok
+run_from-scope-returns-in-Ok g t c =
     let k = c.captures in let on = c.run_from-way.ensures in
     record {
       has = on.has;
@@ -58,8 +58,8 @@ run_beside-scope-returns-in-Ok g t c =
           (thread_took m k.way.caller k.trace k.child k.theirs at) low above gone;
     }
 
-pub run_beside-scope-returns-in-Err : goal.run_beside-scope-returns-in-Err
-run_beside-scope-returns-in-Err g t c =
+pub run_from-scope-returns-in-Err : goal.run_from-scope-returns-in-Err
+run_from-scope-returns-in-Err g t c =
     let k = c.captures in let on = c.run_from-way-in-Err.ensures in
     let q = c.run_here-theirs.new.pass in let after = c.run_here-theirs.new.trace in
     record {
@@ -126,13 +126,16 @@ run_from-returns-in_default g t c =
 
 pub run_from-join-requires-clause-idle : goal.run_from-join-requires-clause-idle
 run_from-join-requires-clause-idle g t c =
-    let theirs = c.run_beside-way.ensures.of_child.has in
-    (idle_of c.args.shared.now.lanes.now c.in-Some.child c.run_beside-way.result.1 theirs, theirs.out)
+    let r = c.scoped-way.result in let f = c.begin_fork-theirs in
+    let beside : WentBeside c.args.shared.now.lanes.now c.args.shared.now.script.now c.in-Some.child c.in-Some.rest.now f.new.self f.new.trace
+    f.result.0 (plot f.result.1) r.0 r.1 (plot r.2) = search rules in
+    (idle_of c.args.shared.now.lanes.now c.in-Some.child r.1 beside.of_child.has, beside.of_child.has.out)
 
 pub run_from-returns : goal.run_from-returns
 run_from-returns g t c =
-    let f = c.begin_fork-forked in
-    went_fork c.args.shared.now.lanes.now c.args.shared.now.script.now c.in-Some.child f.result.1 c.run_beside-way.result.2 _
-    c.in-Some.ensures f.ensures.at f.ensures.sheet f.ensures.tree f.ensures.space c.run_beside-way.ensures refl refl
-    c.join.ensures.pass c.join.ensures.both c.push_reserved.ensures.items c.push_reserved.ensures.len
-    c.push_reserved.ensures.capacity
+    let r = c.scoped-way.result in let f = c.begin_fork-theirs in
+    let beside : WentBeside c.args.shared.now.lanes.now c.args.shared.now.script.now c.in-Some.child c.in-Some.rest.now f.new.self f.new.trace
+    f.result.0 (plot f.result.1) r.0 r.1 (plot r.2) = search rules in
+    went_fork c.args.shared.now.lanes.now c.args.shared.now.script.now c.in-Some.child f.result.1 r.2 _ c.in-Some.ensures f.ensures.at
+    f.ensures.sheet f.ensures.tree f.ensures.space beside refl refl c.join.ensures.pass c.join.ensures.both
+    c.push_reserved.ensures.items c.push_reserved.ensures.len c.push_reserved.ensures.capacity

@@ -4,11 +4,11 @@ use Rattle.caller_run.specs.Plots.{plot}
 use Rattle.caller_run.specs.Ways.{load, kids_of}
 use Rattle.caller_run.proofs.run.+callers.Given as goal
 
-abbrev pub decreases-run_beside-scope-start : goal.decreases-run_beside-scope-start
-decreases-run_beside-scope-start g l = length (list_at l.script.now.callers (plot l.kid).caller) + load l.script.now.callers (plot l.kid).kids + 3
+abbrev pub decreases-run_from-scope-start : goal.decreases-run_from-scope-start
+decreases-run_from-scope-start g l = length (list_at l.script.now.callers (plot l.kid).caller) + load l.script.now.callers (plot l.kid).kids + 3
 
-abbrev pub decreases-run_beside-scope : goal.decreases-run_beside-scope
-decreases-run_beside-scope g l = length l.rest.now + load l.script.now.callers (kids_of l.way)
+abbrev pub decreases-run_from-scope : goal.decreases-run_from-scope
+decreases-run_from-scope g l = length l.rest.now + load l.script.now.callers (kids_of l.way)
     + (length (list_at l.script.now.callers (plot l.kid).caller) + load l.script.now.callers (plot l.kid).kids + 4)
 
 abbrev pub decreases-run_family : goal.decreases-run_family
@@ -16,7 +16,3 @@ decreases-run_family g l = length (list_at l.shared.now.script.now.callers (plot
 
 abbrev pub decreases-run_from : goal.decreases-run_from
 decreases-run_from g l = length l.events.now + load l.shared.now.script.now.callers (kids_of l.way)
-
-abbrev pub decreases-run_beside : goal.decreases-run_beside
-decreases-run_beside g l = length l.rest.now + load l.shared.now.script.now.callers (kids_of l.way)
-    + (length (list_at l.shared.now.script.now.callers (plot l.forked.1).caller) + load l.shared.now.script.now.callers (plot l.forked.1).kids + 5)
