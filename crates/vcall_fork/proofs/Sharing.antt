@@ -1,7 +1,6 @@
 -- Two callers' states share no byte of a key.
-use Rattle.std.proofs.Common.{◌≡◌, ◌≢◌, ℕ, ◌+◌, ◌≤◌, Bool, true, false, List, [], ◌∷◌, refl, inl, inr, ◌∙◌, sym, arith}
+use Rattle.std.proofs.Common.{◌≡◌, ◌≢◌, ℕ, ◌+◌, ◌≤◌, Bool, true, false, List, [], ◌∷◌, refl, ◌∙◌, sym, arith, eqb-true}
 use Rattle.std.specs.Prelude.{◌==◌, ◌&&◌}
-use Rattle.std.proofs.lemmas.Bool.Decides.{eqb_tells}
 use Rattle.key_names.specs.PrintedBytes.{Origin, at_lane, at_state, origin_uses, origins_uses}
 use Rattle.key_names.proofs.Values.PrintedOnce.{times, once_disjoint}
 use Rattle.key_names.proofs.Transcripts.TakenMarks.{hit}
@@ -18,18 +17,12 @@ one_of_two true true x y apart = absurd (apart refl refl)
 one_of_two true false x y apart = let k = hit_below x in omega arith
 one_of_two false b x y apart = let k = hit_below (b && y) in omega arith
 
-equal_by : (a b : ℕ) → (a == b) ≡ true → a ≡ b
-equal_by a b h = elim (eqb_tells a b) [
-  | inl same ↦ same.1
-  | inr differs ↦ (let no : true ≡ false = sym h ∙ differs.0 in absurd (cc no))
-]
-
 at_most_once : (parent child s t i j : ℕ) → parent ≢ child → (o : Origin) →
     times o (at_state parent s i ∷ at_state child t j ∷ []) ≤ 1
 at_most_once parent child s t i j other (at_lane lane place) = omega arith
 at_most_once parent child s t i j other (at_state c k m) =
     one_of_two (parent == c) (child == c) (s == k && i == m) (t == k && j == m)
-    (λ a b. other (equal_by parent c a ∙ sym (equal_by child c b)))
+    (λ a b. other (eqb-true parent c a ∙ sym (eqb-true child c b)))
 
 pub forks_share_nothing : ForksShareNothing
 forks_share_nothing lists lawful parent child s t i j other key q first second =
