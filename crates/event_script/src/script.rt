@@ -109,8 +109,8 @@ pub fn read(alloc: Global, text: &[u8]) -> Result<Script, ScriptError>
     ensures faulted { (fault : ScriptFault) → first_fault text.now ≡ Some fault → IsErr result }
 {
     let draft = read_draft(alloc, text)?;
-    let version = draft.version;
-    let cpus = draft.cpus;
+    let version = draft.head.version;
+    let cpus = draft.head.cpus;
     let callers = draft.into_blocks()?;
     Ok(Script {
         version,
