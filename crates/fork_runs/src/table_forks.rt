@@ -47,10 +47,7 @@ fn reseed_once<R: Wait>(rt: &R, caller: &Caller, pass: &mut Pass) -> bool
         trace: &mut trace,
         set: caller.set,
     };
-    match reseed(rt, &mut site) {
-        Ok(()) => true,
-        Err(_) => false,
-    }
+    reseed(rt, &mut site).is_ok()
 }
 
 // Runs a new call to a stop in its second attempt. The core is reseeded at the point Serve of the first one, so that

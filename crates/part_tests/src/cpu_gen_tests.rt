@@ -9,14 +9,6 @@ fn zero_cpu() -> Cpu {
 }
 
 #[test]
-fn starts_at_generation_zero(rt: HostRuntime) {
-    let mut cpu = Cpu::start();
-    assert_eq!(rt; cpu.generation(), 0);
-    assert!(rt; cpu.needs(1));
-    assert_eq!(rt; Some(&cpu.call_key()[..]), zero_stream(32, 64));
-}
-
-#[test]
 fn kernel_read_of_96_goes_on_in_the_next_block(rt: HostRuntime) {
     let mut cpu = zero_cpu();
     let mut bytes = [1; 96];
@@ -28,13 +20,6 @@ fn kernel_read_of_96_goes_on_in_the_next_block(rt: HostRuntime) {
 }
 
 #[test]
-fn kernel_read_of_nothing_keeps_the_key(rt: HostRuntime) {
-    let mut cpu = zero_cpu();
-    cpu.kernel_read(&mut []);
-    assert_eq!(rt; Some(&cpu.call_key()[..]), zero_stream(32, 64));
-}
-
-#[test]
 fn front_hands_out_the_second_half(rt: HostRuntime) {
     let mut cpu = zero_cpu();
     let mut out = [1; 32];
@@ -43,17 +28,6 @@ fn front_hands_out_the_second_half(rt: HostRuntime) {
     assert_eq!(rt; rest.key, [0; 32]);
     assert_eq!(rt; rest.next_block, 1);
     assert!(rt; cpu.call_key().starts_with(NEXT_CALL_KEY));
-}
-
-#[test]
-fn refill_replaces_key_and_generation(rt: HostRuntime) {
-    let mut cpu = zero_cpu();
-    cpu.call_key();
-    cpu.refill([0; 32], 7);
-    assert_eq!(rt; cpu.generation(), 7);
-    assert!(rt; !cpu.needs(7));
-    assert!(rt; cpu.needs(8));
-    assert_eq!(rt; Some(&cpu.call_key()[..]), zero_stream(32, 64));
 }
 
 #[test]

@@ -1,4 +1,4 @@
-use input_pool::{Crossing, Pool};
+use input_pool::Pool;
 
 // The roots of three extractions, by Python's hashlib: after "abc", then at once with other bytes of the hardware, then
 // after "more". The second and the third stand on the key that the one before left.
@@ -24,24 +24,4 @@ fn roots_of_three_extractions(rt: HostRuntime) {
     assert_eq!(rt; pool.extract(&counting), SECOND_ROOT);
     pool.mix(b"more");
     assert_eq!(rt; pool.extract(&[0; 32]), THIRD_ROOT);
-}
-
-#[test]
-fn credits_and_what_they_cross(rt: HostRuntime) {
-    let mut pool = Pool::start();
-    for (bits, crossing, after) in [
-        (127, Crossing::None, 127),
-        (1, Crossing::Early, 128),
-        (127, Crossing::None, 255),
-        (1, Crossing::Ready, 256),
-        (1, Crossing::None, 256),
-    ] {
-        assert_eq!(rt; pool.credit(bits), crossing, "{after} bits");
-        assert_eq!(rt; pool.bits(), after);
-    }
-
-    let mut pool = Pool::start();
-    assert_eq!(rt; pool.credit(100), Crossing::None);
-    assert_eq!(rt; pool.credit(u32::MAX), Crossing::Ready);
-    assert_eq!(rt; pool.bits(), 256);
 }

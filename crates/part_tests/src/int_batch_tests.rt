@@ -19,14 +19,6 @@ fn bytes_before<const W: usize>(batch: &mut Batch<W>, generation: u64) -> [u8; 9
     bytes
 }
 
-#[test]
-fn starts_used_up(rt: HostRuntime) {
-    let mut batch = Batch::<4>::start();
-    assert!(rt; batch.wants(0));
-    assert!(rt; batch.wants(1));
-    assert_eq!(rt; bytes_before(&mut batch, 1), [0; 96]);
-}
-
 // A fill has 96 / W integers, which are its bytes one after another.
 #[test]
 fn serves_each_byte_once(rt: HostRuntime) {
@@ -57,33 +49,4 @@ fn widths_share_out_96_bytes(rt: HostRuntime) {
         assert_eq!(rt; eights.next(3, count_bytes)[7], 8 * i + 7);
     }
     assert!(rt; bytes.wants(3) && pairs.wants(3) && eights.wants(3));
-}
-
-#[test]
-fn fills_where_the_generation_is_another(rt: HostRuntime) {
-    let mut batch = Batch::<4>::start();
-    assert_eq!(rt; batch.next(1, count_bytes), [0, 1, 2, 3]);
-    assert!(rt; !batch.wants(1));
-    assert_eq!(rt; batch.next(1, |bytes| *bytes = [9; 96]), [4, 5, 6, 7]);
-    assert!(rt; batch.wants(2));
-    assert_eq!(rt; batch.next(2, |bytes| *bytes = [9; 96]), [9; 4]);
-    assert!(rt; !batch.wants(2));
-}
-
-#[test]
-fn pieces_of_next(rt: HostRuntime) {
-    let mut batch = Batch::<2>::start();
-    batch.refill(&[5; 96], 1);
-    assert!(rt; !batch.wants(1));
-    assert_eq!(rt; batch.serve(), [5, 5]);
-    assert!(rt; bytes_before(&mut batch, 2).starts_with(&[0, 0, 5]));
-}
-
-#[test]
-fn dropped_rest_is_zeros(rt: HostRuntime) {
-    let mut batch = Batch::<4>::start();
-    batch.next(1, count_bytes);
-    batch.drop_rest();
-    assert!(rt; batch.wants(1));
-    assert_eq!(rt; bytes_before(&mut batch, 1), [0; 96]);
 }

@@ -1,4 +1,4 @@
-use sample_credit::{Dump, FastPool, InputTimer, input_number, input_sample};
+use sample_credit::{Dump, FastPool};
 
 // The words of one round of SipHash for each of two words under a zero key, by an implementation that was compared with
 // the SipHash-1-3 of CPython.
@@ -52,21 +52,4 @@ fn online_starts_the_count_again(rt: HostRuntime) {
     pool.online();
     assert!(rt; !pool.mix(1, 2, 0));
     assert_eq!(rt; pool.dump(0).bytes, AFTER_1024_MIXES);
-}
-
-#[test]
-fn bits_of_input_events(rt: HostRuntime) {
-    let mut timer = InputTimer::start();
-    for (value, now, bits) in [(1, 1000, 9), (2, 3000, 0), (3, 8000, 10)] {
-        assert!(rt; timer.fresh(value));
-        assert_eq!(rt; timer.bits(now), bits, "at {now}");
-    }
-    assert!(rt; !timer.fresh(3));
-}
-
-#[test]
-fn bytes_of_an_input_event(rt: HostRuntime) {
-    assert_eq!(rt; input_number(1, 30, 1), 14);
-    let sample = *b"\x08\x07\x06\x05\x04\x03\x02\x01\x0e\x00\x00\x00";
-    assert_eq!(rt; input_sample(0x0102_0304_0506_0708, 1, 30, 1), sample);
 }
