@@ -17,6 +17,7 @@ use Rattle.key_names.specs.Calls.{Call, Parent, parent_from}
 use Rattle.key_names.specs.History.{ancestors_steps, inherited_steps, orders_from, caller_orders, calls_steps, through_visit}
 use Rattle.key_names.specs.CallerOrders.{start_of}
 use Rattle.key_names.proofs.History.CallerOrders.{order_is_start_and_own, start_is_a_front}
+use Rattle.key_names.proofs.Lists.ListFacts.{take_drop, each_list, at_list}
 use Rattle.line_orders.specs.declared.called.Called.{Called}
 use Rattle.line_orders.specs.declared.order.Fork.{Fork}
 use Rattle.line_orders.specs.Called.{seen_call, seen_calls}
@@ -41,22 +42,6 @@ parent_forks c (first ∷ forks) fork is = by (first.child == c) refl (λ rest. 
     by false at rest =
         let here : front_in c forks ≡ Some fork = cc in
         ap (λ b. (first.parent == fork.parent) || b) (rest here) ∙ or-true (first.parent == fork.parent)
-
-take_drop : {X : Type 0} (n : ℕ) (xs : List X) → take n xs ++ drop n xs ≡ xs
-take_drop zero xs = refl
-take_drop (suc n) [] = refl
-take_drop (suc n) (x ∷ xs) = ap (λ ys. x ∷ ys) (take_drop n xs)
-
-each_list : {X : Type 0} (P : List X → Type 0) (xss : List (List X)) → ((c : ℕ) → c < length xss → P (list_at xss c)) →
-    AllByRecursion P xss
-each_list P [] all = tt
-each_list P (xs ∷ xss) all = (all 0 (omega arith), each_list P xss (λ c low. all (suc c) (omega arith)))
-
-at_list : {X : Type 0} (P : List X → Type 0) (xss : List (List X)) (c : ℕ) → c < length xss → AllByRecursion P xss →
-    P (list_at xss c)
-at_list P [] c low all = absurd (omega arith)
-at_list P (xs ∷ xss) zero low all = all.0
-at_list P (xs ∷ xss) (suc c) low all = at_list P xss c (omega arith) all.1
 
 orders_long : (ancestors : List (List Step)) (callers : List (List Call)) →
     length (orders_from ancestors callers) ≡ length callers

@@ -6,6 +6,7 @@ use Rattle.std.proofs.lemmas.List.{take_more, length-take-le, map-append, at_dro
 use Rattle.key_names.specs.declared.events.Event.{Event}
 use Rattle.key_names.specs.declared.events.Event.TheVariants.{Vread, Inside}
 use Rattle.key_names.specs.declared.events.InsideAct.{InsideAct}
+use Rattle.key_names.specs.declared.point.Point.{Point}
 use Rattle.key_names.specs.SeenLine.{SeenLine}
 use Rattle.key_names.specs.Calls.{Call, alone, vread_call, unbound, ending, BoundAct, has_vread, calls_from}
 use Rattle.line_orders.specs.declared.bare.BareLine.{BareLine}
@@ -68,7 +69,7 @@ module _ (es : List Event) (i : ℕ) (e : Event) (low : i < length es) (at : e �
 
 -- an event by itself
 pub alone_first : (w : List BoundAct) (e : Event) (es : List Event) (l : SeenLine) (ls : List SeenLine) →
-    ((n f : ℕ) → e ≡ Vread n f → ⊥) → ((p : ℕ) (a : InsideAct) → e ≡ Inside p a → ⊥) →
+    ((n f : ℕ) → e ≡ Vread n f → ⊥) → ((p : Point) (a : InsideAct) → e ≡ Inside p a → ⊥) →
     calls_from w (e ∷ es) (l ∷ ls) ≡ alone e l ∷ calls_from w es ls
 alone_first w (Vread n f) es l ls not_vread not_inside = absurd (not_vread n f refl)
 alone_first w (Inside p a) es l ls not_vread not_inside = absurd (not_inside p a refl)
@@ -105,17 +106,17 @@ module _ (events : List Event) (lines : List BareLine) (n : ℕ) (e : Event) (l 
   vread_next k f e_is call call_is = makes call []
       (ap (λ x. calls_from (map seen_act waiting) (x ∷ es) (seen_bare l ∷ ls)) e_is ∙ ap (λ x. x ∷ calls_from [] es ls) (sym call_is))
 
-  pub alone_next : ((k f : ℕ) → e ≡ Vread k f → ⊥) → ((p : ℕ) (a : InsideAct) → e ≡ Inside p a → ⊥) → (call : Called) →
+  pub alone_next : ((k f : ℕ) → e ≡ Vread k f → ⊥) → ((p : Point) (a : InsideAct) → e ≡ Inside p a → ⊥) → (call : Called) →
       seen_call call ≡ alone e (seen_bare l) →
       map seen_call (calls ++ call ∷ []) ++ calls_from (map seen_act waiting) es ls ≡ whole
   alone_next not_vread not_inside call call_is = makes call (map seen_act waiting)
       (alone_first (map seen_act waiting) e es (seen_bare l) ls not_vread not_inside
       ∙ ap (λ x. x ∷ calls_from (map seen_act waiting) es ls) (sym call_is))
 
-  abbrev bound_of : ℕ → InsideAct → BoundAct
+  abbrev bound_of : Point → InsideAct → BoundAct
   bound_of p a = record { point = p; act = a; line = seen_bare l }
 
-  pub unbound_next : (p : ℕ) (a : InsideAct) → e ≡ Inside p a → has_vread es ≡ false → (call : Called) →
+  pub unbound_next : (p : Point) (a : InsideAct) → e ≡ Inside p a → has_vread es ≡ false → (call : Called) →
       seen_call call ≡ unbound (record { point = p; act = a; line = seen_bare l }) →
       map seen_call (calls ++ call ∷ []) ++ calls_from (map seen_act waiting) es ls ≡ whole
   unbound_next p a e_is none call call_is = makes call (map seen_act waiting)
@@ -124,7 +125,7 @@ module _ (events : List Event) (lines : List BareLine) (n : ℕ) (e : Event) (l 
       else unbound (bound_of p a) ∷ calls_from (map seen_act waiting) es ls) none
       ∙ ap (λ x. x ∷ calls_from (map seen_act waiting) es ls) (sym call_is))
 
-  pub waits_next : (p : ℕ) (a : InsideAct) → e ≡ Inside p a → has_vread es ≡ true → (act : ActLine) →
+  pub waits_next : (p : Point) (a : InsideAct) → e ≡ Inside p a → has_vread es ≡ true → (act : ActLine) →
       seen_act act ≡ record { point = p; act = a; line = seen_bare l } →
       map seen_call calls ++ calls_from (map seen_act (waiting ++ act ∷ [])) es ls ≡ whole
   waits_next p a e_is some act act_is =

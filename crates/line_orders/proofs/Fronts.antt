@@ -2,6 +2,7 @@
 use Rattle.std.specs.Prelude.{slice_get}
 use Rattle.std.proofs.Common.{arith, Some, zero, suc, ◌≡◌, ℕ, ◌+◌, ◌<◌, ◌≤◌, List, [], ◌∷◌, ◌++◌, length, get_or, take, drop, map, refl, sym, ap, ◌∙◌, append_assoc}
 use Rattle.std.proofs.lemmas.List.{map-append, take_more, drop_more, at_drop_all, append-nil}
+use Rattle.key_names.proofs.Lists.ListFacts.{some_same}
 
 -- one more element on both sides
 pub map_more : {A B C : Type 0} (f : A → C) (g : B → C) (done : List A) (bs : List B) (i : ℕ) (a : A) (d : B) →
@@ -10,13 +11,6 @@ pub map_more : {A B C : Type 0} (f : A → C) (g : B → C) (done : List A) (bs 
 map_more f g done bs i a d e low same =
     map-append f done (a ∷ []) ∙ (λ j. e j ++ same j ∷ []) ∙ sym (map-append g (take i bs) (get_or bs i d ∷ []))
     ∙ ap (map g) (sym (take_more bs i d low))
-
-some_same : {X : Type 0} (x y : X) → Some x ≡ Some y → x ≡ y
-some_same x y e = cc
-
-pub map_twice : {A B C : Type 0} (f : B → C) (g : A → B) (xs : List A) → map (λ x. f (g x)) xs ≡ map f (map g xs)
-map_twice f g [] = refl
-map_twice f g (x ∷ xs) = ap (λ ys. f (g x) ∷ ys) (map_twice f g xs)
 
 pub dropped : {X : Type 0} (xs : List X) (i : ℕ) (x : X) → i < length xs → x ≡ get_or xs i x →
     drop i xs ≡ x ∷ drop (i + 1) xs

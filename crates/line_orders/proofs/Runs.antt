@@ -15,27 +15,12 @@ use Rattle.key_names.specs.IsTranscript.{is_same_lane, lane_marks, PlacesStand}
 use Rattle.key_names.specs.PlacesInOrder.{InOrder, ByStamp}
 use Rattle.key_names.proofs.Transcripts.PlacesInOrder.{places_count_up}
 use Rattle.key_names.proofs.Lists.Each.{each_weaker}
+use Rattle.key_names.proofs.Transcripts.LaneCounts.{same_lane, lane_itself}
 use Rattle.line_orders.specs.declared.marks.MarkOf.{MarkOf}
 use Rattle.line_orders.specs.Marks.{seen_mark, lane_rank, NotBehind, IsSortedByLane, Follows, RunsCount}
 
-same_lane : (a b : LaneId) → is_same_lane a b ≡ true → a ≡ b
-same_lane PoolLane PoolLane e = refl
-same_lane BaseLane BaseLane e = refl
-same_lane (CpuLane c) (CpuLane d) e = ap CpuLane (let s : (c == d) ≡ true = e in grind (arith, nat_tests))
-same_lane PoolLane BaseLane e = cc
-same_lane PoolLane (CpuLane d) e = cc
-same_lane BaseLane PoolLane e = cc
-same_lane BaseLane (CpuLane d) e = cc
-same_lane (CpuLane c) PoolLane e = cc
-same_lane (CpuLane c) BaseLane e = cc
-
-itself : (a : LaneId) → is_same_lane a a ≡ true
-itself PoolLane = refl
-itself BaseLane = refl
-itself (CpuLane c) = eq-eqb c c refl
-
 turned : (a b : LaneId) → is_same_lane a b ≡ true → is_same_lane b a ≡ true
-turned a b e = subst (λ x. is_same_lane x a ≡ true) (same_lane a b e) (itself a)
+turned a b e = subst (λ x. is_same_lane x a ≡ true) (same_lane a b e) (lane_itself a)
 
 rank_same : (a b : LaneId) → lane_rank a ≡ lane_rank b → is_same_lane a b ≡ true
 rank_same PoolLane PoolLane e = refl
@@ -135,7 +120,7 @@ record GoesOn (a : Mark) (marks : List MarkOf) : Type 0 where
 -- a first mark and those behind it
 first_of : (m : MarkOf) (marks : List MarkOf) (i : ℕ) → m.mark.place ≡ i → GoesOn m.mark marks →
     InOrder i (of_lane m.mark.lane (m ∷ marks))
-first_of m marks i here on = subst (InOrder i) (sym (taken m.mark.lane m marks (itself m.mark.lane)))
+first_of m marks i here on = subst (InOrder i) (sym (taken m.mark.lane m marks (lane_itself m.mark.lane)))
     (here, on.above, subst (λ j. InOrder (suc j) (of_lane m.mark.lane marks)) here on.run)
 
 of_first : (m : MarkOf) (marks : List MarkOf) (i : ℕ) → InOrder i (of_lane m.mark.lane (m ∷ marks)) →
@@ -144,7 +129,7 @@ of_first : (m : MarkOf) (marks : List MarkOf) (i : ℕ) → InOrder i (of_lane m
 of_first m marks i order =
     let h : (m.mark.place ≡ i) × AllByRecursion (λ n. m.mark.stamp < n.stamp) (of_lane m.mark.lane marks)
     × InOrder (suc i) (of_lane m.mark.lane marks) =
-    subst (InOrder i) (taken m.mark.lane m marks (itself m.mark.lane)) order in
+    subst (InOrder i) (taken m.mark.lane m marks (lane_itself m.mark.lane)) order in
     (h.0, h.1, subst (λ j. InOrder (suc j) (of_lane m.mark.lane marks)) (sym h.0) h.2)
 
 -- the marks of other lanes behind a first mark
@@ -172,7 +157,7 @@ module _ (a m : MarkOf) (marks : List MarkOf) (sorted : IsSortedByLane (a ∷ m 
           (first_of m marks (suc a.mark.place) next on);
       above = subst (λ l. AllByRecursion (λ n. a.mark.stamp < n.stamp) (of_lane l (m ∷ marks))) (sym one)
           (subst (λ (ms : List Mark). AllByRecursion (λ n. a.mark.stamp < n.stamp) ms)
-          (sym (taken m.mark.lane m marks (itself m.mark.lane))) (
+          (sym (taken m.mark.lane m marks (lane_itself m.mark.lane))) (
             up,
             each_weaker (λ (n : Mark). m.mark.stamp < n.stamp) (λ (n : Mark). a.mark.stamp < n.stamp)
                 (of_lane m.mark.lane marks) (λ n h. omega arith) on.above,
@@ -191,7 +176,7 @@ module _ (a m : MarkOf) (marks : List MarkOf) (sorted : IsSortedByLane (a ∷ m 
         (subst (λ l. InOrder (suc a.mark.place) (of_lane l (m ∷ marks))) one on.run) in
         let up : AllByRecursion (λ n. a.mark.stamp < n.stamp) (m.mark ∷ of_lane m.mark.lane marks) =
         subst (λ (ms : List Mark). AllByRecursion (λ n. a.mark.stamp < n.stamp) ms)
-        (taken m.mark.lane m marks (itself m.mark.lane))
+        (taken m.mark.lane m marks (lane_itself m.mark.lane))
         (subst (λ l. AllByRecursion (λ n. a.mark.stamp < n.stamp) (of_lane l (m ∷ marks))) one on.above) in (
           up.0,
           run.0,

@@ -1,14 +1,14 @@
 -- What calls find set, and what a child starts with.
-use Rattle.std.proofs.Common.{◌≡◌, ◌⊎◌, inl, inr, ℕ, zero, suc, ◌+◌, ◌<◌, Option, Some, None, List, [], ◌∷◌, ◌++◌, length, get_or, take, drop, map, refl, sym, subst, ap, ◌∙◌, arith, length-append}
+use Rattle.std.proofs.Common.{◌≡◌, inl, inr, ℕ, zero, suc, ◌+◌, ◌<◌, Option, Some, None, List, [], ◌∷◌, ◌++◌, length, get_or, take, drop, map, refl, sym, subst, ap, ◌∙◌, arith}
 use Rattle.std.specs.Prelude.{slice_get, unwrap_or}
 use Rattle.std.specs.List.{fold, AllByRecursion}
 use Rattle.std.specs.Global.{Vec}
-use mathlib.Core.Logic.{dite}
-use native.Mathlib.Decide.{ℕ_discrete}
 use Rattle.key_names.specs.Book.{list_at}
 use Rattle.key_names.specs.Calls.{Setting, Call, Parent, parent_from, first_setting, setting_after_call, setting_of}
 use Rattle.key_names.specs.Calls.{inherited_setting, first_settings}
 use Rattle.key_names.specs.IsTranscript.{start_setting}
+use Rattle.key_names.proofs.Transcripts.Settings.{setting_front, setting_last, long_settings}
+use Rattle.key_names.proofs.History.CallerOrders.{below}
 use Rattle.line_orders.specs.declared.called.Called.{Called}
 use Rattle.line_orders.specs.Called.{seen_call, seen_calls}
 use Rattle.line_orders.specs.Orders.{all_forks, front_in}
@@ -34,37 +34,18 @@ at_settings set (call ∷ calls) (suc k) low = at_settings (setting_after_call s
 
 -- what callers start with
 
-set_front : (sets : List Setting) (x : Setting) (c : ℕ) → c < length sets →
-    setting_of (sets ++ x ∷ []) c ≡ setting_of sets c
-set_front [] x c low = absurd (omega arith)
-set_front (s ∷ sets) x zero low = refl
-set_front (s ∷ sets) x (suc c) low = set_front sets x c (omega arith)
-
-set_last : (sets : List Setting) (x : Setting) → setting_of (sets ++ x ∷ []) (length sets) ≡ x
-set_last [] x = refl
-set_last (s ∷ sets) x = set_last sets x
-
 abbrev begun : List (List Call) → ℕ → Setting
 begun callers c = inherited_setting (first_settings callers c) (parent_from c 0 callers)
-
-long_first : (callers : List (List Call)) (n : ℕ) → length (first_settings callers n) ≡ n
-long_first callers zero = refl
-long_first callers (suc n) =
-    let rest : length (first_settings callers n) ≡ n = long_first callers n in
-    omega (arith, length-append (first_settings callers n) (begun callers n ∷ []))
-
-below : (c n : ℕ) → c < suc n → (c < n) ⊎ (c ≡ n)
-below c n low = dite (ℕ_discrete c n) (λ e. inr e) (λ ne. inl (omega arith))
 
 begins_at : (callers : List (List Call)) (n c : ℕ) → c < n → setting_of (first_settings callers n) c ≡ begun callers c
 begins_at callers zero c low = absurd (omega arith)
 begins_at callers (suc n) c low =
     let earlier : List Setting = first_settings callers n in
-    let long : length earlier ≡ n = long_first callers n in
+    let long : length earlier ≡ n = long_settings callers n in
     elim (below c n low) [
-      | inl less ↦ set_front earlier (begun callers n) c (omega arith) ∙ begins_at callers n c less
+      | inl less ↦ setting_front earlier (begun callers n) c (omega arith) ∙ begins_at callers n c less
       | inr same ↦ ap (setting_of (earlier ++ begun callers n ∷ [])) (same ∙ sym long)
-          ∙ set_last earlier (begun callers n) ∙ ap (begun callers) (sym same)
+          ∙ setting_last earlier (begun callers n) ∙ ap (begun callers) (sym same)
     ]
 
 get_some : {X : Type 0} (xs : List X) (p : ℕ) → p < length xs → (x : X) × (slice_get xs p ≡ Some x)

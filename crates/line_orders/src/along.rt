@@ -11,7 +11,7 @@ ghost use Rattle.line_orders.specs.Along.{Along, AreAlong, HasGone, begin_in};
 
 use crate::called::{ActLine, Called};
 use crate::order::{Fork, cut, front_of, is_parent, own_steps};
-use key_names::Step;
+use key_names::{Point, Step};
 use std::alloc::{AllocError, Global};
 
 /// What is carried from step to step, a number or nothing, and which step may follow it.
@@ -65,14 +65,14 @@ impl Walk {
     }
 
     // Goes along the steps of the acts at a point.
-    fn go_at_point<C: Carry>(&mut self, carry: &C, acts: &[ActLine<'_>], point: u8)
+    fn go_at_point<C: Carry>(&mut self, carry: &C, acts: &[ActLine<'_>], point: Point)
         ensures { HasGone (C.after carry.now) (C.MayFollow carry.now) self.old
             (steps_at_point (map seen_act acts.now) point) self.new }
     {
         let Some((act, rest)) = acts.split_first() else {
             return;
         };
-        if act.point == point {
+        if act.point.is(point) {
             self.go(carry, act.line.steps);
         }
         self.go_at_point(carry, rest, point);
@@ -85,11 +85,11 @@ impl Walk {
     {
         let (looks, rekey, rest) = cut(steps);
         self.go(carry, looks);
-        self.go_at_point(carry, acts, 1);
-        self.go_at_point(carry, acts, 2);
+        self.go_at_point(carry, acts, Point::Start);
+        self.go_at_point(carry, acts, Point::Written);
         self.go(carry, rekey);
-        self.go_at_point(carry, acts, 3);
-        self.go_at_point(carry, acts, 4);
+        self.go_at_point(carry, acts, Point::Serve);
+        self.go_at_point(carry, acts, Point::End);
         self.go(carry, rest);
     }
 

@@ -5,14 +5,14 @@ ghost use Rattle.line_orders.specs.Seen.{seen_bare};
 ghost use Rattle.line_orders.specs.Called.{seen_call, is_vread};
 
 use crate::bare::BareLine;
-use key_names::{Event, InsideAct};
+use key_names::{Event, InsideAct, Point};
 use std::alloc::{AllocError, Global};
 use std::mem;
 
 /// An act for a point of a `vread`, with its line.
 #[derive(Clone, Copy)]
 pub struct ActLine<'a> {
-    pub point: u8,
+    pub point: Point,
     pub act: InsideAct,
     pub line: BareLine<'a>,
 }

@@ -7,7 +7,7 @@ ghost use Rattle.line_orders.specs.Called.{seen_act, seen_call, seen_calls};
 ghost use Rattle.line_orders.specs.Orders.{fork_here, forks_in, is_fork, all_forks, front_in, is_parent_in};
 
 use crate::called::{ActLine, Called};
-use key_names::{Event, Step};
+use key_names::{Event, Point, Step};
 use std::alloc::{AllocError, Global};
 
 /// Where a caller is forked: by whom, behind how many of the parent's calls, and how many of the parent's own steps come
@@ -38,7 +38,7 @@ fn visits_in_front(steps: &[Step]) -> usize
     }
 }
 
-// How many of a `vread`'s steps from the third on come before its points 3 and 4.
+// How many of a `vread`'s steps from the third on come before its points `Serve` and `End`.
 fn rekey_end(steps: &[Step]) -> usize
     ensures within { result ≤ length steps.now }
     ensures front { take result steps.now ≡ (cut_behind_rekey steps.now).0 }
@@ -63,19 +63,20 @@ fn first_visit_end(steps: &[Step]) -> usize
     }
 }
 
-fn push_at_point(own: &mut Vec<Step>, acts: &[ActLine<'_>], point: u8) -> Result<(), AllocError>
+fn push_at_point(own: &mut Vec<Step>, acts: &[ActLine<'_>], point: Point) -> Result<(), AllocError>
     ensures { OnOk result (own.new.items ≡ own.old.items ++ steps_at_point (map seen_act acts.now) point) }
 {
     let Some((act, rest)) = acts.split_first() else {
         return Ok(());
     };
-    if act.point == point {
+    if act.point.is(point) {
         own.extend_from_slice(act.line.steps)?;
     }
     push_at_point(own, rest, point)
 }
 
-/// The steps of a `vread` before its points 1 and 2, between them and its points 3 and 4, and behind these.
+/// The steps of a `vread` before its points `Start` and `Written`, between them and its points `Serve` and `End`, and
+/// behind these.
 pub(crate) fn cut(steps: &[Step]) -> (&[Step], &[Step], &[Step])
     ensures looks { result.0.now ≡ take 2 steps.now }
     ensures rekey { result.1.now ≡ (cut_behind_rekey (drop 2 steps.now)).0 }
@@ -94,11 +95,11 @@ fn push_vread(own: &mut Vec<Step>, steps: &[Step], acts: &[ActLine<'_>]) -> Resu
 {
     let (looks, rekey, rest) = cut(steps);
     own.extend_from_slice(looks)?;
-    push_at_point(own, acts, 1)?;
-    push_at_point(own, acts, 2)?;
+    push_at_point(own, acts, Point::Start)?;
+    push_at_point(own, acts, Point::Written)?;
     own.extend_from_slice(rekey)?;
-    push_at_point(own, acts, 3)?;
-    push_at_point(own, acts, 4)?;
+    push_at_point(own, acts, Point::Serve)?;
+    push_at_point(own, acts, Point::End)?;
     own.extend_from_slice(rest)?;
     Ok(())
 }

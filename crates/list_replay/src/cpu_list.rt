@@ -80,16 +80,11 @@ fn handed(base: &[KeptBase], cpu: u32, place: u64, entry: CpuEntry) -> Option<Op
     let Some((look, refill)) = refill_named(entry) else {
         return Some(None);
     };
-    let Some(kept) = kept_at(base, refill) else {
-        return None;
-    };
+    let kept = kept_at(base, refill)?;
     if !refills(&kept, cpu, place, look) {
         return None;
     }
-    let Some(handed) = hand_over(&kept) else {
-        return None;
-    };
-    Some(Some(handed))
+    Some(Some(hand_over(&kept)?))
 }
 
 /// The key that the bytes of an entry come from, and how many integers its batch had served.
