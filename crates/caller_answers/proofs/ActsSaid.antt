@@ -5,6 +5,7 @@ use Rattle.std.specs.List.{AllByRecursion}
 use Rattle.std.proofs.lemmas.List.{map-append}
 use Rattle.key_names.specs.Calls.{Setting, BoundAct}
 use Rattle.key_names.specs.SeenLine.{SeenLine}
+use Rattle.key_names.proofs.Lists.ListFacts.{some_same}
 use Rattle.line_orders.specs.declared.called.ActLine.{ActLine}
 use Rattle.line_orders.specs.Called.{seen_act}
 use Rattle.list_replay.specs.declared.kept.Lists.{Lists as KeptLists}
@@ -60,9 +61,6 @@ module _ (kept : KeptLists) (set : Setting) (reached : Reached) where
       (written_more IsNoted (map w so_far) (w (seen_act a) ∷ []) old mid new before (new, here, refl))
 
 -- ---- a vread
-
-some_same : {X : Type 0} (x y : X) → Some x ≡ Some y → x ≡ y
-some_same x y e = cc
 
 none_some : {X : Type 0} (x : X) → None ≡ Some x → ⊥
 none_some x e = cc

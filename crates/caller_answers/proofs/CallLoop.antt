@@ -1,7 +1,8 @@
 -- One call after another is said.
-use Rattle.std.proofs.Common.{◌≡◌, ℕ, zero, suc, ◌+◌, ◌<◌, min, List, [], ◌∷◌, ◌++◌, length, get_or, take, drop, refl, sym, subst, ap, ◌∙◌, arith, append_assoc, Some}
+use Rattle.std.proofs.Common.{◌≡◌, ℕ, zero, suc, ◌+◌, ◌<◌, min, List, [], ◌∷◌, ◌++◌, length, get_or, take, drop, refl, sym, subst, ap, ◌∙◌, arith, append_assoc}
 use Rattle.std.proofs.lemmas.List.{append-nil, drop_more, length-take-le}
 use Rattle.key_names.specs.Calls.{Setting, Call, alone, vread_call, unbound, ending}
+use Rattle.key_names.proofs.Lists.ListFacts.{some_same}
 use Rattle.list_replay.specs.declared.kept.Lists.{Lists as KeptLists}
 use Rattle.caller_answers.specs.declared.said.Said.{Said}
 use Rattle.caller_answers.specs.Writes.{Write, Written}
@@ -14,9 +15,6 @@ module _ {Noted : Type 0} (IsNoted : ℕ → Said → Noted → Type 0) where
   written_more [] more old mid new is later = subst (λ notes. Written IsNoted more notes new) is later
   written_more (w ∷ writes) more old mid new put later =
       (put.0, put.1, written_more writes more put.0 mid new put.2 later)
-
-some_same : {X : Type 0} (x y : X) → Some x ≡ Some y → x ≡ y
-some_same x y e = cc
 
 module _ (kept : KeptLists) where
   -- a call leaves the states in one way

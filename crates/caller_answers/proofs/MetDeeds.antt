@@ -27,6 +27,7 @@ use Rattle.key_names.specs.KeyInUse.{cpu_value_at, cpu_value_after, next_int}
 use Rattle.key_names.specs.Deeds.{Deed, looked, at_pool, at_base, at_cpu, nothing_there, BaseVisit, CpuVisit}
 use Rattle.key_names.specs.Deeds.{base_serves, cpu_serves, int_of, base_visit, cpu_visit, deed_at, deed_of, deeds_of}
 use Rattle.key_names.specs.Deeds.{deed_or}
+use Rattle.key_names.proofs.Lists.ListFacts.{list_is}
 use Rattle.line_forms.specs.LaneFacts.{facts_of, DeedFits}
 use Rattle.list_replay.specs.declared.kept.KeptBase.{KeptBase}
 use Rattle.list_replay.specs.declared.kept.KeptCpu.{KeptCpu}
@@ -138,11 +139,6 @@ both_found (k ∷ ks) [] i long = absurd (omega arith)
 both_found (k ∷ ks) (e ∷ es) zero long = inr (k, e, refl, refl)
 both_found (k ∷ ks) (e ∷ es) (suc i) long = both_found ks es i (omega arith)
 
-listed : {E : Type 0} (xss : List (List E)) (c : ℕ) (xs : List E) → slice_get xss c ≡ Some xs → list_at xss c ≡ xs
-listed [] c xs is = cc
-listed (ys ∷ xss) zero xs is = cc
-listed (ys ∷ xss) (suc c) xs is = listed xss c xs is
-
 unlisted : {E : Type 0} (xss : List (List E)) (c : ℕ) → slice_get xss c ≡ None → list_at xss c ≡ []
 unlisted [] c is = refl
 unlisted (ys ∷ xss) zero is = cc
@@ -226,11 +222,11 @@ module _ (kept : KeptLists) (book : Lists) (keeps : Keeps kept book)
             (subst (λ es. P None es) (sym (unlisted book.cpus c none.1)) tt))
         | inr one ↦
             (let P : Option (Vec KeptCpu) → List CpuEntry → Type 0 = λ o es. InLane c place es o in
-            let list_is = listed book.cpus c one.1 one.3 in
+            let listed = list_is book.cpus c one.1 one.3 in
             let items : Vec KeptCpu → List KeptCpu = λ lane. lane.items in
             let kept_is = slice_get-map items kept.cpus.items c ∙ ap (option_map items) one.2 in
-            let lane = lane_is c place one.0 one.1 list_is (keeps.cpus.each c one.0.items one.1 kept_is one.3) in
-            subst (λ o. P o (cpu_list book c)) (sym one.2) (subst (λ es. P (Some one.0) es) (sym list_is) lane))
+            let lane = lane_is c place one.0 one.1 listed (keeps.cpus.each c one.0.items one.1 kept_is one.3) in
+            subst (λ o. P o (cpu_list book c)) (sym one.2) (subst (λ es. P (Some one.0) es) (sym listed) lane))
       ]
 
   step_is : (step : Step) → IsMet (met_at kept step) (deed_of book step)

@@ -21,7 +21,7 @@ use Rattle.key_names.specs.Texts.TranscriptGrammar.{StepFits}
 use Rattle.input_pool.specs.PoolStands.{crossing_of}
 use Rattle.line_forms.specs.Kinds.{base_kind, is_resume, kinds_of}
 use Rattle.line_forms.specs.LaneFacts as facts
-use Rattle.line_orders.proofs.Fronts.{map_twice}
+use Rattle.key_names.proofs.Lists.ListFacts.{map_twice}
 use Rattle.list_replay.specs.declared.kept.KeptPool.{KeptPool}
 use Rattle.list_replay.specs.declared.kept.KeptBase.{KeptBase}
 use Rattle.list_replay.specs.declared.kept.KeptCpu.{KeptCpu}

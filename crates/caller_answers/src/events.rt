@@ -112,7 +112,7 @@ fn system_says(flags: u32, met: &[Met]) -> Answer
 {
     if flags::are_bad(flags) {
         Answer::Invalid
-    } else if found_unready(met) && flags % 2 == 1 && flags / flags::GRND_INSECURE % 2 != 1 {
+    } else if found_unready(met) && flags::is_nonblock(flags) && !flags::is_insecure(flags) {
         Answer::Again
     } else if was_interrupted(met) {
         Answer::Interrupted

@@ -17,7 +17,7 @@ use Rattle.caller_answers.specs.Said.{shown_by, NotedAt, SaysIt, itself}
 use Rattle.serial_replay.specs.Agreement.{Agrees, AllAgree, SameAnswer, SameShown}
 use Rattle.serial_replay.specs.Remade.{said_of_caller}
 
-some_one : {X : Type 0} (o : Option X) (a b : X) → o ≡ Some a → o ≡ Some b → a ≡ b
+pub some_one : {X : Type 0} (o : Option X) (a b : X) → o ≡ Some a → o ≡ Some b → a ≡ b
 some_one o a b p q = cc
 
 -- something is so of the lines of each caller

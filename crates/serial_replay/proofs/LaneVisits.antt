@@ -2,7 +2,6 @@
 use Rattle.std.proofs.Common.{◌≡◌, ℕ, zero, suc, ◌+◌, Bool, true, false, Some, List, [], ◌∷◌, ◌++◌, length, map, refl, sym, subst, ap, ◌∙◌, arith, append_assoc, length-append}
 use Rattle.std.specs.Prelude.{if◌then◌else◌, IsPermutation}
 use Rattle.std.specs.List.{AllByRecursion, sum_by}
-use Rattle.std.proofs.lemmas.Bool.{eq-eqb}
 use Rattle.std.proofs.lemmas.List.Sums.{sum_by-cons}
 use Rattle.std.proofs.lemmas.List.Elements.{All-from_recursion, recursion_from_All}
 use Rattle.std.proofs.lemmas.List.Sorted.{All-permutation, IsPermutation-sym, length_permutation}
@@ -14,13 +13,8 @@ use Rattle.key_names.specs.Book.{Book, Visit, Lists, lists_of, entries_of, list_
 use Rattle.key_names.specs.IsTranscript.{MarkBy, is_same_lane, lane_marks, stamped, stamped_at, VisitsAre}
 use Rattle.key_names.specs.PlacesInOrder.{InOrder}
 use Rattle.key_names.proofs.Lists.Each.{each_both, each_weaker}
-use Rattle.key_names.proofs.Transcripts.LaneCounts.{same_lane}
+use Rattle.key_names.proofs.Transcripts.LaneCounts.{lane_itself, same_lane}
 use Rattle.serial_replay.proofs.MarksCounted.{marks_counted}
-
-itself : (lane : LaneId) → is_same_lane lane lane ≡ true
-itself PoolLane = refl
-itself BaseLane = refl
-itself (CpuLane c) = eq-eqb c c refl
 
 -- the marks of a lane, with their makers
 abbrev pub of_lane : LaneId → List MarkBy → List MarkBy
@@ -55,7 +49,7 @@ by_lanes P [] each = tt
 by_lanes P (by ∷ marks) each =
     let first : AllByRecursion P (by ∷ of_lane by.mark.lane marks) =
     subst (λ b. AllByRecursion P (if b then by ∷ of_lane by.mark.lane marks else of_lane by.mark.lane marks))
-    (itself by.mark.lane) (each by.mark.lane) in
+    (lane_itself by.mark.lane) (each by.mark.lane) in
     (first.0, by_lanes P marks (λ lane. go lane (is_same_lane by.mark.lane lane) (each lane)))
   where
     go : (lane : LaneId) (b : Bool) → AllByRecursion P (if b then by ∷ of_lane lane marks else of_lane lane marks) →

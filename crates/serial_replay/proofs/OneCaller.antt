@@ -12,6 +12,7 @@ use Rattle.key_names.specs.IsTranscript.{start_setting, script_calls}
 use Rattle.key_names.specs.Texts.ScriptGrammar.{Script}
 use Rattle.key_names.specs.SeenLine.{SeenLine}
 use Rattle.key_names.proofs.History.CallerOrders.{list_front, list_last}
+use Rattle.key_names.proofs.Lists.ListFacts.{at_list}
 use Rattle.line_orders.specs.declared.called.Called.{Called}
 use Rattle.line_orders.specs.Called.{seen_call, seen_calls}
 use Rattle.line_orders.specs.Settings.{settings_from}
@@ -25,12 +26,6 @@ pub found_at : {X : Type 0} (xs : List X) (i : ℕ) (x : X) → i < length xs �
 found_at [] i x low is = absurd (omega arith)
 found_at (y ∷ xs) zero x low is = ap Some (sym is)
 found_at (y ∷ xs) (suc i) x low is = found_at xs i x (omega arith) is
-
-each_at : {X : Type 0} (P : List X → Type 0) (xss : List (List X)) (c : ℕ) → c < length xss → AllByRecursion P xss →
-    P (list_at xss c)
-each_at P [] c low all = absurd (omega arith)
-each_at P (xs ∷ xss) zero low all = all.0
-each_at P (xs ∷ xss) (suc c) low all = each_at P xss c (omega arith) all.1
 
 module _ (callers : List (Vec Called)) (settings : List (Vec Setting)) (c : ℕ) (calls : Vec Called) (found : Vec Setting)
     (low : c < length callers) (calls_is : calls ≡ get_or callers c calls) (long : length settings ≡ length callers)
@@ -47,7 +42,7 @@ module _ (callers : List (Vec Called)) (settings : List (Vec Setting)) (c : ℕ)
   pub range_of : AllByRecursion (AllByRecursion CallInRange) (seen_calls callers) →
       AllByRecursion CallInRange (map seen_call calls.items)
   range_of all = subst (AllByRecursion CallInRange) (sym here)
-      (each_at (AllByRecursion CallInRange) (seen_calls callers) c among all)
+      (at_list (AllByRecursion CallInRange) (seen_calls callers) c among all)
 
   module _ (script : Script) (t : List (List SeenLine)) (stand : CallersStand script t (seen_calls callers) settings) where
     pub calls_of : CallsOf (map seen_call calls.items)

@@ -16,7 +16,7 @@ use Rattle.serial_replay.specs.Agreement.{Agrees, SameAnswer, SameShown, AllAgre
 use Rattle.serial_replay.specs.Remade.{AllMade, made_by}
 use Rattle.serial_replay.specs.Replayed.{IsTheTranscript, StopsAt}
 use Rattle.serial_replay.specs.Written.{said_of, lines_said, said_into, MayShow}
-use Rattle.serial_replay.proofs.Agreement.{answers_both, data_both}
+use Rattle.serial_replay.proofs.Agreement.{some_one, answers_both, data_both}
 use Rattle.serial_replay.proofs.BareMade.{all_made}
 
 -- the written lines have the same steps
@@ -58,9 +58,6 @@ module _ (Same : SeenLine → Said → Type 0) (fits : (line : SeenLine) (s : Sa
       all_agree saids t (omega arith) (λ d lower. all (suc d) (omega arith)) c (omega arith)
 
 -- lines of the same steps that agree with the same are the same
-
-some_one : (o : Option Said) (a b : Said) → o ≡ Some a → o ≡ Some b → a ≡ b
-some_one o a b p q = cc
 
 same_line : (said : List Said) (u v : SeenLine) → bare u ≡ bare v → Agrees SameAnswer said u → Agrees SameAnswer said v →
     Agrees SameShown said u → Agrees SameShown said v → u ≡ v

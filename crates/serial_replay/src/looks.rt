@@ -43,10 +43,7 @@ impl<'a> Looks<'a> {
         match mark.lane {
             LaneId::Pool => None,
             LaneId::Base => left_by_base(&self.lists.base, mark.place),
-            LaneId::Cpu(cpu) => match self.lists.cpus.get(cpu as usize) {
-                Some(lane) => left_by_cpu(lane, mark.place),
-                None => None,
-            },
+            LaneId::Cpu(cpu) => left_by_cpu(self.lists.cpus.get(cpu as usize)?, mark.place),
         }
     }
 }
@@ -54,19 +51,13 @@ impl<'a> Looks<'a> {
 fn left_by_base(base: &[KeptBase], place: u64) -> Option<u64>
     ensures { result ≡ option_map (λ kept. kept.generation) (slice_get base.now place) }
 {
-    match base.get(place as usize) {
-        Some(kept) => Some(kept.generation),
-        None => None,
-    }
+    Some(base.get(place as usize)?.generation)
 }
 
 fn left_by_cpu(lane: &[KeptCpu], place: u64) -> Option<u64>
     ensures { result ≡ option_map (λ kept. kept.generation) (slice_get lane.now place) }
 {
-    match lane.get(place as usize) {
-        Some(kept) => Some(kept.generation),
-        None => None,
-    }
+    Some(lane.get(place as usize)?.generation)
 }
 
 fn seen_more(carried: Option<u64>, found: Option<u64>) -> Option<u64>

@@ -3,7 +3,6 @@ use Rattle.std.proofs.Common.{◌≡◌, ℕ, zero, suc, ◌+◌, ◌<◌, ◌�
 use Rattle.std.specs.Prelude.{MatchBool, ⊤}
 use Rattle.std.specs.List.{AllByRecursion}
 use Rattle.key_names.specs.declared.events.Event.{Event}
-use Rattle.key_names.specs.declared.events.Event.TheVariants.{Drop, State}
 use Rattle.key_names.specs.Book.{Book, Lists, LawfulLanes, lists_of, list_at}
 use Rattle.key_names.specs.Calls.{Setting, Call, alone, vread_call, unbound, ending, BoundAct, setting_after, setting_after_call}
 use Rattle.key_names.specs.Deeds.{Deed, deeds_of}
@@ -12,11 +11,12 @@ use Rattle.key_names.specs.BatchCopy.{serves_locally}
 use Rattle.key_names.specs.VreadSteps.{published_by, is_reached, points_of}
 use Rattle.key_names.specs.Texts.ScriptGrammar.{Script}
 use Rattle.key_names.specs.SeenLine.{SeenLine}
-use Rattle.key_names.specs.Meaning.{CallerState, caller_start, caller_after, current_state, LineMeaning, CallMeaning}
+use Rattle.key_names.specs.Meaning.{CallerState, caller_start, current_state, LineMeaning, CallMeaning}
 use Rattle.key_names.specs.Meaning.{unused_line, ActMeans, ActsMean, Means, AloneMeans, VreadMeans}
 use Rattle.key_names.specs.Meaning.{ByLocalCopy, ByVgetrandom, LocalOrCall, tries_local}
 use Rattle.key_names.specs.IsTranscript.{EachAct, EachOfCall, EachLine, EachCaller, CallsMean, CallerMeans}
 use Rattle.key_names.specs.IsTranscript.{script_calls, start_setting}
+use Rattle.key_names.proofs.Transcripts.Settings.{setting_moves}
 use Rattle.line_forms.specs.LaneFacts.{AllFit, facts_of}
 use Rattle.line_forms.specs.Laws.{ActForm}
 use Rattle.line_forms.proofs.ActLines.{lists_fit, act_form}
@@ -45,12 +45,6 @@ module _ (lists : Lists) where
   -- those of all callers
   abbrev pub AllCallsForm : List (List Call) → Type 0
   AllCallsForm callers = (c : ℕ) → c < length callers → CallsForm (start_setting callers c) (list_at callers c)
-
--- only an event by itself changes what a caller has set
-event_sets : (s : CallerState) (event : Event) → (caller_after s event).setting ≡ setting_after s.setting event
-event_sets s Drop = refl
-event_sets s (State number) = refl
-event_sets s event = refl
 
 module _ (lists : Lists) (lawful : LawfulLanes lists) where
   abbrev Behind : SeenLine → LineMeaning → Type 0
@@ -126,7 +120,7 @@ module _ (lists : Lists) (lawful : LawfulLanes lists) where
       let G : List Deed → Type 0 = λ ds. Form set event ds in
       record {
         form = subst G (sym behind) (subst F is a.form);
-        leaves = ap (λ (s : CallerState). s.setting) a.after ∙ event_sets m.before event
+        leaves = ap (λ (s : CallerState). s.setting) a.after ∙ setting_moves m.before event
             ∙ ap (λ s. setting_after s event) is;
       }
 

@@ -18,6 +18,7 @@ use Rattle.key_names.specs.Texts.ScriptGrammar.{Script}
 use Rattle.key_names.specs.SeenLine.{SeenLine}
 use Rattle.key_names.specs.IsTranscript.{HasLines, MarksStand, MarkBy, all_marks, stamped_at, script_calls, start_setting}
 use Rattle.key_names.proofs.Lists.Each.{each_weaker}
+use Rattle.key_names.proofs.Lists.ListFacts.{at_list, each_list}
 use Rattle.key_names.proofs.Transcripts.LaneCounts.{every_place, lane_counts, lane_length, within_lane}
 use Rattle.key_names.proofs.Unique.UniqueMeanings.{OfCall}
 use Rattle.line_forms.specs.Told.{AllThere, IsThere}
@@ -28,7 +29,7 @@ use Rattle.told_entries.specs.Gathered.{IsBookOf}
 use Rattle.told_entries.specs.Rows.{AllCallsRows}
 use Rattle.told_entries.specs.Spots.{HasRows, rows_in}
 use Rattle.told_entries.proofs.Matches.{PlaceMatches, StepMatches, LineThere, LineMatches, to_calls, from_calls}
-use Rattle.told_entries.proofs.MarkedSteps.{each_list, at_list, StepHas, LineHas, MarkHas, all_lines, all_of_lines, to_callers, to_all_lines}
+use Rattle.told_entries.proofs.MarkedSteps.{StepHas, LineHas, MarkHas, all_lines, all_of_lines, to_callers, to_all_lines}
 
 -- how many entries a lane has
 abbrev pub entries_in : Lists → LaneId → ℕ
@@ -100,7 +101,7 @@ module _ (script : Script) (t : List (List SeenLine)) (told : Tables) (book : Bo
       (all_lines (Within lists) t low))
 
   there_of : (c : ℕ) → c < length callers → AllByRecursion (OfCall (LineThere told lists)) (list_at callers c)
-  there_of c low = at_list (λ (calls : List Call). AllByRecursion (OfCall (LineThere told lists)) calls) callers there c low
+  there_of c low = at_list (λ (calls : List Call). AllByRecursion (OfCall (LineThere told lists)) calls) callers c low there
 
   -- ---- from lines to places
 
@@ -155,8 +156,8 @@ module _ (script : Script) (t : List (List SeenLine)) (told : Tables) (book : Bo
 
     calls_fill : AllCallsFill lists callers
     calls_fill = λ c low. from_calls told lists (start_setting callers c) (list_at callers c) (rows c low) (there_of c low)
-        (at_list (λ (calls : List Call). AllByRecursion (OfCall (LineMatches told lists)) calls) callers
-        (to_callers (LineMatches told lists) 0 script.callers t lines (all_match t)) c low)
+        (at_list (λ (calls : List Call). AllByRecursion (OfCall (LineMatches told lists)) calls) callers c low
+        (to_callers (LineMatches told lists) 0 script.callers t lines (all_match t)))
 
   pub lines_and_lanes : AllCallsFill lists callers ↔ Fills told lists
   lines_and_lanes = (places_fill, calls_fill)

@@ -3,6 +3,7 @@ use Rattle.std.proofs.Common.{◌≡◌, ℕ, zero, suc, ◌<◌, ◌≤◌, Lis
 use Rattle.std.specs.Prelude.{slice_get}
 use Rattle.std.specs.List.{AllByRecursion}
 use Rattle.std.specs.Global.{Vec}
+use Rattle.std.proofs.lemmas.List.{length-map}
 use Rattle.key_names.specs.declared.names.LaneId.{LaneId}
 use Rattle.key_names.specs.Book.{list_at}
 use Rattle.key_names.specs.Calls.{Setting as CallSetting, Call}
@@ -32,10 +33,6 @@ map_at : {X Y : Type 0} (f : X → Y) (xs : List X) (c : ℕ) (y : Y) → slice_
 map_at f [] c y is = let never : None ≡ Some y = is in cc
 map_at f (x ∷ xs) zero y is = (x, refl, cc)
 map_at f (x ∷ xs) (suc c) y is = map_at f xs c y is
-
-map_long : {X Y : Type 0} (f : X → Y) (xs : List X) → length (map f xs) ≡ length xs
-map_long f [] = refl
-map_long f (x ∷ xs) = ap suc (map_long f xs)
 
 module _ (script : Script) (t : List (List SeenLine)) (parts : Parts) (settings : List (Vec CallSetting))
     (bare told : Tables) (stands : PartsStand script t parts) (found : AreSettings (seen_calls parts.calls.items) settings)
@@ -90,5 +87,5 @@ module _ (script : Script) (t : List (List SeenLine)) (parts : Parts) (settings 
   pub rows_stand : AllCallsRows told (script_calls script t)
   rows_stand = subst (λ (cs : List (List Call)). AllCallsRows told cs) stands.calls
       (callers_rows told (start_setting calls) calls sets
-      (map_long (λ (s : Vec CallSetting). s.items) settings ∙ found.long) settings_found
+      (length-map settings (λ (s : Vec CallSetting). s.items) ∙ found.long) settings_found
       (all_stand bare told (callers_spots calls sets) changes once low))

@@ -6,9 +6,9 @@ use Rattle.std.proofs.lemmas.Bool.{eq-eqb}
 use Rattle.std.proofs.lemmas.Bool.Decides.{nat_tests}
 use Rattle.std.proofs.lemmas.List.Sums.{sum_by-cons}
 use Rattle.key_names.specs.declared.names.LaneId.{LaneId}
-use Rattle.key_names.specs.declared.names.LaneId.TheVariants.{Pool as PoolLane, Base as BaseLane, Cpu as CpuLane}
 use Rattle.key_names.specs.declared.names.Mark.{Mark}
 use Rattle.key_names.specs.IsTranscript.{MarkBy, is_same_lane, lane_marks, PlacesStand}
+use Rattle.key_names.proofs.Transcripts.LaneCounts.{lane_itself}
 use Rattle.key_names.proofs.Transcripts.TakenMarks.{from_range}
 use Rattle.key_names.proofs.Transcripts.TranscriptBooks.{lt_or_le}
 
@@ -88,11 +88,6 @@ places_low ms stand = low_places (length ms) ms (λ q le. none_at q ms stand le)
 
 -- ---- from lanes to all marks
 
-pub same_itself : (lane : LaneId) → is_same_lane lane lane ≡ true
-same_itself PoolLane = refl
-same_itself BaseLane = refl
-same_itself (CpuLane c) = eq-eqb c c refl
-
 module _ (P : LaneId → Mark → Type 0) where
   first_of : (b : Bool) (lane : LaneId) (m : Mark) (ms : List Mark) → b ≡ true →
       AllByRecursion (P lane) (if b then m ∷ ms else ms) → P lane m
@@ -110,7 +105,7 @@ module _ (P : LaneId → Mark → Type 0) where
   in_lanes [] all = tt
   in_lanes (by ∷ marks) all = (
     first_of (is_same_lane by.mark.lane by.mark.lane) by.mark.lane by.mark (lane_marks by.mark.lane marks)
-        (same_itself by.mark.lane) (all by.mark.lane),
+        (lane_itself by.mark.lane) (all by.mark.lane),
     in_lanes marks (λ lane. rest_of (is_same_lane by.mark.lane lane) lane by.mark (lane_marks lane marks) (all lane)),
   )
 

@@ -1,30 +1,17 @@
 -- What holds of the lane and place of each mark holds of each visit of the lines, of the calls' lines, and back.
-use Rattle.std.proofs.Common.{ℕ, zero, suc, ◌<◌, List, [], ◌∷◌, length, arith}
+use Rattle.std.proofs.Common.{ℕ, suc, List, [], ◌∷◌}
 use Rattle.std.specs.Bool.{⊤}
 use Rattle.std.specs.List.{AllByRecursion, flat_map}
 use Rattle.key_names.specs.declared.events.Event.{Event}
 use Rattle.key_names.specs.declared.names.LaneId.{LaneId}
 use Rattle.key_names.specs.declared.names.Step.{Step}
 use Rattle.key_names.specs.declared.names.Step.TheVariants.{Look, Visit as Marked}
-use Rattle.key_names.specs.Book.{list_at}
 use Rattle.key_names.specs.Calls.{all_calls}
 use Rattle.key_names.specs.SeenLine.{SeenLine}
 use Rattle.key_names.specs.IsTranscript.{LinesFit, EachCaller, MarkBy, marks_from, line_marks, all_marks}
 use Rattle.key_names.proofs.Lists.Each.{each_append, each_parts}
 use Rattle.key_names.proofs.Unique.UniqueLines.{calls_cover}
 use Rattle.key_names.proofs.Unique.UniqueMeanings.{OfCall}
-
--- of each list what holds of the list with its number, and back
-pub each_list : {X : Type 0} (P : List X → Type 0) (xss : List (List X)) →
-    ((c : ℕ) → c < length xss → P (list_at xss c)) → AllByRecursion P xss
-each_list P [] each = tt
-each_list P (xs ∷ xss) each = (each 0 (omega arith), each_list P xss (λ c low. each (suc c) (omega arith)))
-
-pub at_list : {X : Type 0} (P : List X → Type 0) (xss : List (List X)) → AllByRecursion P xss → (c : ℕ) →
-    c < length xss → P (list_at xss c)
-at_list P [] all c low = absurd (omega arith)
-at_list P (xs ∷ xss) all zero low = all.0
-at_list P (xs ∷ xss) all (suc c) low = at_list P xss all.1 c (omega arith)
 
 module _ (Q : LaneId → ℕ → Type 0) where
   abbrev pub StepHas : Step → Type 0

@@ -8,19 +8,15 @@ use Rattle.key_names.specs.declared.names.Mark.{Mark}
 use Rattle.key_names.specs.declared.names.Step.TheVariants.{Look, Visit as Marked}
 use Rattle.key_names.specs.Book.{list_at}
 use Rattle.key_names.specs.IsTranscript.{is_same_lane}
-use Rattle.key_names.proofs.Transcripts.LaneCounts.{same_lane}
+use Rattle.key_names.proofs.Lists.ListFacts.{both_true}
+use Rattle.key_names.proofs.Transcripts.LaneCounts.{lane_itself, same_lane}
 use Rattle.line_forms.specs.Told.{pool_told, base_told}
 use Rattle.list_replay.specs.declared.told.ToldPool.{ToldPool}
 use Rattle.list_replay.specs.declared.told.ToldCpu.{ToldCpu}
 use Rattle.list_replay.specs.Tables.{Tables}
 use Rattle.told_entries.specs.Rows.{IsPoolRow, cpu_row}
 use Rattle.told_entries.specs.Spots.{Spot, rows_in, SameRow, is_visit, SpotRow, Changes}
-use Rattle.told_entries.proofs.LanePlaces.{same_itself}
 use Rattle.told_entries.proofs.TableChanges.{one_row, unchanged}
-
-both_true : (a b : Bool) → (a && b) ≡ true → (a ≡ true) × (b ≡ true)
-both_true true b is = (refl, is)
-both_true false b is = cc
 
 -- one list has this at a place, and is as the other elsewhere
 pub record PutAt {A : Type 0} (old new : List A) (place : ℕ) (row : A) : Type 0 where
@@ -37,7 +33,7 @@ module _ (spot : Spot) (mark : Mark) (old new : Tables) (is : spot.step ≡ Mark
   not_visited : (lane : LaneId) (place : ℕ) → is_visit lane place spot.step ≡ false → mark.lane ≡ lane →
       place ≢ mark.place
   not_visited lane place misses lane_is = λ same.
-      let a : is_same_lane mark.lane lane ≡ true = ap (λ l. is_same_lane l lane) lane_is ∙ same_itself lane in
+      let a : is_same_lane mark.lane lane ≡ true = ap (λ l. is_same_lane l lane) lane_is ∙ lane_itself lane in
       let b : (mark.place == place) ≡ true = eq-eqb mark.place place (sym same) in
       let hits : (is_same_lane mark.lane lane && mark.place == place) ≡ true =
       ap (λ (x : Bool). x && mark.place == place) a ∙ b in

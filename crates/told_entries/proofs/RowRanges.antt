@@ -25,6 +25,7 @@ use Rattle.key_names.specs.Texts.ScriptGrammar.{InRange as EventInRange}
 use Rattle.key_names.specs.SeenLine.{SeenLine}
 use Rattle.key_names.proofs.Transcripts.CallLists.{OfCalls, of_calls}
 use Rattle.key_names.proofs.Lists.Each.{each_append, each_weaker}
+use Rattle.key_names.proofs.Lists.ListFacts.{at_list, each_list}
 use Rattle.key_names.proofs.Unique.UniqueMarks.{one_entry}
 use Rattle.key_names.proofs.Unique.UniqueMeanings.{OfCall}
 use Rattle.line_forms.specs.declared.told.Around.{Around}
@@ -43,7 +44,7 @@ use Rattle.list_replay.specs.declared.told.ToldPool.TheVariants.{Is as pool_is, 
 use Rattle.list_replay.specs.declared.told.ToldCpu.{ToldCpu}
 use Rattle.list_replay.specs.Tables.{Tables, NoteIsNear, PoolIsNear, BaseIsNear, IsWidth, EntryIsWide, CpuIsWide}
 use Rattle.told_entries.specs.Rows.{IsPoolRow, RowAt, cpu_row, AllRows, RowStands, LineRows, ActRows, CallRows, CallsRows, AllCallsRows, part_telling, first_shown, step_sign}
-use Rattle.told_entries.proofs.MarkedSteps.{StepHas, LineHas, each_list, at_list}
+use Rattle.told_entries.proofs.MarkedSteps.{StepHas, LineHas}
 
 abbrev pub IsNear : Setting → Type 0
 IsNear set = set.now < 2 ^ 40
@@ -347,4 +348,4 @@ all_rows_near told callers all rows =
     each_list (λ calls. AllByRecursion (OfCall (LineHas (NearAt told))) calls) callers
     (λ c low. calls_near told (start_setting callers c) (list_at callers c)
     (setting_at (first_settings callers (length callers)) c (firsts_near callers (length callers) all))
-    (at_list (λ calls. AllByRecursion CallIsNear calls) callers all c low) (rows c low))
+    (at_list (λ calls. AllByRecursion CallIsNear calls) callers c low all) (rows c low))

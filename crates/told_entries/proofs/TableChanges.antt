@@ -10,7 +10,7 @@ use Rattle.key_names.specs.declared.names.Step.TheVariants.{Look, Visit as Marke
 use Rattle.key_names.specs.IsTranscript.{is_same_lane}
 use Rattle.list_replay.specs.Tables.{Tables}
 use Rattle.told_entries.specs.Spots.{Spot, rows_in, SameRow, is_visit, or_else, last_at, SpotRow, Changes}
-use Rattle.told_entries.proofs.LanePlaces.{same_itself}
+use Rattle.key_names.proofs.Transcripts.LaneCounts.{lane_itself}
 use Rattle.told_entries.proofs.MarkedSteps.{StepHas}
 
 or_none : {A : Type 0} (o : Option A) → or_else o None ≡ o
@@ -152,7 +152,7 @@ module _ (old new : Tables) (whole : List Spot) (changes : Changes whole old new
   )
     where
       itself : (lane : LaneId) (place : ℕ) → (is_same_lane lane lane && place == place) ≡ true
-      itself lane place = ap (λ (b : Bool). b && place == place) (same_itself lane) ∙ eq-eqb place place refl
+      itself lane place = ap (λ (b : Bool). b && place == place) (lane_itself lane) ∙ eq-eqb place place refl
 
       one : (step : Step) → spot.step ≡ step → StepHas Within step →
           StepHas (λ lane place. SpotRow new spot lane place) step

@@ -8,15 +8,13 @@ use Rattle.key_names.specs.IsTranscript.{LinesFit, EachCaller, HasLines, Answers
 use Rattle.key_names.specs.Meaning.{CallMeaning}
 use Rattle.key_names.specs.SeenLine.{SeenLine}
 use Rattle.key_names.specs.Texts.ScriptGrammar.{Script}
+use Rattle.key_names.proofs.Lists.ListFacts.{some_same}
 use Rattle.caller_answers.specs.Said.{SaysIt}
 use Rattle.serial_replay.specs.Agreement.{AllAgree}
 use Rattle.serial_replay.specs.Remade.{said_of_caller}
 use Rattle.serial_replay.proofs.Agreement.{AllAre, all_both}
 use Rattle.transcript_check.specs.declared.compare.Same.{Same}
 use Rattle.transcript_check.specs.Compared.{IsCompared}
-
-some_same : {X : Type 0} (x y : X) → Some x ≡ Some y → x ≡ y
-some_same x y e = cc
 
 -- ---- the line of an event
 
