@@ -1,5 +1,5 @@
 -- What is kept of the parts of a transcript is kept of the book that its steps make.
-use Rattle.std.proofs.Common.{◌≡◌, ℕ, Some, None, List, map, sym, ap, subst, ◌∙◌, inl, inr}
+use Rattle.std.proofs.Common.{◌≡◌, ℕ, Some, None, List, map, sym, ap, subst, ◌∙◌}
 use Rattle.std.specs.Prelude.{Option, Result, Ok, Err, IfOk, MatchOption, IsPermutation}
 use Rattle.std.specs.Global.{Vec}
 use Rattle.key_names.specs.Book.{Book, Lists, lists_of}

@@ -2,12 +2,12 @@
 -- it. Answers and data have no part in which these are.
 use Rattle.std.proofs.Common.{◌≡◌, ℕ, zero, suc, ◌+◌, ◌<◌, ◌≤◌, List, [], ◌∷◌, ◌++◌, length, map, inl, inr, refl, sym, subst, ap, ◌∙◌, arith}
 use Rattle.std.specs.Prelude.{if◌then◌else◌, nat_le, take}
-use Rattle.std.proofs.lemmas.List.{append-nil, append_cancel_right, length-map}
+use Rattle.std.proofs.lemmas.List.{append_cancel_right, length-map}
 use Rattle.key_names.specs.declared.names.Step.{Step}
 use Rattle.key_names.specs.Book.{Lists, list_at}
 use Rattle.key_names.specs.CallerOrders.{start_of}
 use Rattle.key_names.specs.Calls.{Call, Setting}
-use Rattle.key_names.specs.History.{call_steps, calls_steps}
+use Rattle.key_names.specs.History.{calls_steps}
 use Rattle.key_names.specs.IsTranscript.{CallerMeans, EachCaller, script_calls, state_lists}
 use Rattle.key_names.specs.Meaning.{CallMeaning}
 use Rattle.key_names.specs.SameSteps.{bare}
@@ -15,7 +15,7 @@ use Rattle.key_names.specs.SeenLine.{SeenLine}
 use Rattle.key_names.specs.Texts.ScriptGrammar.{Script}
 use Rattle.key_names.proofs.History.CallerOrders.{order_is_start_and_own}
 use Rattle.key_names.proofs.Transcripts.TranscriptBooks.{lt_or_le}
-use Rattle.key_names.proofs.Unique.BareLines.{bare_all, bare_call, bare_calls_steps, bare_orders}
+use Rattle.key_names.proofs.Unique.BareLines.{bare_all, bare_call, bare_steps, bare_calls_steps, bare_orders}
 use Rattle.key_uses.specs.Moments.{first_calls}
 use Rattle.key_uses.proofs.Moments.{calls_front, lines_front}
 use Rattle.state_entries.specs.Callers.{lists_left}
@@ -63,9 +63,6 @@ cut_states lists settings callers mss states each cut stamp =
     (let p : 0 + j ≡ j = omega arith in p)) each
 
 -- ---- bare lines
-
-bare_steps : (c : Call) → call_steps (bare_call c) ≡ call_steps c
-bare_steps c = sym (append-nil (call_steps (bare_call c))) ∙ bare_calls_steps (c ∷ []) ∙ append-nil (call_steps c)
 
 made_alike : (stamp before : ℕ) (cs : List Call) → made_by stamp before (map bare_call cs) ≡ made_by stamp before cs
 made_alike stamp before [] = refl

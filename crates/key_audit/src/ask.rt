@@ -27,7 +27,7 @@ pub(crate) enum Ask {
 }
 
 /// What stands before the first dot of a text, and what stands behind it.
-fn halves(text: &[u8]) -> Option<(&[u8], &[u8])>
+fn split_at_dot(text: &[u8]) -> Option<(&[u8], &[u8])>
     ensures { MatchOption result (lacks 46 text.now ≡ true)
         (λ both. (text.now ≡ both.0.now ++ 46 ∷ both.1.now) × (lacks 46 both.0.now ≡ true)) }
 {
@@ -40,7 +40,7 @@ fn line_of(text: &[u8]) -> Option<Line>
     ensures found { IfSome result (λ line. LineFits line × (text.now ≡ line_text line)) }
     ensures only { (line : LineName) → LineFits line → text.now ≡ line_text line → result ≡ Some line }
 {
-    let (caller, event) = halves(text)?;
+    let (caller, event) = split_at_dot(text)?;
     let caller = number_up_to(MOST_NUMBER, caller)?;
     let event = number_up_to(MOST_NUMBER, event)?;
     Some(Line {
@@ -49,16 +49,16 @@ fn line_of(text: &[u8]) -> Option<Line>
     })
 }
 
-/// What two words ask for.
-fn ask_by(word: &str, with: &str) -> Option<Ask>
-    ensures found { IfSome result (AskTexts (word.now ∷ with.now ∷ [])) }
-    ensures only { (ask : Ask) → AskTexts (word.now ∷ with.now ∷ []) ask → result ≡ Some ask }
+/// What a word and the one behind it ask for.
+fn ask_by(word: &str, argument: &str) -> Option<Ask>
+    ensures found { IfSome result (AskTexts (word.now ∷ argument.now ∷ [])) }
+    ensures only { (ask : Ask) → AskTexts (word.now ∷ argument.now ∷ []) ask → result ≡ Some ask }
 {
     if word == "live" {
-        return number_up_to(u64::MAX, with.as_bytes()).map(Ask::Live);
+        return number_up_to(u64::MAX, argument.as_bytes()).map(Ask::Live);
     }
     if word == "line" {
-        return line_of(with.as_bytes()).map(Ask::Line);
+        return line_of(argument.as_bytes()).map(Ask::Line);
     }
     None
 }
@@ -70,7 +70,7 @@ pub(crate) fn ask_of(words: &[String]) -> Option<Ask>
 {
     match words {
         [word] if word.as_str() == "keys" => Some(Ask::Keys),
-        [word, with] => ask_by(word.as_str(), with.as_str()),
+        [word, argument] => ask_by(word.as_str(), argument.as_str()),
         _ => None,
     }
 }

@@ -30,7 +30,7 @@ pub struct KeptBook {
     pub marks: Vec<MarkOf>,
 }
 
-fn of_lines(
+fn book_of_lines(
     alloc: Global,
     script: &Script,
     lines: &[Vec<BareLine<'_>>],
@@ -74,5 +74,5 @@ pub fn book_of(
         IfOk result (λ o. MatchOption o ⊥ (λ kept. KeepsBook kept t.now (script_calls script.now t.now) book ms)) }
 {
     let lines = bare_callers(alloc, t)?;
-    of_lines(alloc, script, &lines)
+    book_of_lines(alloc, script, &lines)
 }

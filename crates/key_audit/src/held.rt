@@ -59,9 +59,7 @@ pub(crate) fn held_rows(
 {
     let mut numbers = Vec::with_capacity(alloc, keys.len())?;
     for held in keys {
-        let Some(number) = graph.find(held.key) else {
-            return Err(AllocError);
-        };
+        let number = graph.find(held.key).ok_or(AllocError)?;
         numbers.push(number)?;
     }
     Ok(numbers)

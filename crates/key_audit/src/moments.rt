@@ -37,7 +37,7 @@ fn push_cpu(cpus: &mut Vec<Vec<Moment>>, cpu: usize, moment: Moment) -> Result<(
 }
 
 // Adds the moment of a visit behind those of its lane.
-fn push(moments: &mut Moments, of: &MarkOf) -> Result<(), AllocError>
+fn push_mark(moments: &mut Moments, of: &MarkOf) -> Result<(), AllocError>
     ensures { OnOk result (AddsMark moments.old (seen_mark of.now) moments.new) }
 {
     let moment = moment_by(of);
@@ -71,7 +71,7 @@ fn visit_moments(alloc: Global, cpus: usize, marks: &[MarkOf]) -> Result<Moments
 {
     let mut moments = no_visits(alloc, cpus)?;
     for of in marks {
-        push(&mut moments, of)?;
+        push_mark(&mut moments, of)?;
     }
     Ok(moments)
 }

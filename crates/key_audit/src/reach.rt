@@ -18,7 +18,7 @@ struct Reached {
 }
 
 // Whether the key of each row is held, given the numbers of those that are.
-fn marked(alloc: Global, rows: usize, numbers: &[usize]) -> Result<Vec<bool>, AllocError> {
+fn held_marks(alloc: Global, rows: usize, numbers: &[usize]) -> Result<Vec<bool>, AllocError> {
     let mut is_held = vec![in alloc; false; rows]?;
     for number in numbers {
         if let Some(mark) = is_held.get_mut(*number) {
@@ -125,7 +125,7 @@ pub(crate) fn reached_text(
     rests: &[HeldRest],
 ) -> Result<Vec<u8>, AllocError> {
     let rows = graph.rows();
-    let is_held = marked(alloc, rows.len(), numbers)?;
+    let is_held = held_marks(alloc, rows.len(), numbers)?;
     let mut known = Vec::from_slice(alloc, &is_held)?;
     graph.mark_behind(&mut known);
     let mut text = Text::new(alloc);

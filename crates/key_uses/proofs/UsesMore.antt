@@ -1,9 +1,9 @@
 -- Going along a list: what one entry more puts to use.
 use Rattle.std.proofs.Common.{◌≡◌, ◌≤◌, ◌<◌, ◌+◌, ℕ, List, [], ◌∷◌, ◌++◌, length, take, Some, refl, sym, ap, subst, ◌∙◌, append_assoc, append-nil, arith}
-use Rattle.std.specs.Prelude.{map, slice_get, option_map, replicate}
+use Rattle.std.specs.Prelude.{slice_get, replicate}
 use Rattle.std.specs.List.{fold}
 use Rattle.std.proofs.lemmas.List.{take_all, get_or-replicate, length-replicate}
-use Rattle.std.proofs.lemmas.Option.{slice_get-map, slice_get-get_or}
+use Rattle.std.proofs.lemmas.Option.{slice_get-get_or}
 use Rattle.key_names.specs.Uses.{Use, uses_from}
 use Rattle.list_replay.proofs.Loops.{take_at, fold_at}
 use Rattle.key_uses.specs.declared.used.Used.{Used}
@@ -45,11 +45,6 @@ module _ {S E K : Type 0} (uses_at : S → E → List Use) (step : S → E → S
       uses_seen uses ≡ uses_from uses_at step start entries
   so_far_all place keys uses all h =
       h.uses_are ∙ ap (uses_from uses_at step start) (take_all place entries all)
-
--- the entry of what is kept at a place
-pub entry_at : {T E : Type 0} (entry : T → E) (kept : List T) (i : ℕ) (k : T) → slice_get kept i ≡ Some k →
-    slice_get (map entry kept) i ≡ Some (entry k)
-entry_at entry kept i k is = slice_get-map entry kept i ∙ ap (option_map entry) is
 
 pub at_replicate : {A : Type 0} (n i : ℕ) (a : A) → i < n → slice_get (replicate n a) i ≡ Some a
 at_replicate n i a low =

@@ -1,8 +1,7 @@
 -- The last fills of a CPU's batches, as the code keeps them.
-use Rattle.std.specs.Prelude.{ℕ, ◌+◌, ◌*◌, ◌<◌, ◌≡◌, ◌==◌, Bool, false, Option, Some, None, List, [], slice_get, unwrap_or}
+use Rattle.std.specs.Prelude.{ℕ, ◌<◌, ◌≡◌, ◌==◌, Bool, false, Option, Some, None, List, slice_get, unwrap_or}
 use Rattle.std.specs.Prelude.{if◌then◌else◌}
 use Rattle.key_names.specs.Batches.{Fill as BookFill, one_more_served}
-use Rattle.key_names.specs.Uses.{Use, named_use, served}
 use Rattle.key_names.specs.CpuList.{CpuState}
 use Rattle.key_uses.specs.declared.cpu_uses.Fill.{Fill}
 use Rattle.key_uses.specs.declared.cpu_uses.CpuKeys.{CpuKeys}
@@ -11,11 +10,6 @@ use Rattle.key_uses.specs.declared.cpu_uses.CpuKeys.{CpuKeys}
 abbrev pub fill_of : Option BookFill → Option Fill
 fill_of None = None
 fill_of (Some fill) = Some (record { key = fill.key; count = fill.count })
-
--- what the next integer of a batch puts to use
-abbrev pub fill_uses : ℕ → Option Fill → List Use
-fill_uses width None = []
-fill_uses width (Some fill) = named_use served fill.key (32 + width * fill.count) width
 
 -- of each width that a byte can tell, what is kept of its last fill
 abbrev pub AreFills : (ℕ → Option BookFill) → List (Option Fill) → Type 0

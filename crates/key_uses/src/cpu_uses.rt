@@ -3,8 +3,8 @@ ghost use Rattle.std.specs.Prelude.{ℕ, Bool, List, ◌≡◌, ◌+◌, ◌*◌
 ghost use Rattle.key_names.specs.declared.entries.BaseEntry.{BaseEntry as BookBase};
 ghost use Rattle.key_names.specs.CpuList.{CpuState, cpu_start, cpu_step, cpu_key_in_use, cpu_key_after, base_refill_of};
 ghost use Rattle.key_names.specs.Batches.{Fill as BookFill, one_more_served};
-ghost use Rattle.key_names.specs.Uses.{cpu_uses_at, uses_from};
-ghost use Rattle.key_uses.specs.Fills.{fill_of, fill_uses, served_more, AreFills, CpuStands, rekeys_of};
+ghost use Rattle.key_names.specs.Uses.{batch_uses, cpu_uses_at, uses_from};
+ghost use Rattle.key_uses.specs.Fills.{fill_of, served_more, AreFills, CpuStands, rekeys_of};
 ghost use Rattle.key_uses.specs.KeptEntries.{cpu_entries};
 ghost use Rattle.key_uses.specs.UsesSeen.{uses_seen};
 
@@ -79,7 +79,8 @@ fn push_batched(
     width: u8,
     fill: Option<Fill>,
 ) -> Result<(), AllocError>
-    ensures { OnOk result (uses_seen uses.new.items ≡ uses_seen uses.old.items ++ fill_uses width fill) }
+    ensures { (book : Option BookFill) → fill ≡ fill_of book →
+        OnOk result (uses_seen uses.new.items ≡ uses_seen uses.old.items ++ batch_uses width book) }
 {
     let Some(
         Fill {

@@ -4,20 +4,21 @@ use Rattle.std.specs.Prelude.{◌==◌, MatchBool, if◌then◌else◌}
 use Rattle.key_names.specs.declared.names.Step.{Step}
 use Rattle.key_names.specs.declared.names.Step.TheVariants.{Look}
 use Rattle.key_names.specs.declared.entries.VEntry.{VEntry}
-use Rattle.key_names.specs.declared.point.Point.TheVariants.{Start, Written, Serve}
+use Rattle.key_names.specs.declared.point.Point.TheVariants.{Start, Written, Serve, End}
 use Rattle.key_names.specs.Book.{Lists}
 use Rattle.key_names.specs.Calls.{Setting, BoundAct}
 use Rattle.key_names.specs.Deeds.{Deed, looked, deeds_of}
 use Rattle.key_names.specs.VgetrandomState.{VgetrandomState, state_left}
 use Rattle.key_names.specs.BatchCopy.{state_after_copy, copy_entries}
 use Rattle.key_names.specs.Vgetrandom.{CpuPlace, SystemAnswer, HostStep, publishes, system_call, at_point, Attempt, holds, outdated, attempt_behind, wipe_entry, rekey_entry, AtPoint, FromServe, Keyed, AfterKeyRead, FromWritten, FromStart, IsAttempt}
-use Rattle.key_names.specs.VreadSteps.{points_of, published_by, Shows}
+use Rattle.key_names.specs.VreadSteps.{points_of, published_by, Shows, is_wiped}
 use Rattle.key_names.proofs.Vgetrandom.Attempts.{copy_attempt}
 use Rattle.key_names.proofs.Unique.UniqueAttempts.{AllReady, ready_at}
-use Rattle.vread_course.proofs.AttemptShapes.{reached, copied as copy_shape}
+use Rattle.key_names.proofs.Unique.UniqueTries.{reached}
+use Rattle.vread_course.proofs.AttemptShapes.{copied as copy_shape}
 use Rattle.vread_course.proofs.CallPoints.{attempt_points}
 use Rattle.state_entries.specs.Outline.{IsOutline}
-use Rattle.state_entries.specs.Left.{Left, Behind, wipes_at, met, copied, keyed, with_key, from_serve, from_written, from_start, attempted}
+use Rattle.state_entries.specs.Left.{Left, Behind, met, copied, keyed, with_key, from_serve, from_written, from_start, attempted}
 use Rattle.state_entries.proofs.Outlines.{generation_test, same_entries, same_block, copy_outline, met_outline, met_entries}
 use Rattle.state_entries.proofs.KeySteps.{FirstStep, first_step, key_told}
 
@@ -48,28 +49,28 @@ gives_behind es before now rest a b more g = record {
 
 -- the acts wipe at the points where the attempt was wiped
 pub record WipesAre (acts : List BoundAct) (keyed w1 w2 w3 w4 : Bool) : Type 0 where
-  pub start : wipes_at acts 1 ≡ w1
-  pub written : keyed ≡ true → wipes_at acts 2 ≡ w2
-  pub serve : wipes_at acts 3 ≡ w3
-  pub end : wipes_at acts 4 ≡ w4
+  pub start : is_wiped acts Start ≡ w1
+  pub written : keyed ≡ true → is_wiped acts Written ≡ w2
+  pub serve : is_wiped acts Serve ≡ w3
+  pub end : is_wiped acts End ≡ w4
 
 module _ (lists : Lists) (set : Setting) (more : List HostStep) where
   -- ---- from Serve on
 
   copy_gives : (acts : List BoundAct) (n c h : ℕ) (w3 w4 : Bool) (s : VgetrandomState) (l : Left) (rest : List Step) →
-      wipes_at acts 3 ≡ w3 → wipes_at acts 4 ≡ w4 → IsOutline l.outline s →
+      is_wiped acts Serve ≡ w3 → is_wiped acts End ≡ w4 → IsOutline l.outline s →
       Gives l.entries rest (copy_attempt n c (published_by h) w3 w4 s) (from_serve acts n c l (Look h ∷ rest))
   copy_gives acts n c h w3 w4 s l rest e3 e4 is =
       let s3 = state_left w3 s in
-      let l3 = met (wipes_at acts 3) l in
-      let is3 = met_outline (wipes_at acts 3) w3 l s e3 is in
+      let l3 = met (is_wiped acts Serve) l in
+      let is3 = met_outline (is_wiped acts Serve) w3 l s e3 is in
       let is4 = copy_outline l3 s3 c n is3 in
       let lc = copied n c l3 in
       let sc = state_after_copy s3 c n in
-      let end = met (wipes_at acts 4) lc in
-      let is_end = met_outline (wipes_at acts 4) w4 lc sc e4 is4 in
-      gives_behind (wipe_entry w3) l.entries l3.entries rest _ _ (met_entries (wipes_at acts 3) w3 l e3) (record {
-        entries = met_entries (wipes_at acts 4) w4 lc e4
+      let end = met (is_wiped acts End) lc in
+      let is_end = met_outline (is_wiped acts End) w4 lc sc e4 is4 in
+      gives_behind (wipe_entry w3) l.entries l3.entries rest _ _ (met_entries (is_wiped acts Serve) w3 l e3) (record {
+        entries = met_entries (is_wiped acts End) w4 lc e4
             ∙ ap (λ es. (l3.entries ++ es) ++ wipe_entry w4) (same_entries l3.outline s3 c n is3)
             ∙ append_assoc l3.entries (copy_entries s3 c n) (wipe_entry w4)
             ∙ ap (λ es. l3.entries ++ (copy_entries s3 c n ++ es)) (sym (append-nil (wipe_entry w4)));
@@ -128,7 +129,7 @@ module _ (lists : Lists) (set : Setting) (more : List HostStep) where
 
       -- behind its look
       looks : (acts : List BoundAct) (l : Left) → attempted acts n c l steps
-          ≡ from_start acts n c g (met (wipes_at acts 1) l) f.rest
+          ≡ from_start acts n c g (met (is_wiped acts Start) l) f.rest
       looks acts l = ap (attempted acts n c l) (f.steps_are ∙ ap (λ x. x ∷ f.rest) f.tells)
 
       current : (s1.generation == published_by g) ≡ true → AtPoint Serve (FromServe n c) s1 st.rest st.attempt_after →
@@ -150,8 +151,8 @@ module _ (lists : Lists) (set : Setting) (more : List HostStep) where
             ready = rr.1;
             points = ap (λ x. points_of (x ++ more)) all ∙ ap (λ ps. reached Start st.wiped ∷ ps) cp.points;
             gives = λ acts l wipes is.
-                let l1 = met (wipes_at acts 1) l in
-                let is1 = met_outline (wipes_at acts 1) st.wiped l s wipes.start is in
+                let l1 = met (is_wiped acts Start) l in
+                let is1 = met_outline (is_wiped acts Start) st.wiped l s wipes.start is in
                 gives_at l.entries k.rest a _ _ _
                 (st.attempt_is ∙ ap (attempt_behind (wipe_entry st.wiped)) cp.attempt_is)
                 (looks acts l
@@ -160,7 +161,7 @@ module _ (lists : Lists) (set : Setting) (more : List HostStep) where
                 (sym (generation_test l1.outline s1 g is1) ∙ e)
                 ∙ ap (from_serve acts n c l1) (k.steps_are ∙ ap (λ x. x ∷ k.rest) k.tells))
                 (gives_behind (wipe_entry st.wiped) l.entries l1.entries k.rest _ _
-                (met_entries (wipes_at acts 1) st.wiped l wipes.start)
+                (met_entries (is_wiped acts Start) st.wiped l wipes.start)
                 (copy_gives acts n c cp.h cp.w3 cp.w4 s1 l1 k.rest wipes.serve wipes.end is1));
           }
 
@@ -199,12 +200,12 @@ module _ (lists : Lists) (set : Setting) (more : List HostStep) where
                 (ap (λ x. points_of (x ++ more)) behind_start
                 ∙ ap (λ ps. reached Written x.wiped ∷ ps) cp.points);
             gives = λ acts l wipes is.
-                let l1 = met (wipes_at acts 1) l in
-                let is1 = met_outline (wipes_at acts 1) st.wiped l s wipes.start is in
+                let l1 = met (is_wiped acts Start) l in
+                let is1 = met_outline (is_wiped acts Start) st.wiped l s wipes.start is in
                 let lg : Left = record l1 { outline = record l1.outline { found = g } } in
                 let isg : IsOutline lg.outline sg = record { generation = refl; served = is1.served } in
-                let l2 = met (wipes_at acts 2) lg in
-                let is2 = met_outline (wipes_at acts 2) x.wiped lg sg (wipes.written refl) isg in
+                let l2 = met (is_wiped acts Written) lg in
+                let is2 = met_outline (is_wiped acts Written) x.wiped lg sg (wipes.written refl) isg in
                 let l3 = keyed kt.key l2 in
                 let is3 : IsOutline l3.outline s3 = record { generation = is2.generation; served = refl } in
                 gives_at l.entries k.rest a _ _ _
@@ -217,9 +218,9 @@ module _ (lists : Lists) (set : Setting) (more : List HostStep) where
                 ∙ ap (with_key acts n c l2) kt.told
                 ∙ ap (from_serve acts n c l3) (k.steps_are ∙ ap (λ x. x ∷ k.rest) k.tells))
                 (gives_behind (wipe_entry st.wiped) l.entries l1.entries k.rest _ _
-                (met_entries (wipes_at acts 1) st.wiped l wipes.start)
+                (met_entries (is_wiped acts Start) st.wiped l wipes.start)
                 (gives_behind (wipe_entry x.wiped) lg.entries l2.entries k.rest _ _
-                (met_entries (wipes_at acts 2) x.wiped lg (wipes.written refl))
+                (met_entries (is_wiped acts Written) x.wiped lg (wipes.written refl))
                 (gives_behind (rekey_entry visit) l2.entries l3.entries k.rest _ _ refl
                 (copy_gives acts n c cp.h cp.w3 cp.w4 s3 l3 k.rest wipes.serve wipes.end is3))));
           }

@@ -9,6 +9,7 @@ use Rattle.std.proofs.lemmas.List.Elements.{filter-append}
 use Rattle.key_names.specs.declared.entries.VEntry.{VEntry}
 use Rattle.key_names.specs.Calls.{Call}
 use Rattle.key_names.specs.History.{call_steps}
+use Rattle.key_names.proofs.Lists.ListFacts.{map_twice}
 use Rattle.state_entries.specs.declared.entry.StateEntry.{StateEntry}
 use Rattle.state_entries.specs.Entries.{entries_in, lists_in, all_lists_in}
 use Rattle.state_entries.specs.Callers.{Outlines, first_outlines, outlines_after, left_in, list_left, lists_left}
@@ -24,10 +25,6 @@ bare os = map (λ o. o.entry) os
 
 abbrev kept : ℕ → List Over → List VEntry
 kept stamp os = bare (filter (λ o. nat_le o.done stamp) os)
-
-map_twice : {A B C : Type 0} (f : B → C) (g : A → B) (xs : List A) → map (λ x. f (g x)) xs ≡ map f (map g xs)
-map_twice f g [] = refl
-map_twice f g (x ∷ xs) = ap (λ ys. f (g x) ∷ ys) (map_twice f g xs)
 
 -- ---- all entries
 

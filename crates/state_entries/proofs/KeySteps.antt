@@ -1,8 +1,6 @@
 -- The steps of a system call that read a key: the key is told by its visit of a CPU.
 use Rattle.std.proofs.Common.{◌≡◌, ℕ, ◌≤◌, ◌⊎◌, inl, inr, Bool, true, false, Option, Some, None, List, [], ◌∷◌, ◌++◌, refl, subst, ap, ◌∙◌, arith}
-use Rattle.std.specs.Prelude.{◌==◌, ◌&&◌, MatchBool, slice_get}
-use Rattle.std.specs.List.{AllByRecursion}
-use Rattle.std.proofs.lemmas.Bool.{eqb-true}
+use Rattle.std.specs.Prelude.{◌&&◌, MatchBool, slice_get}
 use Rattle.key_names.specs.declared.names.LaneId.{LaneId}
 use Rattle.key_names.specs.declared.names.LaneId.TheVariants.{Pool as PoolLane, Base as BaseLane, Cpu as CpuLane}
 use Rattle.key_names.specs.declared.names.Step.{Step}
@@ -17,17 +15,11 @@ use Rattle.key_names.specs.Calls.{Setting}
 use Rattle.key_names.specs.Deeds.{Deed, looked, at_pool, at_base, at_cpu, nothing_there, BaseVisit, CpuVisit, deed_or, deed_at, deeds_of, pool_visit, base_visit, cpu_visit}
 use Rattle.key_names.specs.Forms.{SysForm, ReadForm, Waited, WaitedInVain}
 use Rattle.key_names.specs.Vgetrandom.{SystemAnswer, read}
-use Rattle.key_names.specs.VreadSteps.{answer_behind, answer_with, errno_of, last_place, NeverFall}
+use Rattle.key_names.specs.VreadSteps.{answer_behind, answer_with, errno_of, last_place}
 use Rattle.key_names.proofs.Transcripts.KeyVisits.{answers_done}
-use Rattle.key_names.proofs.Unique.UniqueAttempts.{AllReady, ready_at}
+use Rattle.key_names.proofs.Unique.UniqueAttempts.{AllReady, ready_at, not_zero}
 use Rattle.state_entries.specs.declared.leaving.KeyRead.{KeyRead}
 use Rattle.state_entries.specs.Left.{key_read, second_key, key_in_front, or_key}
-
--- no look is below the first
-pub all_ready : (g : ℕ) (gs : List ℕ) → 1 ≤ g → NeverFall (g ∷ gs) → AllByRecursion (λ g. 1 ≤ g) gs
-all_ready g [] some fall = tt
-all_ready g (next ∷ gs) some fall =
-    let le : g ≤ next = fall.0 in let more : 1 ≤ next = omega arith in (more, all_ready next gs more fall.1)
 
 module _ (lists : Lists) where
   -- ---- the step behind which this stands
@@ -149,13 +141,6 @@ module _ (lists : Lists) where
           answer_is = answer_at (looked g ∷ looked h ∷ at_base u ∷ at_cpu v ∷ []) is refl;
           ready = r.1.1;
         }
-
-    not_zero : (g : ℕ) → 1 ≤ g → (g == 0) ≡ false
-    not_zero g some = go (g == 0) refl
-      where
-        go : (b : Bool) → (g == 0) ≡ b → (g == 0) ≡ false
-        go true is = let zero_is : g ≡ 0 = eqb-true g 0 is in absurd (omega arith)
-        go false is = is
 
     pub key_told : (set : Setting) → SysForm set 32 0 call → AllReady (call ++ more) → KeyTold steps more answer
     key_told set form ready =

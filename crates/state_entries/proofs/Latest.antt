@@ -1,12 +1,15 @@
 -- The greatest stamp among a stamp and those of visits, in whichever order these come.
-use Rattle.std.proofs.Common.{◌≡◌, ℕ, zero, suc, ◌≤◌, max, Bool, true, false, List, [], ◌∷◌, ◌++◌, refl, sym, ap, ◌∙◌, append_assoc, arith, take, drop}
-use Rattle.std.specs.Prelude.{◌==◌, if◌then◌else◌, slice_get}
+use Rattle.std.proofs.Common.{◌≡◌, ℕ, ◌≤◌, max, Bool, true, false, List, [], ◌∷◌, ◌++◌, refl, sym, ap, ◌∙◌, append_assoc, arith, take, drop}
+use Rattle.std.specs.Prelude.{if◌then◌else◌, slice_get}
 use Rattle.std.specs.Option.{option_map_or}
-use Rattle.std.proofs.lemmas.Bool.{eqb-true, eq-eqb}
 use Rattle.key_names.specs.declared.names.Step.{Step}
 use Rattle.key_names.specs.declared.names.Step.TheVariants.{Look, Visit as Marked}
+use Rattle.key_names.specs.declared.point.Point.{Point}
+use Rattle.key_names.specs.declared.point.Point.TheVariants.{Start, Written, Serve, End}
 use Rattle.key_names.specs.Calls.{BoundAct}
 use Rattle.key_names.specs.History.{is_mark, steps_at_point, cut_behind_visits, cut_behind_rekey, vread_steps}
+use Rattle.key_names.specs.Points.{is_same_point}
+use Rattle.key_names.proofs.Lists.ListFacts.{take_drop}
 use Rattle.state_entries.specs.Stamps.{latest_of}
 
 pub latest-append : (stamp : ℕ) (a b : List Step) → latest_of stamp (a ++ b) ≡ latest_of (latest_of stamp a) b
@@ -31,11 +34,6 @@ latest_swaps stamp a b =
 
 -- ---- a vread
 
-take_drop : {X : Type 0} (n : ℕ) (xs : List X) → take n xs ++ drop n xs ≡ xs
-take_drop zero xs = refl
-take_drop (suc n) [] = refl
-take_drop (suc n) (x ∷ xs) = ap (λ ys. x ∷ ys) (take_drop n xs)
-
 visits_whole : (steps : List Step) → (cut_behind_visits steps).0 ++ (cut_behind_visits steps).1 ≡ steps
 visits_whole [] = refl
 visits_whole (Look g ∷ steps) = refl
@@ -54,20 +52,15 @@ rekey_whole steps = go (option_map_or is_mark (slice_get steps 2) false)
     go false = refl
 
 -- one act more, at the point or elsewhere
-pub at_point : (stamp : ℕ) (bound : BoundAct) (acts : List BoundAct) (point : ℕ) → bound.point ≡ point →
+pub at_point : (stamp : ℕ) (bound : BoundAct) (acts : List BoundAct) (point : Point) → is_same_point bound.point point ≡ true →
     latest_of stamp (steps_at_point (bound ∷ acts) point)
     ≡ latest_of (latest_of stamp bound.line.steps) (steps_at_point acts point)
 at_point stamp bound acts point is =
-    rw (eq-eqb bound.point point is) (latest-append stamp bound.line.steps (steps_at_point acts point))
+    rw is (latest-append stamp bound.line.steps (steps_at_point acts point))
 
-pub elsewhere : (stamp : ℕ) (bound : BoundAct) (acts : List BoundAct) (point : ℕ) → (bound.point ≡ point → ⊥) →
+pub elsewhere : (stamp : ℕ) (bound : BoundAct) (acts : List BoundAct) (point : Point) → is_same_point bound.point point ≡ false →
     latest_of stamp (steps_at_point (bound ∷ acts) point) ≡ latest_of stamp (steps_at_point acts point)
-elsewhere stamp bound acts point ne = by (bound.point == point) refl
-  where
-    by : (b : Bool) → (bound.point == point) ≡ b →
-        latest_of stamp (steps_at_point (bound ∷ acts) point) ≡ latest_of stamp (steps_at_point acts point)
-    by true is = absurd (ne (eqb-true bound.point point is))
-    by false is = rw is refl
+elsewhere stamp bound acts point is = rw is refl
 
 -- some steps in seven parts, of which the fourth and the last may come behind the first
 parts_move : (s : ℕ) (a p q c r t d : List Step) →
@@ -97,14 +90,14 @@ parts_move s a p q c r t d =
 -- the acts' visits may be looked at behind the vread's own
 pub latest_vread : (stamp : ℕ) (steps : List Step) (acts : List BoundAct) →
     latest_of stamp (vread_steps steps acts)
-    ≡ latest_of (latest_of (latest_of (latest_of (latest_of stamp steps) (steps_at_point acts 1))
-    (steps_at_point acts 2)) (steps_at_point acts 3)) (steps_at_point acts 4)
+    ≡ latest_of (latest_of (latest_of (latest_of (latest_of stamp steps) (steps_at_point acts Start))
+    (steps_at_point acts Written)) (steps_at_point acts Serve)) (steps_at_point acts End)
 latest_vread stamp steps acts =
     let cut : List Step × List Step = cut_behind_rekey (drop 2 steps) in
     let whole : take 2 steps ++ cut.0 ++ cut.1 ≡ steps =
     append_assoc (take 2 steps) cut.0 cut.1 ∙ ap (λ s. take 2 steps ++ s) (rekey_whole (drop 2 steps))
     ∙ take_drop 2 steps in
-    parts_move stamp (take 2 steps) (steps_at_point acts 1) (steps_at_point acts 2) cut.0 (steps_at_point acts 3)
-    (steps_at_point acts 4) cut.1
-    ∙ ap (λ s. latest_of (latest_of (latest_of (latest_of (latest_of stamp s) (steps_at_point acts 1))
-    (steps_at_point acts 2)) (steps_at_point acts 3)) (steps_at_point acts 4)) whole
+    parts_move stamp (take 2 steps) (steps_at_point acts Start) (steps_at_point acts Written) cut.0 (steps_at_point acts Serve)
+    (steps_at_point acts End) cut.1
+    ∙ ap (λ s. latest_of (latest_of (latest_of (latest_of (latest_of stamp s) (steps_at_point acts Start))
+    (steps_at_point acts Written)) (steps_at_point acts Serve)) (steps_at_point acts End)) whole

@@ -14,12 +14,13 @@ use Rattle.key_names.specs.Vgetrandom.{HostStep, publishes, AttemptEnd, holds, o
 use Rattle.key_names.specs.VreadSteps.{PointReached, points_of, published_by, Shows, WipesStand, looks_of, NeverFall}
 use Rattle.key_names.specs.Meaning.{CallMeaning, current_state, ByLocalCopy, ByVgetrandom, LocalOrCall, VreadMeans}
 use Rattle.key_names.proofs.Unique.UniqueAttempts.{AllReady}
+use Rattle.key_names.proofs.Unique.UniqueCalls.{all_ready}
 use Rattle.vread_course.proofs.CallPoints.{attempt_points, first_as_told, second_not_wiped}
 use Rattle.state_entries.specs.Outline.{IsOutline, IsBetweenCalls, outlined}
 use Rattle.state_entries.specs.Left.{Left, Behind, copied, attempted, tried_twice, copies_alone, first_look, vread_left}
 use Rattle.state_entries.specs.Laws.{Leaves, VreadLeaves}
 use Rattle.state_entries.proofs.Outlines.{same_test, sym_test, generation_test, same_entries, same_left, copy_outline}
-use Rattle.state_entries.proofs.KeySteps.{FirstStep, first_step, all_ready}
+use Rattle.state_entries.proofs.KeySteps.{FirstStep, first_step}
 use Rattle.state_entries.proofs.AttemptsLeave.{Gives, WipesAre, AttemptLeaves, attempt_leaves}
 
 -- a call leaves the entries of its outcome, and the outline of its state

@@ -2,16 +2,16 @@
 -- those of a vread, what they show until then.
 use Rattle.std.specs.Prelude.{ℕ, ◌==◌, ◌&&◌, ◌||◌, Bool, true, Option, None, Some, List, [], ◌∷◌, ◌++◌, length}
 use Rattle.std.specs.Prelude.{if◌then◌else◌}
-use Rattle.std.specs.List.{list_any}
 use Rattle.key_names.specs.declared.entries.VEntry.{VEntry}
 use Rattle.key_names.specs.declared.entries.VEntry.TheVariants.{Rekey, Wipe}
 use Rattle.key_names.specs.declared.names.LaneId.{LaneId}
 use Rattle.key_names.specs.declared.names.LaneId.TheVariants.{Pool as PoolLane, Base as BaseLane, Cpu as CpuLane}
 use Rattle.key_names.specs.declared.names.Step.{Step}
 use Rattle.key_names.specs.declared.names.Step.TheVariants.{Look, Visit as Marked}
+use Rattle.key_names.specs.declared.point.Point.TheVariants.{Start, Written, Serve, End}
 use Rattle.key_names.specs.Flags.{is_bad}
 use Rattle.key_names.specs.Calls.{BoundAct}
-use Rattle.key_names.specs.VreadSteps.{is_wipe}
+use Rattle.key_names.specs.VreadSteps.{is_wiped}
 use Rattle.key_names.specs.BatchCopy.{has_left, copy_entries, refill_entries, state_after_copy, block_after_copy}
 use Rattle.state_entries.specs.declared.leaving.KeyRead.{KeyRead}
 use Rattle.state_entries.specs.declared.outline.Outline.{Outline}
@@ -38,9 +38,6 @@ wiped l = record { outline = wiped_outline; entries = l.entries ++ Wipe ∷ [] }
 -- a point with a wipe or without one
 abbrev pub met : Bool → Left → Left
 met wipes l = if wipes then wiped l else l
-
-abbrev pub wipes_at : List BoundAct → ℕ → Bool
-wipes_at acts point = list_any (λ bound. bound.point == point && is_wipe bound.act) acts
 
 -- so many bytes of the batch were served
 abbrev pub with_served : ℕ → Left → Left
@@ -101,7 +98,7 @@ cut_short c l = record { next_block = c; holds = true; rest = []; left = l }
 
 abbrev pub looked_again : List BoundAct → ℕ → ℕ → Left → ℕ → List Step → Behind
 looked_again acts n c l found rest =
-    let end = met (wipes_at acts 4) (copied n c l) in record {
+    let end = met (is_wiped acts End) (copied n c l) in record {
       next_block = block_after_copy (outlined l.outline) c n;
       holds = end.outline.found == found;
       rest = rest;
@@ -110,7 +107,7 @@ looked_again acts n c l found rest =
 
 -- from Serve on
 abbrev pub from_serve : List BoundAct → ℕ → ℕ → Left → List Step → Behind
-from_serve acts n c l (Look found ∷ rest) = looked_again acts n c (met (wipes_at acts 3) l) found rest
+from_serve acts n c l (Look found ∷ rest) = looked_again acts n c (met (is_wiped acts Serve) l) found rest
 from_serve acts n c l _ = cut_short c l
 
 abbrev pub with_key : List BoundAct → ℕ → ℕ → Left → Option KeyAndRest → Behind
@@ -119,7 +116,7 @@ with_key acts n c l (Some k) = from_serve acts n c (keyed k.key l) k.rest
 
 -- from Written on
 abbrev pub from_written : List BoundAct → ℕ → ℕ → Left → List Step → Behind
-from_written acts n c l steps = with_key acts n c (met (wipes_at acts 2) l) (key_in_front steps)
+from_written acts n c l steps = with_key acts n c (met (is_wiped acts Written) l) (key_in_front steps)
 
 -- from Start on, behind a look that found this generation
 abbrev pub from_start : List BoundAct → ℕ → ℕ → ℕ → Left → List Step → Behind
@@ -129,7 +126,7 @@ from_start acts n c found l steps =
 
 -- an attempt to copy n bytes, c being the key's next block
 abbrev pub attempted : List BoundAct → ℕ → ℕ → Left → List Step → Behind
-attempted acts n c l (Look found ∷ rest) = from_start acts n c found (met (wipes_at acts 1) l) rest
+attempted acts n c l (Look found ∷ rest) = from_start acts n c found (met (is_wiped acts Start) l) rest
 attempted acts n c l _ = cut_short c l
 
 -- ---- a vread

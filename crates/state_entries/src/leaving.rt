@@ -1,12 +1,13 @@
 //! A vgetrandom state while a call on it is gone through: its outline, and the entries that the call left so far.
 ghost use Rattle.std.specs.Prelude.{◌≡◌, None, Some, [], true, MatchOption, map};
+ghost use Rattle.key_names.specs.VreadSteps.{is_wiped};
 ghost use Rattle.line_orders.specs.Called.{seen_act};
-ghost use Rattle.state_entries.specs.Left.{wipes_at, key_read, second_key, key_in_front};
+ghost use Rattle.state_entries.specs.Left.{key_read, second_key, key_in_front};
 
 use crate::entry::LeftEntry;
 use crate::outline::Outline;
 use crate::stamps::{before_wipe, behind_point};
-use key_names::{InsideAct, LaneId, Step, VEntry, flags};
+use key_names::{InsideAct, LaneId, Point, Step, VEntry, flags};
 use line_orders::called::ActLine;
 use std::alloc::{AllocError, Global};
 use std::marker::Model;
@@ -16,15 +17,6 @@ const BATCH_BYTES: u8 = 96;
 
 /// The bytes of a block of keystream.
 const BLOCK_BYTES: u32 = 64;
-
-/// The points of an attempt: before its look, behind its generation, and before and behind its copy.
-const START: u8 = 1;
-
-const WRITTEN: u8 = 2;
-
-const SERVE: u8 = 3;
-
-const END: u8 = 4;
 
 /// A visit of a CPU that reads a key.
 #[derive(Clone, Copy)]
@@ -58,12 +50,12 @@ impl<'a> Tried<'a> {
     }
 }
 
-// Whether an act at the point of this number wipes.
-fn wipes(acts: &[ActLine<'_>], point: u8) -> bool
-    ensures { result ≡ wipes_at (map seen_act acts.now) point }
+// Whether an act at this point wipes.
+fn wipes(acts: &[ActLine<'_>], point: Point) -> bool
+    ensures { result ≡ is_wiped (map seen_act acts.now) point }
 {
     for bound in acts {
-        if bound.point == point && matches!(bound.act, InsideAct::Wipe) {
+        if bound.point.is(point) && matches!(bound.act, InsideAct::Wipe) {
             return true;
         }
     }
@@ -134,11 +126,12 @@ impl Leaving {
     ghost use Rattle.key_names.specs.Book.{Lists};
     ghost use Rattle.key_names.specs.Deeds.{deeds_of};
     ghost use Rattle.key_names.specs.Meaning.{CallMeaning, current_state, VreadMeans};
+    ghost use Rattle.key_names.specs.VreadSteps.{is_wiped};
     ghost use Rattle.line_orders.specs.Called.{seen_act};
     ghost use Rattle.state_entries.specs.Entries.{call_entries};
     ghost use Rattle.state_entries.specs.Laws.{Leaves};
     ghost use Rattle.state_entries.specs.Outline.{IsBetweenCalls, outlined};
-    ghost use Rattle.state_entries.specs.Left.{Left, nothing_left, left_more, pushed, wiped, met, wipes_at, refilled};
+    ghost use Rattle.state_entries.specs.Left.{Left, nothing_left, left_more, pushed, wiped, met, refilled};
     ghost use Rattle.state_entries.specs.Left.{copied, keyed, from_serve, from_written, attempted, tried_twice};
     ghost use Rattle.state_entries.specs.Left.{from_look, vread_left};
 
@@ -191,8 +184,8 @@ impl Leaving {
     }
 
     // The acts of a point happen.
-    fn meet(&mut self, acts: &[ActLine<'_>], point: u8) -> Result<(), AllocError>
-        ensures { OnOk result (self.new ≡ met (wipes_at (map seen_act acts.now) point) self.old) }
+    fn meet(&mut self, acts: &[ActLine<'_>], point: Point) -> Result<(), AllocError>
+        ensures { OnOk result (self.new ≡ met (is_wiped (map seen_act acts.now) point) self.old) }
     {
         if wipes(acts, point) {
             self.stamp = before_wipe(self.stamp, acts, point);
@@ -268,9 +261,9 @@ impl Leaving {
     {
         match steps {
             [Step::Look(found), rest @ ..] => {
-                self.meet(acts, SERVE)?;
+                self.meet(acts, Point::Serve)?;
                 let next_block = self.copy(block, len)?;
-                self.meet(acts, END)?;
+                self.meet(acts, Point::End)?;
                 Ok(Tried {
                     next_block,
                     holds: self.outline.found == *found,
@@ -305,7 +298,7 @@ impl Leaving {
             ≡ record { next_block = t.next_block; holds = t.holds; rest = t.rest.now; left = self.new }) }
         ensures near { IfOk result (λ t. t.next_block ≤ block + 2 ^ 26 + 2) }
     {
-        self.meet(acts, WRITTEN)?;
+        self.meet(acts, Point::Written)?;
         match key_in_front(steps) {
             Some((key, rest)) => {
                 self.take_key(key)?;
@@ -330,7 +323,7 @@ impl Leaving {
     {
         match steps {
             [Step::Look(found), rest @ ..] => {
-                self.meet(acts, START)?;
+                self.meet(acts, Point::Start)?;
                 if self.outline.found == *found {
                     return self.from_serve(acts, len, block, rest);
                 }

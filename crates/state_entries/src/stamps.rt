@@ -4,7 +4,7 @@ ghost use Rattle.key_names.specs.History.{steps_at_point, vread_steps};
 ghost use Rattle.line_orders.specs.Called.{seen_act, seen_call};
 ghost use Rattle.state_entries.specs.Stamps.{latest_of, over_at};
 
-use key_names::{InsideAct, Step};
+use key_names::{InsideAct, Point, Step};
 use line_orders::called::{ActLine, Called};
 
 /// The greatest stamp among this one and those of the visits of some steps.
@@ -21,12 +21,12 @@ pub(crate) fn latest(stamp: u64, steps: &[Step]) -> u64
 }
 
 /// The last stamp behind those of a point.
-pub(crate) fn behind_point(stamp: u64, acts: &[ActLine<'_>], point: u8) -> u64
+pub(crate) fn behind_point(stamp: u64, acts: &[ActLine<'_>], point: Point) -> u64
     ensures { result ≡ latest_of stamp (steps_at_point (map seen_act acts.now) point) }
 {
     let mut last = stamp;
     for bound in acts {
-        if bound.point == point {
+        if bound.point.is(point) {
             last = latest(last, bound.line.steps);
         }
     }
@@ -38,10 +38,10 @@ fn behind_vread(stamp: u64, steps: &[Step], acts: &[ActLine<'_>]) -> u64
     ensures { result ≡ latest_of stamp (vread_steps steps.now (map seen_act acts.now)) }
 {
     let own = latest(stamp, steps);
-    let started = behind_point(own, acts, 1);
-    let written = behind_point(started, acts, 2);
-    let served = behind_point(written, acts, 3);
-    behind_point(served, acts, 4)
+    let started = behind_point(own, acts, Point::Start);
+    let written = behind_point(started, acts, Point::Written);
+    let served = behind_point(written, acts, Point::Serve);
+    behind_point(served, acts, Point::End)
 }
 
 /// The last stamp behind a call.
@@ -56,10 +56,10 @@ pub(crate) fn behind_call(stamp: u64, call: &Called<'_>) -> u64
 }
 
 /// The last stamp behind those of a point before its first wipe.
-pub(crate) fn before_wipe(stamp: u64, acts: &[ActLine<'_>], point: u8) -> u64 {
+pub(crate) fn before_wipe(stamp: u64, acts: &[ActLine<'_>], point: Point) -> u64 {
     let mut stamp = stamp;
     for bound in acts {
-        if bound.point == point {
+        if bound.point.is(point) {
             if matches!(bound.act, InsideAct::Wipe) {
                 return stamp;
             }

@@ -3,10 +3,12 @@ use Rattle.std.proofs.lemmas.List.{length-map}
 use Rattle.std.specs.List.{fold}
 use Rattle.std.specs.Prelude.{take}
 use Rattle.key_names.specs.BaseList.{BaseState, base_start, base_step}
+use Rattle.key_names.proofs.Lists.ListFacts.{image_at}
 use Rattle.list_replay.proofs.Loops.{found}
 use Rattle.list_replay.specs.declared.kept.KeptBase.{KeptBase}
 use Rattle.key_uses.specs.KeptEntries.{base_entries}
-use Rattle.key_rows.proofs.Stands.{entry_at, stands_more, stands_all, BaseStands, base_after_entry}
+use Rattle.key_uses.proofs.BaseKeys.{BaseStands, base_after_entry}
+use Rattle.key_rows.proofs.Stands.{stands_more, stands_all}
 use Rattle.key_rows.proofs.batches.base_end.Goals as goal
 
 pub loop-place-preserved : goal.loop-place-preserved
@@ -15,7 +17,7 @@ loop-place-preserved c =
     let place : ℕ = c.loop-place.place in
     let s : BaseState = fold base_step base_start (take place es) in
     stands_more base_step base_start BaseStands es place _ c.key_after-key.result
-    (entry_at (λ (k : KeptBase). k.entry) c.args.base.now place _
+    (image_at (λ (k : KeptBase). k.entry) c.args.base.now place _
     (found c.args.base.now c.args.base.now place _ refl c.loop-place-test.true))
     (base_after_entry s _ place c.loop-place.key c.key_after-key.result c.loop-place.invariant c.key_after-key.ensures)
 

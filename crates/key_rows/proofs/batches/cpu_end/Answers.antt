@@ -3,11 +3,12 @@ use Rattle.std.proofs.lemmas.List.{length-map}
 use Rattle.std.specs.List.{fold}
 use Rattle.std.specs.Prelude.{take}
 use Rattle.key_names.specs.CpuList.{CpuState, cpu_start, cpu_step}
+use Rattle.key_names.proofs.Lists.ListFacts.{image_at}
 use Rattle.list_replay.proofs.Loops.{found}
 use Rattle.list_replay.specs.declared.kept.KeptCpu.{KeptCpu}
 use Rattle.key_uses.specs.Fills.{CpuStands}
 use Rattle.key_uses.specs.KeptEntries.{cpu_entries}
-use Rattle.key_rows.proofs.Stands.{entry_at, stands_more, stands_all}
+use Rattle.key_rows.proofs.Stands.{stands_more, stands_all}
 use Rattle.key_rows.proofs.batches.cpu_end.Goals as goal
 
 pub loop-place-preserved : goal.loop-place-preserved
@@ -17,7 +18,7 @@ loop-place-preserved c = λ base.
     let step = cpu_step base c.args.cpu in
     let s : CpuState = fold step cpu_start (take place es) in
     stands_more step cpu_start CpuStands es place _ c.step.new.self
-    (entry_at (λ (k : KeptCpu). k.entry) c.args.lane.now place _
+    (image_at (λ (k : KeptCpu). k.entry) c.args.lane.now place _
     (found c.args.lane.now c.args.lane.now place _ refl c.loop-place-test.true))
     (c.in_ok-step.ensures s base (c.loop-place.invariant base))
 

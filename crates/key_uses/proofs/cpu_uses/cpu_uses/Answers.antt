@@ -1,11 +1,12 @@
 use Rattle.std.proofs.Common.{ℕ, refl, sym}
 use Rattle.key_names.specs.CpuList.{CpuState, cpu_start, cpu_step}
 use Rattle.key_names.specs.Uses.{cpu_uses_at}
+use Rattle.key_names.proofs.Lists.ListFacts.{image_at}
 use Rattle.list_replay.proofs.Loops.{found}
 use Rattle.list_replay.specs.declared.kept.KeptCpu.{KeptCpu}
 use Rattle.key_uses.specs.Fills.{CpuStands, rekeys_of}
 use Rattle.key_uses.specs.KeptEntries.{cpu_entries}
-use Rattle.key_uses.proofs.UsesMore.{so_far_more, entry_at, before}
+use Rattle.key_uses.proofs.UsesMore.{so_far_more, before}
 use Rattle.key_uses.proofs.cpu_uses.cpu_uses.Goals as goal
 
 pub loop-place-preserved : goal.loop-place-preserved
@@ -18,7 +19,7 @@ loop-place-preserved c = λ base.
     let s : CpuState = before at step cpu_start CpuStands es place in
     so_far_more at step cpu_start CpuStands es place _ c.loop-place.keys c.step.new.self
     c.loop-place.uses.items c.push_uses.new.uses.items
-    (entry_at (λ (k : KeptCpu). k.entry) c.args.lane.now place _
+    (image_at (λ (k : KeptCpu). k.entry) c.args.lane.now place _
     (found c.args.lane.now c.args.lane.now place _ refl c.loop-place-test.true))
     h
     (c.in_ok-push_uses.ensures s (rekeys_of c.args.rekeyed.now) h.stands (sym c.rekeys_at-rekeys.ensures))

@@ -1,9 +1,9 @@
 use Rattle.std.proofs.Common.{◌≡◌, map, drop}
+use Rattle.key_names.specs.VreadSteps.{is_wiped}
 use Rattle.line_orders.specs.Called.{seen_act}
-use Rattle.state_entries.specs.Left.{wipes_at}
 use Rattle.state_entries.proofs.leaving.wipes.Given as goal
 
 -- an act among those that are left wipes exactly where one of all does
 abbrev pub invariant-loop-bound : goal.invariant-loop-bound
 invariant-loop-bound l =
-    wipes_at (map seen_act l.acts) l.point ≡ wipes_at (map seen_act (drop l.bound-index l.acts)) l.point
+    is_wiped (map seen_act l.acts) l.point ≡ is_wiped (map seen_act (drop l.bound-index l.acts)) l.point

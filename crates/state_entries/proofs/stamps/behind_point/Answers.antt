@@ -7,7 +7,7 @@ use Rattle.line_orders.proofs.Fronts.{dropped}
 use Rattle.state_entries.specs.Stamps.{latest_of}
 use Rattle.state_entries.proofs.Latest.{at_point, elsewhere}
 use Rattle.state_entries.proofs.stamps.behind_point.Goals as goal
-use Rattle.state_entries.proofs.stamps.behind_point.Goals.{then-bound-point, else-bound-point}
+use Rattle.state_entries.proofs.stamps.behind_point.Goals.{then-is, else-is}
 
 pub loop-bound-preserved : goal.loop-bound-preserved
 loop-bound-preserved c =
@@ -16,12 +16,12 @@ loop-bound-preserved c =
     sym (ap (λ (xs : List ActLine). latest_of c.loop-bound.last (steps_at_point (map seen_act xs) c.args.point))
     (dropped c.args.acts.now c.loop-bound.bound-index c.bound-item.result c.loop-bound-test.true c.bound-item.is))
     ∙ c.loop-bound.invariant in
-    elim c.if-bound-point.branch [
-      | then-bound-point w ↦ ap (λ (n : ℕ). latest_of n (steps_at_point rest c.args.point))
+    elim c.if-is.branch [
+      | then-is w ↦ ap (λ (n : ℕ). latest_of n (steps_at_point rest c.args.point))
           (w.last-is ∙ w.latest-last.ensures)
-          ∙ sym (at_point c.loop-bound.last (seen_act c.bound-item.result) rest c.args.point w.if-bound-point.true)
+          ∙ sym (at_point c.loop-bound.last (seen_act c.bound-item.result) rest c.args.point (sym c.is.ensures ∙ w.if-is.true))
           ∙ so_far
-      | else-bound-point w ↦ ap (λ (n : ℕ). latest_of n (steps_at_point rest c.args.point)) w.last-is
-          ∙ sym (elsewhere c.loop-bound.last (seen_act c.bound-item.result) rest c.args.point w.if-bound-point.false)
+      | else-is w ↦ ap (λ (n : ℕ). latest_of n (steps_at_point rest c.args.point)) w.last-is
+          ∙ sym (elsewhere c.loop-bound.last (seen_act c.bound-item.result) rest c.args.point (sym c.is.ensures ∙ w.if-is.false))
           ∙ so_far
     ]

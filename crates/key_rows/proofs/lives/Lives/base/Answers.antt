@@ -3,12 +3,14 @@ use Rattle.std.proofs.lemmas.List.{length-map}
 use Rattle.std.specs.List.{fold}
 use Rattle.std.specs.Prelude.{take}
 use Rattle.key_names.specs.BaseList.{BaseState, base_start, base_step}
+use Rattle.key_names.proofs.Lists.ListFacts.{image_at}
 use Rattle.list_replay.proofs.Loops.{found}
 use Rattle.list_replay.specs.declared.kept.KeptBase.{KeptBase}
 use Rattle.key_uses.specs.KeptEntries.{base_entries}
+use Rattle.key_uses.proofs.BaseKeys.{BaseStands, base_after_entry}
 use Rattle.key_rows.specs.Lives.{base_births_at, base_endings_at}
 use Rattle.key_rows.proofs.Along.{told_more, told_all}
-use Rattle.key_rows.proofs.Stands.{entry_at, stands_more, BaseStands, base_after_entry}
+use Rattle.key_rows.proofs.Stands.{stands_more}
 use Rattle.key_rows.proofs.lives.Lives.base.Goals as goal
 
 pub loop-place-init : goal.loop-place-init
@@ -25,7 +27,7 @@ loop-place-preserved c =
     let place : ℕ = c.loop-place.place in
     let s : BaseState = fold base_step base_start (take place es) in
     let h = c.loop-place.invariant in
-    let is = entry_at (λ (k : KeptBase). k.entry) c.args.base.now place _
+    let is = image_at (λ (k : KeptBase). k.entry) c.args.base.now place _
     (found c.args.base.now c.args.base.now place _ refl c.loop-place-test.true) in
     record {
       births = told_more base_births_at base_step base_start es place _ _ _ _ is h.births

@@ -3,10 +3,11 @@ use Rattle.key_names.specs.declared.names.KeyName.{KeyName}
 use Rattle.key_names.specs.declared.entries.BaseEntry.{BaseEntry}
 use Rattle.key_names.specs.BaseList.{base_start, base_step}
 use Rattle.key_uses.specs.KeptEntries.{base_entries}
+use Rattle.key_uses.proofs.BaseKeys.{BaseStands}
 use Rattle.key_rows.specs.declared.lives.Lives.{Lives}
 use Rattle.key_rows.specs.Lives.{base_births_at, base_endings_at}
 use Rattle.key_rows.proofs.Along.{IsTold}
-use Rattle.key_rows.proofs.Stands.{StandsAt, BaseStands}
+use Rattle.key_rows.proofs.Stands.{StandsAt}
 use Rattle.key_rows.proofs.lives.Lives.base.Given as goal
 
 -- what the entries before a place tell is added, and the key is that before it

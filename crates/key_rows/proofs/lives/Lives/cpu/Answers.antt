@@ -3,6 +3,7 @@ use Rattle.std.proofs.lemmas.List.{length-map}
 use Rattle.std.specs.List.{fold}
 use Rattle.std.specs.Prelude.{take}
 use Rattle.key_names.specs.CpuList.{CpuState, cpu_start, cpu_step}
+use Rattle.key_names.proofs.Lists.ListFacts.{image_at}
 use Rattle.list_replay.proofs.Loops.{found}
 use Rattle.list_replay.specs.declared.kept.KeptCpu.{KeptCpu}
 use Rattle.key_uses.specs.Fills.{CpuStands}
@@ -10,7 +11,7 @@ use Rattle.key_uses.specs.KeptEntries.{cpu_entries}
 use Rattle.key_rows.specs.Lives.{cpu_births_at, cpu_endings_at}
 use Rattle.key_rows.specs.Rests.{cpu_given_up_at}
 use Rattle.key_rows.proofs.Along.{told_after, told_more, told_all}
-use Rattle.key_rows.proofs.Stands.{entry_at, stands_more}
+use Rattle.key_rows.proofs.Stands.{stands_more}
 use Rattle.key_rows.proofs.lives.Lives.cpu.Goals as goal
 
 pub loop-place-init : goal.loop-place-init
@@ -28,7 +29,7 @@ loop-place-preserved c = λ base.
     let step = cpu_step base c.args.cpu in
     let s : CpuState = fold step cpu_start (take place es) in
     let h = c.loop-place.invariant base in
-    let is = entry_at (λ (k : KeptCpu). k.entry) c.args.lane.now place _
+    let is = image_at (λ (k : KeptCpu). k.entry) c.args.lane.now place _
     (found c.args.lane.now c.args.lane.now place _ refl c.loop-place-test.true) in
     record {
       births = told_more (cpu_births_at c.args.cpu) step cpu_start es place _ _ _ _ is h.births

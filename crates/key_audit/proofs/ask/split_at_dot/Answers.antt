@@ -1,6 +1,6 @@
 use Rattle.std.proofs.lemmas.List.{take_rest}
 use Rattle.transcript_text.proofs.Cutting.{nowhere, cut_there, lacks_before}
-use Rattle.key_audit.proofs.ask.halves.Goals as goal
+use Rattle.key_audit.proofs.ask.split_at_dot.Goals as goal
 
 pub returns-in_err-place : goal.returns-in_err-place
 returns-in_err-place c = rw c.from_residual.ensures (nowhere 46 c.args.text.now c.in_err-place.ensures)

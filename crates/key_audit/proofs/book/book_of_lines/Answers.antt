@@ -4,7 +4,7 @@ use Rattle.line_orders.specs.Seen.{seen_callers}
 use Rattle.list_replay.specs.Tables.{tables_of}
 use Rattle.serial_replay.proofs.RemadeLines.{few_calls, forks_rise}
 use Rattle.key_audit.proofs.Books.{is_book, keeps_book, not_begun, not_none}
-use Rattle.key_audit.proofs.book.of_lines.Goals as goal
+use Rattle.key_audit.proofs.book.book_of_lines.Goals as goal
 
 pub all_settings-requires-clause-few : goal.all_settings-requires-clause-few
 all_settings-requires-clause-few c =
