@@ -1,19 +1,15 @@
 -- Lines that are read where they stand, without a search for their ends.
-use Rattle.std.proofs.Common.{◌≡◌, ℕ, ◌≤◌, ◌==◌, false, Ok, List, ◌∷◌, ◌++◌, refl, sym, ap, ◌∙◌, append_assoc}
-use Rattle.std.proofs.lemmas.Bool.{ne_eqb}
+use Rattle.std.proofs.Common.{◌≡◌, ℕ, ◌≤◌, false, Ok, List, ◌∷◌, ◌++◌, refl, sym, ap, ◌∙◌, append_assoc}
 use Rattle.std.proofs.lemmas.List.Elements.{All-from_recursion}
 use Rattle.key_names.specs.declared.events.Event.{Event}
 use Rattle.key_names.specs.Texts.Spelling.{spaced}
 use Rattle.key_names.specs.Texts.ScriptGrammar.{InRange, event_fields}
 use Rattle.key_names.specs.Texts.ScriptFaults.{SaysEvent, behind, is_unprintable, parts}
-use Rattle.key_names.proofs.Script.LinedTexts.{none_unprintable}
+use Rattle.key_names.proofs.Script.LinedTexts.{none_unprintable, not_feed}
 use Rattle.key_names.proofs.Script.Parts.{Lacks, parts_at}
 use Rattle.key_names.proofs.Script.SaidLines.{printable_said, said_again}
 use Rattle.event_script.specs.Says.{said_first}
 use Rattle.event_script.proofs.FirstOfLines.{whole_line}
-
-not_feed : (b : ℕ) → is_unprintable b ≡ false → (b == 10) ≡ false
-not_feed b fine = ne_eqb b 10 (λ e. let bad : is_unprintable 10 ≡ false = rw e at fine in absurd cc)
 
 -- what the first line of a text says
 pub record FrontSays (version cpus : ℕ) (event : Event) (text rest : List ℕ) : Type 0 where

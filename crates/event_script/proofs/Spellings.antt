@@ -6,9 +6,9 @@ use Rattle.std.specs.Str.{bytes_eq}
 use Rattle.std.proofs.lemmas.Bool.{and_parts, cases_Bool, eq-eqb, false_from_ne_true, leb-true}
 use Rattle.std.proofs.lemmas.Slice.Eq.{bytes_eq-Decides}
 use Rattle.key_names.specs.declared.events.Word.{Word}
-use Rattle.key_names.specs.declared.events.Word.TheVariants.{End}
 use Rattle.key_names.specs.Texts.Spelling.{word_text}
 use Rattle.key_names.specs.Texts.ScriptFaults.{all_words, said_by, said_by_word, word_of}
+use Rattle.key_names.proofs.Script.SaidLines.{word_again}
 use Rattle.event_script.specs.WordLengths.{of_length, Misspelt, IsAmong}
 
 abbrev spelt_in : List ℕ → List Word → Option Word
@@ -39,15 +39,11 @@ no_word : (n : ℕ) (field : List ℕ) → length field ≡ n → AllByRecursion
     → None ≡ word_of field
 no_word n field is none = sym (word_of_length n field is ∙ none_of field (of_length n all_words) none)
 
-again : (w : Word) → word_of (word_text w) ≡ Some w
-again End = refl
-again _ = refl
-
 -- the word of its own length that a field is, is the word that it is
 pub among : (n : ℕ) (field : List ℕ) (found : Option Word) → length field ≡ n → IsAmong n field found →
     found ≡ word_of field
 among n field None is none = no_word n field is none
-among n field (Some word) is spelt = rw spelt (sym (again word))
+among n field (Some word) is spelt = rw spelt (sym (word_again word))
 
 -- each word has from 2 to 7 bytes
 abbrev in_length : Word → Bool

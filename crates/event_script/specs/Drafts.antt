@@ -5,8 +5,8 @@ use Rattle.event_script.specs.declared.draft.Draft.{Draft}
 
 abbrev pub draft_as : Draft → faults.Draft
 draft_as d = record {
-  version = d.version;
-  cpus = d.cpus;
+  version = d.head.version;
+  cpus = d.head.cpus;
   done = map (λ block. block.items) d.done.items;
   events = d.events.items;
 }

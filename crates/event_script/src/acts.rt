@@ -53,10 +53,7 @@ pub(crate) fn inside(rest: Option<&[u8]>) -> Result<Event, FaultKind>
         }
         return Err(FaultKind::UnknownWord);
     };
-    let len = match one(Some(last)) {
-        Ok(len) => len,
-        Err(kind) => return Err(kind),
-    };
+    let len = one(Some(last))?;
     if !spells(word, b"vread") {
         return Err(FaultKind::UnknownWord);
     }

@@ -8,12 +8,11 @@ ghost use Rattle.key_names.specs.Texts.ScriptFaults.{SaysEvent, SaysCaller, Goes
 ghost use Rattle.key_names.specs.Texts.ScriptGrammar.{InRange, acts_after};
 
 use crate::error::LineError;
+use crate::head::Head;
 use crate::reads::bytes_read;
 use key_names::{Event, FaultKind};
 use std::alloc::{AllocError, Global};
 use std::mem;
-
-const MOST_CALLERS: usize = 64;
 
 const MOST_EVENTS: usize = 65_536;
 
@@ -24,8 +23,7 @@ const MOST_ACTS: u32 = 8;
 /// The blocks that are done, the events of the last one, and what is counted of them.
 #[derive(Drop)]
 pub(crate) struct Draft {
-    pub(crate) version: u32,
-    pub(crate) cpus: u32,
+    pub(crate) head: Head,
     pub(crate) done: Vec<Vec<Event>>,
     pub(crate) events: Vec<Event>,
     event_count: usize,
@@ -62,12 +60,11 @@ impl Draft {
     ghost use Rattle.event_script.specs.Drafts.{draft_as};
 
     /// The empty block of caller 0.
-    pub(crate) fn new(alloc: Global, version: u32, cpus: u32) -> Draft
-        ensures { draft_as result ≡ record { version = version; cpus = cpus; done = []; events = [] } }
+    pub(crate) fn new(alloc: Global, head: Head) -> Draft
+        ensures { draft_as result ≡ record { version = head.version; cpus = head.cpus; done = []; events = [] } }
     {
         Draft {
-            version,
-            cpus,
+            head,
             done: Vec::new(alloc),
             events: Vec::new(alloc),
             event_count: 0,
@@ -79,7 +76,7 @@ impl Draft {
 
     /// Whether an event forks a number that is not above the caller's own, or was forked before.
     fn is_bad_fork(&self, event: &Event) -> bool
-        requires { InRange self.now.version self.now.cpus event.now }
+        requires { InRange self.now.head.version self.now.head.cpus event.now }
         ensures { result ≡ is_bad_fork (draft_as self.now) event.now }
     {
         match event {
@@ -102,9 +99,9 @@ impl Draft {
 
     /// One more event of the last block.
     pub(crate) fn add_event(&mut self, event: Event) -> Result<(), LineError>
-        requires { InRange self.old.version self.old.cpus event }
+        requires { InRange self.old.head.version self.old.head.cpus event }
         ensures next { Gives (λ _. GoesOn (draft_as self.new)) result (after (draft_as self.old) (SaysEvent event)) }
-        ensures same { self.new.cpus ≡ self.old.cpus }
+        ensures same { self.new.head ≡ self.old.head }
     {
         if self.is_bad_fork(&event) {
             return Err(LineError::Kind(FaultKind::BadFork));
@@ -129,7 +126,7 @@ impl Draft {
     pub(crate) fn add_block(&mut self, alloc: Global, number: u32) -> Result<(), LineError>
         requires { number < 64 }
         ensures next { Gives (λ _. GoesOn (draft_as self.new)) result (after (draft_as self.old) (SaysCaller number)) }
-        ensures same { self.new.cpus ≡ self.old.cpus }
+        ensures same { self.new.head ≡ self.old.head }
     {
         if number as usize != self.done.len() + 1 {
             return Err(LineError::Kind(FaultKind::BadCaller));

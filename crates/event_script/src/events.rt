@@ -10,6 +10,7 @@ use crate::acts::inside;
 use crate::amounts::{MOST_BITS, MOST_FLAGS, MOST_LEN, bits, text};
 use crate::error::LineError;
 use crate::fields::{four, none, one, two};
+use crate::head::Head;
 use crate::hexes::hardware_words;
 use crate::numbers::{number, number_from, one_below, one_number, two_numbers};
 use crate::words::alone;
@@ -34,11 +35,10 @@ fn at(rest: Option<&[u8]>) -> Result<Event, FaultKind>
     Ok(Event::At { moment })
 }
 
-fn on(cpus: u32, rest: Option<&[u8]>) -> Result<Event, FaultKind>
-    requires { 0 < cpus }
-    ensures { Tells (λ event. event) result (unary (number cpus) Event.On (fields_of rest.entry)) }
+fn on(head: Head, rest: Option<&[u8]>) -> Result<Event, FaultKind>
+    ensures { Tells (λ event. event) result (unary (number head.cpus) Event.On (fields_of rest.entry)) }
 {
-    let cpu = one_below(cpus, rest)?;
+    let cpu = one_below(head.cpus, rest)?;
     Ok(Event::On { cpu })
 }
 
@@ -170,22 +170,21 @@ fn known_since(first: u32, version: u32) -> Result<(), FaultKind>
     Ok(())
 }
 
-fn prepare(version: u32, cpus: u32, rest: Option<&[u8]>) -> Result<Event, FaultKind>
-    requires { 0 < cpus }
-    ensures { Tells (λ event. event) result (since 2 version
-        (unary (number cpus) Event.Prepare (fields_of rest.entry))) }
+fn prepare(head: Head, rest: Option<&[u8]>) -> Result<Event, FaultKind>
+    ensures { Tells (λ event. event) result (since 2 head.version
+        (unary (number head.cpus) Event.Prepare (fields_of rest.entry))) }
 {
-    known_since(2, version)?;
-    let cpu = one_below(cpus, rest)?;
+    known_since(2, head.version)?;
+    let cpu = one_below(head.cpus, rest)?;
     Ok(Event::Prepare { cpu })
 }
 
-fn online(version: u32, cpus: u32, rest: Option<&[u8]>) -> Result<Event, FaultKind>
-    requires { 0 < cpus }
-    ensures { Tells (λ event. event) result (since 2 version (unary (number cpus) Event.Online (fields_of rest.entry))) }
+fn online(head: Head, rest: Option<&[u8]>) -> Result<Event, FaultKind>
+    ensures { Tells (λ event. event) result (since 2 head.version
+        (unary (number head.cpus) Event.Online (fields_of rest.entry))) }
 {
-    known_since(2, version)?;
-    let cpu = one_below(cpus, rest)?;
+    known_since(2, head.version)?;
+    let cpu = one_below(head.cpus, rest)?;
     Ok(Event::Online { cpu })
 }
 
@@ -209,19 +208,13 @@ fn state(version: u32, rest: Option<&[u8]>) -> Result<Event, FaultKind>
 }
 
 /// The event of a word, whose fields spell no bytes.
-fn event_without_bytes(
-    version: u32,
-    cpus: u32,
-    word: Word,
-    rest: Option<&[u8]>,
-) -> Result<Event, FaultKind>
-    requires some { 0 < cpus }
-    requires no_bytes { has_bytes word ≡ false }
-    ensures { Tells (λ event. event) result (event_of version cpus word (fields_of rest.entry)) }
+fn event_without_bytes(head: Head, word: Word, rest: Option<&[u8]>) -> Result<Event, FaultKind>
+    requires { has_bytes word ≡ false }
+    ensures { Tells (λ event. event) result (event_of head.version head.cpus word (fields_of rest.entry)) }
 {
     match word {
         Word::At => at(rest),
-        Word::On => on(cpus, rest),
+        Word::On => on(head, rest),
         Word::Credit => credit(rest),
         Word::Irq => irq(rest),
         Word::Input => input(rest),
@@ -232,9 +225,9 @@ fn event_without_bytes(
         Word::Uread => uread(rest),
         Word::Fork => fork(rest),
         Word::Inside => inside(rest),
-        Word::Prepare => prepare(version, cpus, rest),
-        Word::Online => online(version, cpus, rest),
-        Word::State => state(version, rest),
+        Word::Prepare => prepare(head, rest),
+        Word::Online => online(head, rest),
+        Word::State => state(head.version, rest),
         Word::End => Err(FaultKind::UnknownWord),
         _ => plain(alone(word), rest),
     }
@@ -243,20 +236,18 @@ fn event_without_bytes(
 /// The event of a word and the fields behind it.
 pub(crate) fn event_of(
     alloc: Global,
-    version: u32,
-    cpus: u32,
+    head: Head,
     word: Word,
     rest: Option<&[u8]>,
 ) -> Result<Event, LineError>
-    requires { 0 < cpus }
-    ensures { Gives (λ event. event) result (event_of version cpus word (fields_of rest.entry)) }
+    ensures { Gives (λ event. event) result (event_of head.version head.cpus word (fields_of rest.entry)) }
 {
     match word {
         Word::Hw => hw(alloc, rest),
         Word::Device => device(alloc, rest),
         Word::Write => write(alloc, rest),
         Word::Add => add(alloc, rest),
-        Word::Vmfork => vmfork(alloc, version, rest),
-        _ => Ok(event_without_bytes(version, cpus, word, rest)?),
+        Word::Vmfork => vmfork(alloc, head.version, rest),
+        _ => Ok(event_without_bytes(head, word, rest)?),
     }
 }

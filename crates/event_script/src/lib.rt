@@ -15,6 +15,7 @@ mod error;
 mod events;
 mod fields;
 mod front;
+mod head;
 mod hexes;
 mod line;
 mod load;

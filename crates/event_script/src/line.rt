@@ -9,6 +9,7 @@ ghost use Rattle.key_names.specs.Texts.ScriptFaults.{said, said_by, said_by_word
 use crate::error::LineError;
 use crate::events::event_of;
 use crate::fields::{cut, none, one, spells, two};
+use crate::head::Head;
 use crate::numbers::number;
 use crate::words::word_of;
 use key_names::{Event, FaultKind, Word};
@@ -35,15 +36,12 @@ pub(crate) fn has_bad_byte(line: &[u8]) -> bool
 
 fn said_by_word(
     alloc: Global,
-    version: u32,
-    cpus: u32,
+    head: Head,
     word: Word,
     rest: Option<&[u8]>,
 ) -> Result<Said, LineError>
-    requires some { 0 < cpus }
-    requires few { cpus ≤ 256 }
-    ensures value { Gives said_as result (said_by_word version cpus (fields_of rest.entry) word) }
-    ensures range { IfOk result (λ what. SaidInRange version cpus (said_as what)) }
+    ensures value { Gives said_as result (said_by_word head.version head.cpus (fields_of rest.entry) word) }
+    ensures range { IfOk result (λ what. SaidInRange head.version head.cpus (said_as what)) }
 {
     match word {
         Word::End => {
@@ -51,26 +49,18 @@ fn said_by_word(
             Ok(Said::End)
         }
         _ => {
-            let event = event_of(alloc, version, cpus, word, rest)?;
+            let event = event_of(alloc, head, word, rest)?;
             Ok(Said::Event(event))
         }
     }
 }
 
-fn said_by(
-    alloc: Global,
-    version: u32,
-    cpus: u32,
-    first: &[u8],
-    rest: Option<&[u8]>,
-) -> Result<Said, LineError>
-    requires some { 0 < cpus }
-    requires few { cpus ≤ 256 }
-    ensures value { Gives said_as result (said_by version cpus (first.now ∷ fields_of rest.entry)) }
-    ensures range { IfOk result (λ what. SaidInRange version cpus (said_as what)) }
+fn said_by(alloc: Global, head: Head, first: &[u8], rest: Option<&[u8]>) -> Result<Said, LineError>
+    ensures value { Gives said_as result (said_by head.version head.cpus (first.now ∷ fields_of rest.entry)) }
+    ensures range { IfOk result (λ what. SaidInRange head.version head.cpus (said_as what)) }
 {
     if let Some(word) = word_of(first) {
-        return said_by_word(alloc, version, cpus, word, rest);
+        return said_by_word(alloc, head, word, rest);
     }
     if !spells(first, b"caller") {
         return Err(LineError::Kind(FaultKind::UnknownWord));
@@ -80,19 +70,12 @@ fn said_by(
 }
 
 /// What a line says, or the first thing that is wrong with its word and its fields.
-pub(crate) fn line_says(
-    alloc: Global,
-    version: u32,
-    cpus: u32,
-    line: &[u8],
-) -> Result<Said, LineError>
-    requires some { 0 < cpus }
-    requires few { cpus ≤ 256 }
-    ensures value { Gives said_as result (said version cpus line.now) }
-    ensures range { IfOk result (λ what. SaidInRange version cpus (said_as what)) }
+pub(crate) fn line_says(alloc: Global, head: Head, line: &[u8]) -> Result<Said, LineError>
+    ensures value { Gives said_as result (said head.version head.cpus line.now) }
+    ensures range { IfOk result (λ what. SaidInRange head.version head.cpus (said_as what)) }
 {
     match cut(b' ', line) {
-        Some((first, rest)) => said_by(alloc, version, cpus, first, Some(rest)),
-        None => said_by(alloc, version, cpus, line, None),
+        Some((first, rest)) => said_by(alloc, head, first, Some(rest)),
+        None => said_by(alloc, head, line, None),
     }
 }

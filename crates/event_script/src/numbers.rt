@@ -53,12 +53,8 @@ fn long_number(most: u64, value: u64, text: &[u8]) -> Option<(u64, &[u8])>
     let Some(digit) = char::from(text[SAFE_DIGITS]).to_digit(10) else {
         return cut_number(most, value, SAFE_DIGITS, text);
     };
-    let Some(tens) = value.checked_mul(10) else {
-        return None;
-    };
-    let Some(next) = tens.checked_add(u64::from(digit)) else {
-        return None;
-    };
+    let tens = value.checked_mul(10)?;
+    let next = tens.checked_add(u64::from(digit))?;
     if !ends_number(&text[SAFE_DIGITS + 1..]) {
         return None;
     }

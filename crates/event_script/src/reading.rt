@@ -12,6 +12,7 @@ ghost use Rattle.event_script.specs.Views.{Gives, Tells};
 use crate::draft::Draft;
 use crate::error::LineError;
 use crate::fields::{cut, spells, two};
+use crate::head::Head;
 use crate::line::{Said, has_bad_byte, line_says};
 use crate::numbers::number_up_to;
 use crate::script_error::ScriptError;
@@ -76,16 +77,9 @@ fn cpus_of(version: u32, line: &[u8]) -> Result<u32, FaultKind>
 }
 
 /// What the first line of a text says, and what stands behind the line.
-fn next_said(
-    alloc: Global,
-    version: u32,
-    cpus: u32,
-    text: &[u8],
-) -> Result<(Said, &[u8]), LineError>
-    requires some { 0 < cpus }
-    requires few { cpus ≤ 256 }
-    ensures value { Gives (λ both. said_as both.0) result (said_first version cpus (parts 10 text.now)) }
-    ensures range { IfOk result (λ both. SaidInRange version cpus (said_as both.0)) }
+fn next_said(alloc: Global, head: Head, text: &[u8]) -> Result<(Said, &[u8]), LineError>
+    ensures value { Gives (λ both. said_as both.0) result (said_first head.version head.cpus (parts 10 text.now)) }
+    ensures range { IfOk result (λ both. SaidInRange head.version head.cpus (said_as both.0)) }
     ensures rest { IfOk result (λ both. parts 10 both.1.now ≡ behind (parts 10 text.now)) }
     ensures shorter { IfOk result (λ both. length both.1.now < length text.now) }
 {
@@ -93,14 +87,14 @@ fn next_said(
         return Ok((Said::Event(short_event(word, numbers)), rest));
     }
     let (line, rest) = first_line(text)?;
-    Ok((line_says(alloc, version, cpus, line)?, rest))
+    Ok((line_says(alloc, head, line)?, rest))
 }
 
 /// What is said in a line is added to a script. Answers whether more lines may follow.
 fn add_said(alloc: Global, draft: &mut Draft, said: Said) -> Result<bool, LineError>
-    requires { SaidInRange draft.old.version draft.old.cpus (said_as said) }
+    requires { SaidInRange draft.old.head.version draft.old.head.cpus (said_as said) }
     ensures next { Gives (λ more. next_as more (draft_as draft.new)) result (after (draft_as draft.old) (said_as said)) }
-    ensures same { draft.new.cpus ≡ draft.old.cpus }
+    ensures same { draft.new.head ≡ draft.old.head }
     ensures kept { IfOk result (λ more. OnFalse more (draft_as draft.new ≡ draft_as draft.old)) }
 {
     match said {
@@ -160,22 +154,14 @@ fn read_cpus(version: u32, text: &[u8]) -> Result<(u32, &[u8]), FaultKind>
 }
 
 /// The empty block of caller 0, and what stands behind its line.
-fn read_start(
-    alloc: Global,
-    version: u32,
-    cpus: u32,
-    text: &[u8],
-) -> Result<(Draft, &[u8]), LineError>
-    requires some { 0 < cpus }
-    requires few { cpus ≤ 256 }
-    ensures start { Gives (λ both. draft_as both.0) result (start_in version cpus (parts 10 text.now)) }
-    ensures cpus { IfOk result (λ both. both.0.cpus ≡ cpus) }
+fn read_start(alloc: Global, head: Head, text: &[u8]) -> Result<(Draft, &[u8]), LineError>
+    ensures start { Gives (λ both. draft_as both.0) result (start_in head.version head.cpus (parts 10 text.now)) }
     ensures rest { IfOk result (λ both. parts 10 both.1.now ≡ behind (parts 10 text.now)) }
     ensures shorter { IfOk result (λ both. length both.1.now < length text.now) }
 {
     let (line, rest) = first_line(text)?;
-    match line_says(alloc, version, cpus, line)? {
-        Said::Caller(0) => Ok((Draft::new(alloc, version, cpus), rest)),
+    match line_says(alloc, head, line)? {
+        Said::Caller(0) => Ok((Draft::new(alloc, head), rest)),
         _ => Err(LineError::Kind(FaultKind::BadCaller)),
     }
 }
@@ -186,16 +172,14 @@ fn read_line<'a>(
     draft: &mut Draft,
     text: &'a [u8],
 ) -> Result<(bool, &'a [u8]), LineError>
-    requires some { 0 < draft.old.cpus }
-    requires few { draft.old.cpus ≤ 256 }
     ensures next { Gives (λ both. next_as both.0 (draft_as draft.new)) result
         (behind_first (draft_as draft.old) (parts 10 text.now)) }
-    ensures same { draft.new.cpus ≡ draft.old.cpus }
+    ensures same { draft.new.head ≡ draft.old.head }
     ensures kept { IfOk result (λ both. OnFalse both.0 (draft_as draft.new ≡ draft_as draft.old)) }
     ensures rest { IfOk result (λ both. parts 10 both.1.now ≡ behind (parts 10 text.now)) }
     ensures shorter { IfOk result (λ both. length both.1.now < length text.now) }
 {
-    let (said, rest) = next_said(alloc, draft.version, draft.cpus, text)?;
+    let (said, rest) = next_said(alloc, draft.head, text)?;
     let more = add_said(alloc, draft, said)?;
     Ok((more, rest))
 }
@@ -208,17 +192,13 @@ fn check_end(text: &[u8]) -> Result<(), FaultKind>
     if text.is_empty() {
         return Ok(());
     }
-    match first_line(text) {
-        Ok(_) => Err(FaultKind::UnknownWord),
-        Err(kind) => Err(kind),
-    }
+    first_line(text)?;
+    Err(FaultKind::UnknownWord)
 }
 
 /// The script that goes on with a text of its fourth line and all behind it.
 fn read_rest(alloc: Global, mut draft: Draft, text: &[u8]) -> Result<Draft, ScriptError>
-    requires some { 0 < draft.cpus }
-    requires few { draft.cpus ≤ 256 }
-    requires short { length text.now ≤ 16777216 }
+    requires { length text.now ≤ 16777216 }
     ensures { GivesScript (λ d. script_of_draft (draft_as d)) result
         (script_from (draft_as draft) 4 (parts 10 text.now)) }
 {
@@ -256,7 +236,7 @@ pub(crate) fn read_draft(alloc: Global, text: &[u8]) -> Result<Draft, ScriptErro
         Ok(both) => both,
         Err(kind) => return Err(ScriptError::Fault(fault(2, kind))),
     };
-    let (draft, rest) = match read_start(alloc, version, cpus, third) {
+    let (draft, rest) = match read_start(alloc, Head { version, cpus }, third) {
         Ok(both) => both,
         Err(error) => return Err(at_line(3, error)),
     };

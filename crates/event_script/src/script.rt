@@ -41,6 +41,7 @@ impl Model for Script {
 
 impl Script {
     ghost use Rattle.std.specs.Prelude.{slice_get, Some};
+    ghost use Rattle.key_names.specs.Texts.ScriptGrammar.{WellFormed};
     ghost use Rattle.event_script.specs.LoadScript.{load_script};
 
     /// The script of a load, of version 1: on as many CPUs as callers, caller 0 makes the core ready and forks all
@@ -63,9 +64,10 @@ impl Script {
         })
     }
 
-    /// The version of its text: 1, 2 or 3.
+    /// The version of its text: 1, 2 or 3. Every script is well-formed.
     pub fn version(&self) -> u32
-        ensures { result ≡ self.now.version }
+        ensures number { result ≡ self.now.version }
+        ensures well { WellFormed self.now }
     {
         self.version
     }
@@ -109,8 +111,8 @@ pub fn read(alloc: Global, text: &[u8]) -> Result<Script, ScriptError>
     ensures faulted { (fault : ScriptFault) → first_fault text.now ≡ Some fault → IsErr result }
 {
     let draft = read_draft(alloc, text)?;
-    let version = draft.version;
-    let cpus = draft.cpus;
+    let version = draft.head.version;
+    let cpus = draft.head.cpus;
     let callers = draft.into_blocks()?;
     Ok(Script {
         version,

@@ -126,12 +126,8 @@ pub(crate) fn short_line(text: &[u8]) -> Option<(Word, Numbers, &[u8])>
     ensures spelt { IfSome result (λ all. text.now ≡ word_text all.0 ++ (behind_word all.1 ++ 10 ∷ all.2.now)) }
     ensures short { IfSome result (λ all. IsShort all.0 all.1) }
 {
-    let Some((word, left)) = word_in_front(text) else {
-        return None;
-    };
-    let Some((numbers, rest)) = numbers_in_front(left) else {
-        return None;
-    };
+    let (word, left) = word_in_front(text)?;
+    let (numbers, rest) = numbers_in_front(left)?;
     if is_short(word, numbers) {
         Some((word, numbers, rest))
     } else {

@@ -1,4 +1,4 @@
-use key_names::{Answer, InsideAct};
+use key_names::{Answer, InsideAct, Point};
 use std::alloc::Global;
 use std::test::Fail;
 use vdso_state::VState;
@@ -36,7 +36,7 @@ fn a_current_key_serves(rt: HostRuntime) -> Result<(), Fail> {
     let mut st = VState::keyed([0; 32], 2);
     let seen = [Seen::Ready(1), Seen::Ready(1), Seen::Ready(1)];
     let mut inside = Inside::none();
-    inside.add(2, InsideAct::Wipe);
+    inside.add(Point::Written, InsideAct::Wipe);
     let course = checked(follow(&mut st, 32, 0, inside, &seen))?;
     assert_eq!(rt; course.answer, Answer::Ok);
     assert_eq!(rt; course.reached, Reached::AllButWritten);
@@ -56,7 +56,7 @@ fn a_key_is_read_first(rt: HostRuntime) -> Result<(), Fail> {
         Seen::Ready(1),
     ];
     let mut inside = Inside::none();
-    inside.add(3, InsideAct::Reseed);
+    inside.add(Point::Serve, InsideAct::Reseed);
     let mut st = VState::wiped();
     let course = checked(follow(&mut st, 32, 0, inside, &seen))?;
     assert_eq!(rt; course.reached, Reached::All);
@@ -83,7 +83,7 @@ fn a_wipe_and_a_reseed_lead_to_the_system_call(rt: HostRuntime) -> Result<(), Fa
         Seen::Cpu([0; 32]),
     ];
     let mut inside = Inside::none();
-    inside.add(4, InsideAct::Wipe);
+    inside.add(Point::End, InsideAct::Wipe);
     let mut st = VState::keyed([7; 32], 2);
     let course = checked(follow(&mut st, 32, 0, inside, &seen))?;
     assert_eq!(rt; course.reached, Reached::AllButWritten);

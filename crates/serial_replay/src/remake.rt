@@ -126,10 +126,11 @@ pub fn remake<N: Note>(
     t: &Transcript,
     how: &N,
 ) -> Result<Remade<N::Noted>, AllocError>
-    requires { WellFormed script.now }
     ensures made { IfOk result (λ remade. IsRemade (N.IsNoted how.now) script.now t.now remade) }
     ensures of_steps { IfOk result (λ remade. IsRemade (N.IsNoted how.now) script.now (map (map bare) t.now) remade) }
 {
+    // They say what is true of every script and of every transcript.
+    let _version = script.version();
     let _callers = t.callers();
     let lines = bare_callers(alloc, t)?;
     of_lines(alloc, script, &lines, how)

@@ -4,7 +4,6 @@ ghost use Rattle.std.specs.List.{AllByRecursion};
 ghost use Rattle.key_names.specs.IsTranscript.{IsTranscript, clause_number};
 ghost use Rattle.key_names.specs.SameSteps.{SameSteps};
 ghost use Rattle.key_names.specs.SeenLine.{SeenLine};
-ghost use Rattle.key_names.specs.Texts.ScriptGrammar.{WellFormed};
 ghost use Rattle.key_names.specs.Texts.TranscriptGrammar.{LineFits, ShownFits};
 ghost use Rattle.key_names.specs.declared.events.Word.{Word as EventWord};
 ghost use Rattle.line_orders.specs.Clauses.{clause_of};
@@ -156,7 +155,6 @@ fn all_lines(
 
 // The transcript of these words and steps, or the first clause that fails.
 fn replay_steps(alloc: Global, script: &Script, steps: &Transcript) -> Result<Replayed, AllocError>
-    requires { WellFormed script.now }
     ensures { IfOk result (λ replayed. IsReplay script.now steps.now replayed) }
 {
     let made = match remake(alloc, script, steps, &Whole)? {
@@ -176,7 +174,6 @@ fn replay_steps(alloc: Global, script: &Script, steps: &Transcript) -> Result<Re
 ///
 /// `AllocError` where there is no memory for it.
 pub fn replay(alloc: Global, script: &Script, steps: &Transcript) -> Result<Replayed, AllocError>
-    requires { WellFormed script.now }
     ensures replay { IfOk result (λ replayed. IsReplay script.now steps.now replayed) }
     ensures made { (t : List (List SeenLine)) → SameSteps steps.now t → IsTranscript script.now t
         → IfOk result (λ replayed. replayed ≡ Replayed.Made t) }

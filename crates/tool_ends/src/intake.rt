@@ -83,10 +83,7 @@ impl Opened {
             → IfErr result (λ why. IsNoPair input why) }
     {
         match self {
-            Opened::Script(script, reader) => match transcript_of(reader) {
-                Ok(t) => Ok((script, t)),
-                Err(why) => Err(why),
-            },
+            Opened::Script(script, reader) => Ok((script, transcript_of(reader)?)),
             Opened::Faulty(fault) => Err(NoPair::Refused(fault)),
         }
     }

@@ -8,9 +8,7 @@ pub fn number_in(least: u32, most: u32, word: &str) -> Option<u32>
     ensures found { IfSome result (λ n. (word.now ≡ decimal n) × (least ≤ n) × (n ≤ most)) }
     ensures only { (n : ℕ) → word.now ≡ decimal n → least ≤ n → n ≤ most → result ≡ Some n }
 {
-    let Some(number) = number_up_to(u64::from(most), word.as_bytes()) else {
-        return None;
-    };
+    let number = number_up_to(u64::from(most), word.as_bytes())?;
     if number < u64::from(least) {
         return None;
     }

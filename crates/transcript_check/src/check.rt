@@ -48,11 +48,12 @@ fn judge(alloc: Global, script: &Script, t: &Transcript) -> Result<Verdict, Allo
 ///
 /// `AllocError` where there is no memory to judge it.
 pub fn check(alloc: Global, script: &Script, t: &Transcript) -> Result<Verdict, AllocError>
-    requires { WellFormed script.now }
     ensures judged { IfOk result (λ verdict. IsJudged script.now t.now verdict) }
     ensures yes { IsTranscript script.now t.now → IfOk result (λ verdict. verdict ≡ Verdict.Yes) }
     ensures no { (clause : Clause) → FirstFails script.now t.now (clause_of clause)
         → IfOk result (λ verdict. verdict ≡ Verdict.No (clause_number (clause_of clause))) }
 {
+    // It says what is true of every script.
+    let _version = script.version();
     judge(alloc, script, t)
 }

@@ -8,5 +8,5 @@ pub returns-in-Some-clause-value : goal.returns-in-Some-clause-value
 returns-in-Some-clause-value c =
     let is = sym c.word_of.ensures.value ∙ c.in-Some.is in
     subst (λ given. Gives said_as c.said_by_word.result given)
-    (sym (says_word c.args.version c.args.cpus c.args.first.now (fields_of c.args.rest) c.in-Some.word is))
+    (sym (says_word c.args.head.version c.args.head.cpus c.args.first.now (fields_of c.args.rest) c.in-Some.word is))
     c.said_by_word.ensures.value

@@ -4,5 +4,5 @@ use Rattle.event_script.proofs.line.said_by_word.Goals as goal
 
 pub returns-in_ok-event-in_default-clause-range : goal.returns-in_ok-event-in_default-clause-range
 returns-in_ok-event-in_default-clause-range c =
-    (event_takes c.args.version c.args.cpus c.args.word c.requires.few (fields_of c.args.rest)
+    (event_takes c.args.head.version c.args.head.cpus c.args.word c.args.head.few (fields_of c.args.rest)
     c.in_ok-event-in_default.event c.in_ok-event-in_default.ensures).range

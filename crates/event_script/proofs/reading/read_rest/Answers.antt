@@ -43,7 +43,5 @@ loop-both-preserved c =
       same = sym (goes_on d (draft_as c.read_line.new.draft) c.loop-both.number c.loop-both.left.now c.in-Ok.both.1.now
           next c.in-Ok.ensures.rest)
           ∙ c.loop-both.invariant.same;
-      some = rw c.in-Ok.ensures.same c.loop-both.invariant.some;
-      few = rw c.in-Ok.ensures.same c.loop-both.invariant.few;
       small = omega arith;
     }

@@ -1,4 +1,4 @@
-use Rattle.std.proofs.Common.{◌≡◌, ◌<◌, ◌≤◌, ◌+◌, length}
+use Rattle.std.proofs.Common.{◌≡◌, ◌≤◌, ◌+◌, length}
 use Rattle.key_names.specs.Texts.ScriptFaults.{parts, script_from}
 use Rattle.event_script.specs.Drafts.{draft_as}
 use Rattle.event_script.proofs.reading.read_rest.Given as goal
@@ -7,8 +7,6 @@ abbrev pub invariant-loop-both : goal.invariant-loop-both
 invariant-loop-both l = record {
   same : script_from (draft_as l.draft) l.number (parts 10 l.left) ≡
       script_from (draft_as l.fn.draft) 4 (parts 10 l.text);
-  some : 0 < l.draft.cpus;
-  few : l.draft.cpus ≤ 256;
   small : l.number + length l.left ≤ 16777220;
 }
 
