@@ -1,7 +1,6 @@
 //! The text that answers a command.
 ghost use Rattle.std.specs.Prelude.{IfOk};
 ghost use Rattle.key_names.specs.IsTranscript.{script_calls};
-ghost use Rattle.key_names.specs.Texts.ScriptGrammar.{WellFormed};
 ghost use Rattle.transcript_check.specs.Judged.{IsSound};
 ghost use Rattle.key_audit.specs.Outcome.{Tells};
 
@@ -26,7 +25,6 @@ pub(crate) fn answer_text(
     script: &Script,
     t: &Transcript,
 ) -> Result<Vec<u8>, AllocError>
-    requires { WellFormed script.now }
     ensures { (sound : IsSound script.now t.now) → IfOk result (λ text.
         Tells ask (script_calls script.now t.now) sound.book sound.meanings text.items) }
 {

@@ -1,7 +1,6 @@
 //! The top call: the words of a command line in, its answer out.
 ghost use Rattle.std.specs.Prelude.{◌≡◌, ◌≤◌, ◌↔◌, ◌⊎◌, []};
 ghost use Rattle.io_edges.specs.Faults.{Rose};
-ghost use Rattle.key_names.specs.Texts.ScriptGrammar.{WellFormed};
 ghost use Rattle.tool_ends.specs.Reads.{WritesEnds};
 ghost use Rattle.key_audit.specs.Commands.{Asks, IsNoForm};
 ghost use Rattle.key_audit.specs.Outcome.{AuditEnds, ToldOf};
@@ -19,7 +18,6 @@ use transcript_text::Transcript;
 
 // What is told of a transcript.
 fn tell<K: Sink>(alloc: Global, ask: Ask, script: &Script, t: &Transcript, sink: &mut K) -> Status
-    requires { WellFormed script.now }
     ensures ends { WritesEnds (ToldOf ask script.now t.now) result (K.held sink.old) (K.held sink.new) }
     ensures cut { result ≡ Status.WriteFault → Rose (K.faults sink.old) (K.faults sink.new) }
     ensures silent { result ≡ Status.NoMemory → sink.new ≡ sink.old }

@@ -69,10 +69,11 @@ pub fn book_of(
     script: &Script,
     t: &Transcript,
 ) -> Result<Option<KeptBook>, AllocError>
-    requires { WellFormed script.now }
     ensures { (book : Book) (ms : List (List CallMeaning)) → IsTranscriptBy script.now t.now book ms →
         IfOk result (λ o. MatchOption o ⊥ (λ kept. KeepsBook kept t.now (script_calls script.now t.now) book ms)) }
 {
+    // It says what is true of every script.
+    let _version = script.version();
     let lines = bare_callers(alloc, t)?;
     book_of_lines(alloc, script, &lines)
 }
