@@ -1,5 +1,5 @@
 -- Points and attempts by their numbers, and four words.
-use Rattle.std.proofs.Common.{◌≡◌, ◌≤◌, ◌<◌, List, [], ◌∷◌, length, get_or, refl, sym, arith}
+use Rattle.std.proofs.Common.{◌≡◌, ◌≤◌, ◌<◌, List, [], ◌∷◌, length, get_or, sym, arith}
 use Rattle.key_names.specs.declared.point.Point.{Point}
 use Rattle.key_names.specs.declared.point.Point.TheVariants.{Start, Written, Serve, End}
 use Rattle.key_names.specs.Points.{number_of}
@@ -16,30 +16,6 @@ point_range End = (omega arith, omega arith)
 pub turn_range : (t : Turn) → (1 ≤ turn_number t) × (turn_number t ≤ 2)
 turn_range First = (omega arith, omega arith)
 turn_range Second = (omega arith, omega arith)
-
-pub point_is : (a b : Point) → number_of a ≡ number_of b → a ≡ b
-point_is Start Start e = refl
-point_is Start Written e = absurd (omega arith)
-point_is Start Serve e = absurd (omega arith)
-point_is Start End e = absurd (omega arith)
-point_is Written Start e = absurd (omega arith)
-point_is Written Written e = refl
-point_is Written Serve e = absurd (omega arith)
-point_is Written End e = absurd (omega arith)
-point_is Serve Start e = absurd (omega arith)
-point_is Serve Written e = absurd (omega arith)
-point_is Serve Serve e = refl
-point_is Serve End e = absurd (omega arith)
-point_is End Start e = absurd (omega arith)
-point_is End Written e = absurd (omega arith)
-point_is End Serve e = absurd (omega arith)
-point_is End End e = refl
-
-pub turn_is : (a b : Turn) → turn_number a ≡ turn_number b → a ≡ b
-turn_is First First e = refl
-turn_is First Second e = absurd (omega arith)
-turn_is Second First e = absurd (omega arith)
-turn_is Second Second e = refl
 
 pub four_items : {X : Type 0} (xs : List X) (a b c d : X) → 4 ≤ length xs → length xs < 5 → a ≡ get_or xs 0 a →
     b ≡ get_or xs 1 b → c ≡ get_or xs 2 c → d ≡ get_or xs 3 d → xs ≡ a ∷ b ∷ c ∷ d ∷ []

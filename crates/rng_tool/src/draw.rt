@@ -6,12 +6,12 @@ ghost use Rattle.rng_tool.specs.DrawOutcome.{AskDraw, DrawEnds, DrawOf, IsDraw, 
 
 use arrayvec::ArrayString;
 use draw_below::{Drawn, draw_on_new_table};
-use io_edges::{Failed, NoMemory, Sink, put_all};
+use io_edges::{NoMemory, Sink};
 use itoa::Buffer;
 use std::alloc::Global;
 use std::sync::Wait;
-use tool_ends::Status;
 use tool_ends::numbers::number_in;
+use tool_ends::{Status, put_answer};
 
 /// The most draws of one run.
 const MOST_DRAWS: u32 = 1000;
@@ -39,12 +39,8 @@ fn draw_by(command: &str, bound: &str, count: &str) -> Option<Draw>
     if command != "draw" {
         return None;
     }
-    let Some(bound) = number_in(0, u32::MAX, bound) else {
-        return None;
-    };
-    let Some(count) = number_in(1, MOST_DRAWS, count) else {
-        return None;
-    };
+    let bound = number_in(0, u32::MAX, bound)?;
+    let count = number_in(1, MOST_DRAWS, count)?;
     Some(Draw { bound, count })
 }
 
@@ -108,8 +104,5 @@ pub(crate) fn run_draw<R: Wait, K: Sink>(rt: &R, alloc: Global, draw: Draw, sink
     let Ok(text) = lines_of(rt, alloc, draw) else {
         return Status::NoMemory;
     };
-    match put_all(sink, text.as_str().as_bytes()) {
-        Ok(()) => Status::Done,
-        Err(Failed) => Status::WriteFault,
-    }
+    put_answer(Status::Done, text.as_str().as_bytes(), sink)
 }

@@ -5,14 +5,14 @@ ghost use Rattle.irq_feed.specs.declared.table_feed.FeedSums.{FeedSums};
 ghost use Rattle.rng_tool.specs.FeedOutcome.{AskFeed, FeedEnds, FeedOf, IsFeed, IsSmallFeed, feed_line};
 
 use arrayvec::ArrayString;
-use io_edges::{Failed, Gate, NoMemory, Sink, put_all};
+use io_edges::{Gate, NoMemory, Sink};
 use irq_feed::{FeedSums, feed_on_new_table};
 use std::alloc::Global;
 use std::sync::Wait;
 use std::thread::Threads;
-use tool_ends::Status;
 use tool_ends::numbers::number_in;
 use tool_ends::short_lines::{ShortLine, add_number};
+use tool_ends::{Status, put_line};
 
 /// The most feeders of one run.
 const MOST_FEEDERS: u32 = 16;
@@ -39,15 +39,9 @@ fn feed_by(command: &str, start: &str, feeders: &str, samples: &str) -> Option<F
     if command != "feed" {
         return None;
     }
-    let Some(start) = number_in(0, u32::MAX, start) else {
-        return None;
-    };
-    let Some(feeders) = number_in(1, MOST_FEEDERS, feeders) else {
-        return None;
-    };
-    let Some(samples) = number_in(1, MOST_SAMPLES, samples) else {
-        return None;
-    };
+    let start = number_in(0, u32::MAX, start)?;
+    let feeders = number_in(1, MOST_FEEDERS, feeders)?;
+    let samples = number_in(1, MOST_SAMPLES, samples)?;
     Some(Feed {
         start,
         feeders,
@@ -116,8 +110,5 @@ pub(crate) fn run_feed<R: Threads + Wait + Sync, K: Sink, G: Gate>(
     let Ok(line) = summary(rt, alloc, feed, gate) else {
         return Status::NoMemory;
     };
-    match put_all(sink, line.as_str().as_bytes()) {
-        Ok(()) => Status::Done,
-        Err(Failed) => Status::WriteFault,
-    }
+    put_line(Status::Done, &line, sink)
 }

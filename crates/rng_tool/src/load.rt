@@ -9,14 +9,14 @@ ghost use Rattle.rng_tool.specs.LoadOutcome.{AskLoad, IsLoad, IsSmall, LoadEnds,
 use crate::callers::transcript_of;
 use arrayvec::ArrayString;
 use event_script::Script;
-use io_edges::{Failed, Gate, NoMemory, Sink, put_all};
+use io_edges::{Gate, NoMemory, Sink};
 use key_names::Data;
 use std::alloc::Global;
 use std::sync::Wait;
 use std::thread::Threads;
-use tool_ends::Status;
 use tool_ends::numbers::number_in;
 use tool_ends::short_lines::{ShortLine, add_number};
+use tool_ends::{Status, put_line};
 use transcript_check::check::{Verdict, check};
 use transcript_text::{CallerLines, Transcript};
 
@@ -45,15 +45,9 @@ fn load_by(command: &str, start: &str, callers: &str, events: &str) -> Option<Lo
     if command != "load" {
         return None;
     }
-    let Some(start) = number_in(0, u32::MAX, start) else {
-        return None;
-    };
-    let Some(callers) = number_in(1, MOST_CALLERS, callers) else {
-        return None;
-    };
-    let Some(events) = number_in(1, MOST_EVENTS, events) else {
-        return None;
-    };
+    let start = number_in(0, u32::MAX, start)?;
+    let callers = number_in(1, MOST_CALLERS, callers)?;
+    let events = number_in(1, MOST_EVENTS, events)?;
     Some(Load {
         start,
         callers,
@@ -173,8 +167,5 @@ pub(crate) fn run_load<R: Threads + Wait + Sync, K: Sink, G: Gate>(
     let Ok(line) = summary(rt, alloc, load, gate) else {
         return Status::NoMemory;
     };
-    match put_all(sink, line.as_str().as_bytes()) {
-        Ok(()) => Status::Done,
-        Err(Failed) => Status::WriteFault,
-    }
+    put_line(Status::Done, &line, sink)
 }

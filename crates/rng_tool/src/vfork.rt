@@ -3,18 +3,17 @@ ghost use Rattle.std.specs.Prelude.{◌≡◌, ◌≤◌, ◌+◌, ◌*◌, ◌^
 ghost use Rattle.hex.specs.Hex.{encode_lower};
 ghost use Rattle.io_edges.specs.Faults.{Rose};
 ghost use Rattle.key_names.specs.declared.point.Point.{Point};
-ghost use Rattle.key_names.specs.Points.{number_of};
 ghost use Rattle.vdso_state.specs.declared.place.Turn.{Turn};
 ghost use Rattle.vdso_state.specs.Turns.{turn_number};
 ghost use Rattle.rng_tool.specs.VforkOutcome.{AskVfork, IsSmallVfork, IsVfork, VforkEnds, VforkOf, end_line, vfork_text};
 
 use fork_runs::{Point, Turn, fork_on_new_table};
 use hex::encode_to_slice;
-use io_edges::{Failed, NoMemory, Sink, put_all};
+use io_edges::{NoMemory, Sink};
 use std::alloc::Global;
 use std::sync::Wait;
-use tool_ends::Status;
 use tool_ends::numbers::number_in;
+use tool_ends::{Status, put_answer};
 
 /// The most bytes that each end gives.
 const MOST_BYTES: u32 = 1 << 20;
@@ -31,19 +30,6 @@ pub(crate) struct Vfork {
     pub(crate) len: u32,
 }
 
-/// The point of this number.
-fn point_of(number: u32) -> Point
-    requires { (1 ≤ number) × (number ≤ 4) }
-    ensures { number_of result ≡ number }
-{
-    match number {
-        1 => Point::Start,
-        2 => Point::Written,
-        3 => Point::Serve,
-        _ => Point::End,
-    }
-}
-
 /// The attempt of this number.
 fn attempt_of(number: u32) -> Turn
     requires { (1 ≤ number) × (number ≤ 2) }
@@ -56,7 +42,7 @@ fn attempt_of(number: u32) -> Turn
 }
 
 /// The fork that four words ask for.
-#[tactic(auto, using(crate::proofs::VforkWords::point_range, crate::proofs::VforkWords::turn_range))]
+#[tactic(auto, using(crate::proofs::VforkWords::point_range, crate::proofs::VforkWords::turn_range, key_names::proofs::Points::numbered, key_names::proofs::Points::point_again))]
 fn vfork_by(command: &str, point: &str, attempt: &str, len: &str) -> Option<Vfork>
     ensures found { IfSome result (λ vfork.
         AskVfork (command.now ∷ point.now ∷ attempt.now ∷ len.now ∷ []) vfork.point vfork.attempt vfork.len) }
@@ -67,17 +53,12 @@ fn vfork_by(command: &str, point: &str, attempt: &str, len: &str) -> Option<Vfor
     if command != "vfork" {
         return None;
     }
-    let Some(point) = number_in(1, 4, point) else {
-        return None;
-    };
-    let Some(attempt) = number_in(1, 2, attempt) else {
-        return None;
-    };
-    let Some(len) = number_in(1, MOST_BYTES, len) else {
-        return None;
-    };
+    let number = number_in(1, 4, point)?;
+    let point = Point::of_number(u64::from(number))?;
+    let attempt = number_in(1, 2, attempt)?;
+    let len = number_in(1, MOST_BYTES, len)?;
     Some(Vfork {
-        point: point_of(point),
+        point,
         attempt: attempt_of(attempt),
         len,
     })
@@ -146,8 +127,5 @@ pub(crate) fn run_vfork<R: Wait, K: Sink>(
     let Ok(text) = lines_of(rt, alloc, vfork) else {
         return Status::NoMemory;
     };
-    match put_all(sink, &text) {
-        Ok(()) => Status::Done,
-        Err(Failed) => Status::WriteFault,
-    }
+    put_answer(Status::Done, &text, sink)
 }
