@@ -5,7 +5,7 @@ use Rattle.std.specs.List.{AllByRecursion}
 use Rattle.std.proofs.lemmas.List.{map-append}
 use Rattle.key_names.specs.Calls.{Setting, BoundAct}
 use Rattle.key_names.specs.SeenLine.{SeenLine}
-use Rattle.key_names.proofs.Lists.ListFacts.{some_same}
+use Rattle.std.proofs.lemmas.Option.{same_Some}
 use Rattle.line_orders.specs.declared.called.ActLine.{ActLine}
 use Rattle.line_orders.specs.Called.{seen_act}
 use Rattle.list_replay.specs.declared.kept.Lists.{Lists as KeptLists}
@@ -83,7 +83,7 @@ module _ (kept : KeptLists) (set : Setting) (n flags : ℕ) (line : SeenLine) (a
     pub acts_undone : (AllByRecursion (ActDone kept set course.reached) acts → ⊥) → (t : VStates) (writes : List Write) →
         VreadSaid kept set n flags line acts s t writes → ⊥
     acts_undone undone t writes said =
-        let same : said.f ≡ f = some_same said.f f (sym said.follows ∙ follows (Some f) is) in
+        let same : said.f ≡ f = same_Some said.f f (sym said.follows ∙ follows (Some f) is) in
         let e : said.f.course.reached ≡ course.reached = ap (λ x. x.course.reached) same ∙ ap (λ x. x.reached) (sym course_is) in
         undone (subst (λ r. AllByRecursion (ActDone kept set r) acts) e said.done)
 

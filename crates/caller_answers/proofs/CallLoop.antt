@@ -2,7 +2,7 @@
 use Rattle.std.proofs.Common.{◌≡◌, ℕ, zero, suc, ◌+◌, ◌<◌, min, List, [], ◌∷◌, ◌++◌, length, get_or, take, drop, refl, sym, subst, ap, ◌∙◌, arith, append_assoc}
 use Rattle.std.proofs.lemmas.List.{append-nil, drop_more, length-take-le}
 use Rattle.key_names.specs.Calls.{Setting, Call, alone, vread_call, unbound, ending}
-use Rattle.key_names.proofs.Lists.ListFacts.{some_same}
+use Rattle.std.proofs.lemmas.Option.{same_Some}
 use Rattle.list_replay.specs.declared.kept.Lists.{Lists as KeptLists}
 use Rattle.caller_answers.specs.declared.said.Said.{Said}
 use Rattle.caller_answers.specs.Writes.{Write, Written}
@@ -22,7 +22,7 @@ module _ (kept : KeptLists) where
       CallSaid kept set call s t writes → CallSaid kept set call s u more → t ≡ u
   determined set (alone event line) s t u writes more one other = one.new_is ∙ sym other.new_is
   determined set (vread_call n flags line acts) s t u writes more one other =
-      one.new_is ∙ ap (λ f. with_state s f.state) (some_same one.f other.f (sym one.follows ∙ other.follows))
+      one.new_is ∙ ap (λ f. with_state s f.state) (same_Some one.f other.f (sym one.follows ∙ other.follows))
       ∙ sym other.new_is
   determined set (unbound bound) s t u writes more one other = one.new_is ∙ sym other.new_is
   determined set (ending line) s t u writes more one other = one.new_is ∙ sym other.new_is

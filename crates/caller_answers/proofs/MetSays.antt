@@ -21,7 +21,7 @@ use Rattle.key_names.specs.Texts.TranscriptGrammar.{StepFits}
 use Rattle.input_pool.specs.PoolStands.{crossing_of}
 use Rattle.line_forms.specs.Kinds.{base_kind, is_resume, kinds_of}
 use Rattle.line_forms.specs.LaneFacts as facts
-use Rattle.key_names.proofs.Lists.ListFacts.{map_twice}
+use Rattle.std.proofs.lemmas.Simd.{map-map}
 use Rattle.list_replay.specs.declared.kept.KeptPool.{KeptPool}
 use Rattle.list_replay.specs.declared.kept.KeptBase.{KeptBase}
 use Rattle.list_replay.specs.declared.kept.KeptCpu.{KeptCpu}
@@ -132,7 +132,7 @@ module _ (cpu : ℕ) where
       let P : List Deed → Type 0 = λ xs. AllSeen cpu (seen_in cpu met) xs in subst P (sym s.1) (shape_seen met s.0)
 
   pub kinds_are : (met : List Met) (ds : List Deed) → AreMet met ds → kinds_met cpu met ≡ kinds_of cpu ds
-  kinds_are met ds h = map_twice seen_kind (seen_of cpu) met ∙ sym (kinds_seen cpu (seen_in cpu met) ds (all_seen met ds h))
+  kinds_are met ds h = sym (map-map seen_kind (seen_of cpu) met) ∙ sym (kinds_seen cpu (seen_in cpu met) ds (all_seen met ds h))
 
   -- ---- looks
 

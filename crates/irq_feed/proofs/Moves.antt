@@ -4,12 +4,11 @@ use Rattle.std.specs.Prelude.{Option, Some, None}
 use Rattle.std.specs.List.{AllByRecursion}
 use Rattle.std.proofs.lemmas.List.{append-nil}
 use Rattle.std.proofs.lemmas.List.Elements.{filter-append}
-use Rattle.std.proofs.lemmas.Option.{none-some}
+use Rattle.std.proofs.lemmas.Option.{none-some, same_Some}
 use mathlib.Core.Option.{some, some-injective, some-ne-none}
 use lib.ListN.{get_elem?}
 use Rattle.crossbeam_queue.specs.Fifo as fifo
 use Rattle.crossbeam_queue.proofs.Lists.{at_set}
-use Rattle.key_names.proofs.Lists.ListFacts.{some_same}
 use Rattle.irq_feed.specs.declared.samples.Sample.{Sample}
 use Rattle.irq_feed.specs.declared.known.Ended.{Ended}
 use Rattle.irq_feed.specs.declared.known.Known.{Known}
@@ -46,7 +45,7 @@ no_seat o a none is = none-some a (sym none ∙ is)
 
 -- two passes have two numbers
 apart : (seat : ℕ → Option ℕ) (f g a b : ℕ) → seat f ≡ Some a → seat g ≡ Some b → b ≢ a → g ≢ f
-apart seat f g a b at bt other e = other (some_same b a (sym bt ∙ ap seat e ∙ at))
+apart seat f g a b at bt other e = other (same_Some b a (sym bt ∙ ap seat e ∙ at))
 
 -- ---- the samples of a feeder
 

@@ -1,8 +1,9 @@
 -- A point has one number, and no other point has it.
-use Rattle.std.proofs.Common.{ℕ, zero, suc, ◌≡◌, ◌≤◌, true, false, Some, None, refl, sym, ap, arith, eqb-true, ne_eqb}
+use Rattle.std.proofs.Common.{ℕ, ◌≡◌, ◌≤◌, ◌==◌, true, false, Some, [], ◌∷◌, refl, sym, ap, arith, eqb-true, ne_eqb}
 use Rattle.key_names.specs.declared.point.Point.{Point}
 use Rattle.key_names.specs.declared.point.Point.TheVariants.{Start, Written, Serve, End}
 use Rattle.key_names.specs.Points.{is_same_point, number_of, point_numbered}
+use Rattle.key_names.proofs.Lists.ListFacts.{found_passes}
 
 pub number_small : (p : Point) → number_of p ≤ 4
 number_small Start = omega arith
@@ -31,22 +32,5 @@ same_point p q is = same_number p q (eqb-true (number_of p) (number_of q) is)
 pub other_point : (p q : Point) → (p ≡ q → ⊥) → is_same_point p q ≡ false
 other_point p q ne = ne_eqb (number_of p) (number_of q) (λ is. ne (same_number p q is))
 
-beyond : (n : ℕ) → 5 ≤ n → point_numbered n ≡ None
-beyond n far =
-    rw (
-      ne_eqb n 1 (λ is. omega (arith, far, is)),
-      ne_eqb n 2 (λ is. omega (arith, far, is)),
-      ne_eqb n 3 (λ is. omega (arith, far, is)),
-      ne_eqb n 4 (λ is. omega (arith, far, is)),
-    ) refl
-
-same_some : (p q : Point) → Some p ≡ Some q → p ≡ q
-same_some p q is = cc
-
 pub numbered : (n : ℕ) (p : Point) → point_numbered n ≡ Some p → n ≡ number_of p
-numbered zero p is = absurd cc
-numbered (suc zero) p is = ap number_of (same_some Start p is)
-numbered (suc (suc zero)) p is = ap number_of (same_some Written p is)
-numbered (suc (suc (suc zero))) p is = ap number_of (same_some Serve p is)
-numbered (suc (suc (suc (suc zero)))) p is = ap number_of (same_some End p is)
-numbered (suc (suc (suc (suc (suc n))))) p is = let none = beyond (suc (suc (suc (suc (suc n))))) (omega arith) in absurd cc
+numbered n p is = sym (eqb-true (number_of p) n (found_passes (λ q. number_of q == n) (Start ∷ Written ∷ Serve ∷ End ∷ []) p is))

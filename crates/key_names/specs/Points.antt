@@ -1,5 +1,5 @@
 -- The points of a vgetrandom call, and their numbers.
-use Rattle.std.specs.Prelude.{ℕ, ◌==◌, Bool, Option, Some, None, if◌then◌else◌}
+use Rattle.std.specs.Prelude.{ℕ, ◌==◌, Bool, Option, ◌∷◌, [], find}
 use Rattle.key_names.specs.declared.point.Point.{Point}
 use Rattle.key_names.specs.declared.point.Point.TheVariants.{Start, Written, Serve, End}
 
@@ -14,9 +14,4 @@ is_same_point a b = number_of a == number_of b
 
 -- the point of a number
 abbrev pub point_numbered : ℕ → Option Point
-point_numbered n =
-    if n == 1 then Some Start
-    else if n == 2 then Some Written
-    else if n == 3 then Some Serve
-    else if n == 4 then Some End
-    else None
+point_numbered n = find (λ p. number_of p == n) (Start ∷ Written ∷ Serve ∷ End ∷ [])

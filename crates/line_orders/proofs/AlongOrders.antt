@@ -9,7 +9,7 @@ use Rattle.std.proofs.lemmas.Bool.{OnTrue_at}
 use Rattle.std.specs.Global.{Vec}
 use mathlib.Core.Logic.{dite}
 use native.Mathlib.Decide.{ℕ_discrete}
-use Rattle.std.proofs.lemmas.List.{length-take, length-map}
+use Rattle.std.proofs.lemmas.List.{length-take, length-map, take-append-drop}
 use Rattle.std.proofs.lemmas.List.Sums.{fold-append}
 use Rattle.key_names.specs.declared.names.Step.{Step}
 use Rattle.key_names.specs.Book.{list_at}
@@ -17,7 +17,7 @@ use Rattle.key_names.specs.Calls.{Call, Parent, parent_from}
 use Rattle.key_names.specs.History.{ancestors_steps, inherited_steps, orders_from, caller_orders, calls_steps, through_visit}
 use Rattle.key_names.specs.CallerOrders.{start_of}
 use Rattle.key_names.proofs.History.CallerOrders.{order_is_start_and_own, start_is_a_front}
-use Rattle.key_names.proofs.Lists.ListFacts.{take_drop, each_list, at_list}
+use Rattle.key_names.proofs.Lists.ListFacts.{each_list, at_list}
 use Rattle.line_orders.specs.declared.called.Called.{Called}
 use Rattle.line_orders.specs.declared.order.Fork.{Fork}
 use Rattle.line_orders.specs.Called.{seen_call, seen_calls}
@@ -85,7 +85,7 @@ module _ (after : Option ℕ → Step → Option ℕ) (May : Option ℕ → Step
           along_parts after May None (start_of callers p) (own p) k.stands in
           let front : Along after May (begun p) (take n (own p)) =
           (along_parts after May (begun p) (take n (own p)) (drop n (own p))
-          (subst (Along after May (begun p)) (sym (take_drop n (own p))) parts.1)).0 in
+          (subst (Along after May (begun p)) (sym (take-append-drop n (own p))) parts.1)).0 in
           let value : kept_at (slice_get kept p) n ≡ fold after (begun p) (take n (own p)) =
           rw (k.here, k.along forks n short) refl in (
             value ∙ sym (fold-append after None (start_of callers p) (take n (own p)))

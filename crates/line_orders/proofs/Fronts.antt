@@ -2,7 +2,7 @@
 use Rattle.std.specs.Prelude.{slice_get}
 use Rattle.std.proofs.Common.{arith, Some, zero, suc, ◌≡◌, ℕ, ◌+◌, ◌<◌, ◌≤◌, List, [], ◌∷◌, ◌++◌, length, get_or, take, drop, map, refl, sym, ap, ◌∙◌, append_assoc}
 use Rattle.std.proofs.lemmas.List.{map-append, take_more, drop_more, at_drop_all, append-nil}
-use Rattle.key_names.proofs.Lists.ListFacts.{some_same}
+use Rattle.std.proofs.lemmas.Option.{same_Some}
 
 -- one more element on both sides
 pub map_more : {A B C : Type 0} (f : A → C) (g : B → C) (done : List A) (bs : List B) (i : ℕ) (a : A) (d : B) →
@@ -18,12 +18,12 @@ dropped xs i x low is = drop_more xs i x low ∙ ap (λ y. y ∷ drop (i + 1) xs
 
 pub found_or : {X : Type 0} (xs : List X) (i : ℕ) (x : X) → slice_get xs i ≡ Some x → get_or xs i x ≡ x
 found_or [] i x is = cc
-found_or (y ∷ xs) zero x is = some_same y x is
+found_or (y ∷ xs) zero x is = same_Some y x is
 found_or (y ∷ xs) (suc i) x is = found_or xs i x is
 
 pub found_dropped : {X : Type 0} (xs : List X) (i : ℕ) (x : X) → slice_get xs i ≡ Some x → drop i xs ≡ x ∷ drop (i + 1) xs
 found_dropped [] i x is = cc
-found_dropped (y ∷ xs) zero x is = ap (λ z. z ∷ xs) (some_same y x is)
+found_dropped (y ∷ xs) zero x is = ap (λ z. z ∷ xs) (same_Some y x is)
 found_dropped (y ∷ xs) (suc i) x is =
     found_dropped xs i x is ∙ ap (λ n. x ∷ drop n (y ∷ xs)) (let e : suc (i + 1) ≡ suc i + 1 = omega arith in e)
 

@@ -9,7 +9,7 @@ use Rattle.std.proofs.lemmas.List.Elements.{filter-append}
 use Rattle.key_names.specs.declared.entries.VEntry.{VEntry}
 use Rattle.key_names.specs.Calls.{Call}
 use Rattle.key_names.specs.History.{call_steps}
-use Rattle.key_names.proofs.Lists.ListFacts.{map_twice}
+use Rattle.std.proofs.lemmas.Simd.{map-map}
 use Rattle.state_entries.specs.declared.entry.StateEntry.{StateEntry}
 use Rattle.state_entries.specs.Entries.{entries_in, lists_in, all_lists_in}
 use Rattle.state_entries.specs.Callers.{Outlines, first_outlines, outlines_after, left_in, list_left, lists_left}
@@ -43,7 +43,7 @@ bare_list k o before (call ∷ calls) =
 
 bare_caller : (start : ℕ) (calls : List Call) → map bare (caller_over start calls) ≡ lists_left calls
 bare_caller start calls =
-    sym (map_twice bare (λ k. list_over k first_outlines start calls) (range_with_len 0 16))
+    map-map bare (λ k. list_over k first_outlines start calls) (range_with_len 0 16)
     ∙ map_same (λ k. bare (list_over k first_outlines start calls)) (λ k. list_left k first_outlines calls)
     (range_with_len 0 16) (λ k. bare_list k first_outlines start calls)
 
@@ -57,7 +57,7 @@ bare_lists : (lists : List (Vec StateEntry)) → map bare (lists_over lists) ≡
 bare_lists [] = refl
 bare_lists (list ∷ lists) =
     ap (λ es. es ∷ map bare (lists_over lists))
-    (sym (map_twice (λ (o : Over). o.entry) (λ (e : StateEntry). record { entry = e.entry; done = e.done }) list.items))
+    (map-map (λ (o : Over). o.entry) (λ (e : StateEntry). record { entry = e.entry; done = e.done }) list.items)
     ∙ ap (λ es. entries_in list.items ∷ es) (bare_lists lists)
 
 bare_all_lists : (lists : List (Vec (Vec StateEntry))) → map (map bare) (all_lists_over lists) ≡ all_lists_in lists
@@ -128,7 +128,7 @@ module _ (stamp : ℕ) where
   kept_caller : (start : ℕ) (calls : List Call) →
       map (kept stamp) (caller_over start calls) ≡ lists_left (take (made_by stamp start calls) calls)
   kept_caller start calls =
-      sym (map_twice (kept stamp) (λ k. list_over k first_outlines start calls) (range_with_len 0 16))
+      map-map (kept stamp) (λ k. list_over k first_outlines start calls) (range_with_len 0 16)
       ∙ map_same (λ k. kept stamp (list_over k first_outlines start calls))
       (λ k. list_left k first_outlines (take (made_by stamp start calls) calls))
       (range_with_len 0 16) (λ k. kept_list k first_outlines start calls)

@@ -9,7 +9,7 @@ use Rattle.key_names.specs.declared.point.Point.TheVariants.{Start, Written, Ser
 use Rattle.key_names.specs.Calls.{BoundAct}
 use Rattle.key_names.specs.History.{is_mark, steps_at_point, cut_behind_visits, cut_behind_rekey, vread_steps}
 use Rattle.key_names.specs.Points.{is_same_point}
-use Rattle.key_names.proofs.Lists.ListFacts.{take_drop}
+use Rattle.std.proofs.lemmas.List.{take-append-drop}
 use Rattle.state_entries.specs.Stamps.{latest_of}
 
 pub latest-append : (stamp : ℕ) (a b : List Step) → latest_of stamp (a ++ b) ≡ latest_of (latest_of stamp a) b
@@ -48,7 +48,7 @@ rekey_whole steps = go (option_map_or is_mark (slice_get steps 2) false)
     go : (b : Bool) → let parts : List Step × List Step = if b then (take 2 steps ++ cut.0, cut.1) else ([], steps) in
         parts.0 ++ parts.1 ≡ steps
     go true = append_assoc (take 2 steps) cut.0 cut.1 ∙ ap (λ s. take 2 steps ++ s) (visits_whole (drop 2 steps))
-        ∙ take_drop 2 steps
+        ∙ take-append-drop 2 steps
     go false = refl
 
 -- one act more, at the point or elsewhere
@@ -96,7 +96,7 @@ latest_vread stamp steps acts =
     let cut : List Step × List Step = cut_behind_rekey (drop 2 steps) in
     let whole : take 2 steps ++ cut.0 ++ cut.1 ≡ steps =
     append_assoc (take 2 steps) cut.0 cut.1 ∙ ap (λ s. take 2 steps ++ s) (rekey_whole (drop 2 steps))
-    ∙ take_drop 2 steps in
+    ∙ take-append-drop 2 steps in
     parts_move stamp (take 2 steps) (steps_at_point acts Start) (steps_at_point acts Written) cut.0 (steps_at_point acts Serve)
     (steps_at_point acts End) cut.1
     ∙ ap (λ s. latest_of (latest_of (latest_of (latest_of (latest_of stamp s) (steps_at_point acts Start))

@@ -1,14 +1,13 @@
 -- A row put at the place of a mark, in the table of its lane.
 use Rattle.std.proofs.Common.{◌≡◌, ◌≢◌, ℕ, zero, suc, ◌<◌, ◌≤◌, Bool, true, false, List, [], ◌∷◌, length, Some, refl, sym, subst, ap, ◌∙◌, arith}
 use Rattle.std.specs.Prelude.{slice_get, ◌==◌, ◌&&◌}
-use Rattle.std.proofs.lemmas.Bool.{eq-eqb, eqb-true}
+use Rattle.std.proofs.lemmas.Bool.{and_parts, eq-eqb, eqb-true}
 use Rattle.key_names.specs.declared.names.LaneId.{LaneId}
 use Rattle.key_names.specs.declared.names.LaneId.TheVariants.{Pool as PoolLane, Base as BaseLane, Cpu as CpuLane}
 use Rattle.key_names.specs.declared.names.Mark.{Mark}
 use Rattle.key_names.specs.declared.names.Step.TheVariants.{Look, Visit as Marked}
 use Rattle.key_names.specs.Book.{list_at}
 use Rattle.key_names.specs.IsTranscript.{is_same_lane}
-use Rattle.key_names.proofs.Lists.ListFacts.{both_true}
 use Rattle.key_names.proofs.Transcripts.LaneCounts.{lane_itself, same_lane}
 use Rattle.line_forms.specs.Told.{pool_told, base_told}
 use Rattle.list_replay.specs.declared.told.ToldPool.{ToldPool}
@@ -27,7 +26,7 @@ pub record PutAt {A : Type 0} (old new : List A) (place : ℕ) (row : A) : Type 
 module _ (spot : Spot) (mark : Mark) (old new : Tables) (is : spot.step ≡ Marked mark) where
   visited : (lane : LaneId) (place : ℕ) → is_visit lane place spot.step ≡ true → (mark.lane ≡ lane) × (mark.place ≡ place)
   visited lane place hits =
-      let parts = both_true (is_same_lane mark.lane lane) (mark.place == place) (sym (ap (is_visit lane place) is) ∙ hits) in
+      let parts = and_parts (is_same_lane mark.lane lane) (mark.place == place) (sym (ap (is_visit lane place) is) ∙ hits) in
       (same_lane mark.lane lane parts.0, eqb-true mark.place place parts.1)
 
   not_visited : (lane : LaneId) (place : ℕ) → is_visit lane place spot.step ≡ false → mark.lane ≡ lane →

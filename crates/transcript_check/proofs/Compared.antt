@@ -8,7 +8,7 @@ use Rattle.key_names.specs.IsTranscript.{LinesFit, EachCaller, HasLines, Answers
 use Rattle.key_names.specs.Meaning.{CallMeaning}
 use Rattle.key_names.specs.SeenLine.{SeenLine}
 use Rattle.key_names.specs.Texts.ScriptGrammar.{Script}
-use Rattle.key_names.proofs.Lists.ListFacts.{some_same}
+use Rattle.std.proofs.lemmas.Option.{same_Some}
 use Rattle.caller_answers.specs.Said.{SaysIt}
 use Rattle.serial_replay.specs.Agreement.{AllAgree}
 use Rattle.serial_replay.specs.Remade.{said_of_caller}
@@ -81,7 +81,7 @@ module _ (script : Script) (t : List (List SeenLine)) (mss : List (List CallMean
   answers_same = all_both (IsCompared t) AnswerSame (λ line m. line.answer ≡ m.answer) (Placed t)
       (λ c ns line m is s. (
         (λ e. s.is.noted.answer.1 (λ other found.
-            ap (λ (l : SeenLine). l.answer) (some_same other line (sym found ∙ is)) ∙ e ∙ s.answer)),
+            ap (λ (l : SeenLine). l.answer) (same_Some other line (sym found ∙ is)) ∙ e ∙ s.answer)),
         (λ h. s.is.noted.answer.0 h line is ∙ sym s.answer),
       ))
       script t mss notes lines placed says
@@ -90,7 +90,7 @@ module _ (script : Script) (t : List (List SeenLine)) (mss : List (List CallMean
   data_same = all_both (IsCompared t) DataSame (λ line m. line.shown ≡ m.shown) (Placed t)
       (λ c ns line m is s. (
         (λ e. s.is.noted.shown.1 (λ other found.
-            ap (λ (l : SeenLine). l.shown) (some_same other line (sym found ∙ is)) ∙ e ∙ s.shown)),
+            ap (λ (l : SeenLine). l.shown) (same_Some other line (sym found ∙ is)) ∙ e ∙ s.shown)),
         (λ h. s.is.noted.shown.0 h line is ∙ sym s.shown),
       ))
       script t mss notes lines placed says

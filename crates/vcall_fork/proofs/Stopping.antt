@@ -8,7 +8,7 @@ use Rattle.key_names.specs.Vgetrandom.{HostStep, at_point, Outcome}
 use Rattle.key_names.specs.VgetrandomState.{VgetrandomState, state_left}
 use Rattle.key_names.specs.Points.{is_same_point}
 use Rattle.key_names.proofs.Points.{same_point}
-use Rattle.key_names.proofs.Lists.ListFacts.{both_true}
+use Rattle.std.proofs.lemmas.Bool.{and_parts}
 use Rattle.key_names.specs.VreadSteps.{PointReached, points_of}
 use Rattle.vdso_state.specs.declared.outcome.VEnd.{VEnd}
 use Rattle.vdso_state.specs.declared.place.Turn.{Turn}
@@ -44,7 +44,7 @@ same_turn Second Second h = refl
 pub wanted_is : (turn t : Turn) (point p : Point) → is_wanted turn point (turn_number t) p ≡ true →
     (t ≡ turn) × (p ≡ point)
 wanted_is turn t point p h =
-    let k = both_true (turn_number t == turn_number turn) (is_same_point p point) h in
+    let k = and_parts (turn_number t == turn_number turn) (is_same_point p point) h in
     (same_turn t turn k.0, same_point p point k.1)
 
 if_none : (b : Bool) (o : Option ℕ) (mid : ℕ) → (if b then None else o) ≡ Some mid → (b ≡ false) × (o ≡ Some mid)

@@ -20,7 +20,7 @@ use Rattle.key_names.specs.Meaning.{ByLocalCopy, ByVgetrandom, LocalOrCall, Vrea
 use Rattle.line_forms.specs.LaneFacts.{LaneFacts, AllFit}
 use Rattle.key_names.specs.declared.entries.Taken.TheVariants.{User}
 use Rattle.key_names.specs.Answers.{system_answer, served_bytes}
-use Rattle.key_names.proofs.Lists.ListFacts.{both_true}
+use Rattle.std.proofs.lemmas.Bool.{and_parts}
 use Rattle.key_names.proofs.Unique.UniqueAttempts.{not_zero}
 use Rattle.line_forms.specs.Told.{AllFill, FillsPart, first_sign}
 use Rattle.line_forms.specs.declared.told.Sign.TheVariants.{Nowhere as nowhere}
@@ -65,12 +65,12 @@ rise_looks : (cpu last : ℕ) (seen : List Seen) (s : Shape cpu seen) → rises 
     From last (looks_of (deeds_in cpu seen s))
 rise_looks cpu last [] s e = tt
 rise_looks cpu last (Unready ∷ seen) s e =
-    let p = both_true (last == 0) (rises last seen) e in
+    let p = and_parts (last == 0) (rises last seen) e in
     let none : last ≡ 0 = zero_of last p.0 in
     let P : ℕ → Type 0 = λ x. From x (looks_of (deeds_in cpu seen s.1)) in
     (omega arith, subst P none (rise_looks cpu last seen s.1 p.1))
 rise_looks cpu last (Ready g ∷ seen) s e =
-    let p = both_true (nat_le last g) (rises g seen) e in (le_of last g p.0, rise_looks cpu g seen s.1 p.1)
+    let p = and_parts (nat_le last g) (rises g seen) e in (le_of last g p.0, rise_looks cpu g seen s.1 p.1)
 rise_looks cpu last (Pool ∷ seen) s e = rise_looks cpu last seen s.1 e
 rise_looks cpu last (Base key ∷ seen) s e = rise_looks cpu last seen s.1 e
 rise_looks cpu last (Resumed ∷ seen) s e = rise_looks cpu last seen s.1 e

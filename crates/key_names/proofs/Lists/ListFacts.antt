@@ -1,25 +1,18 @@
--- Facts of lists, options and tests that proofs of other crates use too.
-use Rattle.std.proofs.Common.{ℕ, zero, suc, ◌≡◌, ◌<◌, ◌&&◌, Bool, true, false, Some, List, [], ◌∷◌, ◌++◌, length, map, refl, ap, ◌∙◌, arith}
-use Rattle.std.specs.Prelude.{take, drop, slice_get, option_map}
+-- Facts of lists and options that proofs of other crates use too.
+use Rattle.std.proofs.Common.{ℕ, zero, suc, ◌≡◌, ◌<◌, Bool, true, inl, inr, Some, List, [], ◌∷◌, length, map, ap, ◌∙◌, arith}
+use Rattle.std.specs.Prelude.{find, slice_get, option_map}
 use Rattle.std.specs.List.{AllByRecursion}
-use Rattle.std.proofs.lemmas.Option.{slice_get-map}
+use Rattle.std.proofs.lemmas.Bool.{cases_Bool}
+use Rattle.std.proofs.lemmas.Option.{same_Some, slice_get-map}
 use Rattle.key_names.specs.Book.{list_at}
 
-pub some_same : {X : Type 0} (x y : X) → Some x ≡ Some y → x ≡ y
-some_same x y is = cc
-
-pub both_true : (a b : Bool) → (a && b) ≡ true → (a ≡ true) × (b ≡ true)
-both_true true b is = (refl, is)
-both_true false b is = absurd cc
-
-pub take_drop : {X : Type 0} (n : ℕ) (xs : List X) → take n xs ++ drop n xs ≡ xs
-take_drop zero xs = refl
-take_drop (suc n) [] = refl
-take_drop (suc n) (x ∷ xs) = ap (λ ys. x ∷ ys) (take_drop n xs)
-
-pub map_twice : {A B C : Type 0} (f : B → C) (g : A → B) (xs : List A) → map (λ x. f (g x)) xs ≡ map f (map g xs)
-map_twice f g [] = refl
-map_twice f g (x ∷ xs) = ap (λ ys. f (g x) ∷ ys) (map_twice f g xs)
+pub found_passes : {X : Type 0} (p : X → Bool) (xs : List X) (x : X) → find p xs ≡ Some x → p x ≡ true
+found_passes p [] x e = absurd cc
+found_passes p (y ∷ xs) x e =
+    elim (cases_Bool (p y)) [
+      | inl here ↦ rw (← same_Some y x (rw here at e)) here
+      | inr not ↦ found_passes p xs x (rw not at e)
+    ]
 
 pub image_at : {A B : Type 0} (f : A → B) (xs : List A) (i : ℕ) (x : A) → slice_get xs i ≡ Some x →
     slice_get (map f xs) i ≡ Some (f x)

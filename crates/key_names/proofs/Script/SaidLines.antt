@@ -1,12 +1,11 @@
 -- What a line says, and the line that says it.
-use Rattle.std.proofs.Common.{◌≡◌, ℕ, ◌≤◌, Bool, true, false, inl, inr, Some, Result, Ok, List, [], ◌∷◌, refl, sym, ap, subst, ◌∙◌, arith}
+use Rattle.std.proofs.Common.{◌≡◌, ℕ, ◌≤◌, false, inl, inr, Some, Result, Ok, List, [], ◌∷◌, refl, sym, ap, subst, ◌∙◌, arith}
 use Rattle.std.specs.Fmt.{decimal}
 use Rattle.std.specs.List.{AllByRecursion}
 use Rattle.std.specs.Option.{ok_or}
-use Rattle.std.specs.Prelude.{codes, find}
+use Rattle.std.specs.Prelude.{codes}
 use Rattle.std.specs.Str.{bytes_eq}
 use Rattle.std.proofs.lemmas.Bool.{cases_Bool}
-use Rattle.std.proofs.lemmas.Option.{same_Some}
 use Rattle.std.proofs.lemmas.Slice.Eq.{bytes_eq-Decides}
 use Rattle.key_names.specs.declared.events.Event.{Event}
 use Rattle.key_names.specs.declared.events.Event.TheVariants.{At}
@@ -17,20 +16,13 @@ use Rattle.key_names.specs.declared.faults.FaultKind.TheVariants.{UnknownWord}
 use Rattle.key_names.specs.Texts.Spelling.{spaced, word_text}
 use Rattle.key_names.specs.Texts.ScriptGrammar.{InRange, arguments, event_fields, event_word}
 use Rattle.key_names.specs.Texts.ScriptFaults.{◌>>=◌, Said, SaysEvent, SaysCaller, SaysEnd, SaidInRange, all_words, event_of, no_field, number, one_field, parts, said, said_by, said_by_word, word_of}
+use Rattle.key_names.proofs.Lists.ListFacts.{found_passes}
 use Rattle.key_names.proofs.Script.EventLines.{clean_event}
 use Rattle.key_names.proofs.Script.EventReaders.{event_again, event_takes}
 use Rattle.key_names.proofs.Script.FieldReaders.{found, none_is, numbers, one_is, same_ok, step_ok}
 use Rattle.key_names.proofs.Script.LinedTexts.{Clean, Printable, clean_by, clean_decimal, parts_spaced, printable_spaced, spaced_parts}
 
 -- ---- words
-
-found_passes : (p : Word → Bool) (ws : List Word) (w : Word) → find p ws ≡ Some w → p w ≡ true
-found_passes p [] w e = absurd cc
-found_passes p (v ∷ ws) w e =
-    elim (cases_Bool (p v)) [
-      | inl here ↦ rw (← same_Some v w (rw here at e)) here
-      | inr not ↦ found_passes p ws w (rw not at e)
-    ]
 
 word_takes : (field : List ℕ) (w : Word) → word_of field ≡ Some w → field ≡ word_text w
 word_takes field w e = sym ((bytes_eq-Decides (word_text w) field).0
