@@ -2,7 +2,5 @@
 pub mod Each
 pub mod MarkLists
 pub mod Growing
-pub mod LaneGrowth
-pub mod BookGrowth
 pub mod Chunks
 pub mod ListFacts

@@ -1,5 +1,5 @@
 -- A point has one number, and no other point has it.
-use Rattle.std.proofs.Common.{ℕ, ◌≡◌, ◌≤◌, ◌==◌, true, false, Some, [], ◌∷◌, refl, sym, ap, arith, eqb-true, ne_eqb}
+use Rattle.std.proofs.Common.{ℕ, ◌≡◌, ◌≤◌, ◌==◌, true, Some, [], ◌∷◌, refl, sym, ap, arith, eqb-true}
 use Rattle.key_names.specs.declared.point.Point.{Point}
 use Rattle.key_names.specs.declared.point.Point.TheVariants.{Start, Written, Serve, End}
 use Rattle.key_names.specs.Points.{is_same_point, number_of, point_numbered}
@@ -28,9 +28,6 @@ same_number p q is = cc (sym (point_again p), ap point_numbered is, point_again 
 
 pub same_point : (p q : Point) → is_same_point p q ≡ true → p ≡ q
 same_point p q is = same_number p q (eqb-true (number_of p) (number_of q) is)
-
-pub other_point : (p q : Point) → (p ≡ q → ⊥) → is_same_point p q ≡ false
-other_point p q ne = ne_eqb (number_of p) (number_of q) (λ is. ne (same_number p q is))
 
 pub numbered : (n : ℕ) (p : Point) → point_numbered n ≡ Some p → n ≡ number_of p
 numbered n p is = sym (eqb-true (number_of p) n (found_passes (λ q. number_of q == n) (Start ∷ Written ∷ Serve ∷ End ∷ []) p is))

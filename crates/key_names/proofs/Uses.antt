@@ -9,5 +9,4 @@ pub mod CpuUses
 pub mod StateUses
 pub mod BatchBytes
 pub mod BookUses
-pub mod BaseRows
 pub mod WorkedBooks

@@ -1,4 +1,5 @@
--- What a book's states still hold, what was replaced, and when nothing that was used or replaced is still held.
+-- What a book's states still hold, what was replaced, and when no key that was replaced and no rest of a batch that was
+-- used is still held.
 use Rattle.std.specs.Prelude.{ℕ, ◌+◌, ◌-◌, ◌*◌, ◌≡◌, ◌⊎◌, IsTrue, IsSome, Option, Some, None, List, take, drop}
 use Rattle.std.specs.Prelude.{replicate}
 use Rattle.std.specs.List.{fold}

@@ -1,4 +1,5 @@
--- The marks of one lane in the order of their stamps: they stand exactly where their places count up.
+-- The marks of one lane in the order of their stamps: they stand exactly where their places count up from 0 and each stamp
+-- is below the next.
 use Rattle.std.specs.Prelude.{ℕ, suc, ◌≡◌, ◌<◌, ◌≤◌, ⊤, List, [], ◌∷◌, IsPermutation}
 use Rattle.std.specs.List.{AllByRecursion}
 use Rattle.key_names.specs.declared.names.Mark.{Mark}

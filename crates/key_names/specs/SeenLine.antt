@@ -59,7 +59,3 @@ bytes_shown lines = flat_map (λ line. bytes_in line.shown) lines
 abbrev pub bytes_or_none : List ℕ → Shown
 bytes_or_none [] = no_data
 bytes_or_none (b ∷ bs) = bytes (b ∷ bs)
-
--- the line with these bytes as its data
-abbrev pub showing : List ℕ → SeenLine → SeenLine
-showing shown line = record line { shown = bytes_or_none shown }

@@ -7,7 +7,9 @@ use crate::text::Text;
 /// For whom a read is, and how many bytes its call asked for.
 #[derive(Clone, Copy, Debug, PartialEq, Eq)]
 pub enum Taken {
+    /// For a user. What one of more than 32 bytes takes is the key of all of them (`get_random_bytes_user`).
     User(u32),
+    /// For the kernel. What it takes are its first bytes, at most 32 (`get_random_bytes`).
     Kernel(u32),
 }
 
@@ -39,17 +41,29 @@ pub enum PoolEntry {
 /// An entry of the base's list. A root is the pool place of its extraction.
 #[derive(Clone, Copy, Debug, PartialEq, Eq)]
 pub enum BaseEntry {
+    /// An early key: that of the root, or none where the base is not empty any more (`_credit_init_bits`).
     Early { root: Option<u64> },
+    /// A reseed (`crng_reseed`).
     Reseed { root: u64, now: u64 },
+    /// The reseed timer is looked at. It has a root where it was due.
     Tick { now: u64, root: Option<u64> },
+    /// A read from the base, which is not ready. The root is that of its key, where it was empty (`crng_make_state`).
     Draw { root: Option<u64>, taken: Taken },
+    /// A key for the CPU's entry at this place (`crng_fast_key_erasure` of the base's key).
     Refill { cpu: u32, cpu_place: u64 },
+    /// A caller is forked.
     Fork { child: u32 },
+    /// A caller ends.
     End,
+    /// A read begins to wait until the core is ready (`wait_for_random_bytes`).
     Wait,
+    /// The read goes on, the core being ready.
     Resume,
+    /// The read gives up, since no caller is left that could make the core ready.
     Interrupt,
+    /// A caller whose fork got no thread stops, and runs its child.
     Stall,
+    /// The caller goes on.
     Unstall,
 }
 
@@ -57,26 +71,33 @@ pub enum BaseEntry {
 /// width counts bytes.
 #[derive(Clone, Copy, Debug, PartialEq, Eq)]
 pub enum CpuEntry {
+    /// A read takes from the CPU's key (`crng_make_state`).
     Read {
         look: u64,
         refill: Option<u64>,
         taken: Taken,
     },
+    /// An integer of `width` bytes out of its batch, which was `filled` first where it was used up or of an older
+    /// generation (`get_random_u8` to `get_random_u64`).
     Int {
         look: u64,
         refill: Option<u64>,
         width: u8,
         filled: bool,
     },
+    /// An interrupt's two words are mixed into the fast pool (`add_interrupt_randomness`).
     Irq {
         v1: u64,
         v2: u64,
         now: u64,
     },
+    /// The fast pool is emptied into the pool (`mix_interrupt_randomness`).
     Dump {
         now: u64,
     },
+    /// The CPU loses its generation and its batches (`random_prepare_cpu`).
     Prepare,
+    /// The count of the fast pool starts again (`random_online_cpu`).
     Online,
 }
 
@@ -91,5 +112,6 @@ pub enum VEntry {
     Refill { from: u64 },
     /// The `len` bytes of the batch from its byte `pos` on are served.
     Serve { pos: u8, len: u8 },
+    /// The whole state becomes zeros.
     Wipe,
 }

@@ -9,96 +9,129 @@ use crate::text::Text;
 /// What an act inside a call does.
 #[derive(Clone, Copy, Debug, PartialEq, Eq)]
 pub enum InsideAct {
+    /// The memory of the state becomes zeros.
     Wipe,
+    /// A further vgetrandom call for so many bytes, on the same state.
     Vread(u32),
+    /// A reseed.
     Reseed,
 }
 
-/// One event of a script.
+/// One event of a script. Of a read, `len` counts bytes, at most 2^20, and `flags` are those of getrandom(2).
 #[derive(Drop)]
 pub enum Event {
+    /// It is this moment now, in milliseconds, below 2^40.
     At {
         moment: u64,
     },
+    /// The caller goes on on another CPU.
     On {
         cpu: u32,
     },
+    /// What the hardware gives to the caller's later extractions (`arch_get_random_seed_longs`).
     Hw {
         bytes: [u8; 32],
     },
+    /// The word, which stands for the cycle counter, and bytes are mixed (`add_device_randomness`).
     Device {
         word: u64,
         text: Text,
     },
+    /// Bytes are mixed (`write_pool_user`).
     Write {
         text: Text,
     },
+    /// Bytes are mixed, and bits below 2^31 are credited (ioctl `RNDADDENTROPY`).
     Add {
         text: Text,
         bits: u32,
     },
+    /// Bits below 2^31 are credited (ioctl `RNDADDTOENTCNT`).
     Credit {
         bits: u32,
     },
+    /// How many bits are credited? (ioctl `RNDGETENTCNT`)
     Bits,
+    /// An interrupt on the caller's CPU: the cycle counter, and the instruction pointer with the interrupt's number
+    /// (`add_interrupt_randomness`).
     Irq {
         v1: u64,
         v2: u64,
     },
+    /// An input event; the word stands for the cycle counter (`add_input_randomness`).
     Input {
         word: u64,
         kind: u16,
         code: u16,
         value: u8,
     },
+    /// getrandom(2).
     Read {
         len: u32,
         flags: u32,
     },
+    /// The same through the vDSO, on the caller's current vgetrandom state (`__cvdso_getrandom_data`).
     Vread {
         len: u32,
         flags: u32,
     },
+    /// A read inside the kernel (`get_random_bytes`).
     Kread {
         len: u32,
     },
+    /// A read of /dev/random, whose flag is 1 where the file was opened with `O_NONBLOCK` (`random_read_iter`).
     Dread {
         len: u32,
         flag: u32,
     },
+    /// A read of /dev/urandom (`urandom_read_iter`).
     Uread {
         len: u32,
     },
+    /// `get_random_u8`.
     Int8,
+    /// `get_random_u16`.
     Int16,
+    /// `get_random_u32`.
     Int32,
+    /// `get_random_u64`.
     Int64,
+    /// A reseed now (ioctl `RNDRESEEDCRNG`).
     Reseed,
+    /// The reseed timer is looked at, and where it is due the core is reseeded (the delayed work `next_reseed`).
     Tick,
+    /// The memory of the current vgetrandom state becomes zeros.
     Drop,
+    /// A caller starts, and runs beside this one.
     Fork {
         child: u32,
     },
+    /// An act that waits for the caller's next `Vread`, and is done at a point of it.
     Inside {
         point: Point,
         act: InsideAct,
     },
+    /// The CPU is brought up: it loses its generation and its batches (`random_prepare_cpu`).
     Prepare {
         cpu: u32,
     },
+    /// The CPU is up: the count of its fast pool starts again (`random_online_cpu`).
     Online {
         cpu: u32,
     },
+    /// A virtual machine was copied: mixes as `Device` does, and reseeds where the core is ready
+    /// (`add_vmfork_randomness`).
     Vmfork {
         word: u64,
         text: Text,
     },
+    /// The vgetrandom state of this number, below 16, is current from now on.
     State {
         number: u32,
     },
 }
 
-/// The word of a line.
+/// The word of a line: that of the event which it tells, or `End` at a caller's end.
 #[derive(Clone, Copy, Debug, PartialEq, Eq)]
 pub enum Word {
     At,
@@ -214,11 +247,18 @@ impl Word {
 #[derive(Clone, Copy, Debug, PartialEq, Eq)]
 pub enum Answer {
     Ok,
+    /// `EAGAIN`: the core is not ready, and the call does not wait.
     Again,
+    /// `EINVAL`: the flags are unknown, or do not go together.
     Invalid,
+    /// `ENODATA`: a reseed of a core that is not ready.
     NoData,
+    /// `EINTR`: the call waited, and no caller was left that could make the core ready.
     Interrupted,
+    /// A tick that reseeded.
     Fired,
+    /// A tick that found the timer not due.
     Idle,
+    /// An act that was not done.
     Unused,
 }

@@ -1,8 +1,8 @@
 //! What is wrong with a script.
 ghost use Rattle.std.specs.Prelude.{◌≡◌};
 
-/// The kind of a script's fault. Where a line has more than one, the earliest of this list counts, but that
-/// `Unfinished` is looked at right after `TooLong`.
+/// The kind of a script's fault. Where a line has more than one, the earliest of this list counts, with two exceptions:
+/// `Unfinished` is looked at right after `TooLong`, and of `BadNumber` and `BadHex` the leftmost bad field decides.
 #[derive(Clone, Copy, Debug, PartialEq, Eq)]
 pub enum FaultKind {
     /// The script has more than 16 MiB.

@@ -17,7 +17,8 @@ pub fn lawful_is_disjoint()
     ensures { LawfulIsDisjoint }
 {}
 
-/// What a lawful book's states still hold was neither used nor replaced, and its served bytes are 0.
+/// Of what a lawful book's states still hold, no key was replaced and no two have one name, no byte of a batch's unserved
+/// rest was used, and served bytes are 0. That no byte of a held key was used is `books_hold_unused` of `key_uses`.
 pub fn lawful_is_erased()
     ensures { LawfulIsErased }
 {}
@@ -83,8 +84,8 @@ pub fn lawful_serves_named()
     ensures { LawfulServesNamed }
 {}
 
-/// After any number of a caller's calls, each of its vgetrandom states holds the key, the batch and the position that its
-/// list of entries replays to.
+/// In a lawful transcript, after any number of a caller's calls, each of its vgetrandom states holds the batch and the
+/// position that its list of entries replays to, and unless its generation is 0 the key too.
 pub fn states_are_replayed()
     ensures { StatesAreReplayed }
 {}
@@ -125,7 +126,8 @@ pub fn looks_in_parts()
     ensures { LooksInParts }
 {}
 
-/// The marks of a lane that are sorted by stamp stand exactly where their places count up.
+/// The marks of a lane that are sorted by stamp stand exactly where their places count up from 0 and each stamp is below
+/// the next.
 #[tactic(auto, using(crate::proofs::Transcripts::PlacesInOrder::places_count_up))]
 pub fn places_count_up()
     ensures { PlacesCountUp }

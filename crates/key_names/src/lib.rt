@@ -2,8 +2,8 @@
 //! other crates cites.
 //!
 //! Its functions read and write these types, each by its definition. [`laws`] has what is promised of every lawful book
-//! and transcript: no byte of a key is put to use twice, what is still held was neither used nor replaced, and a
-//! transcript's steps make one book alone.
+//! and transcript: no byte of a key is put to use twice, no key that is still held was replaced, and a transcript's steps
+//! make one book alone.
 //!
 //! It stands on no other crate of the repository. A keystream is, by definition, what `rand_chacha` states of its
 //! words; BLAKE2s is defined here.

@@ -1,10 +1,8 @@
--- What one more entry at the end of a list leaves: the law of the list, its uses, and what stood before it.
-use Rattle.std.proofs.Common.{◌≡◌, ℕ, zero, suc, List, [], ◌∷◌, ◌++◌, refl, sym, subst, ap, ◌∙◌, Some, Option, take, append_assoc}
+-- What one more entry at the end of a list leaves: the law of the list, and what stood before it.
+use Rattle.std.proofs.Common.{◌≡◌, ℕ, zero, suc, List, [], ◌∷◌, ◌++◌, refl, subst, ap, ◌∙◌, Some, Option, take}
 use Rattle.std.specs.Prelude.{slice_get, option_and_then}
 use Rattle.std.specs.List.{fold}
-use Rattle.std.proofs.lemmas.List.{append-nil}
 use Rattle.key_names.specs.LawfulList.{LawfulFrom}
-use Rattle.key_names.specs.Uses.{Use, uses_from}
 
 module _ {S E : Type 0} (May : S → E → Type 0) (step : S → E → S) where
   -- a lawful list with one more entry that may come is lawful
@@ -33,12 +31,6 @@ module _ {S E : Type 0} (May : S → E → Type 0) (step : S → E → S) where
   lawful_take s (x ∷ xs) zero lawful = tt
   lawful_take s (x ∷ xs) (suc i) lawful = (lawful.0, lawful_take (step s x) xs i lawful.1)
 
-  -- what holds where each entry may come also under a weaker rule
-  pub lawful_weaker : (Also : S → E → Type 0) → ((s : S) (e : E) → May s e → Also s e) → (s : S) (xs : List E) →
-      LawfulFrom May step s xs → LawfulFrom Also step s xs
-  lawful_weaker Also weaker s [] lawful = tt
-  lawful_weaker Also weaker s (x ∷ xs) lawful = (weaker s x lawful.0, lawful_weaker Also weaker (step s x) xs lawful.1)
-
   -- two ways to step that agree on entries that may come
   pub fold_same : {V : Type 0} (f g : V → E → V) → ((s : S) (e : E) (v : V) → May s e → f v e ≡ g v e) →
       (s : S) (v : V) (xs : List E) →
@@ -46,13 +38,6 @@ module _ {S E : Type 0} (May : S → E → Type 0) (step : S → E → S) where
   fold_same f g same s v [] lawful = refl
   fold_same f g same s v (x ∷ xs) lawful =
       ap (λ w. fold f w xs) (same s x v lawful.0) ∙ fold_same f g same (step s x) (g v x) xs lawful.1
-
--- one more entry adds its uses
-pub uses_more : {S E : Type 0} (uses_at : S → E → List Use) (step : S → E → S) (s : S) (xs : List E) (e : E) →
-    uses_from uses_at step s (xs ++ e ∷ []) ≡ uses_from uses_at step s xs ++ uses_at (fold step s xs) e
-uses_more uses_at step s [] e = append-nil _
-uses_more uses_at step s (x ∷ xs) e = rw (uses_more uses_at step (step s x) xs e)
-    (sym (append_assoc (uses_at s x) (uses_from uses_at step (step s x) xs) (uses_at (fold step (step s x) xs) e)))
 
 -- an entry of a list, and the entries before it, stay as the list grows
 pub record FrontStays {A : Type 0} (xs more : List A) (i : ℕ) (e : A) : Type 0 where

@@ -8,22 +8,8 @@ use Rattle.std.proofs.lemmas.List.Sums.{sum_by-append, sum_by-cons}
 use Rattle.key_names.specs.declared.events.Event.{Event}
 use Rattle.key_names.specs.declared.events.Event.TheVariants.{Fork}
 use Rattle.key_names.specs.Texts.ScriptGrammar.{FewActs, ForksAbove, InRange, IsForkAbove, acts_after, bytes_read, is_fork_of, most_cpus, times_forked}
+use Rattle.key_names.proofs.Lists.Each.{each_append, each_left, each_right}
 use Rattle.key_names.specs.Texts.ScriptFaults.{Draft, blocks_of, has_orphan, is_bad_fork, is_fork_from, is_past_limits, with_block, with_event}
-
--- ---- lists
-
-all_append : {A : Type 0} (P : A → Type 0) (xs ys : List A) → AllByRecursion P xs → AllByRecursion P ys →
-    AllByRecursion P (xs ++ ys)
-all_append P [] ys left right = right
-all_append P (x ∷ xs) ys left right = (left.0, all_append P xs ys left.1 right)
-
-all_left : {A : Type 0} (P : A → Type 0) (xs ys : List A) → AllByRecursion P (xs ++ ys) → AllByRecursion P xs
-all_left P [] ys all = tt
-all_left P (x ∷ xs) ys all = (all.0, all_left P xs ys all.1)
-
-all_right : {A : Type 0} (P : A → Type 0) (xs ys : List A) → AllByRecursion P (xs ++ ys) → AllByRecursion P ys
-all_right P [] ys all = all
-all_right P (x ∷ xs) ys all = all_right P xs ys all.1
 
 -- ---- what adds up over events
 
@@ -174,9 +160,9 @@ event_fine d e fine range good within =
       version = fine.version;
       cpus = fine.cpus;
       callers = fine.callers;
-      ranges = all_append (AllByRecursion Rows) d.done ((d.events ++ e ∷ []) ∷ [])
-          (all_left (AllByRecursion Rows) d.done (d.events ∷ []) fine.ranges) (
-            all_append Rows d.events (e ∷ []) (all_right (AllByRecursion Rows) d.done (d.events ∷ []) fine.ranges).0
+      ranges = each_append (AllByRecursion Rows) d.done ((d.events ++ e ∷ []) ∷ [])
+          (each_left (AllByRecursion Rows) d.done (d.events ∷ []) fine.ranges) (
+            each_append Rows d.events (e ∷ []) (each_right (AllByRecursion Rows) d.done (d.events ∷ []) fine.ranges).0
                 (range, tt),
             tt,
           );
@@ -184,13 +170,13 @@ event_fine d e fine range good within =
       begun = λ c. begun_with d e c fine good;
       first = first_with d e fine good;
       above = above_append 0 d.done ((d.events ++ e ∷ []) ∷ []) (above_left 0 d.done (d.events ∷ []) fine.above) (
-        all_append (IsForkAbove (0 + length d.done)) d.events (e ∷ [])
+        each_append (IsForkAbove (0 + length d.done)) d.events (e ∷ [])
             (above_right 0 d.done (d.events ∷ []) fine.above).0 (fork_above d e good, tt),
         tt,
       );
-      acts = all_append (FewActs 0) d.done ((d.events ++ e ∷ []) ∷ [])
-          (all_left (FewActs 0) d.done (d.events ∷ []) fine.acts) (
-            few_push 0 d.events e (all_right (FewActs 0) d.done (d.events ∷ []) fine.acts).0 (ltb-false _ _ limit.1),
+      acts = each_append (FewActs 0) d.done ((d.events ++ e ∷ []) ∷ [])
+          (each_left (FewActs 0) d.done (d.events ∷ []) fine.acts) (
+            few_push 0 d.events e (each_right (FewActs 0) d.done (d.events ∷ []) fine.acts).0 (ltb-false _ _ limit.1),
             tt,
           );
       events = omega arith;
@@ -222,12 +208,12 @@ block_fine d fine few forked =
       version = fine.version;
       cpus = fine.cpus;
       callers = few;
-      ranges = all_append Rows (blocks_of d) ([] ∷ []) fine.ranges (tt, tt);
+      ranges = each_append Rows (blocks_of d) ([] ∷ []) fine.ranges (tt, tt);
       once = λ c. rw (times c) (fine.once c);
       begun = λ c some low. rw (times c) (begun_block d c fine forked some low);
       first = rw (times 0) fine.first;
       above = above_append 0 (blocks_of d) ([] ∷ []) fine.above (tt, tt);
-      acts = all_append (FewActs 0) (blocks_of d) ([] ∷ []) fine.acts (tt, tt);
+      acts = each_append (FewActs 0) (blocks_of d) ([] ∷ []) fine.acts (tt, tt);
       events = rw (total_block length lengths (blocks_of d)) fine.events;
       reads = rw (total_block (sum_by bytes_read) reads (blocks_of d)) fine.reads;
     }
@@ -337,9 +323,6 @@ end_whole d fine whole =
 
 -- ---- what a whole script says of a draft on the way to it
 
-draft_of : ℕ → ℕ → List (List Event) → List Event → Draft
-draft_of version cpus before events = record { version = version; cpus = cpus; done = before; events = events }
-
 none_low : (k c : ℕ) (events : List Event) → c ≤ k → AllByRecursion (IsForkAbove k) events →
     count_by (is_fork_of c) events ≡ 0
 none_low k c [] low above = refl
@@ -364,7 +347,7 @@ good_fork : (d : Draft) (e : Event) (es : List Event) (later : List (List Event)
     → Whole d.version d.cpus (d.done ++ (d.events ++ e ∷ es) ∷ later) → is_bad_fork d e ≡ false
 good_fork d (Fork child) es later whole =
     let block = (above_right 0 d.done ((d.events ++ Fork child ∷ es) ∷ later) whole.above).0 in
-    let high = (all_right (IsForkAbove (0 + length d.done)) d.events (Fork child ∷ es) block).0 in
+    let high = (each_right (IsForkAbove (0 + length d.done)) d.events (Fork child ∷ es) block).0 in
     let here : count_by (is_fork_of child) (Fork child ∷ []) ≡ 1 = rw (eq-eqb child child refl) refl in
     let most = whole.forked child in
     let all = forked_most child (length (d.done ++ (d.events ++ Fork child ∷ es) ∷ later)) in
@@ -377,7 +360,7 @@ good_fork d e es later whole = refl
 within_limits : (d : Draft) (e : Event) (es : List Event) (later : List (List Event))
     → Whole d.version d.cpus (d.done ++ (d.events ++ e ∷ es) ∷ later) → is_past_limits d e ≡ false
 within_limits d e es later whole =
-    let acts = few_at 0 d.events es e (all_right (FewActs 0) d.done ((d.events ++ e ∷ es) ∷ later) whole.acts).0 in
+    let acts = few_at 0 d.events es e (each_right (FewActs 0) d.done ((d.events ++ e ∷ es) ∷ later) whole.acts).0 in
     let many = total_split length lengths d.done later d.events (e ∷ es) in
     let much = total_split (sum_by bytes_read) reads d.done later d.events (e ∷ es) in
     let most = whole.events in
@@ -396,9 +379,9 @@ pub whole_event : (d : Draft) (e : Event) (es : List Event) (later : List (List 
     → Whole d.version d.cpus (d.done ++ (d.events ++ e ∷ es) ∷ later) → EventFits d e
 whole_event d e es later whole =
     let Rows : Event → Type 0 = InRange d.version d.cpus in
-    let block = (all_right (AllByRecursion Rows) d.done ((d.events ++ e ∷ es) ∷ later) whole.ranges).0 in
+    let block = (each_right (AllByRecursion Rows) d.done ((d.events ++ e ∷ es) ∷ later) whole.ranges).0 in
     record {
-      range = (all_right Rows d.events (e ∷ es) block).0;
+      range = (each_right Rows d.events (e ∷ es) block).0;
       fork = good_fork d e es later whole;
       limits = within_limits d e es later whole;
     }

@@ -95,7 +95,7 @@ vread_takes version cpus point act len e spelt is =
       range = omega (arith, n.1);
     })
 
-text_is : (field text : List ℕ) → bytes_eq field text ≡ true → field ≡ text
+pub text_is : (field text : List ℕ) → bytes_eq field text ≡ true → field ≡ text
 text_is field text e = (bytes_eq-Decides field text).0 e
 
 only_then : {A : Type 0} (t : Bool) (r : Result A FaultKind) (kind : FaultKind) (x : A) → cond t r (Err kind) ≡

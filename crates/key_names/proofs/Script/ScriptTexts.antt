@@ -1,11 +1,10 @@
 -- A text gives a script if and only if it is the script's.
-use Rattle.std.proofs.Common.{◌≡◌, ℕ, zero, suc, ◌+◌, ◌≤◌, ltb, true, false, inl, inr, Option, Some, None, Ok, List, [], ◌∷◌, ◌++◌, length, map, refl, sym, ap, subst, ◌∙◌, append_assoc, arith}
+use Rattle.std.proofs.Common.{◌≡◌, ℕ, zero, suc, ◌+◌, ◌≤◌, ltb, false, inl, inr, Option, Some, None, Ok, List, [], ◌∷◌, ◌++◌, length, map, refl, sym, ap, subst, ◌∙◌, append_assoc, arith}
 use Rattle.std.specs.Fmt.{decimal, digits}
 use Rattle.std.specs.List.{AllByRecursion}
 use Rattle.std.specs.Prelude.{codes}
 use Rattle.std.specs.Str.{bytes_eq}
 use Rattle.std.proofs.lemmas.Bool.{cases_Bool, le-ltb, ltb-false}
-use Rattle.std.proofs.lemmas.Slice.Eq.{bytes_eq-Decides}
 use Rattle.key_names.specs.declared.events.Event.{Event}
 use Rattle.key_names.specs.declared.faults.FaultKind.{FaultKind}
 use Rattle.key_names.specs.Texts.Spelling.{spaced}
@@ -17,6 +16,7 @@ use Rattle.key_names.proofs.Script.FieldReaders.{same_ok, step_ok}
 use Rattle.key_names.proofs.Script.LinedTexts.{Clean, Printable, clean_by, clean_decimal, lined_parts, parts_lined, parts_spaced, printable_spaced, spaced_parts}
 use Rattle.key_names.proofs.Script.Numbers.{number_again, number_takes}
 use Rattle.key_names.proofs.Script.Parts.{HasFirst}
+use Rattle.key_names.proofs.Script.EventReaders.{text_is}
 use Rattle.key_names.proofs.Script.SaidLines.{said_again, said_line, said_takes}
 use Rattle.key_names.proofs.Script.ScriptBodies.{at_ok, from_again, from_takes, line_again, line_takes, rest_lines}
 
@@ -24,12 +24,6 @@ use Rattle.key_names.proofs.Script.ScriptBodies.{at_ok, from_again, from_takes, 
 
 head_line : ℕ → List ℕ
 head_line version = spaced (codes "rngscript" ∷ decimal version ∷ [])
-
-cpus_line : ℕ → List ℕ
-cpus_line cpus = spaced (codes "cpus" ∷ decimal cpus ∷ [])
-
-text_is : (line text : List ℕ) → bytes_eq line text ≡ true → line ≡ text
-text_is line text e = (bytes_eq-Decides line text).0 e
 
 version_takes : (line : List ℕ) (version : ℕ) → version_of line ≡ Ok version
     → (line ≡ spaced (codes "rngscript" ∷ decimal version ∷ [])) × ((1 ≤ version) × (version ≤ 3))

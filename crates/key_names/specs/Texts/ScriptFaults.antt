@@ -231,7 +231,7 @@ said_by version cpus (first ∷ fields) =
 abbrev pub parts : ℕ → List ℕ → List (List ℕ)
 parts byte text = slice_split (λ b. b == byte) text
 
--- what a line says: the first of the kinds 5, 6 and 7 that it has
+-- what a line says; of its faults kind 5 comes first, and then that of the leftmost bad field, 6 or 7
 abbrev pub said : ℕ → ℕ → List ℕ → Result Said FaultKind
 said version cpus line = said_by version cpus (parts 32 line)
 
