@@ -20,7 +20,7 @@ pub fn transcripts_hold_unused()
     ensures { TranscriptsHoldUnused }
 {}
 
-/// And in that book as it stood at any moment of the run.
+/// And in that book as it stood at any stamp, each vgetrandom state taken between two calls.
 #[tactic(auto, using(crate::proofs::Moments::moments_hold_unused))]
 pub fn moments_hold_unused()
     ensures { MomentsHoldUnused }

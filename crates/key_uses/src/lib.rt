@@ -2,8 +2,8 @@
 //!
 //! [`base_uses`], [`cpu_uses`] and [`state_uses`] give the uses of the entries of a lane or of a vgetrandom state, each
 //! with the entry that puts the bytes to use. Their contracts say that these are the uses of `key_names`
-//! (`specs/Uses.antt`), each once. The [`laws`] say that nothing which is held at any moment of a run was used before
-//! it. The crate stands on what `list_replay` keeps of the lanes' lists.
+//! (`specs/Uses.antt`), each once. The [`laws`] say that nothing which is held at any stamp of a run, each vgetrandom state
+//! taken between two calls, was used before. The crate stands on what `list_replay` keeps of the lanes' lists.
 #![tactic(auto)]
 
 pub mod base_uses;
