@@ -5,19 +5,17 @@
 # against plain_core.c, by time and by instructions.
 set -eu
 cd "$(dirname "$0")/.."
+. bench/built.sh
 bytes=16777216
 reads=4000
 events=65536
 samples=$((bytes / 64))
 interrupts=1000000
 visits=20000000
-loops=crates/bench_words/out/bench_words
+loops=$(built bench_words)
+program=$(built rng_tool)
 room=$(mktemp -d)
 trap 'rm -rf "$room"' EXIT
-
-(cd crates/bench_words && rt run) >/dev/null 2>&1
-./rng run <examples/first.script >/dev/null
-program=crates/rng_tool/out/rng_tool
 
 awk -v n="$reads" 'BEGIN {
     print "rngscript 1\ncpus 1\ncaller 0"
@@ -164,7 +162,8 @@ beside() {
 
 # beside_plain NAME SCRIPT: beside plain_core, which writes the same transcript.
 beside_plain() {
-    "$room/plain_core" <"$2" >"$room/plain" && "$program" run <"$2" | cmp - "$room/plain" >&2
+    "$room/plain_core" <"$2" >"$room/plain"
+    "$program" run <"$2" | cmp - "$room/plain" >&2
     beside "$1" "$2" "$room/plain_core"
 }
 
@@ -175,8 +174,8 @@ beside_duties() {
 
 # beside_kernel NAME SCRIPT: beside the kernel's own code, which writes the answers and bytes of the same transcript.
 beside_kernel() {
-    "$kernel" <"$2" >"$room/plain" &&
-        "$program" run <"$2" | awk '/^0/ && $2 != "end" { print $3, $NF }' | cmp - "$room/plain" >&2
+    "$kernel" <"$2" >"$room/plain"
+    "$program" run <"$2" | awk '/^0/ && $2 != "end" { print $3, $NF }' | cmp - "$room/plain" >&2
     beside "$1" "$2" "$kernel"
 }
 

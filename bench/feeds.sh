@@ -7,16 +7,11 @@
 # BENCH_UNDER says stands before each measured program: `chrt --rr 1`, as root, keeps the machine's other work away.
 set -eu
 cd "$(dirname "$0")/.."
+. bench/built.sh
 room=$(mktemp -d)
 loops=
 one=
 trap 'for one in $loops; do kill "$one"; done; rm -rf "$room"' EXIT
-
-# built CRATE: the program of a crate, proved and built where that has to be done.
-built() {
-    (cd "crates/$1" && rt run </dev/null) >/dev/null 2>&1 || [ -x "crates/$1/out/$1" ]
-    echo "crates/$1/out/$1"
-}
 
 same() {
     program=${BENCH_RNG:-$(built rng_tool)}

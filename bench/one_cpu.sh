@@ -8,15 +8,13 @@
 # BENCH_UNDER says stands before each run that is timed, as in bench/threads.sh.
 set -eu
 cd "$(dirname "$0")/.."
+. bench/built.sh
 room=$(mktemp -d)
 trap 'rm -rf "$room"' EXIT
 times=15
 turns=10
 
-if [ -z "${BENCH_CALLERS:-}" ]; then
-    (cd crates/bench_callers && rt run </dev/null) >/dev/null 2>&1
-fi
-loops=${BENCH_CALLERS:-crates/bench_callers/out/bench_callers}
+loops=${BENCH_CALLERS:-$(built bench_callers)}
 
 # script NUMBER TURN: one caller on a ready core makes so many events, as the awk function turn(j) in TURN prints them.
 script() {

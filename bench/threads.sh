@@ -9,15 +9,10 @@
 # says stands before each measured program: `chrt --rr 1`, as root, keeps the machine's other work out of the way.
 set -eu
 cd "$(dirname "$0")/.."
+. bench/built.sh
 room=$(mktemp -d)
 trap 'rm -rf "$room"' EXIT
 times=15
-
-# built CRATE: the program of a crate, proved and built where that has to be done.
-built() {
-    (cd "crates/$1" && rt run </dev/null) >/dev/null 2>&1 || [ -x "crates/$1/out/$1" ]
-    echo "crates/$1/out/$1"
-}
 
 # callers N CPUS VERSION EVENTS: a script in which caller 0 makes the core ready and forks the N - 1 others in order, and
 # each goes on to a CPU of its own and makes the events that the awk function events(caller, most) in EVENTS prints. With
