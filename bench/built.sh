@@ -1,3 +1,4 @@
+# shellcheck shell=sh
 # Read by the scripts of this folder, in the repository's root.
 
 # built CRATE: the program of a crate, proved and built where that has to be done.
