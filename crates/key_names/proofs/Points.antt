@@ -17,12 +17,6 @@ point_again Written = refl
 point_again Serve = refl
 point_again End = refl
 
-pub same_itself : (p : Point) → is_same_point p p ≡ true
-same_itself Start = refl
-same_itself Written = refl
-same_itself Serve = refl
-same_itself End = refl
-
 pub same_number : (p q : Point) → number_of p ≡ number_of q → p ≡ q
 same_number p q is = cc (sym (point_again p), ap point_numbered is, point_again q)
 
