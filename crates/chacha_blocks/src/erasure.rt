@@ -32,10 +32,9 @@ impl Detached {
     }
 
     /// Writes the keystream over all of `buf` from the start of the next block, and goes past each block that it began.
-    /// What a last block has over is given up.
+    /// What a last block has over is given up. The block's number and the length together are below 2^40.
     pub fn more(&mut self, buf: &mut [u8])
-        requires near { self.old.next_block ≤ 2 ^ 20 }
-        requires short { length buf.old ≤ 2 ^ 21 }
+        requires { self.old.next_block + length buf.old < 2 ^ 40 }
         ensures bytes { buf.new ≡ keystream self.old.key (64 * self.old.next_block) (length buf.old) }
         ensures key { self.new.key ≡ self.old.key }
         ensures next_block { self.new.next_block ≡ self.old.next_block + (length buf.old + 63) / 64 }

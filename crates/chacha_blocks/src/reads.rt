@@ -1,6 +1,6 @@
 //! Reads of a user, from any key that is erased by them.
 
-ghost use Rattle.std.specs.Prelude.{◌≡◌, ◌^◌, ◌<◌, length};
+ghost use Rattle.std.specs.Prelude.{◌≡◌, ◌+◌, ◌^◌, ◌<◌, length};
 ghost use Rattle.key_names.specs.Keystream.{keystream};
 ghost use Rattle.key_names.specs.KeyInUse.{taken_bytes};
 ghost use Rattle.key_names.specs.declared.entries.Taken.TheVariants.{User};
@@ -10,9 +10,11 @@ use crate::stream::fill_from_block;
 
 /// Erases `key` and fills `buf` for a user, as the kernel's `get_random_bytes_user`: up to 32 bytes are what the
 /// erasure's block has over; for more, that is a key of this read alone, and the bytes are its stream from block 1 on.
+/// They are fewer than 2^40 - 1.
+///
 /// It is for a caller with one key and no lanes: the core makes the same read in two parts, under a lane and behind it.
 pub fn user_read(key: &mut [u8; 32], buf: &mut [u8])
-    requires { length buf.old < 2 ^ 32 }
+    requires { 1 + length buf.old < 2 ^ 40 }
     ensures erased { key.new ≡ keystream key.old 0 32 }
     ensures bytes { buf.new ≡ taken_bytes key.old (User (length buf.old)) }
 {

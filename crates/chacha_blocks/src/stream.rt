@@ -13,7 +13,8 @@ const PAIR_BYTES: usize = 2 * BLOCK_BYTES;
 
 const RUN_BYTES: usize = 4 * BLOCK_BYTES;
 
-/// Writes the keystream of `key` from byte position `from` over all of `buf`.
+/// Writes the keystream of `key` from byte position `from` over all of `buf`. Position and length together are below
+/// 2^40.
 pub fn fill(key: &[u8; 32], from: u64, buf: &mut [u8])
     requires { from + length buf.old < 2 ^ 40 }
     ensures { buf.new ≡ keystream key.now from (length buf.old) }

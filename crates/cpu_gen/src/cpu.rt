@@ -1,6 +1,6 @@
 //! One CPU's key and its generation.
 
-ghost use Rattle.std.specs.Prelude.{◌≡◌, ◌≢◌, ◌^◌, ◌<◌, ◌≤◌, length, MatchBool};
+ghost use Rattle.std.specs.Prelude.{◌≡◌, ◌≢◌, ◌+◌, ◌^◌, ◌<◌, ◌≤◌, length, MatchBool};
 ghost use Rattle.key_names.specs.declared.entries.Taken.TheVariants.{Kernel};
 ghost use Rattle.key_names.specs.Keystream.{keystream};
 ghost use Rattle.key_names.specs.KeyInUse.{taken_bytes};
@@ -83,10 +83,10 @@ impl Cpu {
         erase(&mut self.key, out)
     }
 
-    /// Fills `buf` for the kernel (`_get_random_bytes`): erases the key, unless no byte is wanted. It is
-    /// [`Cpu::front`] and [`Detached::more`] in one.
+    /// Fills `buf`, of any number of bytes below 2^40 - 32, for the kernel (`_get_random_bytes`): erases the key, unless
+    /// no byte is wanted. It is [`Cpu::front`] and [`Detached::more`] in one.
     pub fn kernel_read(&mut self, buf: &mut [u8])
-        requires { length buf.old < 2 ^ 32 }
+        requires { 32 + length buf.old < 2 ^ 40 }
         ensures none { length buf.old ≡ 0 → self.new ≡ self.old }
         ensures some { 0 < length buf.old → self.new ≡ erased self.old }
         ensures bytes { buf.new ≡ taken_bytes self.old.key (Kernel (length buf.old)) }

@@ -28,20 +28,11 @@ pub struct VCall {
     ghost ready: { 1 ≤ published_or 1 stage },
 }
 
-fn turn(turn: Turn) -> u8
-    ensures { result ≡ turn_number turn }
-{
-    match turn {
-        Turn::First => 1,
-        Turn::Second => 2,
-    }
-}
-
 // Whether a call that stands at a place is where it was asked to stop.
 fn is_at(place: Place, attempt: Turn, point: Point) -> bool
     ensures { result ≡ is_wanted attempt point (turn_number place.turn) place.point }
 {
-    turn(place.turn) == turn(attempt) && place.point.is(point)
+    place.turn == attempt && place.point == point
 }
 
 // From a place on, to a point of an attempt or to the end of the call.

@@ -76,9 +76,13 @@ pub fn finish<H: VHost>(
     }
 }
 
-/// Writes random bytes over all of `buf`, out of the state where its key is current, and by the system call otherwise
-/// (the kernel's `__cvdso_getrandom_data`). The state may be wiped at the host's points: no byte of a wiped state is
-/// given out. A call inside another one on the same state goes to the system call.
+/// Writes random bytes over all of `buf` out of the state, which first takes a new key where its own is not of the
+/// published generation (the kernel's `__cvdso_getrandom_data`). The state may be wiped at the host's points: no byte
+/// of a wiped state is given out.
+///
+/// The system call serves where the flags are bad, nothing is published yet, the state is in use (as by a call that
+/// this one is inside of; a wipe clears that mark), no key can be read, or both attempts were outdated. Where the flags
+/// are good and something is published, a call for no bytes is `Zero`.
 ///
 /// Needs 5 looks and 3 system calls of the host, and a buffer of at most 2^20 bytes.
 ///
