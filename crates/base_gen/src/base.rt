@@ -2,7 +2,7 @@
 
 ghost use Rattle.std.specs.Prelude.{◌≡◌, ◌↔◌, ◌+◌, ◌^◌, ◌<◌, ◌≤◌, Some, length, IsTrue};
 ghost use Rattle.key_names.specs.Keystream.{keystream};
-ghost use Rattle.key_names.specs.BaseList.{empty, ready, IsDue, interval, early_boot_after, one_more, one_less};
+ghost use Rattle.key_names.specs.BaseList.{ready, IsDue, interval, early_boot_after, one_more, one_less};
 ghost use Rattle.base_gen.specs.BaseValue.{phase_of, start, erased, seeded_early, reseeded, fired};
 
 use crate::phase::Phase;
@@ -82,7 +82,6 @@ impl Base {
     /// Replaces the key by a root for one draw before anything that counts was gathered, as the kernel's
     /// `crng_make_state` does by `extract_entropy` while `crng_init` is `CRNG_EMPTY`.
     pub fn fill_empty(&mut self, root: [u8; 32])
-        requires { self.old.phase ≡ empty }
         ensures { self.new ≡ record self.old { key = root } }
     {
         self.key = root;
@@ -90,7 +89,6 @@ impl Base {
 
     /// Installs a root once half of what readiness asks was gathered (`_credit_init_bits` at `POOL_EARLY_BITS`).
     pub fn install_early(&mut self, root: [u8; 32])
-        requires { self.old.phase ≡ empty }
         ensures { self.new ≡ seeded_early root self.old }
     {
         self.key = root;
@@ -98,7 +96,7 @@ impl Base {
     }
 
     /// Installs a root at this moment in milliseconds (`crng_reseed`): one more generation, and ready. A pending timer
-    /// stays; else one is set.
+    /// stays; else one is set. `now` is below 2^40, and the generation below 2^63.
     pub fn install(&mut self, root: [u8; 32], now: u64)
         requires generation { self.old.generation < 2 ^ 63 }
         requires now { now < 2 ^ 40 }
@@ -120,9 +118,9 @@ impl Base {
         }
     }
 
-    /// Installs a root because the timer is due, and sets the timer anew.
+    /// Installs a root at this moment in milliseconds (`crng_reseed` as the delayed work): one more generation, and ready.
+    /// The timer is set anew; that it is due is for the lanes to see. `now` is below 2^40, and the generation below 2^63.
     pub fn fire(&mut self, root: [u8; 32], now: u64)
-        requires due { IsDue self.old.timer now }
         requires generation { self.old.generation < 2 ^ 63 }
         requires now { now < 2 ^ 40 }
         ensures { self.new ≡ fired now root self.old }

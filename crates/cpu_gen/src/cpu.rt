@@ -96,7 +96,8 @@ impl Cpu {
         }
     }
 
-    /// The CPU is about to come online (`random_prepare_cpu`): its key counts as old, and stays until it is replaced.
+    /// The CPU is about to come online (`random_prepare_cpu`): its key counts as old by generation 0, the kernel's
+    /// `ULONG_MAX`, and stays until it is replaced.
     pub fn prepare(&mut self)
         ensures { self.new ≡ prepared self.old }
     {

@@ -89,7 +89,8 @@ impl<const W: usize> Batch<W> {
         self.serve()
     }
 
-    /// Makes the batch as at the start, as when its CPU is prepared (`random_prepare_cpu`).
+    /// Makes the batch as at the start, as when its CPU is prepared (`random_prepare_cpu`); the kernel leaves the bytes,
+    /// and only marks them as used up.
     pub fn drop_rest(&mut self)
         ensures { self.new ≡ start W }
     {

@@ -116,12 +116,11 @@ pub struct FeedPass {
     pass: Pass<Sample, Known>,
 }
 
-fn tell_feeds<F: Naming>(queue: &FeedQueue, worker: &mut FeedPass, feeds: &Feeds)
-    requires feeds { F.feeds ≡ feeds.now }
+fn tell_feeds<F: Naming>(queue: &FeedQueue, worker: &mut FeedPass, _feeds: &Feeds)
+    requires feeds { F.feeds ≡ _feeds.now }
     requires worker { AreNew queue.now (numbers 0 0 0) worker.old }
-    ensures { AreNew queue.now feeds.now worker.new }
+    ensures { AreNew queue.now _feeds.now worker.new }
 {
-    let _feeds = feeds.each();
     let _nobody = queue.line.another::<Begin<F>>(&mut worker.pass);
 }
 

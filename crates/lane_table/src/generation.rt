@@ -19,18 +19,17 @@ impl Lanes {
     }
 
     /// Stores the generation that the entry of this hold of the base makes, before its `put`.
-    pub fn raise(&self, pass: &mut Pass, held: &Held, g: u64)
+    pub fn raise(&self, pass: &mut Pass, _held: &Held, g: u64)
         requires pass { IsPassOf self.now pass.old }
-        requires held { Holds self.now pass.old held.now }
-        requires base { held.now.turn.lane ≡ 1 }
+        requires held { Holds self.now pass.old _held.now }
+        requires base { _held.now.turn.lane ≡ 1 }
         requires once { (at 1 (view pass.old)).raised ≡ 0 }
         requires next { g ≡ (replay (known_of (view pass.old) 1)).base.generation + 1 }
         requires small { g < 2 ^ 63 }
         ensures pass { IsSamePass self.now pass.old pass.new }
-        ensures held { Holds self.now pass.new held.now }
+        ensures held { Holds self.now pass.new _held.now }
         ensures raised { Raised g pass.old.seat.me pass.new.seat.me }
     {
-        let _base = held.turn.lane;
         self.table
             .shared
             .store::<Raise>(&mut pass.seat, GENERATION, g);

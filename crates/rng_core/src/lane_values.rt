@@ -5,7 +5,7 @@ ghost use Rattle.key_names.specs.declared.entries.PoolEntry.{PoolEntry};
 ghost use Rattle.key_names.specs.declared.entries.PoolEntry.TheVariants.{Mix, Input as InputEntry, Bits as BitsEntry, Extract};
 ghost use Rattle.key_names.specs.declared.entries.BaseEntry.TheVariants.{Early as EarlyEntry, Reseed, Tick, Refill};
 ghost use Rattle.key_names.specs.Keystream.{keystream};
-ghost use Rattle.key_names.specs.BaseList.{IsDue, empty, one_more, one_less};
+ghost use Rattle.key_names.specs.BaseList.{IsDue, one_more, one_less};
 ghost use Rattle.base_gen.specs.BaseValue.{phase_of};
 ghost use Rattle.lane_table.specs.declared.view.Handed.{Handed};
 ghost use Rattle.key_names.specs.PoolList.{PoolState, crossing, pool_step, root_of_extraction};
@@ -115,7 +115,7 @@ pub(crate) fn down(state: &mut LaneState)
 
 /// Installs a root early.
 pub(crate) fn install_early(state: &mut LaneState, root: [u8; 32])
-    requires { (s : Model) × ValueRepresents 1 state.old s × (s.base.phase ≡ empty) }
+    requires { (s : Model) × ValueRepresents 1 state.old s }
     ensures { (s : Model) (got : Handed) (place : ℕ) → got.key ≡ root → ValueRepresents 1 state.old s
         → ValueRepresents 1 state.new (made_of s (OfBase (EarlyEntry (Some place))) got) }
 {
@@ -134,8 +134,7 @@ pub(crate) fn install(state: &mut LaneState, root: [u8; 32], now: u64)
 
 /// Installs a root because the timer is due.
 pub(crate) fn fire(state: &mut LaneState, root: [u8; 32], now: u64)
-    requires stands { (s : Model) × ValueRepresents 1 state.old s × (s.base.generation < 2 ^ 63) × IsDue s.base.timer
-        now }
+    requires stands { (s : Model) × ValueRepresents 1 state.old s × (s.base.generation < 2 ^ 63) }
     requires now { now < 2 ^ 40 }
     ensures { (s : Model) (got : Handed) (place : ℕ) → got.key ≡ root → ValueRepresents 1 state.old s
         → ValueRepresents 1 state.new (made_of s (OfBase (Tick now (Some place))) got) }

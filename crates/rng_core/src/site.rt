@@ -9,6 +9,10 @@ use lane_table::{Entry, Held, Lanes, Pass};
 use std::sync::Wait;
 
 /// Where a call is made: the table, the caller's pass, the steps so far, and what the caller has set.
+///
+/// A call begins and ends with no lane held, and needs room for its steps: a trace has 20. `set.cpu` is one of the
+/// table's CPUs where the call uses it, and `set.now` below 2^40 where it samples with credit, reseeds or ticks. A read
+/// is of at most 2^20 bytes.
 #[derive(Drop)]
 pub struct Site<'a> {
     pub lanes: &'a Lanes,

@@ -191,7 +191,7 @@ pub(crate) fn read_behind<R: Wait>(rt: &R, site: &mut Site, look: u64, buf: &mut
     rest.fill(buf);
 }
 
-/// Random bytes for the kernel (`get_random_bytes`). Where no byte is wanted nothing is done.
+/// Random bytes for the kernel (`get_random_bytes`), at most 2^20. Where no byte is wanted nothing is done.
 pub fn kernel_read<R: Wait>(rt: &R, site: &mut Site, buf: &mut [u8])
     requires idle { IsIdle 4 site.old }
     requires cpu { IsOnCpu site.old }
@@ -206,7 +206,8 @@ pub fn kernel_read<R: Wait>(rt: &R, site: &mut Site, buf: &mut [u8])
     read_behind(rt, site, found, buf, taken);
 }
 
-/// A read of /dev/urandom (`urandom_read_iter`), which never waits. Where no byte is wanted nothing is done.
+/// A read of /dev/urandom (`urandom_read_iter`), which never waits, of at most 2^20 bytes. Where no byte is wanted nothing
+/// is done.
 pub fn urandom_file<R: Wait>(rt: &R, site: &mut Site, buf: &mut [u8])
     requires idle { IsIdle 4 site.old }
     requires cpu { IsOnCpu site.old }

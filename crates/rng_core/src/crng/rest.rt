@@ -2,7 +2,6 @@
 ghost use Rattle.std.specs.Prelude.{◌≡◌, ◌≤◌, ℕ, Some, None};
 ghost use Rattle.key_names.specs.declared.entries.BaseEntry.TheVariants.{Draw};
 ghost use Rattle.key_names.specs.declared.entries.CpuEntry.TheVariants.{Read};
-ghost use Rattle.key_names.specs.BaseList.{empty};
 ghost use Rattle.key_names.specs.KeyInUse.{taken_bytes};
 ghost use Rattle.base_gen.specs.BaseValue.{erased as base_erased};
 ghost use Rattle.cpu_gen.specs.CpuValue.{erased};
@@ -133,7 +132,7 @@ pub(crate) fn draw_rooted(
     buf: &mut [u8],
     taken: Taken,
 ) -> Rest
-    requires stands { (s : Model) × ValueRepresents 1 state.old s × (s.base.phase ≡ empty) }
+    requires stands { (s : Model) × ValueRepresents 1 state.old s }
     requires asks { Asks taken buf.old }
     ensures made { (s : Model) (got : Handed) (place : ℕ) → got.key ≡ root → ValueRepresents 1 state.old s
         → ValueRepresents 1 state.new (made_of s (OfBase (Draw (Some place) taken)) got) }

@@ -82,7 +82,7 @@ fn must_wait(found: u64, flags: u32) -> bool
     found == 0 && !is_insecure(flags)
 }
 
-/// Random bytes for a user (`getrandom(2)`, `SYSCALL_DEFINE3(getrandom)`).
+/// Random bytes for a user, at most 2^20 (`getrandom(2)`, `SYSCALL_DEFINE3(getrandom)`).
 ///
 /// # Errors
 ///
@@ -129,7 +129,8 @@ fn file_flags(nonblock: bool) -> u32
     if nonblock { GRND_NONBLOCK } else { 0 }
 }
 
-/// A read of /dev/random (`random_read_iter`), which waits for the core to be ready unless `nonblock` is set.
+/// A read of /dev/random (`random_read_iter`), of at most 2^20 bytes, which waits for the core to be ready unless
+/// `nonblock` is set.
 ///
 /// # Errors
 ///
@@ -141,11 +142,12 @@ pub fn random_file<R: Wait>(
     buf: &mut [u8],
     nonblock: bool,
 ) -> Result<(), Errno>
-    requires idle { IsIdle 6 site.old }
+    requires idle { IsIdle (4 + waiting_at site.old) site.old }
     requires cpu { IsOnCpu site.old }
     requires short { length buf.old ≤ most_bytes }
-    ensures does { Completes 6 (Dread (length buf.old) (if nonblock then 1 else 0)) (result_answer result)
-        (bytes_or_none (given result buf.new)) site.old site.new }
+    ensures does { Completes (4 + waiting_at site.old) (Dread (length buf.old) (if nonblock then 1 else 0))
+        (result_answer result) (bytes_or_none (given result buf.new)) site.old site.new }
+    ensures begins { BeginsAndWaits (if nonblock then 1 else 0) site.old site.new }
     ensures cause { ReadCause result (if nonblock then 1 else 0) site.old site.new }
     ensures served { 1 ≤ seen_by site.old → IsOk result }
 {

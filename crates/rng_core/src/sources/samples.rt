@@ -11,7 +11,7 @@ use crate::site::Site;
 use key_names::{LaneId, PoolNote};
 use std::sync::Wait;
 
-/// Mixes bytes into the pool, and credits nothing for them (a write to /dev/random).
+/// Mixes bytes into the pool, and credits nothing for them (`write_pool_user`).
 pub fn mix<R: Wait>(rt: &R, site: &mut Site, text: &[u8])
     requires idle { IsIdle 1 site.old }
     ensures { Completes 1 (WriteEvent text.now) Done no_data site.old site.new }
@@ -32,7 +32,8 @@ pub fn device<R: Wait>(rt: &R, site: &mut Site, word: u64, text: &[u8])
     site.visit_pool(pool, PoolNote::Device { word, text });
 }
 
-/// Mixes bytes into the pool, and credits bits for them (`RNDADDENTROPY`, and with no bytes `RNDADDTOENTCNT`).
+/// Mixes bytes into the pool, and credits bits for them (`random_ioctl` of `RNDADDENTROPY`, and with no bytes of
+/// `RNDADDTOENTCNT`).
 pub fn add<R: Wait>(rt: &R, site: &mut Site, text: &[u8], bits: u32)
     requires idle { IsIdle 3 site.old }
     requires moment { IsTimely site.old }

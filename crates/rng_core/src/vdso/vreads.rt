@@ -15,9 +15,10 @@ use key_names::{Errno, Step};
 use std::sync::Wait;
 use vdso_state::{Local, VEnd, VState, local, vgetrandom};
 
-/// Copies bytes of the batch over all of `buf` where the state's key is of the published generation and the batch has
-/// as many left, and else leaves `buf` as it was. It waits for nobody. A look whose value is not used is no step: the
-/// trace then stays as it was.
+/// Copies bytes of the batch over all of `buf` where the state's key is of the published generation, no call is inside
+/// and the batch has as many left. Else the state and `buf` stay as they were, as for no bytes and for bad flags, where
+/// it does not even look. It waits for nobody. A look whose value is not used is no step: the trace then stays as it
+/// was.
 ///
 /// The state's generation has to be one that the pass has seen published, as it is where only these calls and wipes
 /// changed the state.
@@ -68,9 +69,9 @@ pub(crate) fn call_host<R: Wait>(
     done(ended)
 }
 
-/// Random bytes for a user, out of the caller's vgetrandom state where that can serve them and by the system call
-/// otherwise (`vgetrandom`). The host has to be new and without acts, and the state's generation one that its caller
-/// has seen published.
+/// Random bytes for a user, at most 2^20, out of the caller's vgetrandom state where that can serve them and by the
+/// system call otherwise (`vgetrandom`). The host has to be new and without acts, and the state's generation one that
+/// its caller has seen published.
 ///
 /// # Errors
 ///

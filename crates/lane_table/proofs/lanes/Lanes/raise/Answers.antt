@@ -10,7 +10,7 @@ store-requires c = let p = c.requires.pass in let h = c.requires.held in let v =
     base_generation (known_of v 1) in let n = c.requires.next in (
       search rules,
       omega arith,
-      lifts _ _ _ c.args.held.now.turn.ticket _ _ (omega arith)
+      lifts _ _ _ c.args._held.now.turn.ticket _ _ (omega arith)
           (ap (λ (z : ℕ). (at z v).stage) (sym c.requires.base) ∙ h.stage) c.requires.once (omega arith) c.requires.small,
     )
 
