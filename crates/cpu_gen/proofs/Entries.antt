@@ -7,7 +7,7 @@ use Rattle.key_names.specs.BaseList.{generation_at}
 use Rattle.key_names.specs.CpuList.{CpuState, base_refill_of, cpu_step, cpu_start, cpu_after, generation_or}
 use Rattle.key_names.specs.KeyInUse.{zero_key, base_call_value, call_value_or, cpu_value_step, cpu_value_after}
 use Rattle.key_names.specs.Book.{Lists}
-use Rattle.cpu_gen.specs.CpuValue.{CpuValue, start, erased, refilled, after_entry, cpu_at, after_entries}
+use Rattle.cpu_gen.specs.CpuValue.{CpuValue, erased, refilled, after_entry, cpu_at, after_entries}
 
 -- what the base hands over at a place
 abbrev pub handed_at : Lists → ℕ → CpuValue
@@ -41,10 +41,7 @@ after_entry-cpu_at lists c s value (Dump now) handed is = refl
 after_entry-cpu_at lists c s value Prepare handed is = refl
 after_entry-cpu_at lists c s value Online handed is = refl
 
--- before any entry, and one more entry at the end
-pub start-after_entries : (lists : Lists) (c : ℕ) → start ≡ after_entries lists c []
-start-after_entries lists c = refl
-
+-- one more entry at the end
 pub after_entry-after_entries : (lists : Lists) (c : ℕ) (es : List CpuEntry) (e : CpuEntry) (handed : CpuValue) →
     HandsRefill lists e handed → after_entry e handed (after_entries lists c es) ≡ after_entries lists c (es ++ e ∷ [])
 after_entry-after_entries lists c es e handed is =
