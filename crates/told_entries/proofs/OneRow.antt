@@ -9,6 +9,7 @@ use Rattle.key_names.specs.declared.names.Step.TheVariants.{Look, Visit as Marke
 use Rattle.key_names.specs.Book.{list_at}
 use Rattle.key_names.specs.IsTranscript.{is_same_lane}
 use Rattle.key_names.proofs.Transcripts.LaneCounts.{lane_itself, same_lane}
+use Rattle.key_names.proofs.Lists.ListFacts.{list_beyond}
 use Rattle.line_forms.specs.Told.{pool_told, base_told}
 use Rattle.list_replay.specs.declared.told.ToldPool.{ToldPool}
 use Rattle.list_replay.specs.declared.told.ToldCpu.{ToldCpu}
@@ -113,11 +114,6 @@ module _ (spot : Spot) (mark : Mark) (old new : Tables) (is : spot.step ≡ Mark
       others PoolLane place ne = ap (λ xs. slice_get xs place) pool
       others BaseLane place ne = ap (λ xs. slice_get xs place) base
       others (CpuLane c) place ne = row c place (c == cpu) refl ne
-
-pub list_beyond : {A : Type 0} (xss : List (List A)) (c : ℕ) → length xss ≤ c → list_at xss c ≡ []
-list_beyond [] c le = refl
-list_beyond (xs ∷ xss) zero le = absurd (omega arith)
-list_beyond (xs ∷ xss) (suc c) le = list_beyond xss c (omega arith)
 
 -- a mark of a lane that is not there changes nothing
 pub absent_put : (spot : Spot) (mark : Mark) (a : Tables) (cpu : ℕ) → spot.step ≡ Marked mark → mark.lane ≡ CpuLane cpu →
