@@ -14,9 +14,6 @@ pub record HasFront (text left : List ℕ) : Type 0 where
   pub whole : text ≡ before ++ left
   pub front_is : front text ≡ before ++ front left
 
-pub at_start : (text : List ℕ) → HasFront text text
-at_start text = record { before = []; whole = refl; front_is = refl }
-
 joined : (line : List ℕ) (lines : List (List ℕ)) → HasFirst lines → join_with_byte 10 (line ∷ lines) ≡ line ++ 10 ∷
     join_with_byte 10 lines
 joined line [] some = absurd (let e = some.is in cc)
@@ -76,8 +73,3 @@ ends_there text left line rest h cut end =
     let n : length before ≡ length text - length rest = omega (arith, ap length whole, length-append before rest) in
     ap (take (length text - length rest)) whole ∙ take_at before rest (length text - length rest) n
     ∙ sym (h.front_is ∙ ap (λ (x : List ℕ). h.before ++ x) left_front)
-
--- no line is a line end
-pub ends_nowhere : (text left : List ℕ) → HasFront text left → parts 10 left ≡ left ∷ [] → text ≡ front text
-ends_nowhere text left h cut = h.whole ∙ sym (h.front_is
-    ∙ ap (λ (x : List ℕ). h.before ++ x) (ap (λ lines. join_with_byte 10 (front_lines lines)) cut))

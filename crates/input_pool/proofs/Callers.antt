@@ -1,6 +1,6 @@
 -- For callers: which entry of the list a mix and a credit make, one after the other.
 use Rattle.std.proofs.Common.{◌≡◌, ◌≢◌, ℕ, ◌<◌, ◌≤◌, List, ◌++◌, arith, append_assoc, refl, ◌∙◌, w32, w64}
-use Rattle.std.proofs.lemmas.Bool.{lt-ltb, le-ltb, ne_eqb, eq-eqb}
+use Rattle.std.proofs.lemmas.Bool.{lt-ltb, le-ltb, ne_eqb}
 use Rattle.std.specs.Int.{to_le_bytes}
 use Rattle.key_names.specs.declared.entries.PoolEntry.TheVariants.{Mix, Input}
 use Rattle.key_names.specs.InputTimer.{input_number, input_timer_after, timer_bits}
@@ -47,12 +47,7 @@ crossing-mix before between after s text bits first second third =
 abbrev pub input_bytes : ℕ → ℕ → ℕ → ℕ → List ℕ
 input_bytes word kind code value = to_le_bytes w64 word ++ to_le_bytes w32 (input_number kind code value)
 
--- an input event that repeats the last value changes nothing
-pub pool_step-repeated : (s : PoolState) (word kind code value now : ℕ) → value ≡ s.value
-    → pool_step s (Input word kind code value now) ≡ s
-pool_step-repeated s word kind code value now same = rw (eq-eqb value s.value same) refl
-
--- one with another value, while the bits are below 256, is a mix and a credit of what the timer gives
+-- an input event with another value, while the bits are below 256, is a mix and a credit of what the timer gives
 pub pool_step-timed : (s : PoolState) (word kind code value now : ℕ) → value ≢ s.value → s.bits < 256
     → pool_step s (Input word kind code value now) ≡ record s {
       text = s.text ++ input_bytes word kind code value;

@@ -1,21 +1,16 @@
 -- For callers: a batch that is filled from a key and served entry by entry is what the CPU's list says of it.
-use Rattle.std.proofs.Common.{◌≡◌, ℕ, suc, ◌+◌, ◌-◌, ◌*◌, ◌/◌, ◌<◌, ◌≤◌, Bool, true, false, Option, Some, None, List, ◌++◌, refl, ap, sym, ◌∙◌, arith, length, take, drop, replicate, length-append, length-drop, drop-drop, eq-eqb}
-use Rattle.std.specs.Prelude.{◌==◌, not, ◌||◌, slice_range, if◌then◌else◌}
+use Rattle.std.proofs.Common.{◌≡◌, ℕ, suc, ◌+◌, ◌-◌, ◌*◌, ◌/◌, ◌<◌, ◌≤◌, Bool, None, List, ◌++◌, refl, ap, sym, ◌∙◌, arith, length, take, drop, replicate, length-append, length-drop, drop-drop}
+use Rattle.std.specs.Prelude.{◌==◌, not, ◌||◌, slice_range}
 use Rattle.std.proofs.lemmas.Bool.{le-leb}
 use Rattle.std.proofs.lemmas.List.{drop_at, length-take-le, length-replicate}
-use Rattle.key_names.specs.declared.entries.CpuEntry.TheVariants.{Int, Prepare}
 use Rattle.key_names.specs.Keystream.{keystream}
-use Rattle.key_names.specs.Batches.{Fill, must_fill, batched_int, batch_step, with_zeros}
+use Rattle.key_names.specs.Batches.{Fill, must_fill, batched_int, with_zeros}
 use Rattle.key_names.proofs.Standards.Keystreams.{length-keystream, slice_range-keystream}
 use Rattle.int_batch.specs.BatchValue.{BatchValue, start, wants, filled, next_bytes, after_serving, IsBatchOf}
 
--- a batch wants to be filled exactly where its list says so
+-- a new batch wants to be filled exactly where its list says so
 pub wants-start : (look width : ℕ) → wants look width (start width) ≡ must_fill look width None
 wants-start look width = ap (λ (b : Bool). b || not (look == 0)) (le-leb (96 / width) (96 / width) (omega arith))
-
-pub wants-must_fill : (look width : ℕ) (key : List ℕ) (fill : Fill) (b : BatchValue) → IsBatchOf width key fill b →
-    wants look width b ≡ must_fill look width (Some fill)
-wants-must_fill look width key fill b is = rw (is.position, is.generation) refl
 
 -- filled from the key's stream
 pub IsBatchOf-filled : (width : ℕ) (key : List ℕ) (fill : Fill) → fill.count ≡ 0 →
@@ -85,25 +80,3 @@ IsBatchOf-after_serving width key fill b is below =
           ∙ drop-with_zeros from width b.bytes within ∙ sym (drop-drop width from b.bytes) ∙ ap (drop width) is.rest
           ∙ drop-drop width from (keystream key 32 96) ∙ ap (λ (n : ℕ). drop n (keystream key 32 96)) (sym next);
     }
-
--- the bytes are those of the list
-pub after_serving-batch_step : (width look : ℕ) (refill : Option ℕ) (used : List ℕ) (fill : Fill) (b : BatchValue) →
-    b.position ≡ fill.count → (after_serving width b).bytes ≡ batch_step width used (Some fill) b.bytes
-    (Int look refill width false)
-after_serving-batch_step width look refill used fill b position =
-    let same : (width == width) ≡ true = eq-eqb width width refl in
-    ap (λ (p : ℕ). with_zeros (width * p) width b.bytes) position
-    ∙ ap (λ (t : Bool). if t then with_zeros (width * fill.count) width b.bytes else b.bytes) (sym same)
-
-pub filled-batch_step : (width look : ℕ) (refill : Option ℕ) (used bytes : List ℕ) (last : Option Fill) →
-    (after_serving width (filled (keystream used 32 96) look)).bytes ≡ batch_step width used last bytes
-    (Int look refill width true)
-filled-batch_step width look refill used bytes last =
-    let same : (width == width) ≡ true = eq-eqb width width refl in
-    let none : width * 0 ≡ 0 = omega arith in
-    ap (λ (n : ℕ). with_zeros n width (keystream used 32 96)) none
-    ∙ ap (λ (t : Bool). if t then with_zeros 0 width (keystream used 32 96) else bytes) (sym same)
-
-pub start-batch_step : (width : ℕ) (used bytes : List ℕ) (last : Option Fill) →
-    (start width).bytes ≡ batch_step width used last bytes Prepare
-start-batch_step width used bytes last = refl

@@ -37,9 +37,6 @@ done_by feeds d n f near direct early a b c =
     ap (λ (t : Bool × Bool × Bool). cond t.0 (cond (t.1 && not t.2) [] (first_samples feeds f feeds.each)) [])
     (λ i. (a i, b i, c i))
 
-either_nil : (b c : Bool) (xs : List Sample) → cond false (cond (b && not c) [] xs) [] ≡ []
-either_nil b c xs = refl
-
 done_out : (feeds : Numbers) (d : ℕ → Bool) (n f : ℕ) → feeds.feeders ≤ f → done_so_far feeds d n f ≡ []
 done_out feeds d n f high = done_by feeds d n f false (d f) (nat_lt f n) (le-ltb f feeds.feeders high) refl refl
 
@@ -162,10 +159,6 @@ has_pass q feeds n owed w w' m near h of_queue is = (
     room = h.room;
   },
 )
-
-pub its_pass : (q : FeedQueue) (feeds : Numbers) (n owed : ℕ) (w x : FeedPass) (m : Mixed)
-    → CanStart q feeds n owed w m → known x ≡ new_feeder (known w) → known x ≡ Feeder (post feeds n 0)
-its_pass q feeds n owed w x m h is = is ∙ ap new_feeder h.knows
 
 -- who is direct, after a write
 pub now_is : (ds : List Bool) (n : ℕ) (b : Bool) → n < length ds → slice_index_or (set ds n b) n false ≡ b
@@ -294,17 +287,6 @@ drained q feeds n owed w w' w'' m m' items all h knows count direct room of_queu
         → ((f : ℕ) → of_feeder f xs ≡ done_so_far feeds d 0 f) → (f : ℕ) → d f ≡ true → of_feeder f xs ≡ []
     none_direct feeds d xs each f is = each f ∙ ⊎_elim (λ near. done_late feeds d 0 f near is (omega arith))
         (λ high. done_out feeds d 0 f high) (low_or_high f feeds.feeders)
-
--- a feeder's pass is taken in behind that
-pub still_drained : (q : FeedQueue) (feeds : Numbers) (n pushed : ℕ) (w w' x : FeedPass) (m : Mixed)
-    → HasDrained q feeds w m → IsPassOf q w' → known w' ≡ taken_in (known w) (known x)
-    → known x ≡ Feeder (post feeds n pushed) → HasDrained q feeds w' m
-still_drained q feeds n pushed w w' x m h of_queue is its = record {
-  of_queue = of_queue;
-  ends = h.ends ++ ended n pushed ∷ [];
-  knows = is ∙ (λ i. taken_in (h.knows i) (its i));
-  front = h.front;
-}
 
 -- ---- what the worker mixes itself
 

@@ -77,14 +77,6 @@ one_more set v₀ v₁ v₂ xs ys x v u w worker before popped is mixes last = (
     took (Feeder p) worker e = absurd worker
     took Nobody worker e = absurd worker
 
-pub still_worker : (v₀ v₁ : Known) (xs : List Sample) → IsWorker v₀ → v₁ ≡ with_taken v₀ xs → IsWorker v₁
-still_worker v₀ v₁ xs worker is = subst IsWorker (sym is) (by v₀ worker)
-  where
-    by : (k : Known) → IsWorker k → IsWorker (with_taken k xs)
-    by (Worker d) worker = worker
-    by (Feeder p) worker = absurd worker
-    by Nobody worker = absurd worker
-
 -- one more sample of a direct feeder
 pub direct_more : (set : Called) (feeds : Numbers) (number index : ℕ) (xs ys zs : List Sample) (x : Sample)
     (v u w : View) → ys ≡ xs ++ first_samples feeds number index → zs ≡ ys ++ x ∷ [] → x ≡ sample feeds number index

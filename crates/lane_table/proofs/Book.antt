@@ -5,7 +5,6 @@ pub mod BookCpus
 pub mod BookDeeds
 pub mod BookEnds
 pub mod BookEntries
-pub mod BookGrows
 pub mod BookLawful
 pub mod BookMarks
 pub mod BookMeans
@@ -13,4 +12,3 @@ pub mod BookReplays
 pub mod BookSamples
 pub mod BookValues
 pub mod BookWhole
-pub mod DeedGrowth

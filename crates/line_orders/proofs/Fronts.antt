@@ -21,12 +21,6 @@ found_or [] i x is = cc
 found_or (y ∷ xs) zero x is = same_Some y x is
 found_or (y ∷ xs) (suc i) x is = found_or xs i x is
 
-pub found_dropped : {X : Type 0} (xs : List X) (i : ℕ) (x : X) → slice_get xs i ≡ Some x → drop i xs ≡ x ∷ drop (i + 1) xs
-found_dropped [] i x is = cc
-found_dropped (y ∷ xs) zero x is = ap (λ z. z ∷ xs) (same_Some y x is)
-found_dropped (y ∷ xs) (suc i) x is =
-    found_dropped xs i x is ∙ ap (λ n. x ∷ drop n (y ∷ xs)) (let e : suc (i + 1) ≡ suc i + 1 = omega arith in e)
-
 -- what an element gives goes from the rest to what is done
 pub goes_on : {X Y : Type 0} (F G : List X → List Y) (xs : List X) (i : ℕ) (x : X) (done piece whole : List Y) →
     i < length xs → x ≡ get_or xs i x → F (x ∷ drop (i + 1) xs) ≡ piece ++ G (drop (i + 1) xs) →

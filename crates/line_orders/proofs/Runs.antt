@@ -19,9 +19,6 @@ use Rattle.key_names.proofs.Transcripts.LaneCounts.{same_lane, lane_itself}
 use Rattle.line_orders.specs.declared.marks.MarkOf.{MarkOf}
 use Rattle.line_orders.specs.Marks.{seen_mark, lane_rank, NotBehind, IsSortedByLane, Follows, RunsCount}
 
-turned : (a b : LaneId) → is_same_lane a b ≡ true → is_same_lane b a ≡ true
-turned a b e = subst (λ x. is_same_lane x a ≡ true) (same_lane a b e) (lane_itself a)
-
 rank_same : (a b : LaneId) → lane_rank a ≡ lane_rank b → is_same_lane a b ≡ true
 rank_same PoolLane PoolLane e = refl
 rank_same BaseLane BaseLane e = refl

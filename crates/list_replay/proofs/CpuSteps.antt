@@ -239,27 +239,6 @@ handed_none base keys c place look b kept is names none =
     let never = subst (λ o. IsSome o) none has in
     cc
 
-pub handed_some : (base : List KeptBase) (c place : ℕ) (named : Option (ℕ × ℕ)) (look b : ℕ) (kept : KeptBase)
-    (handed : CpuValue) → named ≡ Some (look, b) → slice_get base b ≡ Some kept → NamesIn c place look (Some kept) →
-    ((key : List ℕ) → kept.key ≡ Some key → handed ≡ record { key = keystream key 32 32; generation = kept.generation }) →
-    RefillStandsIn base c place named × HandedStands base named (Some handed)
-handed_some base c place named look b kept handed is at names hands =
-    let P : Option (ℕ × ℕ) → Type 0 = λ n. RefillStandsIn base c place n × HandedStands base n (Some handed) in
-    subst P (sym is) (
-      subst (λ o. NamesIn c place look o) (sym at) names,
-      λ other key there keeps.
-          let both : Some kept ≡ Some other = sym at ∙ there in
-          let same : kept ≡ other = cc in
-          ap Some (hands key (ap (λ (k : KeptBase). k.key) same ∙ keeps)
-          ∙ ap (λ (k : KeptBase). record { key = keystream key 32 32; generation = k.generation }) same),
-    )
-
-pub names_not : (base : List KeptBase) (c place : ℕ) (named : Option (ℕ × ℕ)) (look b : ℕ) (kept : KeptBase) →
-    named ≡ Some (look, b) → slice_get base b ≡ Some kept → (NamesIn c place look (Some kept) → ⊥) →
-    RefillStandsIn base c place named → ⊥
-names_not base c place named look b kept is at unfit stands =
-    unfit (subst (λ o. NamesIn c place look o) at (subst (λ n. RefillStandsIn base c place n) is stands))
-
 module _ (lists : Lists) (base : List KeptBase) (keeps : KeepsBaseLane base lists) where
   entry_at : (b : ℕ) (k : KeptBase) → slice_get base b ≡ Some k → (e : BaseEntry) × (slice_get lists.base b ≡ Some e)
   entry_at b k is = at_too lists.base base b k (sym keeps.count) is

@@ -94,9 +94,6 @@ closes_cpu (batch look width) v h = h
 
 -- ---- fast pools
 
-told_step : FastPool → ToldCpu → FastPool
-told_step f t = fast_told f t.entry
-
 pub fills_fast : (t : CpuTold) (v : CpuVisit) → FillsCpu t v → (f : FastPool) → fast_step f v.entry ≡ fast_told f t
 fills_fast (cpu_is e) v h f = ap (fast_step f) h
 fills_fast (batch look width) v h f = ap (fast_step f) h

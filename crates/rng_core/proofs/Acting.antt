@@ -27,11 +27,6 @@ use Rattle.rng_core.proofs.Makings.{did_look, did_nothing}
 use Rattle.rng_core.proofs.Hosting.{published_more}
 use Rattle.rng_core.proofs.SiteLemmas.{same_then}
 
-step_set : (s t : ActStand) (step : HostStep) → Does acting s step t → t.core.set ≡ s.core.set
-step_set s t (publishes g) k = k.core.same
-step_set s t (system_call n flags answer) k = k.core.same
-step_set s t (at_point point wiped) k = k.set
-
 step_asks : (s t : ActStand) (step : HostStep) → Does acting s step t → t.asks ≡ s.asks
 step_asks s t (publishes g) k = k.acts.asks
 step_asks s t (system_call n flags answer) k = k.acts.asks
@@ -77,10 +72,6 @@ resting First points = from_start points
 resting Later points = points
 
 -- Step after step
-
-pub acted_set : (steps : List HostStep) (s t : ActStand) → DoesAll acting s steps t → t.core.set ≡ s.core.set
-acted_set [] s t does = ap (λ (k : ActStand). k.core.set) (sym does)
-acted_set (step ∷ steps) s t does = acted_set steps does.0 t does.2 ∙ step_set s does.0 step does.1
 
 pub acted_asks : (steps : List HostStep) (s t : ActStand) → DoesAll acting s steps t → t.asks ≡ s.asks
 acted_asks [] s t does = ap (λ (k : ActStand). k.asks) (sym does)

@@ -73,15 +73,6 @@ did_after set l m n a k = record {
   stands = k.stands;
 }
 
--- behind a look
-pub did_looked : {P : ℕ → List Deed → Type 0} (set : Setting) (l m n : Moment) (g : ℕ) →
-    TraceRecords set l m (went.looked g ∷ []) → Makes (P g) set m n → Makes (forms.Looked P) set l n
-did_looked set l m n g a k = record {
-  made_steps = went.looked g ∷ k.made_steps;
-  told = told_then set l m n (went.looked g ∷ []) k.made_steps a k.told;
-  stands = λ lanes visits callers c. (g, _, refl, k.stands lanes visits callers c);
-}
-
 served_behind_look : (g : ℕ) (deeds : List Deed) → served_bytes (looked g ∷ deeds) ≡ served_bytes deeds
 served_behind_look g [] = refl
 served_behind_look g (d ∷ deeds) = refl

@@ -7,16 +7,13 @@ use Rattle.std.proofs.lemmas.List.{at_drop_all, append-nil}
 use Rattle.key_names.specs.Book.{list_at}
 use Rattle.key_names.specs.SeenLine.{SeenLine}
 use Rattle.key_names.specs.Texts.TranscriptGrammar.{LastHasLines}
-use Rattle.line_orders.proofs.Fronts.{found_dropped, dropped}
+use Rattle.key_names.proofs.Lists.ListFacts.{found_dropped}
+use Rattle.line_orders.proofs.Fronts.{dropped}
 use Rattle.caller_answers.specs.declared.said.Said.{Said}
 use Rattle.serial_replay.specs.Agreement.{Agrees}
 use Rattle.serial_replay.specs.Remade.{said_lists}
 use Rattle.serial_replay.specs.Written.{said_of, lines_said, said_into, MayShow}
 use Rattle.serial_replay.proofs.Agreement.{some_one}
-
-pub may_show : (said : List Said) (line : SeenLine) (one : Said) → Agrees MayShow said line →
-    slice_get said line.event ≡ Some one → MayShow line one
-may_show said line one a is = subst (MayShow line) (some_one (slice_get said line.event) a.one one a.is is) a.same
 
 -- one line more of a caller
 module _ (said : List Said) (lines : List SeenLine) (n : ℕ) (line : SeenLine) (is : slice_get lines n ≡ Some line) where
@@ -37,26 +34,6 @@ pub lines_end : (said : List Said) (lines told : List SeenLine) (n : ℕ) → le
     told ++ lines_said said (drop n lines) ≡ lines_said said lines → told ≡ lines_said said lines
 lines_end said lines told n high so_far =
     sym (append-nil told) ∙ sym (ap (λ (xs : List SeenLine). told ++ lines_said said xs) (at_drop_all (λ x. x) lines n high))
-    ∙ so_far
-
--- one caller more
-t_dropped : (t : List (List SeenLine)) (n : ℕ) (lines : List SeenLine) → n < length t → lines ≡ slice_index_or t n [] →
-    drop n t ≡ lines ∷ drop (n + 1) t
-t_dropped [] n lines low is = absurd (omega arith)
-t_dropped (ls ∷ t) zero lines low is = ap (λ (xs : List SeenLine). xs ∷ t) (sym is)
-t_dropped (ls ∷ t) (suc n) lines low is =
-    t_dropped t n lines (omega arith) is
-    ∙ ap (λ m. lines ∷ drop m (ls ∷ t)) (let e : suc (n + 1) ≡ suc n + 1 = omega arith in e)
-
-pub caller_more : (said : List (Vec Said)) (t told : List (List SeenLine)) (n : ℕ) (v : Vec Said) (lines : List SeenLine) →
-    n < length said → v ≡ get_or said n v → n < length t → lines ≡ slice_index_or t n [] →
-    told ++ said_into (said_lists (drop n said)) (drop n t) ≡ said_into (said_lists said) t →
-    (told ++ lines_said v.items lines ∷ []) ++ said_into (said_lists (drop (n + 1) said)) (drop (n + 1) t)
-    ≡ said_into (said_lists said) t
-caller_more said t told n v lines low is low' is' so_far =
-    append_assoc told (lines_said v.items lines ∷ []) (said_into (said_lists (drop (n + 1) said)) (drop (n + 1) t))
-    ∙ sym (ap (λ (u : List (List SeenLine)). told ++ u)
-    (λ i. said_into (said_lists (dropped said n v low is i)) (t_dropped t n lines low' is' i)))
     ∙ so_far
 
 pub callers_end : (said : List (Vec Said)) (t told : List (List SeenLine)) (n : ℕ) → length t ≤ n →

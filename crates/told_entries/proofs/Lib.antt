@@ -8,7 +8,6 @@ pub mod Gathers
 pub mod IrqShapes
 pub mod LanePlaces
 pub mod LineVisits
-pub mod MadeBooks
 pub mod MadeIsTold
 pub mod MarkedSteps
 pub mod Matches

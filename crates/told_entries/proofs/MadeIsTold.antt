@@ -59,19 +59,7 @@ module _ (lists : Lists) (lawful : LawfulLanes lists) where
   calls_fill set (call ∷ calls) stands form =
       (call_fills set call stands.0 form.0, calls_fill (setting_after_call set call) calls stands.1 form.1)
 
--- where a caller's calls mean what they may, and the samples of each line stand, each visit is as told
-pub made_is_told : (lists : Lists) (set : Setting) (caller : ℕ) (events : List Event) (lines : List SeenLine)
-    (ms : List CallMeaning) → LinesFit caller 0 events lines → LawfulLanes lists →
-    CallerMeans lists set (calls_of events lines) ms →
-    AllByRecursion (λ line. SamplesStand (facts_of lists).fast (deeds_of lists line.steps)) lines →
-    CallsFill lists set (calls_of events lines)
-made_is_told lists set caller events lines ms fit lawful means stands =
-    let cover : Covers (Stands lists lawful) (Stands lists lawful) [] lines (calls_of events lines) =
-    calls_cover (Stands lists lawful) (Stands lists lawful) caller events lines fit in
-    calls_fill lists lawful set (calls_of events lines) (cover.to_calls tt stands)
-    (caller_form lists lawful set (calls_of events lines) ms means)
-
--- the same of all callers
+-- where all callers mean what they may, and the samples of each line stand, each visit is as told
 pub all_told : (script : Script) (t : List (List SeenLine)) (book : Book) (ms : List (List CallMeaning)) →
     HasLines script t → AllMean script t book ms → LawfulLanes (lists_of book) →
     AllByRecursion (AllByRecursion (λ line. SamplesStand (facts_of (lists_of book)).fast

@@ -9,6 +9,7 @@ use Rattle.key_names.specs.declared.names.Step.TheVariants.{Look, Visit as Marke
 use Rattle.key_names.specs.Book.{list_at}
 use Rattle.key_names.specs.IsTranscript.{is_same_lane}
 use Rattle.key_names.proofs.Transcripts.LaneCounts.{lane_itself, same_lane}
+use Rattle.key_names.proofs.Lists.ListFacts.{list_beyond}
 use Rattle.line_forms.specs.Told.{pool_told, base_told}
 use Rattle.list_replay.specs.declared.told.ToldPool.{ToldPool}
 use Rattle.list_replay.specs.declared.told.ToldCpu.{ToldCpu}
@@ -114,17 +115,7 @@ module _ (spot : Spot) (mark : Mark) (old new : Tables) (is : spot.step ≡ Mark
       others BaseLane place ne = ap (λ xs. slice_get xs place) base
       others (CpuLane c) place ne = row c place (c == cpu) refl ne
 
--- a look changes nothing, nor does a mark of a lane that is not there
-pub look_put : (spot : Spot) (g : ℕ) (a : Tables) → spot.step ≡ Look g → Changes (spot ∷ []) a a
-look_put spot g a is = one_row spot a a refl (λ lane. refl)
-    (λ lane place hits. (let never : false ≡ true = sym (ap (is_visit lane place) is) ∙ hits in cc))
-    (λ lane place no. unchanged a lane place)
-
-pub list_beyond : {A : Type 0} (xss : List (List A)) (c : ℕ) → length xss ≤ c → list_at xss c ≡ []
-list_beyond [] c le = refl
-list_beyond (xs ∷ xss) zero le = absurd (omega arith)
-list_beyond (xs ∷ xss) (suc c) le = list_beyond xss c (omega arith)
-
+-- a mark of a lane that is not there changes nothing
 pub absent_put : (spot : Spot) (mark : Mark) (a : Tables) (cpu : ℕ) → spot.step ≡ Marked mark → mark.lane ≡ CpuLane cpu →
     length a.cpus ≤ cpu → Changes (spot ∷ []) a a
 absent_put spot mark a cpu is lane_is absent = row_put spot mark a a is refl (λ lane. refl)

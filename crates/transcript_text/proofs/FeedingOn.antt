@@ -231,10 +231,6 @@ pub goes_on_past : (text : List ℕ) (r : Reader) → HasFed text r → r.so_far
     → IsFirstFault text (r.so_far.lines + 3)
 goes_on_past text r fed is some = goes_past r.so_far text r.rest.items (at_end text r fed is) some
 
-pub ends_here : (text : List ℕ) (r : Reader) → HasFed text r → r.so_far.stage ≡ Ended → r.rest.items ≡ []
-    → HasTold r.so_far text (line_end ++ 10 ∷ [])
-ends_here text r fed is none = subst (λ x. HasTold r.so_far text (line_end ++ 10 ∷ x)) none (at_end text r fed is)
-
 pub is_faulty : (text : List ℕ) (r : Reader) (line : ℕ) → HasFed text r → r.so_far.stage ≡ Faulty line
     → IsFirstFault text line
 is_faulty text r line fed is = subst (λ x. IsFirstFault x line) (append-nil text)

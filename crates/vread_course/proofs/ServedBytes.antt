@@ -45,10 +45,6 @@ piece_same bytes key from done next within is =
     ∙ slice_range-keystream key from (length bytes) done (done + next) (omega arith) within
     ∙ ap (keystream key (from + done)) there
 
-pub first_part : (bytes front made first : List ℕ) → first ≡ take (length front) bytes → bytes ≡ front ++ made →
-    first ≡ front
-first_part bytes front made first is all = is ∙ ap (take (length front)) all ∙ take-append_seam front made
-
 pub other_part : (bytes front made rest : List ℕ) → rest ≡ drop (length front) bytes → bytes ≡ front ++ made →
     rest ≡ made
 other_part bytes front made rest is all = is ∙ ap (drop (length front)) all ∙ drop-append_seam front made

@@ -58,9 +58,6 @@ zero_of a e = grind (arith, nat_tests)
 abbrev From : ℕ → List ℕ → Type 0
 From last looks = NeverFall (last ∷ looks)
 
-from_more : (last g : ℕ) (looks : List ℕ) → last ≤ g → From g looks → From last (g ∷ looks)
-from_more last g looks low more = (low, more)
-
 rise_looks : (cpu last : ℕ) (seen : List Seen) (s : Shape cpu seen) → rises last seen ≡ true →
     From last (looks_of (deeds_in cpu seen s))
 rise_looks cpu last [] s e = tt
@@ -122,13 +119,6 @@ known_from cpu last some (Elsewhere ∷ seen) ((d, p), s) h fits = absurd p
 refused : (b : Bool) (o : Option Followed) (f : Followed) → b ≡ false → (if b then o else None) ≡ Some f → ⊥
 refused true o f p e = cc
 refused false o f p e = cc
-
--- whether a copy is tried first
-tests : (a z b : Bool) → (not a || (z || b)) ≡ not (a && (not z && not b))
-tests true true b = refl
-tests true false true = refl
-tests true false false = refl
-tests false z b = refl
 
 no_acts_left : (set : Setting) (f : BoundAct → Bool) (acts : List BoundAct) (ms : List LineMeaning) →
     (length acts == 0) ≡ true → ActsMean set f acts ms → ms ≡ []

@@ -1,4 +1,5 @@
 use Rattle.std.proofs.Common.{◌≡◌, ◌<◌, ◌^◌, length, map, Option, Some, None, Vec, Global, IfSome, IsSome, refl, sym, subst, ap, false, true, arith}
+use Rattle.std.proofs.lemmas.Bool.{false≢true}
 use Rattle.sample_credit.specs.declared.fast_pool.Dump.{Dump}
 use Rattle.list_replay.specs.declared.kept.KeptPool.{KeptPool}
 use Rattle.list_replay.specs.declared.kept.KeptBase.{KeptBase}
@@ -19,9 +20,6 @@ use Rattle.list_replay.proofs.Whole.{extractions_back, refills_back, base_may_co
 use Rattle.list_replay.proofs.replay_lists.Goals as goal
 use Rattle.list_replay.proofs.replay_lists.Goals.{else-extractions_answered-via-then-extractions_answered+else-refills_answered, else-extractions_answered-via-else-extractions_answered}
 
-never : {A : Type 0} → false ≡ true → A
-never p = cc
-
 -- what is found of each lane
 abbrev DumpsFound : Tables → Vec (Vec (Option Dump) Global) Global → Type 0
 DumpsFound told dumps = AllDue told × AllDumps (closed told) (map (λ lane. lane.items) dumps.items)
@@ -40,7 +38,7 @@ found : {A : Type 0} (P : A → Type 0) (o : Option A) (a : A) → o ≡ Some a 
 found P o a is h = subst (λ x. IfSome x P) is h
 
 missed : {A B : Type 0} (o : Option A) → o ≡ None → IsSome o → B
-missed o is h = never (subst (λ x. IsSome x) is h)
+missed o is h = absurd (false≢true (subst (λ x. IsSome x) is h))
 
 pub returns-in_default-clause-only : goal.returns-in_default-clause-only
 returns-in_default-clause-only c = λ lists fills lawful.
@@ -132,14 +130,14 @@ returns-clause-only c = λ lists fills lawful.
     refills_back (closed (tables_of c.args.told.now)) c.in-Some-2.pool.items c.in-Some-3.base.items
     (map (λ lane. lane.items) c.in-Some-4.cpus.items) pool.1 base.1 cpus.1 law.lanes.refills in
     elim c.else-extractions_answered.branch [
-      | else-extractions_answered-via-then-extractions_answered+else-refills_answered w ↦ never
+      | else-extractions_answered-via-then-extractions_answered+else-refills_answered w ↦ absurd (false≢true
           (w.if-refills_answered.ensures.1
           (subst (λ xs. AllRefillsAnswered xs (map (λ lane. lane.items) w.deref-then-extractions_answered-2.result.now))
           (sym w.deref-then-extractions_answered.ensures.value)
           (subst (λ xs. AllRefillsAnswered c.in-Some-3.base.items (map (λ lane. lane.items) xs))
-          (sym w.deref-then-extractions_answered-2.ensures.value) refills)))
-      | else-extractions_answered-via-else-extractions_answered w ↦ never
+          (sym w.deref-then-extractions_answered-2.ensures.value) refills))))
+      | else-extractions_answered-via-else-extractions_answered w ↦ absurd (false≢true
           (w.if-extractions_answered.ensures.1
           (subst (λ xs. AllExtractionsAnswered xs c.deref-5.result.now) (sym c.deref-4.ensures.value)
-          (subst (λ xs. AllExtractionsAnswered c.in-Some-2.pool.items xs) (sym c.deref-5.ensures.value) extractions)))
+          (subst (λ xs. AllExtractionsAnswered c.in-Some-2.pool.items xs) (sym c.deref-5.ensures.value) extractions))))
     ]

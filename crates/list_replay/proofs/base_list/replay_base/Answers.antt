@@ -1,4 +1,5 @@
 use Rattle.std.proofs.Common.{◌≡◌, ◌≤◌, ◌<◌, ◌+◌, ◌^◌, ◌++◌, [], ◌∷◌, suc, Some, length, refl, sym, subst, ap, ◌∙◌, false, true, arith}
+use Rattle.std.proofs.lemmas.Bool.{false≢true}
 use Rattle.key_names.specs.declared.entries.BaseEntry.{BaseEntry}
 use Rattle.key_names.specs.BaseList.{root_of, roots_after}
 use Rattle.base_gen.specs.BaseValue.{BaseValue}
@@ -10,9 +11,6 @@ use Rattle.list_replay.proofs.Filling.{closed_fills}
 use Rattle.list_replay.proofs.Loops.{found, behind_all}
 use Rattle.list_replay.proofs.base_list.replay_base.Goals as goal
 use Rattle.list_replay.proofs.base_list.replay_base.Goals.{in-Some-named, in_default-named}
-
-never : {A : Type 0} → false ≡ true → A
-never p = cc
 
 pub returns-in_default-clause-none : goal.returns-in_default-clause-none
 returns-in_default-clause-none c = λ all. absurd
@@ -31,7 +29,7 @@ returns-then-not-fits-clause-none c = λ all. absurd
     (found c.deref-one-items.result.now c.args.told.now.base.items c.loop-place.place _
     c.deref-one-items.ensures.value c.loop-place-test.true)
     c.loop-place.base c.loop-place.least c.loop-place.kept.items c.loop-place.invariant c.close-entry.result
-    c.close-entry.ensures (λ fits. never (c.if-not-fits.ensures.1 fits)) all)
+    c.close-entry.ensures (λ fits. absurd (false≢true (c.if-not-fits.ensures.1 fits))) all)
 
 pub overflow_add-least : goal.overflow_add-least
 overflow_add-least c =

@@ -1,4 +1,5 @@
 use Rattle.std.proofs.Common.{◌≡◌, ◌≤◌, ◌+◌, ◌++◌, [], ◌∷◌, length, refl, ap, ◌∙◌, false, true, arith}
+use Rattle.std.proofs.lemmas.Bool.{false≢true}
 use Rattle.key_names.specs.declared.entries.CpuEntry.{CpuEntry}
 use Rattle.key_names.specs.Book.{list_at, cpu_list}
 use Rattle.cpu_gen.specs.CpuValue.{CpuValue, start}
@@ -12,9 +13,6 @@ use Rattle.list_replay.proofs.Filling.{closed_fills}
 use Rattle.list_replay.proofs.Lanes.{lane_is, element_at}
 use Rattle.list_replay.proofs.Loops.{found, behind_all}
 use Rattle.list_replay.proofs.cpu_list.replay_cpu.Goals as goal
-
-never : {A : Type 0} → false ≡ true → A
-never p = cc
 
 pub loop-place-init : goal.loop-place-init
 loop-place-init c = record {
@@ -48,7 +46,7 @@ returns-then-not-fits-clause-none c = λ all. absurd
     (list_at (tables_of c.args.told.now).cpus c.args.cpu) c.loop-place.place _ c.loop-place.invariant.items
     c.loop-place-test.true c.requires.widths)
     c.loop-place.lane.cpu c.loop-place.lane.fills c.loop-place.kept.items c.loop-place.invariant.behind
-    c.close-entry.result c.close-entry.ensures (λ fits. never (c.if-not-fits.ensures.1 fits)) all)
+    c.close-entry.result c.close-entry.ensures (λ fits. absurd (false≢true (c.if-not-fits.ensures.1 fits))) all)
 
 pub loop-place-preserved : goal.loop-place-preserved
 loop-place-preserved c = record {

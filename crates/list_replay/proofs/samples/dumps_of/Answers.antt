@@ -9,9 +9,6 @@ use Rattle.list_replay.proofs.Lanes.{lane_is}
 use Rattle.list_replay.proofs.Loops.{Behind, found, behind_none, behind_all}
 use Rattle.list_replay.proofs.samples.dumps_of.Goals as goal
 
-never : {A : Type 0} → false ≡ true → A
-never p = cc
-
 pub loop-one-init : goal.loop-one-init
 loop-one-init c = record {
   items = c.deref-one-items.ensures.value
