@@ -1,18 +1,9 @@
--- What calls in a row do to a sink, to a source, and to their counts of faults.
-use Rattle.std.proofs.Common.{◌≡◌, ℕ, ◌+◌, ◌≤◌, List, ◌++◌, length, take, drop, Option, sym, ap, ◌∙◌, subst, arith, le_refl}
+-- What calls in a row do to a sink and to a source.
+use Rattle.std.proofs.Common.{◌≡◌, ℕ, ◌+◌, List, ◌++◌, length, take, drop, Option, sym, ap, ◌∙◌, subst, le_refl}
 use Rattle.std.proofs.Math.Seq.{take-add, take-length}
 use Rattle.std.specs.Io.KnownBytes.{Appends, Consumes}
 use Rattle.std.proofs.KnownBytes.{Appends-trans, Consumes-trans}
-use Rattle.io_edges.specs.Faults.{Rose}
 use Rattle.io_edges.specs.Pieces.{AppendsPrefix, ConsumesSome}
-
--- a fault after calls that went well
-pub rose_before : (a b c : ℕ) → a ≤ b → Rose b c → Rose a c
-rose_before a b c h r = omega arith
-
--- a fault before calls that went on
-pub rose_after : (a b c : ℕ) → Rose a b → b ≤ c → Rose a c
-rose_after a b c r h = omega arith
 
 -- the first n bytes of a text, and m bytes of its rest
 pub Appends-next : (a b c : Option (List ℕ)) (text rest : List ℕ) (n m : ℕ)

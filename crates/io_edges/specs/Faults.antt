@@ -7,4 +7,4 @@ next_count n = min (n + 1) (2 ^ 64 - 1)
 
 -- the count has risen since, or it stood at the highest already
 abbrev pub Rose : ℕ → ℕ → Type 0
-Rose before after = next_count before ≤ after
+Rose before after = (before ≤ after) × (next_count before ≤ after)

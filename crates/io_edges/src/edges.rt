@@ -1,5 +1,5 @@
 //! What a source and a sink promise.
-ghost use Rattle.std.specs.Prelude.{◌≡◌, ◌<◌, ◌≤◌, [], ℕ, List, Option, length, take, IfOk, OnOk, OnErr};
+ghost use Rattle.std.specs.Prelude.{◌≡◌, ◌<◌, [], ℕ, List, Option, length, take, IfOk, OnOk, OnErr};
 ghost use Rattle.std.specs.Io.{ReadsAtMost, WritesAtMost};
 ghost use Rattle.std.specs.Io.KnownBytes.{Keeps, Appends, Consumes, IsAtEnd};
 ghost use Rattle.io_edges.specs.Faults.{Rose};
@@ -29,8 +29,7 @@ pub trait Source {
         ensures end { IfOk result (λ n. n ≡ 0 → 0 < length buf.old → IsAtEnd (left self.new)) }
         ensures not_taken { OnErr result (Keeps (left self.old) (left self.new)) }
         ensures not_counted { OnOk result (faults self.new ≡ faults self.old) }
-        ensures cause { OnErr result (Rose (faults self.old) (faults self.new)) }
-        ensures never_falls { faults self.old ≤ faults self.new };
+        ensures cause { OnErr result (Rose (faults self.old) (faults self.new)) };
 }
 
 /// Where bytes go. A sink may keep bytes back until it is flushed.
@@ -41,7 +40,7 @@ pub trait Sink {
     /// The last of the bytes that it holds: those that it keeps back.
     ghost kept_back: { Self → List ℕ };
 
-    /// How often it has failed. The count never falls, and stands still at `u64::MAX`.
+    /// How often it has failed. The count rises with a failure alone, and stands still at `u64::MAX`.
     ghost faults: { Self → ℕ };
 
     /// Appends the front of `piece`, at least one byte of a piece that is not empty, and answers how many bytes.
@@ -54,8 +53,8 @@ pub trait Sink {
         ensures some { IfOk result (λ n. 0 < length piece.now → 0 < n) }
         ensures appended { IfOk result (λ n. Appends (held self.old) (held self.new) (take n piece.now)) }
         ensures not_appended { OnErr result (Keeps (held self.old) (held self.new)) }
-        ensures cause { OnErr result (Rose (faults self.old) (faults self.new)) }
-        ensures never_falls { faults self.old ≤ faults self.new };
+        ensures not_counted { OnOk result (faults self.new ≡ faults self.old) }
+        ensures cause { OnErr result (Rose (faults self.old) (faults self.new)) };
 
     /// Hands on what was kept back, as at the end of the output.
     ///
@@ -66,6 +65,6 @@ pub trait Sink {
     fn flush(&mut self) -> Result<(), Failed>
         ensures handed_on { OnOk result (kept_back self.new ≡ []) }
         ensures kept { Keeps (held self.old) (held self.new) }
-        ensures cause { OnErr result (Rose (faults self.old) (faults self.new)) }
-        ensures never_falls { faults self.old ≤ faults self.new };
+        ensures not_counted { OnOk result (faults self.new ≡ faults self.old) }
+        ensures cause { OnErr result (Rose (faults self.old) (faults self.new)) };
 }

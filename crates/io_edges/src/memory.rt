@@ -2,7 +2,7 @@
 ghost use Rattle.std.specs.Prelude.{◌≡◌, ◌<◌, ◌≤◌, ◌↔◌, ◌++◌, [], false, true, IsTrue, length, take, drop, Some, IfOk, OnOk, OnErr, IsErr};
 ghost use Rattle.std.specs.Io.{ReadsAtMost};
 ghost use Rattle.std.specs.Io.KnownBytes.{Consumes};
-ghost use Rattle.io_edges.specs.Faults.{next_count};
+ghost use Rattle.io_edges.specs.Faults.{Rose, next_count};
 ghost use Rattle.io_edges.specs.Memory.{is_listed, TakeFails, count_given, after_take, after_failed_take};
 ghost use Rattle.io_edges.specs.Memory.{PutFails, count_taken, after_put, after_failed_put, after_failed_flush};
 
@@ -109,7 +109,7 @@ impl Source for MemSource {
         ensures taken { IfOk result (λ n. Consumes (Some self.old.left) (Some self.new.left) (take n buf.new)) }
         ensures end { IfOk result (λ n. n ≡ 0 → 0 < length buf.old → self.new.left ≡ []) }
         ensures not_counted { OnOk result (self.new.faults ≡ self.old.faults) }
-        ensures never_falls { self.old.faults ≤ self.new.faults }
+        ensures cause { OnErr result (Rose self.old.faults self.new.faults) }
     {
         if self.calls.next_fails() {
             return Err(self.calls.fault());
@@ -215,7 +215,7 @@ impl Sink for MemSink {
 
         // What each sink promises.
         ensures some { IfOk result (λ n. 0 < length piece.now → 0 < n) }
-        ensures never_falls { self.old.faults ≤ self.new.faults }
+        ensures cause { OnErr result (Rose self.old.faults self.new.faults) }
     {
         let room = self.room - self.bytes.len();
         if self.calls.next_fails() || (!piece.is_empty() && room == 0) {
@@ -234,7 +234,7 @@ impl Sink for MemSink {
         ensures failed { OnErr result (self.new ≡ after_failed_flush self.old) }
 
         // What each sink promises.
-        ensures never_falls { self.old.faults ≤ self.new.faults }
+        ensures cause { OnErr result (Rose self.old.faults self.new.faults) }
     {
         if self.flush_fails {
             return Err(self.calls.fault());

@@ -1,9 +1,9 @@
 //! Readers and writers of the standard library as sources and sinks.
-ghost use Rattle.std.specs.Prelude.{◌≡◌, ◌<◌, ◌≤◌, [], length, take, IfOk, OnOk, OnErr};
+ghost use Rattle.std.specs.Prelude.{◌≡◌, ◌<◌, [], length, take, IfOk, OnOk, OnErr};
 ghost use Rattle.std.specs.Io.{ReadsAtMost, WritesAtMost};
 ghost use Rattle.std.specs.Io.Buffered.{writer_buffer, writer_contents};
 ghost use Rattle.std.specs.Io.KnownBytes.{Keeps, Appends, Consumes, IsAtEnd};
-ghost use Rattle.io_edges.specs.Faults.{next_count};
+ghost use Rattle.io_edges.specs.Faults.{Rose, next_count};
 ghost use Rattle.io_edges.specs.Standard.{source_reader, source_faults, sink_writer, sink_faults};
 
 use crate::{Failed, Sink, Source};
@@ -45,7 +45,7 @@ impl<I: Read + Drop> Source for StdSource<I> {
             n ≡ 0 → 0 < length buf.old → IsAtEnd (I.remaining (source_reader self.new))) }
         ensures not_taken { OnErr result
             (Keeps (I.remaining (source_reader self.old)) (I.remaining (source_reader self.new))) }
-        ensures never_falls { source_faults self.old ≤ source_faults self.new }
+        ensures cause { OnErr result (Rose (source_faults self.old) (source_faults self.new)) }
     {
         for _ in 0..u64::MAX {
             match self.reader.read(buf) {
@@ -88,7 +88,7 @@ impl<O: Write + Drop> Sink for StdSink<O> {
     // goes on after short puts would never end.
     fn put(&mut self, piece: &[u8]) -> Result<usize, Failed>
         // A fault is counted exactly where the call fails.
-        ensures same { OnOk result (sink_faults self.new ≡ sink_faults self.old) }
+        ensures not_counted { OnOk result (sink_faults self.new ≡ sink_faults self.old) }
         ensures counted { OnErr result (sink_faults self.new ≡ next_count (sink_faults self.old)) }
 
         // What each sink promises.
@@ -98,7 +98,7 @@ impl<O: Write + Drop> Sink for StdSink<O> {
             (writer_contents O.contents (sink_writer self.new)) (take n piece.now)) }
         ensures not_appended { OnErr result (Keeps (writer_contents O.contents (sink_writer self.old))
             (writer_contents O.contents (sink_writer self.new))) }
-        ensures never_falls { sink_faults self.old ≤ sink_faults self.new }
+        ensures cause { OnErr result (Rose (sink_faults self.old) (sink_faults self.new)) }
     {
         for _ in 0..u64::MAX {
             match self.writer.write(piece) {
@@ -114,14 +114,14 @@ impl<O: Write + Drop> Sink for StdSink<O> {
 
     // A flush that a signal interrupts is tried again, as a write is.
     fn flush(&mut self) -> Result<(), Failed>
-        ensures same { OnOk result (sink_faults self.new ≡ sink_faults self.old) }
+        ensures not_counted { OnOk result (sink_faults self.new ≡ sink_faults self.old) }
         ensures counted { OnErr result (sink_faults self.new ≡ next_count (sink_faults self.old)) }
 
         // What each sink promises.
         ensures handed_on { OnOk result (writer_buffer (sink_writer self.new) ≡ []) }
         ensures kept { Keeps (writer_contents O.contents (sink_writer self.old))
             (writer_contents O.contents (sink_writer self.new)) }
-        ensures never_falls { sink_faults self.old ≤ sink_faults self.new }
+        ensures cause { OnErr result (Rose (sink_faults self.old) (sink_faults self.new)) }
     {
         for _ in 0..u64::MAX {
             match self.writer.flush() {

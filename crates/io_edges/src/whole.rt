@@ -58,7 +58,6 @@ pub fn read_to_limit<S: Source>(
     ensures cause { IsErrOf result ReadError.Fault → Rose (S.faults source.old) (S.faults source.new) }
     ensures no_memory { IsErrOf result ReadError.NoMemory → S.faults source.new ≡ S.faults source.old }
     ensures not_counted { OnOk result (S.faults source.new ≡ S.faults source.old) }
-    ensures never_falls { S.faults source.old ≤ S.faults source.new }
 {
     let mut bytes = Vec::new(alloc);
     let mut piece = [0; PIECE];
@@ -83,7 +82,7 @@ pub fn put_all<K: Sink>(sink: &mut K, piece: &[u8]) -> Result<(), Failed>
     ensures whole { OnOk result (Appends (K.held sink.old) (K.held sink.new) piece.now) }
     ensures prefix { AppendsPrefix (K.held sink.old) (K.held sink.new) piece.now }
     ensures cause { OnErr result (Rose (K.faults sink.old) (K.faults sink.new)) }
-    ensures never_falls { K.faults sink.old ≤ K.faults sink.new }
+    ensures not_counted { OnOk result (K.faults sink.new ≡ K.faults sink.old) }
 {
     let mut rest = piece;
     while !rest.is_empty() {

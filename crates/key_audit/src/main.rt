@@ -47,7 +47,7 @@ fn tell<R: Eprint>(rt: &R, status: Status) {
         Status::WriteFault => eprintln!(rt; "key_audit: standard output could not be written"),
         Status::NoMemory => eprintln!(rt; "key_audit: there is not enough memory"),
         Status::Refused => eprintln!(rt;
-            "key_audit: the script has a fault, which standard output names"
+            "key_audit: the input is too long, or its script has a fault: standard output says which"
         ),
     };
 }

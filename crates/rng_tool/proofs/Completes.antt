@@ -28,9 +28,10 @@ not_judge_refused script text output short is refusal =
     (record { fault = refusal.fault; first = sym same ∙ refusal.first; line = refusal.line })
 
 -- the end of the output makes no fault of reading
-pub read_before : (status result : Status) → AtOutputEnd status result → result ≡ ReadFault → status ≡ ReadFault
-read_before status result ended is = elim ended [
-  | inl same ↦ sym same ∙ is
+pub read_before : (status result : Status) (m n : ℕ) → AtOutputEnd status result m n → result ≡ ReadFault
+    → status ≡ ReadFault
+read_before status result m n ended is = elim ended [
+  | inl same ↦ sym same.0 ∙ is
   | inr faulty ↦ (let never : WriteFault ≡ ReadFault = sym faulty.1 ∙ is in absurd cc)
 ]
 

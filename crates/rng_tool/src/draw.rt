@@ -99,7 +99,7 @@ pub(crate) fn run_draw<R: Wait, K: Sink>(rt: &R, alloc: Global, draw: Draw, sink
     ensures ends { DrawEnds draw.bound draw.count result (K.held sink.old) (K.held sink.new) }
     ensures cut { result ≡ Status.WriteFault → Rose (K.faults sink.old) (K.faults sink.new) }
     ensures silent { result ≡ Status.NoMemory → sink.new ≡ sink.old }
-    ensures never_falls { K.faults sink.old ≤ K.faults sink.new }
+    ensures not_counted { (result ≡ Status.WriteFault → ⊥) → K.faults sink.new ≡ K.faults sink.old }
 {
     let Ok(text) = lines_of(rt, alloc, draw) else {
         return Status::NoMemory;

@@ -1,5 +1,5 @@
 //! Feeders: their words, their run, and the line that sums it up.
-ghost use Rattle.std.specs.Prelude.{◌≡◌, ◌≤◌, ◌∷◌, [], ℕ, Some, IfOk, IfSome};
+ghost use Rattle.std.specs.Prelude.{◌≡◌, ◌∷◌, [], ℕ, Some, IfOk, IfSome};
 ghost use Rattle.io_edges.specs.Faults.{Rose};
 ghost use Rattle.irq_feed.specs.declared.table_feed.FeedSums.{FeedSums};
 ghost use Rattle.rng_tool.specs.FeedOutcome.{AskFeed, FeedEnds, FeedOf, IsFeed, IsSmallFeed, feed_line};
@@ -105,7 +105,7 @@ pub(crate) fn run_feed<R: Threads + Wait + Sync, K: Sink, G: Gate>(
     ensures ends { FeedEnds feed.start feed.feeders feed.samples result (K.held sink.old) (K.held sink.new) }
     ensures cut { result ≡ Status.WriteFault → Rose (K.faults sink.old) (K.faults sink.new) }
     ensures silent { result ≡ Status.NoMemory → sink.new ≡ sink.old }
-    ensures never_falls { K.faults sink.old ≤ K.faults sink.new }
+    ensures not_counted { (result ≡ Status.WriteFault → ⊥) → K.faults sink.new ≡ K.faults sink.old }
 {
     let Ok(line) = summary(rt, alloc, feed, gate) else {
         return Status::NoMemory;

@@ -1,5 +1,5 @@
 //! The commands `check` and `replay`: a script with a transcript behind it in, what is said of it out.
-ghost use Rattle.std.specs.Prelude.{◌≡◌, ◌⊎◌, ◌≤◌, IfSome, Some};
+ghost use Rattle.std.specs.Prelude.{◌≡◌, ◌⊎◌, IfSome, Some};
 ghost use Rattle.io_edges.specs.Faults.{Rose};
 ghost use Rattle.key_names.specs.Texts.ScriptGrammar.{WellFormed};
 ghost use Rattle.rng_tool.specs.JudgeOutcome.{IsJudge, JudgeEnds, SaidOf, word_of, yes_line};
@@ -64,7 +64,7 @@ fn say_checked<K: Sink>(alloc: Global, script: &Script, t: &Transcript, sink: &m
     ensures ends { WritesEnds (SaidOf Judge.Check script.now t.now) result (K.held sink.old) (K.held sink.new) }
     ensures cut { result ≡ Status.WriteFault → Rose (K.faults sink.old) (K.faults sink.new) }
     ensures silent { result ≡ Status.NoMemory → sink.new ≡ sink.old }
-    ensures never_falls { K.faults sink.old ≤ K.faults sink.new }
+    ensures not_counted { (result ≡ Status.WriteFault → ⊥) → K.faults sink.new ≡ K.faults sink.old }
 {
     match check(alloc, script, t) {
         Ok(Verdict::Yes) => put_line(Status::Done, &yes_line(), sink),
@@ -79,7 +79,7 @@ fn say_replayed<K: Sink>(alloc: Global, script: &Script, t: &Transcript, sink: &
     ensures ends { WritesEnds (SaidOf Judge.Replay script.now t.now) result (K.held sink.old) (K.held sink.new) }
     ensures cut { result ≡ Status.WriteFault → Rose (K.faults sink.old) (K.faults sink.new) }
     ensures silent { result ≡ Status.NoMemory → sink.new ≡ sink.old }
-    ensures never_falls { K.faults sink.old ≤ K.faults sink.new }
+    ensures not_counted { (result ≡ Status.WriteFault → ⊥) → K.faults sink.new ≡ K.faults sink.old }
 {
     match replay(alloc, script, t) {
         Ok(Replayed::Made(made)) => match write_all(sink, &made) {
@@ -103,7 +103,7 @@ fn say<K: Sink>(
     ensures ends { WritesEnds (SaidOf judge script.now t.now) result (K.held sink.old) (K.held sink.new) }
     ensures cut { result ≡ Status.WriteFault → Rose (K.faults sink.old) (K.faults sink.new) }
     ensures silent { result ≡ Status.NoMemory → sink.new ≡ sink.old }
-    ensures never_falls { K.faults sink.old ≤ K.faults sink.new }
+    ensures not_counted { (result ≡ Status.WriteFault → ⊥) → K.faults sink.new ≡ K.faults sink.old }
 {
     match judge {
         Judge::Check => say_checked(alloc, script, t, sink),
@@ -122,8 +122,9 @@ pub(crate) fn judge_input<S: Source, K: Sink>(
         (K.held sink.new) }
     ensures silent { (result ≡ Status.ReadFault) ⊎ (result ≡ Status.NoMemory) → sink.new ≡ sink.old }
     ensures read_fault { result ≡ Status.ReadFault → Rose (S.faults source.old) (S.faults source.new) }
+    ensures no_read_fault { (result ≡ Status.ReadFault → ⊥) → S.faults source.new ≡ S.faults source.old }
     ensures cut { result ≡ Status.WriteFault → Rose (K.faults sink.old) (K.faults sink.new) }
-    ensures never_falls { K.faults sink.old ≤ K.faults sink.new }
+    ensures not_counted { (result ≡ Status.WriteFault → ⊥) → K.faults sink.new ≡ K.faults sink.old }
 {
     match read_pair(alloc, source) {
         Ok((script, t)) => say(alloc, judge, &script, &t, sink),

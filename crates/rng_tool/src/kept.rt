@@ -113,7 +113,6 @@ impl<S: Source + Drop> Source for KeptSource<S> {
         ensures not_taken { OnErr result (Keeps (S.left (source_of self.old)) (S.left (source_of self.new))) }
         ensures not_counted { OnOk result (S.faults (source_of self.new) ≡ S.faults (source_of self.old)) }
         ensures cause { OnErr result (Rose (S.faults (source_of self.old)) (S.faults (source_of self.new))) }
-        ensures never_falls { S.faults (source_of self.old) ≤ S.faults (source_of self.new) }
     {
         let count = self.source.take(buf)?;
         self.remember(&buf[..count]);

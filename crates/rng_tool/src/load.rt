@@ -162,7 +162,7 @@ pub(crate) fn run_load<R: Threads + Wait + Sync, K: Sink, G: Gate>(
     ensures ends { LoadEnds load.start load.callers load.events result (K.held sink.old) (K.held sink.new) }
     ensures cut { result ≡ Status.WriteFault → Rose (K.faults sink.old) (K.faults sink.new) }
     ensures silent { result ≡ Status.NoMemory → sink.new ≡ sink.old }
-    ensures never_falls { K.faults sink.old ≤ K.faults sink.new }
+    ensures not_counted { (result ≡ Status.WriteFault → ⊥) → K.faults sink.new ≡ K.faults sink.old }
 {
     let Ok(line) = summary(rt, alloc, load, gate) else {
         return Status::NoMemory;

@@ -1,5 +1,5 @@
 //! The command `run`: a script in, a transcript out.
-ghost use Rattle.std.specs.Prelude.{◌≡◌, ◌⊎◌, ◌≤◌};
+ghost use Rattle.std.specs.Prelude.{◌≡◌, ◌⊎◌};
 ghost use Rattle.io_edges.specs.Faults.{Rose};
 ghost use Rattle.key_names.specs.Texts.ScriptGrammar.{WellFormed};
 ghost use Rattle.rng_tool.specs.Outcome.{CallsFor, RunEnds, RunOf};
@@ -30,7 +30,7 @@ fn run_script<R: Threads + Wait + Sync, K: Sink, G: Gate>(
     ensures ends { WritesEnds (OnlyDone (RunOf script.now)) result (K.held sink.old) (K.held sink.new) }
     ensures cut { result ≡ Status.WriteFault → Rose (K.faults sink.old) (K.faults sink.new) }
     ensures silent { result ≡ Status.NoMemory → sink.new ≡ sink.old }
-    ensures never_falls { K.faults sink.old ≤ K.faults sink.new }
+    ensures not_counted { (result ≡ Status.WriteFault → ⊥) → K.faults sink.new ≡ K.faults sink.old }
 {
     let Ok(transcript) = transcript_of(rt, alloc, script, gate) else {
         return Status::NoMemory;
@@ -52,7 +52,7 @@ fn answer<R: Threads + Wait + Sync, K: Sink, G: Gate>(
     ensures ends { WritesEnds (CallsFor input.items) result (K.held sink.old) (K.held sink.new) }
     ensures cut { result ≡ Status.WriteFault → Rose (K.faults sink.old) (K.faults sink.new) }
     ensures silent { result ≡ Status.NoMemory → sink.new ≡ sink.old }
-    ensures never_falls { K.faults sink.old ≤ K.faults sink.new }
+    ensures not_counted { (result ≡ Status.WriteFault → ⊥) → K.faults sink.new ≡ K.faults sink.old }
 {
     let found = read(alloc, &input);
     // A run needs the script and no more of its text, which may be long.
@@ -75,8 +75,9 @@ pub(crate) fn run_input<R: Threads + Wait + Sync, S: Source, K: Sink, G: Gate>(
     ensures ends { RunEnds result (S.left source.old) (S.left source.new) (K.held sink.old) (K.held sink.new) }
     ensures silent { (result ≡ Status.ReadFault) ⊎ (result ≡ Status.NoMemory) → sink.new ≡ sink.old }
     ensures read_fault { result ≡ Status.ReadFault → Rose (S.faults source.old) (S.faults source.new) }
+    ensures no_read_fault { (result ≡ Status.ReadFault → ⊥) → S.faults source.new ≡ S.faults source.old }
     ensures cut { result ≡ Status.WriteFault → Rose (K.faults sink.old) (K.faults sink.new) }
-    ensures never_falls { K.faults sink.old ≤ K.faults sink.new }
+    ensures not_counted { (result ≡ Status.WriteFault → ⊥) → K.faults sink.new ≡ K.faults sink.old }
 {
     let input = match read_to_limit(alloc, source, MOST_INPUT) {
         Ok(input) => input,

@@ -74,7 +74,9 @@ fn tell_refusal<R: Eprint>(rt: &R, alloc: Global, given: Given<'_>) {
             return tell_fault(rt, fault, input);
         }
     }
-    let _told = eprintln!(rt; "rng: the script has a fault, which standard output names");
+    let _told = eprintln!(rt;
+        "rng: the input is too long, or its script has a fault: standard output says which"
+    );
 }
 
 /// Writes one line to standard error where a command ended otherwise than by its answer: the usage, or what could not be

@@ -122,7 +122,7 @@ pub(crate) fn run_vfork<R: Wait, K: Sink>(
     ensures ends { VforkEnds vfork.point vfork.attempt vfork.len result (K.held sink.old) (K.held sink.new) }
     ensures cut { result ≡ Status.WriteFault → Rose (K.faults sink.old) (K.faults sink.new) }
     ensures silent { result ≡ Status.NoMemory → sink.new ≡ sink.old }
-    ensures never_falls { K.faults sink.old ≤ K.faults sink.new }
+    ensures not_counted { (result ≡ Status.WriteFault → ⊥) → K.faults sink.new ≡ K.faults sink.old }
 {
     let Ok(text) = lines_of(rt, alloc, vfork) else {
         return Status::NoMemory;

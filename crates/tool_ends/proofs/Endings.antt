@@ -1,12 +1,12 @@
 -- What the flush at the end of the output makes of a command's end.
-use Rattle.std.proofs.Common.{ℕ, ◌≡◌, ◌≤◌, ◌⊎◌, List, Option, None, Some, ◌++◌, ap, sym, subst, ◌∙◌, inl, inr}
+use Rattle.std.proofs.Common.{ℕ, ◌≡◌, List, Option, None, Some, ◌++◌, ap, sym, subst, ◌∙◌, inl, inr}
 use Rattle.std.specs.Prelude.{IfSome}
 use Rattle.std.specs.Io.KnownBytes.{Appends, Consumes, IsAtEnd, Keeps}
 use Rattle.std.proofs.KnownBytes.{Keeps-trans}
 use Rattle.std.proofs.lemmas.List.{append-nil}
 use Rattle.io_edges.specs.Faults.{Rose}
 use Rattle.io_edges.specs.Pieces.{AppendsPrefix}
-use Rattle.io_edges.proofs.Pieces.{AppendsPrefix-of_whole, rose_after, rose_before}
+use Rattle.io_edges.proofs.Pieces.{AppendsPrefix-of_whole}
 use Rattle.tool_ends.specs.Ends.{AtOutputEnd, EndsWith, IsAnswered}
 use Rattle.tool_ends.specs.Reads.{ReadsEnds, SomeAnswer, WasAnswered}
 use Rattle.tool_ends.specs.declared.status.Status.{Status}
@@ -25,13 +25,22 @@ prefix_kept a b c xs p k = (p.0, p.1, appends_kept a b c _ p.2 k)
 whole_cut : (a b c : Option (List ℕ)) (xs : List ℕ) → Appends a b xs → Keeps b c → AppendsPrefix a c xs
 whole_cut a b c xs h k = prefix_kept a b c xs (AppendsPrefix-of_whole a b xs h) k
 
--- the sink failed in the command, or at the end of its output
-pub rose_at_end : (status : Status) (a b c : ℕ) → (status ≡ WriteFault → Rose a b) → a ≤ b
-    → (status ≡ WriteFault) ⊎ Rose b c → b ≤ c → Rose a c
-rose_at_end status a b c in_command up fault end = elim fault [
-  | inl is ↦ rose_after a b c (in_command is) end
-  | inr rose ↦ rose_before a b c up rose
-]
+-- counts of a sink's faults: before a command, behind it, and behind the end of its output
+module _ (status result : Status) (a b c : ℕ) (ended : AtOutputEnd status result b c)
+    (same : (status ≡ WriteFault → ⊥) → b ≡ a) where
+  -- the sink failed in the command, or at the end of its output
+  pub rose_at_end : (status ≡ WriteFault → Rose a b) → result ≡ WriteFault → Rose a c
+  rose_at_end rose fault = elim ended [
+    | inl stays ↦ subst (Rose a) (sym stays.1) (rose (sym stays.0 ∙ fault))
+    | inr cut ↦ subst (λ n. Rose n c) (same (λ is. subst IsAnswered is cut.0)) cut.2
+  ]
+
+  -- it failed in neither
+  pub same_at_end : (result ≡ WriteFault → ⊥) → c ≡ a
+  same_at_end unfailed = elim ended [
+    | inl stays ↦ stays.1 ∙ same (λ is. unfailed (stays.0 ∙ is))
+    | inr cut ↦ absurd (unfailed cut.1)
+  ]
 
 module _ (Of : List ℕ → Type 0) (a b c : Option (List ℕ)) (k : Keeps b c) where
   stays : (status : Status) → EndsWith Of status a b → EndsWith Of status a c
@@ -53,9 +62,10 @@ module _ (Of : List ℕ → Type 0) (a b c : Option (List ℕ)) (k : Keeps b c) 
   cut Refused is e = absurd e
 
   -- a command that reads nothing
-  pub ends_after : (status result : Status) → AtOutputEnd status result → EndsWith Of status a b → EndsWith Of result a c
-  ends_after status result ended e = elim ended [
-    | inl same ↦ subst (λ s. EndsWith Of s a c) (sym same) (stays status e)
+  pub ends_after : (status result : Status) (m n : ℕ) → AtOutputEnd status result m n → EndsWith Of status a b
+      → EndsWith Of result a c
+  ends_after status result m n ended e = elim ended [
+    | inl same ↦ subst (λ s. EndsWith Of s a c) (sym same.0) (stays status e)
     | inr faulty ↦ subst (λ s. EndsWith Of s a c) (sym faulty.1) (cut status faulty.0 e)
   ]
 
@@ -138,9 +148,9 @@ module _ (Of : List ℕ → Status → List ℕ → Type 0) (left left_after a b
   read_cut NoMemory is e = absurd is
 
   -- a command that reads its input
-  pub reads_end_after : (status result : Status) → AtOutputEnd status result → ReadsEnds Of status left left_after a b
-      → ReadsEnds Of result left left_after a c
-  reads_end_after status result ended e = elim ended [
-    | inl same ↦ subst (λ s. ReadsEnds Of s left left_after a c) (sym same) (read_stays status e)
+  pub reads_end_after : (status result : Status) (m n : ℕ) → AtOutputEnd status result m n
+      → ReadsEnds Of status left left_after a b → ReadsEnds Of result left left_after a c
+  reads_end_after status result m n ended e = elim ended [
+    | inl same ↦ subst (λ s. ReadsEnds Of s left left_after a c) (sym same.0) (read_stays status e)
     | inr faulty ↦ subst (λ s. ReadsEnds Of s left left_after a c) (sym faulty.1) (read_cut status faulty.0 e)
   ]

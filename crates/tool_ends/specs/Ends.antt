@@ -1,6 +1,7 @@
 -- How a program ends, and what the sink holds behind a command that reads nothing.
 use Rattle.std.specs.Prelude.{ℕ, ◌≡◌, ◌⊎◌, ⊤, List, Option}
 use Rattle.std.specs.Io.KnownBytes.{Appends, Keeps}
+use Rattle.io_edges.specs.Faults.{Rose}
 use Rattle.io_edges.specs.Pieces.{AppendsPrefix}
 use Rattle.tool_ends.specs.declared.status.Status.{Status}
 use Rattle.tool_ends.specs.declared.status.Status.TheVariants.{Done, No, Usage, ReadFault, WriteFault, Refused, NoMemory}
@@ -35,6 +36,9 @@ IsAnswered ReadFault = ⊥
 IsAnswered WriteFault = ⊥
 IsAnswered NoMemory = ⊥
 
--- the status stays, or what an answer left in the sink could not be handed on
-abbrev pub AtOutputEnd : Status → Status → Type 0
-AtOutputEnd status result = (result ≡ status) ⊎ (IsAnswered status × (result ≡ WriteFault))
+-- the status and the sink's count of faults stay; or what an answer left in the sink could not be handed on, and the
+-- sink counted that
+abbrev pub AtOutputEnd : Status → Status → ℕ → ℕ → Type 0
+AtOutputEnd status result faults faults_after =
+    ((result ≡ status) × (faults_after ≡ faults))
+    ⊎ (IsAnswered status × (result ≡ WriteFault) × Rose faults faults_after)

@@ -1,5 +1,5 @@
 //! Answers, with the status that they say.
-ghost use Rattle.std.specs.Prelude.{◌≡◌, ◌≤◌, ◌⊎◌};
+ghost use Rattle.std.specs.Prelude.{◌≡◌, ◌⊎◌};
 ghost use Rattle.io_edges.specs.Faults.{Rose};
 ghost use Rattle.tool_ends.specs.Ends.{IsAnswered};
 ghost use Rattle.tool_ends.specs.Pairs.{RefusalEnds};
@@ -17,8 +17,7 @@ pub fn put_answer<K: Sink>(status: Status, text: &[u8], sink: &mut K) -> Status
         (K.held sink.old) (K.held sink.new) }
     ensures answered { (result ≡ status) ⊎ (result ≡ Status.WriteFault) }
     ensures cut { result ≡ Status.WriteFault → Rose (K.faults sink.old) (K.faults sink.new) }
-    ensures silent { result ≡ Status.NoMemory → sink.new ≡ sink.old }
-    ensures never_falls { K.faults sink.old ≤ K.faults sink.new }
+    ensures not_counted { (result ≡ Status.WriteFault → ⊥) → K.faults sink.new ≡ K.faults sink.old }
 {
     match put_all(sink, text) {
         Ok(()) => status,
@@ -33,8 +32,7 @@ pub fn put_line<K: Sink>(status: Status, line: &ShortLine, sink: &mut K) -> Stat
         (K.held sink.old) (K.held sink.new) }
     ensures answered { (result ≡ status) ⊎ (result ≡ Status.WriteFault) }
     ensures cut { result ≡ Status.WriteFault → Rose (K.faults sink.old) (K.faults sink.new) }
-    ensures silent { result ≡ Status.NoMemory → sink.new ≡ sink.old }
-    ensures never_falls { K.faults sink.old ≤ K.faults sink.new }
+    ensures not_counted { (result ≡ Status.WriteFault → ⊥) → K.faults sink.new ≡ K.faults sink.old }
 {
     put_answer(status, line.as_str().as_bytes(), sink)
 }
@@ -46,7 +44,7 @@ pub fn put_refusal<K: Sink>(why: NoPair, sink: &mut K) -> Status
     ensures unread { result ≡ Status.ReadFault → why ≡ NoPair.ReadFault }
     ensures cut { result ≡ Status.WriteFault → Rose (K.faults sink.old) (K.faults sink.new) }
     ensures silent { (result ≡ Status.ReadFault) ⊎ (result ≡ Status.NoMemory) → sink.new ≡ sink.old }
-    ensures never_falls { K.faults sink.old ≤ K.faults sink.new }
+    ensures not_counted { (result ≡ Status.WriteFault → ⊥) → K.faults sink.new ≡ K.faults sink.old }
 {
     match why {
         NoPair::ReadFault => Status::ReadFault,

@@ -1,7 +1,6 @@
 //! The end of the output.
-ghost use Rattle.std.specs.Prelude.{◌≡◌, ◌⊎◌, ◌≤◌, []};
+ghost use Rattle.std.specs.Prelude.{◌≡◌, []};
 ghost use Rattle.std.specs.Io.KnownBytes.{Keeps};
-ghost use Rattle.io_edges.specs.Faults.{Rose};
 ghost use Rattle.tool_ends.specs.Ends.{AtOutputEnd, IsAnswered};
 
 use crate::status::Status;
@@ -9,13 +8,10 @@ use io_edges::{Failed, Sink};
 
 /// Ends the output of a command with this status: an answer that was put is handed on, or the sink has failed.
 pub fn end_output<K: Sink>(status: Status, sink: &mut K) -> Status
-    ensures ended { AtOutputEnd status result }
+    ensures ended { AtOutputEnd status result (K.faults sink.old) (K.faults sink.new) }
     ensures handed_on { IsAnswered result → K.kept_back sink.new ≡ [] }
     ensures kept { Keeps (K.held sink.old) (K.held sink.new) }
     ensures untouched { (IsAnswered status → ⊥) → sink.new ≡ sink.old }
-    ensures cut { result ≡ Status.WriteFault
-        → (status ≡ Status.WriteFault) ⊎ Rose (K.faults sink.old) (K.faults sink.new) }
-    ensures never_falls { K.faults sink.old ≤ K.faults sink.new }
 {
     match status {
         Status::Done | Status::No | Status::Refused => match sink.flush() {

@@ -22,7 +22,7 @@ fn put_piece<K: Sink>(sink: &mut K, piece: &mut Piece) -> Result<(), Failed>
     ensures emptied { OnOk result (piece.new ≡ []) }
     ensures prefix { AppendsPrefix (K.held sink.old) (K.held sink.new) piece.old }
     ensures cause { OnErr result (Rose (K.faults sink.old) (K.faults sink.new)) }
-    ensures never_falls { K.faults sink.old ≤ K.faults sink.new }
+    ensures not_counted { OnOk result (K.faults sink.new ≡ K.faults sink.old) }
 {
     put_all(sink, piece.text())?;
     piece.clear();
@@ -37,7 +37,7 @@ fn make_room<K: Sink>(sink: &mut K, piece: &mut Piece, room: usize) -> Result<()
     ensures room { OnOk result (length piece.new + room ≤ 4096) }
     ensures part { OnErr result (AppendsPrefix (K.held sink.old) (K.held sink.new) piece.old) }
     ensures cause { OnErr result (Rose (K.faults sink.old) (K.faults sink.new)) }
-    ensures never_falls { K.faults sink.old ≤ K.faults sink.new }
+    ensures not_counted { OnOk result (K.faults sink.new ≡ K.faults sink.old) }
 {
     if piece.room() < room {
         return put_piece(sink, piece);
@@ -52,7 +52,7 @@ fn put_hex<K: Sink>(sink: &mut K, piece: &mut Piece, bytes: &[u8]) -> Result<(),
     ensures part { OnErr result (AppendsPrefix (K.held sink.old) (K.held sink.new)
         (piece.old ++ encode_lower bytes.now)) }
     ensures cause { OnErr result (Rose (K.faults sink.old) (K.faults sink.new)) }
-    ensures never_falls { K.faults sink.old ≤ K.faults sink.new }
+    ensures not_counted { OnOk result (K.faults sink.new ≡ K.faults sink.old) }
 {
     let mut rest = bytes;
     while !rest.is_empty() {
@@ -74,7 +74,7 @@ fn put_shown<K: Sink>(sink: &mut K, piece: &mut Piece, shown: Shown<'_>) -> Resu
     ensures part { OnErr result (AppendsPrefix (K.held sink.old) (K.held sink.new)
         (piece.old ++ shown_text (seen_shown shown.entry))) }
     ensures cause { OnErr result (Rose (K.faults sink.old) (K.faults sink.new)) }
-    ensures never_falls { K.faults sink.old ≤ K.faults sink.new }
+    ensures not_counted { OnOk result (K.faults sink.new ≡ K.faults sink.old) }
 {
     match shown {
         Shown::Count(number) => {
@@ -95,7 +95,7 @@ fn end_line<K: Sink>(sink: &mut K, piece: &mut Piece) -> Result<(), Failed>
     ensures emptied { OnOk result (piece.new ≡ []) }
     ensures prefix { AppendsPrefix (K.held sink.old) (K.held sink.new) (piece.old ++ codes "\n") }
     ensures cause { OnErr result (Rose (K.faults sink.old) (K.faults sink.new)) }
-    ensures never_falls { K.faults sink.old ≤ K.faults sink.new }
+    ensures not_counted { OnOk result (K.faults sink.new ≡ K.faults sink.old) }
 {
     make_room(sink, piece, 1)?;
     piece.push(b'\n');
@@ -111,7 +111,7 @@ fn put_data<K: Sink>(sink: &mut K, piece: &mut Piece, shown: Shown<'_>) -> Resul
     ensures prefix { AppendsPrefix (K.held sink.old) (K.held sink.new)
         ((piece.old ++ shown_text (seen_shown shown.entry)) ++ codes "\n") }
     ensures cause { OnErr result (Rose (K.faults sink.old) (K.faults sink.new)) }
-    ensures never_falls { K.faults sink.old ≤ K.faults sink.new }
+    ensures not_counted { OnOk result (K.faults sink.new ≡ K.faults sink.old) }
 {
     put_shown(sink, piece, shown)?;
     end_line(sink, piece)
@@ -124,7 +124,7 @@ fn put_lines<K: Sink>(sink: &mut K, piece: &mut Piece, lines: &CallerLines) -> R
     ensures emptied { OnOk result (piece.new ≡ []) }
     ensures prefix { AppendsPrefix (K.held sink.old) (K.held sink.new) (text_of lines.now.lines) }
     ensures cause { OnErr result (Rose (K.faults sink.old) (K.faults sink.new)) }
-    ensures never_falls { K.faults sink.old ≤ K.faults sink.new }
+    ensures not_counted { OnOk result (K.faults sink.new ≡ K.faults sink.old) }
 {
     for number in 0..lines.len() {
         append_head(piece, lines.line(number));
@@ -144,7 +144,7 @@ pub fn write_all<K: Sink>(sink: &mut K, transcript: &Transcript) -> Result<(), F
     ensures whole { OnOk result (Appends (K.held sink.old) (K.held sink.new) (transcript_text transcript.now)) }
     ensures prefix { AppendsPrefix (K.held sink.old) (K.held sink.new) (transcript_text transcript.now) }
     ensures cause { OnErr result (Rose (K.faults sink.old) (K.faults sink.new)) }
-    ensures never_falls { K.faults sink.old ≤ K.faults sink.new }
+    ensures not_counted { OnOk result (K.faults sink.new ≡ K.faults sink.old) }
 {
     let mut piece = Piece::empty();
     put_all(sink, b"rngtranscript 1\n")?;

@@ -21,5 +21,5 @@ loop-rest-preserved g c =
           (Appends-next _ _ _ text rest at n before.put before.rest c.in_ok-count.ensures.appended);
       rest = back ∙ ap (drop n) before.rest ∙ drop-drop n at text ∙ ap (λ (k : ℕ). drop k text) place;
       within = omega (arith, len, before.within);
-      counted = omega (arith, before.counted, c.in_ok-count.ensures.never_falls);
+      counted = c.in_ok-count.ensures.not_counted ∙ before.counted;
     }

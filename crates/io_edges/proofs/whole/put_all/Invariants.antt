@@ -7,7 +7,7 @@ invariant-loop-rest g l = record {
   put : Appends (g.K.Sink.held l.fn.sink) (g.K.Sink.held l.sink) (take (length l.piece - length l.rest) l.piece);
   rest : l.rest ≡ drop (length l.piece - length l.rest) l.piece;
   within : length l.rest ≤ length l.piece;
-  counted : g.K.Sink.faults l.fn.sink ≤ g.K.Sink.faults l.sink;
+  counted : g.K.Sink.faults l.sink ≡ g.K.Sink.faults l.fn.sink;
 }
 
 abbrev pub decreases-loop-rest : goal.decreases-loop-rest

@@ -1,4 +1,4 @@
-use Rattle.std.proofs.Common.{◌≡◌, List, ℕ, ◌++◌, [], ap, subst, sym, ◌∙◌, append-nil, arith}
+use Rattle.std.proofs.Common.{◌≡◌, List, ℕ, ◌++◌, [], ap, subst, sym, ◌∙◌, append-nil}
 use Rattle.std.proofs.lemmas.Bool.{eqb-true}
 use Rattle.std.proofs.lemmas.List.{nil_from_length}
 use Rattle.hex.specs.Hex.{encode_lower}
@@ -25,7 +25,7 @@ loop-rest-preserved g c =
       so_far = subst (PutSoFar (held c.args.sink.now) (held c.make_room.new.sink) whole)
           (next_hex c.make_room.new.piece c.append_hex.new.self c.loop-rest.rest.now c.split_at.result.0.now
           c.split_at.result.1.now _ c.append_hex.ensures c.split_at.ensures.front c.split_at.ensures.back) room;
-      counted = omega (arith, c.loop-rest.invariant.counted, c.in_ok-make_room.ensures.never_falls);
+      counted = c.in_ok-make_room.ensures.not_counted ∙ c.loop-rest.invariant.counted;
     }
 
 pub returns-clause-so_far : goal.returns-clause-so_far

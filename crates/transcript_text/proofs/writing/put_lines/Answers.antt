@@ -1,4 +1,4 @@
-use Rattle.std.proofs.Common.{◌+◌, [], drop, subst, arith}
+use Rattle.std.proofs.Common.{◌∙◌, ◌+◌, [], drop, subst}
 use Rattle.std.specs.Io.KnownBytes.{Appends}
 use Rattle.io_edges.specs.Pieces.{AppendsPrefix}
 use Rattle.transcript_text.specs.Lines.{whole_line, text_of}
@@ -36,7 +36,7 @@ loop-number-preserved g c =
           (subst (Appends (held c.loop-number.sink) (held c.put_data.new.sink)) whole
           c.in_ok-put_data.ensures.whole));
       empty = c.in_ok-put_data.ensures.emptied;
-      counted = omega (arith, c.loop-number.invariant.counted, c.in_ok-put_data.ensures.never_falls);
+      counted = c.in_ok-put_data.ensures.not_counted ∙ c.loop-number.invariant.counted;
     }
 
 pub returns-clause-prefix : goal.returns-clause-prefix

@@ -1,4 +1,4 @@
-use Rattle.std.proofs.Common.{◌+◌, [], List, get_or, subst, sym, arith}
+use Rattle.std.proofs.Common.{◌∙◌, ◌+◌, [], List, get_or, subst, sym, arith}
 use Rattle.std.specs.Prelude.{codes}
 use Rattle.std.specs.Io.KnownBytes.{Appends}
 use Rattle.key_names.specs.SeenLine.{SeenLine}
@@ -23,7 +23,7 @@ loop-number-init g c = record {
   so_far = puts_head (g.K.Sink.held c.args.sink.now) (g.K.Sink.held c.put_all.new.sink) c.args.transcript.now
       c.in_ok-put_all.ensures.whole;
   empty = c.empty-piece.ensures;
-  counted = c.put_all.ensures.never_falls;
+  counted = c.in_ok-put_all.ensures.not_counted;
 }
 
 pub returns-in_err-put_lines-clause-prefix : goal.returns-in_err-put_lines-clause-prefix
@@ -52,7 +52,7 @@ loop-number-preserved g c =
           (subst (λ (lines : List SeenLine). Appends (held c.loop-number.sink) (held c.put_lines.new.sink)
           (text_of lines)) c.caller.ensures c.in_ok-put_lines.ensures.whole));
       empty = c.in_ok-put_lines.ensures.emptied;
-      counted = omega (arith, c.loop-number.invariant.counted, c.put_lines.ensures.never_falls);
+      counted = c.in_ok-put_lines.ensures.not_counted ∙ c.loop-number.invariant.counted;
     }
 
 pub returns-clause-whole : goal.returns-clause-whole
