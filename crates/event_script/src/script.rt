@@ -99,7 +99,7 @@ impl Script {
 ///
 /// # Errors
 ///
-/// The text's first fault, where it is no script.
+/// `Fault` with the text's first fault, where it is no script. `NoMemory` where there is no memory for the script.
 pub fn read(alloc: Global, text: &[u8]) -> Result<Script, ScriptError>
     // What is read is spelt so.
     ensures found { IfOk result (λ script. IsScript script text.now) }
@@ -126,7 +126,8 @@ pub fn read(alloc: Global, text: &[u8]) -> Result<Script, ScriptError>
 ///
 /// # Errors
 ///
-/// The first fault of the bytes that the script would have.
+/// `Fault` with the first fault of the bytes that the script would have, where they are no script. `NoMemory` where
+/// there is no memory for the script.
 pub fn read_front(alloc: Global, text: &[u8]) -> Result<(Script, u64), ScriptError>
     ensures found { IfOk result (λ both. IsScript both.0 (front text.now)) }
     ensures place { IfOk result (λ both. take both.1 text.now ≡ front text.now) }

@@ -7,7 +7,7 @@ use key_names::ScriptFault;
 use std::alloc::{AllocError, AllocFailed};
 
 /// Why a script could not be read.
-#[derive(Debug, Drop)]
+#[derive(Clone, Copy, Debug, PartialEq, Eq)]
 pub enum ScriptError {
     /// The text's first fault.
     Fault(ScriptFault),
