@@ -1,6 +1,7 @@
 //! `key_audit`: which keys a lawful transcript's run made, who held each, and what became of its bytes.
 //!
-//! [`audit`] carries the contract: for every input it says command by command what status and output mean. [`book`] has
+//! [`audit`] carries the contract: it says of every command when each status comes, and of `keys` and the first part of
+//! `live` what the output means. What `line` writes, and what `live` says can be computed, is only tested. [`book`] has
 //! what it stands on, the book of a transcript. `main` adds the standard streams, the line on standard error and the exit
 //! code, which are tested.
 #![tactic(auto)]
