@@ -1,3 +1,4 @@
 mod Stopping
+pub mod Needing
 mod Forking
 mod Sharing

@@ -111,9 +111,9 @@ impl VCall {
     /// does not come to is run past, and the call is then over. Where the call stood at a point before, what happens
     /// there is left to the caller: the host's `at` is not called for it.
     ///
-    /// Needs a buffer of the call's length, and a host that has the looks and the system calls left that may still come,
-    /// 5 and 3 where the call is new, and publishes no generation below the one that the call read last. Where the call
-    /// stands at the point, the host has enough left to go on with it or to end it.
+    /// Needs a buffer of the call's length, and a host that publishes no generation below the one that the call read
+    /// last, and has looks and system calls left for all that may come: 5 and 3 for a new call, and no more for one that
+    /// stands at a point. Where the call then stands at the point, the host has enough of both left to end it.
     pub fn run_to<H: VHost>(
         &mut self,
         host: &mut H,
