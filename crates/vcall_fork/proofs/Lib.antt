@@ -1,4 +1,3 @@
 mod Stopping
-pub mod Needing
 mod Forking
 mod Sharing
