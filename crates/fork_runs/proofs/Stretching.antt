@@ -1,5 +1,5 @@
 -- What a host over the lanes did in a stretch of a call, in the words of the caller.
-use Rattle.std.proofs.Common.{◌≡◌, ℕ, ◌<◌, ◌≤◌, Bool, true, false, List, [], ◌∷◌, length, refl, sym, ap, ◌∙◌, subst}
+use Rattle.std.proofs.Common.{◌≡◌, ℕ, ◌<◌, Bool, true, false, List, [], ◌∷◌, length, refl, sym, ap, ◌∙◌, subst}
 use Rattle.std.specs.Prelude.{◌&&◌, Result}
 use Rattle.key_names.specs.declared.errno.Errno.{Errno}
 use Rattle.key_names.specs.declared.point.Point.{Point}
@@ -15,7 +15,6 @@ use Rattle.vdso_state.specs.Call.{EndsAs}
 use Rattle.vdso_state.specs.Host.{DoesAll}
 use Rattle.vdso_state.specs.Places.{Ends}
 use Rattle.vcall_fork.specs.declared.stage.Stage.{Stage}
-use Rattle.vcall_fork.specs.Stages.{published_or}
 use Rattle.vcall_fork.specs.Stops.{RestOfCall, Stopped}
 use Rattle.lane_table.specs.declared.lanes.Lanes.{Lanes}
 use Rattle.rng_core.specs.declared.setting.Setting.{Setting}
@@ -79,17 +78,17 @@ module _ {R : Type 0} (h last : LaneHost R) (idle : length h.acts.now ≡ 0) (tw
   abbrev floor_of : LaneHost R → ℕ
   floor_of k = published_by (floor (view k.site.pass.now))
 
-  pub stopped_over : (turn : Turn) (point : Point) (begun : ℕ) (left : Stage) (t : VgetrandomState) (out : List ℕ) →
-      Stopped hosting floor_of (RestOfCall stage n flags held s) n flags turn point begun left h last t out →
-      1 ≤ published_or 1 left →
+  pub stopped_over : (turn : Turn) (point : Point) (begun : ℕ) (left : Stage) (looks calls : ℕ) (t : VgetrandomState)
+      (out : List ℕ) →
+      Stopped hosting floor_of (RestOfCall stage n flags held s) n flags turn point begun left looks calls h last t out →
       StoppedOver h.site.set n flags stage held s turn point left out t (moment h.site.pass.now h.site.trace.now)
       (moment last.site.pass.now last.site.trace.now)
-  stopped_over turn point begun left t out k ready = record {
+  stopped_over turn point begun left looks calls t out k = record {
     stop = record {
       place = k.place;
       turn_is = k.turn_is;
       point_is = k.point_is;
-      ready = subst (λ (x : Stage). 1 ≤ published_or 1 x) k.stage_is ready;
+      ready = k.may.ready;
       held = out;
       state = t;
       before = k.leads.steps;
@@ -100,7 +99,7 @@ module _ {R : Type 0} (h last : LaneHost R) (idle : length h.acts.now ≡ 0) (tw
     stage_is = k.stage_is;
     held_is = refl;
     state_is = refl;
-    known = k.known;
+    known = k.may.known;
     did = did_own h last k.leads.steps k.leads.does idle two;
   }
 

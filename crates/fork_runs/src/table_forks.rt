@@ -162,7 +162,8 @@ fn fork_once<R: Wait>(
     parent: &mut [u8],
     child: &mut [u8],
 ) -> Result<bool, AllocError>
-    requires length { length parent.old ≤ 2 ^ 20 }
+    requires some { 1 ≤ length parent.old }
+    requires short { length parent.old ≤ 2 ^ 20 }
     requires child_length { length child.old ≡ length parent.old }
     ensures { IfOk result (λ gave. gave ≡ true
         → AreForkedBytes stop.attempt stop.point (length parent.old) parent.new child.new) }
@@ -197,7 +198,8 @@ fn fork_until<R: Wait>(
     parent: &mut [u8],
     child: &mut [u8],
 ) -> Result<(), AllocError>
-    requires length { length parent.old ≤ 2 ^ 20 }
+    requires some { 1 ≤ length parent.old }
+    requires short { length parent.old ≤ 2 ^ 20 }
     requires child_length { length child.old ≡ length parent.old }
     ensures { IfOk result (λ done. AreForkedBytes stop.attempt stop.point (length parent.old) parent.new child.new) }
 {
@@ -228,7 +230,8 @@ pub fn fork_on_new_table<R: Wait>(
     point: Point,
     len: u32,
 ) -> Result<ForkedBytes, AllocError>
-    requires { len ≤ 2 ^ 20 }
+    requires some { 1 ≤ len }
+    requires short { len ≤ 2 ^ 20 }
     ensures ends { IfOk result (λ forked.
         AreForkedBytes attempt point len forked.parent.items forked.child.items) }
     ensures long { IfOk result (λ forked.

@@ -149,15 +149,16 @@ module _ (turn : Turn) (point : Point) where
       -- the way to the first place, and from there
       pub stops : (place : Place) (last : H) (u : VgetrandomState) (buf_then : List ℕ) (stage : Stage) →
           stage ≡ StandsAt place →
-          CameAt host floor (AtPlace n flags at buf s) n flags turn point (turns_before at.turn at.point) place mid last
-          u buf_then →
-          Stopped host floor From n flags turn point begun stage h last u buf_then
-      stops place last u buf_then stage is k = record {
+          (looks calls : ℕ) →
+          CameAt host floor (AtPlace n flags at buf s) n flags turn point (turns_before at.turn at.point) place looks
+          calls mid last u buf_then →
+          Stopped host floor From n flags turn point begun stage looks calls h last u buf_then
+      stops place last u buf_then stage is looks calls k = record {
         place = place;
         stage_is = is;
         turn_is = (wanted_is turn place.turn point place.point k.wanted).0;
         point_is = (wanted_is turn place.turn point place.point k.wanted).1;
-        known = k.known;
+        may = k.may;
         leads = then_leads host floor From (AtPlace n flags at buf s) h mid came.0 (AtPlace n flags place buf_then u)
             last k.leads;
         misses = record {

@@ -1,6 +1,6 @@
 -- How far a call of vgetrandom is that can be stopped.
 use Rattle.std.specs.Prelude.{ℕ, ◌+◌, ◌*◌, ◌^◌, Bool, true, false}
-use Rattle.vdso_state.specs.Turns.{copies_by, turn_number}
+use Rattle.vdso_state.specs.Turns.{looks_for, calls_for, copies_by, turn_number}
 use Rattle.vcall_fork.specs.declared.stage.Stage.{Stage}
 use Rattle.vcall_fork.specs.declared.stage.Stage.TheVariants.{New, At, Over}
 
@@ -19,6 +19,17 @@ abbrev pub published_or : ℕ → Stage → ℕ
 published_or other New = other
 published_or other (At place) = place.published
 published_or other Over = other
+
+-- how many looks at the generation what is left of the call may need, and how many system calls
+abbrev pub looks_needed : Stage → ℕ
+looks_needed New = 5
+looks_needed (At place) = looks_for place.turn
+looks_needed Over = 0
+
+abbrev pub calls_needed : Stage → ℕ
+calls_needed New = 3
+calls_needed (At place) = calls_for place.turn place.point
+calls_needed Over = 0
 
 -- the next block, and a bound on it
 abbrev pub block_of : Stage → ℕ

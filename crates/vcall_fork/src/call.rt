@@ -5,7 +5,7 @@ ghost use Rattle.key_names.specs.VgetrandomState.{wiped_state};
 ghost use Rattle.vdso_state.specs.Host.{doings};
 ghost use Rattle.vdso_state.specs.Turns.{turn_number, turns_before};
 ghost use Rattle.vdso_state.specs.Places.{Ends, CameTo, MayGoOn, MayFinish, AtPlace};
-ghost use Rattle.vcall_fork.specs.Stages.{is_open, is_stopped, published_or, block_of, block_limit, turns_begun};
+ghost use Rattle.vcall_fork.specs.Stages.{is_open, is_stopped, published_or, looks_needed, calls_needed, block_of, block_limit, turns_begun};
 ghost use Rattle.vcall_fork.specs.declared.stage.Stage.TheVariants.{New, Over};
 ghost use Rattle.vcall_fork.specs.declared.stage.Progress.TheVariants.{Ended};
 ghost use Rattle.vcall_fork.specs.Stops.{RestOfCall, is_wanted, CameBy, RanTo};
@@ -49,7 +49,7 @@ fn until<H: VHost>(
     requires short { length buf.old ≤ 2 ^ 20 }
     ensures { CameBy (doings H.publishes H.answers H.passes) H.floor (AtPlace (length buf.old) flags place buf.old st.old)
         (length buf.old) flags attempt point (turns_before place.turn place.point)
-        result host.old host.new st.new buf.new }
+        result (H.looks_left host.new) (H.calls_left host.new) host.old host.new st.new buf.new }
 {
     let mut at = place;
     'points: while !is_at(at, attempt, point) {
@@ -81,8 +81,8 @@ impl VCall {
     fn go_on<H: VHost>(&self, host: &mut H, st: &mut VState, buf: &mut [u8]) -> Came
         requires open { is_open self.now.stage ≡ true }
         requires length { length buf.old ≡ self.now.len }
-        requires looks { 5 ≤ H.looks_left host.old }
-        requires calls { 3 ≤ H.calls_left host.old }
+        requires looks { looks_needed self.now.stage ≤ H.looks_left host.old }
+        requires calls { calls_needed self.now.stage ≤ H.calls_left host.old }
         requires known { published_or 0 self.now.stage ≤ H.floor host.old }
         ensures came { CameTo (doings H.publishes H.answers H.passes) H.floor
             (RestOfCall self.now.stage self.now.len self.now.flags buf.old st.old)
@@ -111,8 +111,9 @@ impl VCall {
     /// does not come to is run past, and the call is then over. Where the call stood at a point before, what happens
     /// there is left to the caller: the host's `at` is not called for it.
     ///
-    /// Needs a buffer of the call's length, 5 looks and 3 system calls of the host, and that the host publishes no
-    /// generation below the one that the call read last.
+    /// Needs a buffer of the call's length, and a host that publishes no generation below the one that the call read
+    /// last, and has looks and system calls left for all that may come: 5 and 3 for a new call, and no more for one that
+    /// stands at a point. Where the call then stands at the point, the host has enough of both left to end it.
     pub fn run_to<H: VHost>(
         &mut self,
         host: &mut H,
@@ -123,15 +124,15 @@ impl VCall {
     ) -> Progress
         requires open { is_open self.old.stage ≡ true }
         requires length { length buf.old ≡ self.old.len }
-        requires looks { 5 ≤ H.looks_left host.old }
-        requires calls { 3 ≤ H.calls_left host.old }
+        requires looks { looks_needed self.old.stage ≤ H.looks_left host.old }
+        requires calls { calls_needed self.old.stage ≤ H.calls_left host.old }
         requires known { published_or 0 self.old.stage ≤ H.floor host.old }
         ensures len { self.new.len ≡ self.old.len }
         ensures flags { self.new.flags ≡ self.old.flags }
         ensures ran { RanTo (doings H.publishes H.answers H.passes) H.floor
             (RestOfCall self.old.stage self.old.len self.old.flags buf.old st.old)
             self.old.len self.old.flags attempt point (turns_begun self.old.stage) self.new.stage result
-            host.old host.new st.new buf.new }
+            (H.looks_left host.new) (H.calls_left host.new) host.old host.new st.new buf.new }
     {
         match self.go_on(host, st, buf) {
             Came::Ended(result) => self.end(result),
@@ -175,8 +176,8 @@ impl VCall {
     ) -> Result<VEnd, Errno>
         requires open { is_open self.stage ≡ true }
         requires length { length buf.old ≡ self.len }
-        requires looks { 5 ≤ H.looks_left host.old }
-        requires calls { 3 ≤ H.calls_left host.old }
+        requires looks { looks_needed self.stage ≤ H.looks_left host.old }
+        requires calls { calls_needed self.stage ≤ H.calls_left host.old }
         requires known { published_or 0 self.stage ≤ H.floor host.old }
         ensures { Ends (doings H.publishes H.answers H.passes) H.floor
             (RestOfCall self.stage self.len self.flags buf.old st.old)

@@ -65,7 +65,5 @@ returns g c =
       leads = l.invariant.walked.leads;
       misses = record { behind = turns_before l.at.turn l.at.point; passes = l.invariant.walked.passes };
       wanted = sym c.points-test.ensures;
-      ready = l.invariant.may.ready;
-      known = l.invariant.may.known;
-      near = l.invariant.may.near;
+      may = l.invariant.may;
     }

@@ -15,8 +15,9 @@ returns-in-Ended-clause-ran g c =
     let call = c.args.self.now in
     let From = RestOfCall call.stage call.len call.flags c.args.buf.now c.args.st.now in
     subst (λ (progress : Progress). RanTo host g.H.VHost.floor From call.len call.flags c.args.attempt c.args.point
-    (turns_begun call.stage) c.end.new.self.stage progress c.args.host.now c.go_on.new.host c.go_on.new.st
-    c.go_on.new.buf) (sym c.end.ensures.progress)
+    (turns_begun call.stage) c.end.new.self.stage progress (g.H.VHost.looks_left c.go_on.new.host)
+    (g.H.VHost.calls_left c.go_on.new.host) c.args.host.now c.go_on.new.host c.go_on.new.st c.go_on.new.buf)
+    (sym c.end.ensures.progress)
     (ends_at_once c.args.attempt c.args.point host g.H.VHost.floor From call.len call.flags (turns_begun call.stage)
     c.in-Ended.result c.args.host.now c.go_on.new.host c.go_on.new.st c.go_on.new.buf c.end.new.self.stage
     c.end.ensures.stage c.in-Ended.ensures.came)
@@ -30,8 +31,9 @@ returns-in-Ended-until-clause-ran g c =
     let buf = c.go_on.new.buf in
     let same : length buf ≡ call.len = omega (arith, c.go_on.auto.buf) in
     subst (λ (progress : Progress). RanTo host g.H.VHost.floor From call.len call.flags c.args.attempt c.args.point
-    (turns_begun call.stage) c.end-in-Ended-until.new.self.stage progress c.args.host.now c.until.new.host
-    c.until.new.st c.until.new.buf) (sym c.end-in-Ended-until.ensures.progress)
+    (turns_begun call.stage) c.end-in-Ended-until.new.self.stage progress (g.H.VHost.looks_left c.until.new.host)
+    (g.H.VHost.calls_left c.until.new.host) c.args.host.now c.until.new.host c.until.new.st c.until.new.buf)
+    (sym c.end-in-Ended-until.ensures.progress)
     (ends_before c.args.attempt c.args.point host g.H.VHost.floor From call.len call.flags (turns_begun call.stage)
     place c.args.host.now c.go_on.new.host c.go_on.new.st buf c.in-At.ensures.came c.in-At.ensures.may.turns_are
     c.in-Ended-until.result c.until.new.host c.until.new.st c.until.new.buf c.end-in-Ended-until.new.self.stage
@@ -51,6 +53,8 @@ returns-in-At-until-clause-ran g c =
     stops c.args.attempt c.args.point host g.H.VHost.floor From call.len call.flags (turns_begun call.stage) place
     c.args.host.now c.go_on.new.host c.go_on.new.st buf c.in-At.ensures.came c.in-At.ensures.may.turns_are
     c.in-At-until.stop c.until.new.host c.until.new.st c.until.new.buf (At c.in-At-until.stop) refl
+    (g.H.VHost.looks_left c.until.new.host) (g.H.VHost.calls_left c.until.new.host)
     (subst (λ (k : ℕ). CameAt host g.H.VHost.floor (AtPlace k call.flags place buf c.go_on.new.st) k call.flags
-    c.args.attempt c.args.point (turns_before place.turn place.point) c.in-At-until.stop c.go_on.new.host
+    c.args.attempt c.args.point (turns_before place.turn place.point) c.in-At-until.stop
+    (g.H.VHost.looks_left c.until.new.host) (g.H.VHost.calls_left c.until.new.host) c.go_on.new.host
     c.until.new.host c.until.new.st c.until.new.buf) same c.in-At-until.ensures)
