@@ -1,13 +1,12 @@
 -- For callers: a CPU's generator goes on along its list entry by entry.
-use Rattle.std.proofs.Common.{◌≡◌, ℕ, true, false, Option, Some, None, List, [], ◌∷◌, ◌++◌, refl, ap, sym, ◌∙◌}
-use Rattle.std.proofs.lemmas.List.Sums.{fold-append}
+use Rattle.std.proofs.Common.{◌≡◌, ℕ, true, false, Option, Some, None, List, refl, ap}
 use Rattle.key_names.specs.declared.entries.CpuEntry.{CpuEntry}
 use Rattle.key_names.specs.declared.entries.CpuEntry.TheVariants.{Read, Int, Irq, Dump, Prepare, Online}
 use Rattle.key_names.specs.BaseList.{generation_at}
-use Rattle.key_names.specs.CpuList.{CpuState, base_refill_of, cpu_step, cpu_start, cpu_after, generation_or}
-use Rattle.key_names.specs.KeyInUse.{zero_key, base_call_value, call_value_or, cpu_value_step, cpu_value_after}
+use Rattle.key_names.specs.CpuList.{CpuState, base_refill_of, cpu_step, generation_or}
+use Rattle.key_names.specs.KeyInUse.{base_call_value, call_value_or, cpu_value_step}
 use Rattle.key_names.specs.Book.{Lists}
-use Rattle.cpu_gen.specs.CpuValue.{CpuValue, erased, refilled, after_entry, cpu_at, after_entries}
+use Rattle.cpu_gen.specs.CpuValue.{CpuValue, erased, refilled, after_entry, cpu_at}
 
 -- what the base hands over at a place
 abbrev pub handed_at : Lists → ℕ → CpuValue
@@ -40,13 +39,3 @@ after_entry-cpu_at lists c s value (Irq v1 v2 now) handed is = refl
 after_entry-cpu_at lists c s value (Dump now) handed is = refl
 after_entry-cpu_at lists c s value Prepare handed is = refl
 after_entry-cpu_at lists c s value Online handed is = refl
-
--- one more entry at the end
-pub after_entry-after_entries : (lists : Lists) (c : ℕ) (es : List CpuEntry) (e : CpuEntry) (handed : CpuValue) →
-    HandsRefill lists e handed → after_entry e handed (after_entries lists c es) ≡ after_entries lists c (es ++ e ∷ [])
-after_entry-after_entries lists c es e handed is =
-    after_entry-cpu_at lists c (cpu_after lists.base c es) (cpu_value_after lists es) e handed is
-    ∙ ap (λ (s : CpuState). cpu_at s (cpu_value_step lists (cpu_value_after lists es) e))
-    (sym (fold-append (cpu_step lists.base c) cpu_start es (e ∷ [])))
-    ∙ ap (cpu_at (cpu_after lists.base c (es ++ e ∷ [])))
-    (sym (fold-append (cpu_value_step lists) zero_key es (e ∷ [])))

@@ -24,13 +24,13 @@ use Rattle.lane_table.specs.BookLaws.{Continues}
 use Rattle.lane_table.specs.BookLists.{book_lists, book_of}
 use Rattle.lane_table.specs.Calls.{Ended}
 use Rattle.lane_table.specs.Meaning.{replay}
-use Rattle.lane_table.specs.Steps.{Grows, halved, merged, with_list, told}
+use Rattle.lane_table.specs.Steps.{Grows, halved, merged, told}
 use Rattle.lane_table.specs.Steps as steps
 use Rattle.lane_table.specs.Advances.{floor}
 use Rattle.lane_table.specs.WorldRule.{AllBegin, Begins, at, blank, known_of}
 use Rattle.lane_table.proofs.Book.BookEnds.{continues_before, ended_lanes, ended_lawful}
 use Rattle.lane_table.proofs.Rule.Shares.{merged_at, length_merged}
-use Rattle.lane_table.proofs.Lists.VisitLists.{begins_refl, begins_nil}
+use Rattle.lane_table.proofs.Lists.VisitLists.{begins_refl, with_both}
 use Rattle.vdso_state.specs.declared.place.Place.{Place}
 use Rattle.vdso_state.specs.declared.place.Turn.{Turn}
 use Rattle.vdso_state.specs.declared.place.Turn.TheVariants.{First, Second}
@@ -54,11 +54,6 @@ use Rattle.fork_runs.proofs.Courses.{course_did, course_calls}
 use Rattle.fork_runs.proofs.TwoStops.{parents_call, childs_call}
 
 -- Joined passes
-
-with_both : (xs : List Visit) (lists : List (List Visit)) (log : List Visit) → AllBegin (with_list xs lists) log →
-    Begins xs log × AllBegin lists log
-with_both [] lists log all = (begins_nil log, all)
-with_both (x ∷ xs) lists log all = all
 
 -- two halves of the whole share
 whole_again : (a b c d : ℕ) → a ≡ 1 → b ≡ 1 → c ≡ 1 → d ≡ 1 →

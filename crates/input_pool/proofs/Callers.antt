@@ -1,6 +1,6 @@
 -- For callers: which entry of the list a mix and a credit make, one after the other.
 use Rattle.std.proofs.Common.{◌≡◌, ◌≢◌, ℕ, ◌<◌, ◌≤◌, List, ◌++◌, arith, append_assoc, refl, ◌∙◌, w32, w64}
-use Rattle.std.proofs.lemmas.Bool.{lt-ltb, le-ltb, ne_eqb, eq-eqb}
+use Rattle.std.proofs.lemmas.Bool.{lt-ltb, le-ltb, ne_eqb}
 use Rattle.std.specs.Int.{to_le_bytes}
 use Rattle.key_names.specs.declared.entries.PoolEntry.TheVariants.{Mix, Input}
 use Rattle.key_names.specs.InputTimer.{input_number, input_timer_after, timer_bits}

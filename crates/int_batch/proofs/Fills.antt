@@ -1,11 +1,10 @@
 -- For callers: a batch that is filled from a key and served entry by entry is what the CPU's list says of it.
-use Rattle.std.proofs.Common.{◌≡◌, ℕ, suc, ◌+◌, ◌-◌, ◌*◌, ◌/◌, ◌<◌, ◌≤◌, Bool, true, false, Option, Some, None, List, ◌++◌, refl, ap, sym, ◌∙◌, arith, length, take, drop, replicate, length-append, length-drop, drop-drop, eq-eqb}
-use Rattle.std.specs.Prelude.{◌==◌, not, ◌||◌, slice_range, if◌then◌else◌}
+use Rattle.std.proofs.Common.{◌≡◌, ℕ, suc, ◌+◌, ◌-◌, ◌*◌, ◌/◌, ◌<◌, ◌≤◌, Bool, None, List, ◌++◌, refl, ap, sym, ◌∙◌, arith, length, take, drop, replicate, length-append, length-drop, drop-drop}
+use Rattle.std.specs.Prelude.{◌==◌, not, ◌||◌, slice_range}
 use Rattle.std.proofs.lemmas.Bool.{le-leb}
 use Rattle.std.proofs.lemmas.List.{drop_at, length-take-le, length-replicate}
-use Rattle.key_names.specs.declared.entries.CpuEntry.TheVariants.{Int, Prepare}
 use Rattle.key_names.specs.Keystream.{keystream}
-use Rattle.key_names.specs.Batches.{Fill, must_fill, batched_int, batch_step, with_zeros}
+use Rattle.key_names.specs.Batches.{Fill, must_fill, batched_int, with_zeros}
 use Rattle.key_names.proofs.Standards.Keystreams.{length-keystream, slice_range-keystream}
 use Rattle.int_batch.specs.BatchValue.{BatchValue, start, wants, filled, next_bytes, after_serving, IsBatchOf}
 

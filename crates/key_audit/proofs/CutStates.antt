@@ -1,6 +1,6 @@
 -- The calls that were over by a stamp are the first of each caller, and what they left are the entries of a book behind
 -- it. Answers and data have no part in which these are.
-use Rattle.std.proofs.Common.{◌≡◌, ℕ, zero, suc, ◌+◌, ◌<◌, ◌≤◌, List, [], ◌∷◌, ◌++◌, length, map, inl, inr, refl, sym, subst, ap, ◌∙◌, arith}
+use Rattle.std.proofs.Common.{◌≡◌, ℕ, zero, suc, ◌+◌, ◌<◌, List, [], ◌∷◌, ◌++◌, length, map, inl, inr, refl, sym, subst, ap, ◌∙◌, arith}
 use Rattle.std.specs.Prelude.{if◌then◌else◌, nat_le, take}
 use Rattle.std.proofs.lemmas.List.{append_cancel_right, length-map}
 use Rattle.key_names.specs.declared.names.Step.{Step}
@@ -16,6 +16,7 @@ use Rattle.key_names.specs.Texts.ScriptGrammar.{Script}
 use Rattle.key_names.proofs.History.CallerOrders.{order_is_start_and_own}
 use Rattle.key_names.proofs.Transcripts.TranscriptBooks.{lt_or_le}
 use Rattle.key_names.proofs.Unique.BareLines.{bare_all, bare_call, bare_steps, bare_calls_steps, bare_orders}
+use Rattle.key_names.proofs.Lists.ListFacts.{list_beyond}
 use Rattle.key_uses.specs.Moments.{first_calls}
 use Rattle.key_uses.proofs.Moments.{calls_front, lines_front}
 use Rattle.state_entries.specs.Callers.{lists_left}
@@ -77,11 +78,6 @@ bare_at [] c = refl
 bare_at (cs ∷ callers) zero = refl
 bare_at (cs ∷ callers) (suc c) = bare_at callers c
 
-beyond : (callers : List (List Call)) (c : ℕ) → length callers ≤ c → list_at callers c ≡ []
-beyond [] c le = refl
-beyond (cs ∷ callers) zero le = absurd (omega arith)
-beyond (cs ∷ callers) (suc c) le = beyond callers c (omega arith)
-
 starts_alike : (callers : List (List Call)) (c : ℕ) → c < length callers →
     start_of (map (map bare_call) callers) c ≡ start_of callers c
 starts_alike callers c lt =
@@ -101,8 +97,8 @@ start_alike stamp callers c = elim (lt_or_le c (length callers)) [
   | inl lt ↦ ap (λ (steps : List Step). made_by stamp (latest_of 0 steps) (list_at callers c))
       (starts_alike callers c lt)
   | inr le ↦ ap (λ (cs : List Call). made_by stamp (start_stamp (map (map bare_call) callers) c) cs)
-      (beyond callers c le)
-      ∙ sym (ap (λ (cs : List Call). made_by stamp (start_stamp callers c) cs) (beyond callers c le))
+      (list_beyond callers c le)
+      ∙ sym (ap (λ (cs : List Call). made_by stamp (start_stamp callers c) cs) (list_beyond callers c le))
 ]
 
 over_alike : (stamp : ℕ) (callers : List (List Call)) (c : ℕ) →

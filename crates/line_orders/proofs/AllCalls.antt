@@ -6,11 +6,12 @@ use Rattle.std.proofs.lemmas.List.{map-append, at_drop_all, append-nil}
 use Rattle.key_names.specs.declared.events.Event.{Event}
 use Rattle.key_names.specs.SeenLine.{SeenLine}
 use Rattle.key_names.specs.Calls.{Call, calls_of, all_calls}
+use Rattle.key_names.proofs.Lists.ListFacts.{found_dropped}
 use Rattle.line_orders.specs.declared.bare.BareLine.{BareLine}
 use Rattle.line_orders.specs.declared.called.Called.{Called}
 use Rattle.line_orders.specs.Seen.{seen_bare, seen_callers}
 use Rattle.line_orders.specs.Called.{seen_call, seen_calls}
-use Rattle.line_orders.proofs.Fronts.{dropped, found_dropped}
+use Rattle.line_orders.proofs.Fronts.{dropped}
 
 pub calls_next : (c : ℕ) (ess : List (List Event)) (lines : List (Vec BareLine)) (calls : List (Vec Called))
     (es : List Event) (ls : Vec BareLine) (made : Vec Called) (whole : List (List Call)) → slice_get ess c ≡ Some es →

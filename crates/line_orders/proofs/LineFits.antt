@@ -8,16 +8,10 @@ use Rattle.key_names.specs.declared.events.Word.TheVariants.{End as EndWord}
 use Rattle.key_names.specs.Texts.ScriptGrammar.{event_word}
 use Rattle.key_names.specs.SeenLine.{SeenLine}
 use Rattle.key_names.specs.IsTranscript.{LineIs, LinesFit, EachCaller}
+use Rattle.key_names.proofs.Lists.ListFacts.{found_dropped}
 use Rattle.line_orders.specs.declared.bare.BareLine.{BareLine}
 use Rattle.line_orders.specs.Seen.{seen_bare, seen_callers}
-use Rattle.line_orders.proofs.Fronts.{dropped, found_dropped}
-
-pub fits_long : (c n : ℕ) (es : List Event) (ls : List SeenLine) → LinesFit c n es ls → length ls ≡ length es + 1
-fits_long c n [] [] fit = absurd fit
-fits_long c n [] (l ∷ []) fit = refl
-fits_long c n [] (l ∷ k ∷ ls) fit = absurd fit
-fits_long c n (e ∷ es) [] fit = absurd fit
-fits_long c n (e ∷ es) (l ∷ ls) fit = let rest : length ls ≡ length es + 1 = fits_long c (suc n) es ls fit.1 in omega arith
+use Rattle.line_orders.proofs.Fronts.{dropped}
 
 module _ (c n : ℕ) (es : List Event) (ls : List BareLine) where
   -- one line more is looked at

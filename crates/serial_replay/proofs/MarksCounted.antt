@@ -9,6 +9,7 @@ use Rattle.key_names.specs.declared.names.LaneId.TheVariants.{Pool as PoolLane, 
 use Rattle.key_names.specs.Book.{list_at}
 use Rattle.key_names.specs.IsTranscript.{MarkBy, is_same_lane, lane_marks}
 use Rattle.key_names.proofs.History.SortedVisits.{one_if}
+use Rattle.key_names.proofs.Lists.ListFacts.{list_beyond}
 
 -- how many marks are of CPUs from c on, n CPUs
 abbrev on_cpus : ℕ → ℕ → List MarkBy → ℕ
@@ -140,11 +141,6 @@ below_all n (by ∷ marks) none = (here by.mark.lane refl, below_all n marks lat
             let one : one_if (is_same_lane by.mark.lane (CpuLane c)) ≡ 1 =
             ap (λ l. one_if (is_same_lane l (CpuLane c))) is ∙ ap one_if self in absurd (omega arith)
 
-beyond : {X : Type 0} (xss : List (List X)) (c : ℕ) → length xss ≤ c → list_at xss c ≡ []
-beyond [] c high = refl
-beyond (xs ∷ xss) zero high = absurd (omega arith)
-beyond (xs ∷ xss) (suc c) high = beyond xss c (omega arith)
-
 lengths : {X : Type 0} (c : ℕ) (xss : List (List X)) (marks : List MarkBy) →
     ((d : ℕ) → length (lane_marks (CpuLane (c + d)) marks) ≡ length (list_at xss d)) →
     on_cpus c (length xss) marks ≡ sum_by (λ xs. length xs) xss
@@ -164,7 +160,7 @@ pub marks_counted : {X : Type 0} (xss : List (List X)) (marks : List MarkBy) →
     ≡ length (lane_marks PoolLane marks) + length (lane_marks BaseLane marks) + sum_by (λ xs. length xs) xss
 marks_counted {X = X} xss marks each =
     let there : AllByRecursion (λ by. IsThere (length xss) by.mark.lane) marks =
-    below_all (length xss) marks (λ c high. each c ∙ ap length (beyond xss c high)) in
+    below_all (length xss) marks (λ c high. each c ∙ ap length (list_beyond xss c high)) in
     let all = all_counted (length xss) marks there in
     let sums : on_cpus 0 (length xss) marks ≡ sum_by (λ (ys : List X). length ys) xss = lengths 0 xss marks
     (λ d. ap (λ n. length (lane_marks (CpuLane n) marks)) (omega arith) ∙ each d) in

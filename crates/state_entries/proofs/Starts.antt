@@ -11,6 +11,7 @@ use Rattle.key_names.specs.Calls.{Call, Parent, parent_from}
 use Rattle.key_names.specs.History.{ancestors_steps, inherited_steps, calls_steps, through_visit}
 use Rattle.key_names.specs.CallerOrders.{start_of}
 use Rattle.key_names.proofs.History.CallerOrders.{start_is_a_front, long_ancestors}
+use Rattle.key_names.proofs.Lists.ListFacts.{list_beyond}
 use Rattle.line_orders.specs.declared.order.Fork.{Fork}
 use Rattle.line_orders.specs.Orders.{all_forks, front_in}
 use Rattle.line_orders.proofs.Carried.{get_front, get_last}
@@ -40,11 +41,6 @@ start_from starts callers None = 0
 start_from starts callers (Some fork) =
     latest_of (starts fork.parent) (take fork.steps (calls_steps (list_at callers fork.parent)))
 
-list_past : {X : Type 0} (xss : List (List X)) (n : ℕ) → length xss ≤ n → list_at xss n ≡ []
-list_past [] n past = refl
-list_past (xs ∷ xss) zero past = absurd (omega arith)
-list_past (xs ∷ xss) (suc n) past = list_past xss n (omega arith)
-
 module _ (starts : ℕ → ℕ) (callers : List (List Call)) (c : ℕ)
     (known : (p : ℕ) → p < c → starts p ≡ start_stamp callers p) (unknown : (p : ℕ) → c ≤ p → starts p ≡ 0) where
   behind_parent : (parent : Parent) → parent_from c 0 callers ≡ Some parent →
@@ -57,7 +53,7 @@ module _ (starts : ℕ → ℕ) (callers : List (List Call)) (c : ℕ)
     | inr high ↦ ap (λ o. latest_of 0 (inherited_steps (ancestors_steps callers c) o)) is
         ∙ ap (λ (s : List Step).
         latest_of 0 (s ++ calls_steps parent.fork.before ++ through_visit parent.fork.line.steps))
-        (list_past (ancestors_steps callers c) p (omega (arith, long_ancestors callers c)))
+        (list_beyond (ancestors_steps callers c) p (omega (arith, long_ancestors callers c)))
         ∙ ap (λ s. latest_of s (steps_before parent.fork)) (sym (unknown p high))
   ]
     where
@@ -88,7 +84,7 @@ pub none_past : (owns : List (Vec Step)) (callers : List (List Call)) (p n : ℕ
     take n (calls_steps (list_at callers p)) ≡ []
 none_past owns callers p n are past =
     let long = owns_long owns callers are in
-    ap (λ calls. take n (calls_steps calls)) (list_past callers p (omega arith)) ∙ take-nil n
+    ap (λ calls. take n (calls_steps calls)) (list_beyond callers p (omega arith)) ∙ take-nil n
 
 -- ---- one caller after another
 

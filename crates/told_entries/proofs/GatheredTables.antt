@@ -13,6 +13,7 @@ use Rattle.key_names.specs.Calls.{Setting as CallSetting}
 use Rattle.key_names.specs.Texts.ScriptGrammar.{Script, WellFormed}
 use Rattle.key_names.specs.SeenLine.{SeenLine}
 use Rattle.key_names.specs.IsTranscript.{MarkBy, all_marks, stamped, stamped_at}
+use Rattle.key_names.proofs.Lists.ListFacts.{list_beyond}
 use Rattle.line_orders.specs.declared.begin.Parts.{Parts}
 use Rattle.line_orders.specs.declared.marks.MarkOf.{MarkOf}
 use Rattle.line_orders.specs.Begun.{PartsStand}
@@ -24,7 +25,6 @@ use Rattle.told_entries.specs.Gathered.{IsBookOf, IsGathered}
 use Rattle.told_entries.specs.Spots.{callers_spots, Changes, HasRows, IsAbsent}
 use Rattle.told_entries.proofs.FilledLanes.{lines_and_lanes}
 use Rattle.told_entries.proofs.Gathers.{has_rows, rows_stand}
-use Rattle.told_entries.proofs.OneRow.{list_beyond}
 use Rattle.told_entries.proofs.SampledLines.{all_sampled}
 use Rattle.told_entries.proofs.Samples.{all_samples}
 use Rattle.told_entries.proofs.TableRanges.{tables_in_range}

@@ -1,14 +1,15 @@
 -- A row put at the place of a mark, in the table of its lane.
-use Rattle.std.proofs.Common.{◌≡◌, ◌≢◌, ℕ, zero, suc, ◌<◌, ◌≤◌, Bool, true, false, List, [], ◌∷◌, length, Some, refl, sym, subst, ap, ◌∙◌, arith}
+use Rattle.std.proofs.Common.{◌≡◌, ◌≢◌, ℕ, ◌<◌, ◌≤◌, Bool, true, false, List, [], ◌∷◌, length, Some, refl, sym, subst, ap, ◌∙◌, arith}
 use Rattle.std.specs.Prelude.{slice_get, ◌==◌, ◌&&◌}
 use Rattle.std.proofs.lemmas.Bool.{and_parts, eq-eqb, eqb-true}
 use Rattle.key_names.specs.declared.names.LaneId.{LaneId}
 use Rattle.key_names.specs.declared.names.LaneId.TheVariants.{Pool as PoolLane, Base as BaseLane, Cpu as CpuLane}
 use Rattle.key_names.specs.declared.names.Mark.{Mark}
-use Rattle.key_names.specs.declared.names.Step.TheVariants.{Look, Visit as Marked}
+use Rattle.key_names.specs.declared.names.Step.TheVariants.{Visit as Marked}
 use Rattle.key_names.specs.Book.{list_at}
 use Rattle.key_names.specs.IsTranscript.{is_same_lane}
 use Rattle.key_names.proofs.Transcripts.LaneCounts.{lane_itself, same_lane}
+use Rattle.key_names.proofs.Lists.ListFacts.{list_beyond}
 use Rattle.line_forms.specs.Told.{pool_told, base_told}
 use Rattle.list_replay.specs.declared.told.ToldPool.{ToldPool}
 use Rattle.list_replay.specs.declared.told.ToldCpu.{ToldCpu}
@@ -113,11 +114,6 @@ module _ (spot : Spot) (mark : Mark) (old new : Tables) (is : spot.step ≡ Mark
       others PoolLane place ne = ap (λ xs. slice_get xs place) pool
       others BaseLane place ne = ap (λ xs. slice_get xs place) base
       others (CpuLane c) place ne = row c place (c == cpu) refl ne
-
-pub list_beyond : {A : Type 0} (xss : List (List A)) (c : ℕ) → length xss ≤ c → list_at xss c ≡ []
-list_beyond [] c le = refl
-list_beyond (xs ∷ xss) zero le = absurd (omega arith)
-list_beyond (xs ∷ xss) (suc c) le = list_beyond xss c (omega arith)
 
 -- a mark of a lane that is not there changes nothing
 pub absent_put : (spot : Spot) (mark : Mark) (a : Tables) (cpu : ℕ) → spot.step ≡ Marked mark → mark.lane ≡ CpuLane cpu →

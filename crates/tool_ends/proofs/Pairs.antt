@@ -8,10 +8,11 @@ use Rattle.std.proofs.lemmas.List.Sums.{sum_by-cons}
 use Rattle.key_names.specs.declared.events.Event.{Event}
 use Rattle.key_names.specs.declared.faults.FaultKind.TheVariants.{TooLong}
 use Rattle.key_names.specs.declared.faults.ScriptFault.{ScriptFault}
-use Rattle.key_names.specs.IsTranscript.{EachCaller, HasLines, LinesFit}
+use Rattle.key_names.specs.IsTranscript.{HasLines}
 use Rattle.key_names.specs.Texts.ScriptFaults.{front}
 use Rattle.key_names.specs.Texts.ScriptGrammar.{Script, IsScript, WellFormed}
 use Rattle.key_names.specs.SeenLine.{SeenLine}
+use Rattle.key_names.proofs.Samples.Lines.{AllFit, fits_long}
 use Rattle.transcript_text.specs.ReadTexts.{HasMoreLines}
 use Rattle.tool_ends.specs.Pairs.{IsNoPair, IsNoText, LacksLines, RefusalOf, TellsFault, behind, no_line, pair_fault, refusal_line}
 use Rattle.tool_ends.specs.declared.pair.NoPair.{NoPair}
@@ -19,20 +20,8 @@ use Rattle.tool_ends.specs.declared.pair.NoPair.TheVariants.{ReadFault, Refused,
 use Rattle.tool_ends.specs.declared.status.Status.{Status}
 use Rattle.tool_ends.specs.declared.status.Status.TheVariants.{Refused as IsRefused, No as IsNo}
 
--- a caller has a line for each event, and its last one
-line_count : (c n : ℕ) (events : List Event) (lines : List SeenLine) → LinesFit c n events lines
-    → length lines ≡ length events + 1
-line_count c n [] [] fit = absurd fit
-line_count c n [] (line ∷ []) fit = refl
-line_count c n [] (line ∷ next ∷ lines) fit = absurd fit
-line_count c n (event ∷ events) [] fit = absurd fit
-line_count c n (event ∷ events) (line ∷ lines) fit = omega (arith, line_count c (suc n) events lines fit.1)
-
-abbrev pub Fit : ℕ → List (List Event) → List (List SeenLine) → Type 0
-Fit c callers t = EachCaller (λ k events lines. LinesFit k 0 events lines) c callers t
-
 -- there are as many lines as events, and one more for each caller
-lines_of_all : (c : ℕ) (callers : List (List Event)) (t : List (List SeenLine)) → Fit c callers t
+lines_of_all : (c : ℕ) (callers : List (List Event)) (t : List (List SeenLine)) → AllFit c callers t
     → sum_by length t ≡ sum_by length callers + length callers
 lines_of_all c [] [] fit = refl
 lines_of_all c [] (lines ∷ t) fit = absurd fit
@@ -41,7 +30,7 @@ lines_of_all c (events ∷ callers) (lines ∷ t) fit = omega (
   arith,
   sum_by-cons length lines t,
   sum_by-cons length events callers,
-  line_count c 0 events lines fit.0,
+  fits_long c 0 events lines fit.0,
   lines_of_all (suc c) callers t fit.1,
 )
 

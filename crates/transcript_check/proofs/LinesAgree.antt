@@ -3,7 +3,7 @@ use Rattle.std.proofs.Common.{◌≡◌, ℕ, ◌+◌, Some, List, ◌∷◌, dr
 use Rattle.std.specs.Prelude.{◌↔◌, slice_get}
 use Rattle.std.specs.List.{AllByRecursion}
 use Rattle.key_names.specs.SeenLine.{SeenLine}
-use Rattle.line_orders.proofs.Fronts.{found_dropped}
+use Rattle.key_names.proofs.Lists.ListFacts.{found_dropped}
 use Rattle.transcript_check.specs.declared.compare.Same.{Same}
 
 -- one more agrees

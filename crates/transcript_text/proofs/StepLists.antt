@@ -1,6 +1,6 @@
 -- Steps written one after the other.
-use Rattle.std.proofs.Common.{◌≡◌, ℕ, zero, suc, ◌+◌, List, [], ◌∷◌, ◌++◌, length, drop, Some, refl, ap, sym, ◌∙◌, append_assoc, append-nil, add-one, arith}
-use Rattle.std.specs.Prelude.{codes, slice_get}
+use Rattle.std.proofs.Common.{◌≡◌, ℕ, ◌+◌, List, [], ◌∷◌, ◌++◌, length, drop, ap, sym, ◌∙◌, append_assoc, append-nil, arith}
+use Rattle.std.specs.Prelude.{codes}
 use Rattle.std.specs.List.{flat_map}
 use Rattle.key_names.specs.declared.names.Step.{Step}
 use Rattle.key_names.specs.Texts.TranscriptGrammar.{step_text, steps_text}
@@ -17,13 +17,6 @@ steps_text-cons step (next ∷ steps) = rw (steps_text-cons next steps)
     (append_assoc (step_text step) (codes ",") (step_text next ++ flat_map next_text steps)
     ∙ ap (λ (x : List ℕ). step_text step ++ x) (sym (append_assoc (codes ",") (step_text next)
     (flat_map next_text steps))))
-
--- the element at a place, and those behind it
-pub drop_from_get : {A : Type 0} (xs : List A) (i : ℕ) (x : A) → slice_get xs i ≡ Some x
-    → drop i xs ≡ x ∷ drop (i + 1) xs
-drop_from_get [] i x e = absurd cc
-drop_from_get (y ∷ xs) zero x e = let p : y ≡ x = cc in ap (λ z. z ∷ xs) p
-drop_from_get (y ∷ xs) (suc i) x e = rw add-one (drop_from_get xs i x e ∙ rw add-one refl)
 
 pub no_steps : (old new : List ℕ) (steps : List Step) → length steps ≡ 0 → new ≡ old ++ codes "-"
     → new ≡ old ++ steps_text steps

@@ -8,12 +8,12 @@ use Rattle.std.proofs.lemmas.List.Concat.{flat_map-append}
 use Rattle.key_names.specs.SeenLine.{SeenLine}
 use Rattle.key_names.specs.Texts.Spelling.{lined}
 use Rattle.key_names.specs.Texts.TranscriptGrammar.{shown_text, line_text, all_lines, transcript_text}
+use Rattle.key_names.proofs.Lists.ListFacts.{found_dropped}
 use Rattle.transcript_text.specs.Heads.{head_text}
 use Rattle.transcript_text.specs.Lines.{whole_line, text_of}
 use Rattle.transcript_text.specs.Putting.{PutSoFar}
 use Rattle.transcript_text.specs.Views.{seen, seen_shown}
 use Rattle.transcript_text.specs.declared.view.LineView.{LineView}
-use Rattle.transcript_text.proofs.StepLists.{drop_from_get}
 
 pub line_is : (line : LineView) (head : List ℕ)
     → head ≡ head_text line.caller line.event line.word line.answer line.steps.now
@@ -34,7 +34,7 @@ line_of_parts line again head found e first second =
 
 pub next_line : (lines : List SeenLine) (i : ℕ) (line : SeenLine) → slice_get lines i ≡ Some line
     → text_of (drop i lines) ≡ whole_line line ++ text_of (drop (i + 1) lines)
-next_line lines i line at = ap text_of (drop_from_get lines i line at)
+next_line lines i line at = ap text_of (found_dropped lines i line at)
 
 abbrev pub callers_text : List (List SeenLine) → List ℕ
 callers_text callers = flat_map text_of callers

@@ -1,5 +1,5 @@
 -- Steps that are no form of their event's word.
-use Rattle.std.proofs.Common.{◌≡◌, ◌≤◌, ℕ, zero, suc, Some, List, [], ◌∷◌, refl, sym, ◌∙◌, ap, is_some, true, length}
+use Rattle.std.proofs.Common.{◌≡◌, ◌≤◌, ℕ, suc, Some, List, [], ◌∷◌, refl, sym, ◌∙◌, ap, is_some, true, length}
 use Rattle.std.proofs.Common.{arith, inl, inr, subst, false, ◌++◌}
 use Rattle.std.specs.List.{AllByRecursion}
 use Rattle.key_names.specs.declared.names.Step.TheVariants.{Look}
@@ -19,6 +19,7 @@ use Rattle.key_names.specs.VreadSteps.{Shows, published_by}
 use Rattle.key_names.specs.IsTranscript.{EachLine, EachCaller, CallsMean, CallerMeans, script_calls}
 use Rattle.key_names.specs.IsTranscript.{EachOfCall, forms_clause, stamped, start_setting}
 use Rattle.key_names.proofs.Vgetrandom.VreadRefused.{looks_do_not_fall}
+use Rattle.key_names.proofs.Lists.ListFacts.{list_beyond}
 use Rattle.worked_cases.specs.Runs.{Case, FailsFirst, transcript_with}
 use Rattle.worked_cases.specs.UnfitSteps.{read_without_a_look, fork_without_a_visit, visit_of_no_cpu, looks_that_fall}
 use Rattle.worked_cases.specs.UnfitSteps.{batch_of_the_parent}
@@ -92,15 +93,10 @@ unfolding text_verdict
 looks_that_fall_fails = by_calls looks_that_fall refl
     (λ lists calls. no_fall lists calls.0.1.0.m calls.0.1.0.deeds.0 calls.0.1.0.means)
 
-no_list : {E : Type 0} (lists : List (List E)) (c : ℕ) → length lists ≤ c → list_at lists c ≡ []
-no_list [] c le = refl
-no_list (es ∷ lists) zero le = absurd (omega arith)
-no_list (es ∷ lists) (suc c) le = no_list lists c (omega arith)
-
 no_stamp : {E : Type 0} (lists : List (List (Visit E))) (w : ℕ × Who) → length lists ≡ 1 →
     stamped (list_at lists 1) 0 ≡ Some w → ⊥
 no_stamp {E} lists w one is =
-    let none = no_list lists 1 (omega (arith, one)) in
+    let none = list_beyond lists 1 (omega (arith, one)) in
     none_is_not_some w (sym (ap (λ (visits : List (Visit E)). stamped visits 0) none) ∙ is)
 
 pub visit_of_no_cpu_fails : FailsByForms visit_of_no_cpu

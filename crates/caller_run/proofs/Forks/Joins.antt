@@ -13,15 +13,10 @@ use Rattle.lane_table.specs.LaneNumbers.{index_of}
 use Rattle.lane_table.specs.WorldRule.{AllBegin, Begins, at, known_of}
 use Rattle.lane_table.specs.Steps.{both_of, merged, with_list, halved, child as split_off}
 use Rattle.lane_table.proofs.Rule.Shares.{merged_at, length_merged}
-use Rattle.lane_table.proofs.Lists.VisitLists.{begins_nil}
+use Rattle.lane_table.proofs.Lists.VisitLists.{with_both}
 use Rattle.caller_run.specs.Laws.{Run, IsOneOf}
 use Rattle.caller_run.specs.Families.{Hears, RunsIn, Family, marked_by, Joined, SameShare}
 use Rattle.caller_run.specs.Standing.{Start}
-
-with_both : (xs : List Visit) (lists : List (List Visit)) (log : List Visit) → AllBegin (with_list xs lists) log →
-    Begins xs log × AllBegin lists log
-with_both [] lists log all = (begins_nil log, all)
-with_both (x ∷ xs) lists log all = all
 
 append_both : (xs ys : List (List Visit)) (log : List Visit) → AllBegin (xs ++ ys) log →
     AllBegin xs log × AllBegin ys log

@@ -12,7 +12,7 @@ use Rattle.key_names.specs.History.{is_mark}
 use Rattle.key_names.specs.Points.{is_same_point}
 use Rattle.caller_run.specs.Items.{Item, line_items, cut_items, cut_rekey, items_at_point, vread_items, call_items}
 use Rattle.key_names.specs.SeenLine.{SeenLine}
-use Rattle.key_names.proofs.Lists.Each.{each_append, each_parts}
+use Rattle.key_names.proofs.Lists.Each.{each_append, each_left, each_right}
 use Rattle.caller_run.specs.Done.{lines_in_order}
 
 -- the steps of some lines
@@ -135,13 +135,6 @@ module _ (f : Item → ℕ) where
       let behind : weight (drop 2 items) ≡ weight r + weight end =
       ap weight (rekey_whole (drop 2 items)) ∙ sum_by-append f r end in omega arith
 
--- what holds of each of both holds of each of one
-pub in_front : {X : Type 0} (P : X → Type 0) (xs ys : List X) → AllByRecursion P (xs ++ ys) → AllByRecursion P xs
-in_front P xs ys all = (each_parts P xs ys all).0
-
-pub behind : {X : Type 0} (P : X → Type 0) (xs ys : List X) → AllByRecursion P (xs ++ ys) → AllByRecursion P ys
-behind P xs ys all = (each_parts P xs ys all).1
-
 -- what holds of each step
 module _ (P : Item → Type 0) where
   abbrev Each : List Item → Type 0
@@ -167,8 +160,8 @@ module _ (P : Item → Type 0) where
           Each (line_items bound.line ++ lines_items (map act_line acts))
       both point all rest =
           each_append P (line_items bound.line) (lines_items (map act_line acts))
-          (in_front P (line_items bound.line) (items_at_point acts point) all)
-          (rest (behind P (line_items bound.line) (items_at_point acts point) all))
+          (each_left P (line_items bound.line) (items_at_point acts point) all)
+          (rest (each_right P (line_items bound.line) (items_at_point acts point) all))
 
       go : (p : Point) → At acts bound.line p Start → At acts bound.line p Written → At acts bound.line p Serve →
           At acts bound.line p End → OfAll acts (map act_line acts) →
@@ -189,18 +182,18 @@ module _ (P : Item → Type 0) where
       let a4 : List Item = items_at_point acts End in
       let r : List Item = (cut_rekey (drop 2 items)).0 in
       let end : List Item = (cut_rekey (drop 2 items)).1 in
-      let f4 = in_front P (take 2 items ++ a1 ++ a2 ++ r ++ a3 ++ a4) end all in
-      let f3 = in_front P (take 2 items ++ a1 ++ a2 ++ r ++ a3) a4 f4 in
-      let fr = in_front P (take 2 items ++ a1 ++ a2 ++ r) a3 f3 in
-      let f2 = in_front P (take 2 items ++ a1 ++ a2) r fr in
-      let f1 = in_front P (take 2 items ++ a1) a2 f2 in
+      let f4 = each_left P (take 2 items ++ a1 ++ a2 ++ r ++ a3 ++ a4) end all in
+      let f3 = each_left P (take 2 items ++ a1 ++ a2 ++ r ++ a3) a4 f4 in
+      let fr = each_left P (take 2 items ++ a1 ++ a2 ++ r) a3 f3 in
+      let f2 = each_left P (take 2 items ++ a1 ++ a2) r fr in
+      let f1 = each_left P (take 2 items ++ a1) a2 f2 in
       let of_line : Each items =
       subst Each (take-append-drop 2 items) (each_append P (take 2 items) (drop 2 items)
-      (in_front P (take 2 items) a1 f1)
-      (subst Each (sym (rekey_whole (drop 2 items))) (each_append P r end (behind P (take 2 items ++ a1 ++ a2) r fr)
-      (behind P (take 2 items ++ a1 ++ a2 ++ r ++ a3 ++ a4) end all)))) in
-      let inside = of_acts acts (behind P (take 2 items) a1 f1) (behind P (take 2 items ++ a1) a2 f2)
-      (behind P (take 2 items ++ a1 ++ a2 ++ r) a3 f3) (behind P (take 2 items ++ a1 ++ a2 ++ r ++ a3) a4 f4) in
+      (each_left P (take 2 items) a1 f1)
+      (subst Each (sym (rekey_whole (drop 2 items))) (each_append P r end (each_right P (take 2 items ++ a1 ++ a2) r fr)
+      (each_right P (take 2 items ++ a1 ++ a2 ++ r ++ a3 ++ a4) end all)))) in
+      let inside = of_acts acts (each_right P (take 2 items) a1 f1) (each_right P (take 2 items ++ a1) a2 f2)
+      (each_right P (take 2 items ++ a1 ++ a2 ++ r) a3 f3) (each_right P (take 2 items ++ a1 ++ a2 ++ r ++ a3) a4 f4) in
       subst Each (sym (flat_map-append line_items (map act_line acts) (line ∷ [])))
       (each_append P (lines_items (map act_line acts)) (items ++ []) inside
       (subst Each (sym (append-nil items)) of_line))

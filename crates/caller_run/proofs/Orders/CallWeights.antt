@@ -9,10 +9,10 @@ use Rattle.key_names.specs.Calls.{Call, alone, vread_call, unbound, BoundAct, ca
 use Rattle.caller_run.specs.Items.{Item, line_items, call_items, calls_items}
 use Rattle.key_names.specs.SeenLine.{SeenLine}
 use Rattle.key_names.specs.IsTranscript.{LinesFit}
-use Rattle.key_names.proofs.Lists.Each.{each_append}
+use Rattle.key_names.proofs.Lists.Each.{each_append, each_left, each_right}
 use Rattle.caller_run.specs.Done.{lines_in_order}
 use Rattle.caller_run.proofs.Orders.CallLists.{Kept, Keeps, kept}
-use Rattle.caller_run.proofs.Orders.CallSteps.{lines_items, act_line, vread_weight, call_each, in_front, behind}
+use Rattle.caller_run.proofs.Orders.CallSteps.{lines_items, act_line, vread_weight, call_each}
 
 -- the steps of acts that wait, with one more
 waiting_more : (waiting : List BoundAct) (bound : BoundAct) → lines_items (map act_line (waiting ++ bound ∷ []))
@@ -81,20 +81,20 @@ module _ (P : Item → Type 0) where
   keeps_each c = record {
     ends = λ n line is all. (tt, all);
     does = λ waiting n event es line lines calls is rest all.
-        let r = rest (behind P (line_items line) (calls_items calls) all) in (
+        let r = rest (each_right P (line_items line) (calls_items calls) all) in (
           r.0,
-          each_append P (line_items line) (lines_items lines) (in_front P (line_items line) (calls_items calls) all)
+          each_append P (line_items line) (lines_items lines) (each_left P (line_items line) (calls_items calls) all)
               r.1,
         );
     reads = λ waiting n len flags es line lines calls is rest all.
         let call : Call = vread_call len flags line waiting in
-        let r = rest (behind P (call_items call) (calls_items calls) all) in
+        let r = rest (each_right P (call_items call) (calls_items calls) all) in
         let here : Each (lines_items (map act_line waiting) ++ (line_items line ++ [])) =
         subst Each (flat_map-append line_items (map act_line waiting) (line ∷ []))
-        (call_each P call (in_front P (call_items call) (calls_items calls) all)) in (
-          in_front P (lines_items (map act_line waiting)) (line_items line ++ []) here,
+        (call_each P call (each_left P (call_items call) (calls_items calls) all)) in (
+          each_left P (lines_items (map act_line waiting)) (line_items line ++ []) here,
           each_append P (line_items line) (lines_items lines)
-              (in_front P (line_items line) [] (behind P (lines_items (map act_line waiting)) (line_items line ++ [])
+              (each_left P (line_items line) [] (each_right P (lines_items (map act_line waiting)) (line_items line ++ [])
               here))
               r.1,
         );
@@ -102,15 +102,15 @@ module _ (P : Item → Type 0) where
         let r = rest all in
         let both : Each (lines_items (map act_line waiting) ++ line_items bound.line) =
         subst Each (waiting_more waiting bound) r.0 in (
-          in_front P (lines_items (map act_line waiting)) (line_items bound.line) both,
+          each_left P (lines_items (map act_line waiting)) (line_items bound.line) both,
           each_append P (line_items bound.line) (lines_items lines)
-              (behind P (lines_items (map act_line waiting)) (line_items bound.line) both) r.1,
+              (each_right P (lines_items (map act_line waiting)) (line_items bound.line) both) r.1,
         );
     idles = λ waiting n bound es lines calls is rest all.
-        let r = rest (behind P (line_items bound.line) (calls_items calls) all) in (
+        let r = rest (each_right P (line_items bound.line) (calls_items calls) all) in (
           r.0,
           each_append P (line_items bound.line) (lines_items lines)
-              (in_front P (line_items bound.line) (calls_items calls) all) r.1,
+              (each_left P (line_items bound.line) (calls_items calls) all) r.1,
         );
   }
 
@@ -133,15 +133,15 @@ module _ (Q : SeenLine → Type 0) where
     does = λ waiting n event es line lines calls is rest all. let r = rest all.1 in (r.0, (all.0.0, r.1));
     reads = λ waiting n len flags es line lines calls is rest all.
         let r = rest all.1 in (
-          in_front Q (map act_line waiting) (line ∷ []) all.0,
-          ((behind Q (map act_line waiting) (line ∷ []) all.0).0, r.1),
+          each_left Q (map act_line waiting) (line ∷ []) all.0,
+          ((each_right Q (map act_line waiting) (line ∷ []) all.0).0, r.1),
         );
     waits = λ waiting n bound es lines calls is rest all.
         let r = rest all in
         let both : EachSeen (map act_line waiting ++ bound.line ∷ []) =
         subst EachSeen (map-append act_line waiting (bound ∷ [])) r.0 in (
-          in_front Q (map act_line waiting) (bound.line ∷ []) both,
-          ((behind Q (map act_line waiting) (bound.line ∷ []) both).0, r.1),
+          each_left Q (map act_line waiting) (bound.line ∷ []) both,
+          ((each_right Q (map act_line waiting) (bound.line ∷ []) both).0, r.1),
         );
     idles = λ waiting n bound es lines calls is rest all. let r = rest all.1 in (r.0, (all.0.0, r.1));
   }

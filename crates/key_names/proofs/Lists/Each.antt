@@ -33,6 +33,12 @@ each_parts P [] ys all = (tt, all)
 each_parts P (x ∷ xs) ys all =
     let rest : AllByRecursion P xs × AllByRecursion P ys = each_parts P xs ys all.1 in ((all.0, rest.0), rest.1)
 
+pub each_left : {X : Type 0} (P : X → Type 0) (xs ys : List X) → AllByRecursion P (xs ++ ys) → AllByRecursion P xs
+each_left P xs ys all = (each_parts P xs ys all).0
+
+pub each_right : {X : Type 0} (P : X → Type 0) (xs ys : List X) → AllByRecursion P (xs ++ ys) → AllByRecursion P ys
+each_right P xs ys all = (each_parts P xs ys all).1
+
 -- two facts of each element together
 pub each_both : {X : Type 0} (P Q : X → Type 0) (xs : List X) → AllByRecursion P xs → AllByRecursion Q xs →
     AllByRecursion (λ x. P x × Q x) xs

@@ -1,5 +1,5 @@
 -- Facts of lists and options that proofs of other crates use too.
-use Rattle.std.proofs.Common.{ℕ, zero, suc, ◌≡◌, ◌<◌, Bool, true, inl, inr, Some, List, [], ◌∷◌, length, map, ap, ◌∙◌, arith}
+use Rattle.std.proofs.Common.{ℕ, zero, suc, ◌≡◌, ◌+◌, ◌<◌, ◌≤◌, Bool, true, inl, inr, Some, List, [], ◌∷◌, length, map, drop, refl, ap, ◌∙◌, arith}
 use Rattle.std.specs.Prelude.{find, slice_get, option_map}
 use Rattle.std.specs.List.{AllByRecursion}
 use Rattle.std.proofs.lemmas.Bool.{cases_Bool}
@@ -22,6 +22,19 @@ pub list_is : {X : Type 0} (xss : List (List X)) (c : ℕ) (xs : List X) → sli
 list_is [] c xs is = cc
 list_is (ys ∷ xss) zero xs is = cc
 list_is (ys ∷ xss) (suc c) xs is = list_is xss c xs is
+
+-- beyond the lists there is the empty one
+pub list_beyond : {X : Type 0} (xss : List (List X)) (c : ℕ) → length xss ≤ c → list_at xss c ≡ []
+list_beyond [] c le = refl
+list_beyond (xs ∷ xss) zero le = absurd (omega arith)
+list_beyond (xs ∷ xss) (suc c) le = list_beyond xss c (omega arith)
+
+-- the element at a place, and those behind it
+pub found_dropped : {X : Type 0} (xs : List X) (i : ℕ) (x : X) → slice_get xs i ≡ Some x → drop i xs ≡ x ∷ drop (i + 1) xs
+found_dropped [] i x is = cc
+found_dropped (y ∷ xs) zero x is = ap (λ z. z ∷ xs) (same_Some y x is)
+found_dropped (y ∷ xs) (suc i) x is =
+    found_dropped xs i x is ∙ ap (λ n. x ∷ drop n (y ∷ xs)) (let e : suc (i + 1) ≡ suc i + 1 = omega arith in e)
 
 pub each_list : {X : Type 0} (P : List X → Type 0) (xss : List (List X)) → ((c : ℕ) → c < length xss → P (list_at xss c)) →
     AllByRecursion P xss

@@ -1,5 +1,5 @@
 -- The lines of all callers: a mark is of one of them, and no two have one caller and one event.
-use Rattle.std.proofs.Common.{◌≡◌, ℕ, suc, ◌≤◌, ◌⊎◌, inl, inr, List, [], ◌∷◌, ◌++◌, refl, sym, ap, ◌∙◌, subst, arith}
+use Rattle.std.proofs.Common.{◌≡◌, ℕ, suc, ◌+◌, ◌≤◌, ◌⊎◌, inl, inr, List, [], ◌∷◌, ◌++◌, length, refl, sym, ap, ◌∙◌, subst, arith}
 use Rattle.std.specs.List.{AllByRecursion, flat_map}
 use Rattle.key_names.specs.declared.events.Event.{Event}
 use Rattle.key_names.specs.declared.names.Mark.{Mark}
@@ -184,7 +184,16 @@ same_line c n (event ∷ events) (l ∷ lines) a b fit (inr x) (inl y) same =
 same_line c n (event ∷ events) (l ∷ lines) a b fit (inr x) (inr y) same =
     same_line c (suc n) events lines a b fit.1 x y same
 
-abbrev AllFit : ℕ → List (List Event) → List (List SeenLine) → Type 0
+-- a caller has a line for each event, and its last one
+pub fits_long : (c n : ℕ) (events : List Event) (lines : List SeenLine) → LinesFit c n events lines →
+    length lines ≡ length events + 1
+fits_long c n [] [] fit = absurd fit
+fits_long c n [] (l ∷ []) fit = refl
+fits_long c n [] (l ∷ more ∷ lines) fit = absurd fit
+fits_long c n (event ∷ events) [] fit = absurd fit
+fits_long c n (event ∷ events) (l ∷ lines) fit = omega (arith, fits_long c (suc n) events lines fit.1)
+
+abbrev pub AllFit : ℕ → List (List Event) → List (List SeenLine) → Type 0
 AllFit c callers t = EachCaller (λ c events lines. LinesFit c 0 events lines) c callers t
 
 caller_from : (c : ℕ) (callers : List (List Event)) (t : List (List SeenLine)) (line : SeenLine) →
@@ -220,8 +229,7 @@ lines_apart c (events ∷ callers) (lines ∷ t) a b fit (la, inr x, ina) (lb, i
 abbrev pub Apart : List (List SeenLine) → Type 0
 Apart t = (a b : SeenLine) → Among a t → Among b t → a.caller ≡ b.caller → a.event ≡ b.event → a ≡ b
 
-pub apart : (callers : List (List Event)) (t : List (List SeenLine)) →
-    EachCaller (λ c events lines. LinesFit c 0 events lines) 0 callers t → Apart t
+pub apart : (callers : List (List Event)) (t : List (List SeenLine)) → AllFit 0 callers t → Apart t
 apart callers t fit a b = lines_apart 0 callers t a b fit
 
 -- every line is among them

@@ -26,6 +26,12 @@ begins_length xs ys a = let e = ap length a.1 in omega (arith, length-append xs 
 pub begins_nil : (ys : List Visit) → Begins [] ys
 begins_nil ys = (ys, refl)
 
+-- where lists with one more begin the log, that one does, and so do they
+pub with_both : (xs : List Visit) (lists : List (List Visit)) (log : List Visit) → AllBegin (with_list xs lists) log →
+    Begins xs log × AllBegin lists log
+with_both [] lists log all = (begins_nil log, all)
+with_both (x ∷ xs) lists log all = all
+
 pub begins_push : (xs : List Visit) (x : Visit) → Begins xs (xs ++ x ∷ [])
 begins_push xs x = (x ∷ [], refl)
 

@@ -1,10 +1,11 @@
 use Rattle.std.proofs.Common.{◌≡◌, length, map, sym, ap, ◌∙◌, arith}
 use Rattle.std.specs.Global.{Vec}
 use Rattle.std.proofs.lemmas.List.{length-map}
+use Rattle.key_names.proofs.Samples.Lines.{fits_long}
 use Rattle.line_orders.specs.declared.bare.BareLine.{BareLine}
 use Rattle.line_orders.specs.Seen.{seen_bare, seen_callers}
 use Rattle.line_orders.specs.Called.{seen_calls}
-use Rattle.line_orders.proofs.LineFits.{fits_long, callers_long, callers_more}
+use Rattle.line_orders.proofs.LineFits.{callers_long, callers_more}
 use Rattle.line_orders.proofs.AllCalls.{calls_next, calls_end}
 use Rattle.line_orders.proofs.begin.all_calls.Goals as goal
 

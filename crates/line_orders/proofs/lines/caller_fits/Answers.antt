@@ -1,7 +1,8 @@
 use Rattle.std.proofs.Common.{◌≡◌, ◌+◌, length, map, refl, sym, ◌∙◌, arith}
 use Rattle.std.proofs.lemmas.List.{length-map}
+use Rattle.key_names.proofs.Samples.Lines.{fits_long}
 use Rattle.line_orders.specs.Seen.{seen_bare}
-use Rattle.line_orders.proofs.LineFits.{fits_long, fits_more, fits_last}
+use Rattle.line_orders.proofs.LineFits.{fits_more, fits_last}
 use Rattle.line_orders.proofs.lines.caller_fits.Goals as goal
 
 pub returns-then-lines-events : goal.returns-then-lines-events
