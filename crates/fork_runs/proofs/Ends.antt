@@ -24,7 +24,7 @@ use Rattle.lane_table.specs.BookLaws.{Continues}
 use Rattle.lane_table.specs.BookLists.{book_lists, book_of}
 use Rattle.lane_table.specs.Calls.{Ended}
 use Rattle.lane_table.specs.Meaning.{replay}
-use Rattle.lane_table.specs.Steps.{Grows, halved, merged, with_list, told}
+use Rattle.lane_table.specs.Steps.{Grows, halved, merged, told}
 use Rattle.lane_table.specs.Steps as steps
 use Rattle.lane_table.specs.Advances.{floor}
 use Rattle.lane_table.specs.WorldRule.{AllBegin, Begins, at, blank, known_of}

@@ -15,7 +15,7 @@ use Rattle.irq_feed.specs.declared.queue.FeedQueue.{FeedQueue}
 use Rattle.irq_feed.specs.declared.queue.FeedPass.{FeedPass}
 use Rattle.irq_feed.specs.Feeds.{Numbers}
 use Rattle.irq_feed.specs.Samples.{sample, first_samples, of_feeder}
-use Rattle.irq_feed.specs.Rule.{desk, post, ended, behind_split, new_feeder, taken_in, with_taken, Learned, Learns}
+use Rattle.irq_feed.specs.Rule.{desk, post, ended, behind_split, taken_in, with_taken, Learned, Learns}
 use Rattle.irq_feed.specs.Passes.{known, took, taken_of, AreNew, IsPassOf}
 use Rattle.irq_feed.specs.Fed.{mixed_in, is_direct, sum_below, through_queue, by_worker, done_so_far, IsAmong, HasBegun, CanStart, CanTakeBack, Front, HasDrained, HasRoom, AllMixed}
 use Rattle.irq_feed.proofs.Counting.{sum_small, products_small, sum_same, sum_tight, sum_plus, counted, none_behind, cons_not_nil, of_here, first_length, first_own, first_else, front_whole, front_none, front_short}

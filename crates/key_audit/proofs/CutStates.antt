@@ -1,6 +1,6 @@
 -- The calls that were over by a stamp are the first of each caller, and what they left are the entries of a book behind
 -- it. Answers and data have no part in which these are.
-use Rattle.std.proofs.Common.{◌≡◌, ℕ, zero, suc, ◌+◌, ◌<◌, ◌≤◌, List, [], ◌∷◌, ◌++◌, length, map, inl, inr, refl, sym, subst, ap, ◌∙◌, arith}
+use Rattle.std.proofs.Common.{◌≡◌, ℕ, zero, suc, ◌+◌, ◌<◌, List, [], ◌∷◌, ◌++◌, length, map, inl, inr, refl, sym, subst, ap, ◌∙◌, arith}
 use Rattle.std.specs.Prelude.{if◌then◌else◌, nat_le, take}
 use Rattle.std.proofs.lemmas.List.{append_cancel_right, length-map}
 use Rattle.key_names.specs.declared.names.Step.{Step}

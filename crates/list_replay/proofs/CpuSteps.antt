@@ -6,7 +6,6 @@ use Rattle.key_names.specs.declared.entries.BaseEntry.{BaseEntry}
 use Rattle.key_names.specs.declared.entries.BaseEntry.TheVariants.{Early, Reseed, Tick, Draw, Refill, Fork, End, Wait, Resume, Interrupt, Stall, Unstall}
 use Rattle.key_names.specs.declared.entries.CpuEntry.{CpuEntry}
 use Rattle.key_names.specs.declared.entries.CpuEntry.TheVariants.{Read, Int, Irq, Dump, Prepare, Online}
-use Rattle.key_names.specs.Keystream.{keystream}
 use Rattle.key_names.specs.BaseList.{base_after, base_erases, refill_of, refill_at, reseeds_at, generation_after, generation_at}
 use Rattle.key_names.specs.Batches.{Fill, fills_after, must_fill, one_more_served}
 use Rattle.key_names.specs.CpuList.{CpuState, CpuFits, CpuMayCome, RefillStands, base_refill_of, cpu_key_in_use, cpu_start, cpu_step, cpu_after}

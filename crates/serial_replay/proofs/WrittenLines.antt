@@ -8,12 +8,10 @@ use Rattle.key_names.specs.Book.{list_at}
 use Rattle.key_names.specs.SeenLine.{SeenLine}
 use Rattle.key_names.specs.Texts.TranscriptGrammar.{LastHasLines}
 use Rattle.key_names.proofs.Lists.ListFacts.{found_dropped}
-use Rattle.line_orders.proofs.Fronts.{dropped}
 use Rattle.caller_answers.specs.declared.said.Said.{Said}
 use Rattle.serial_replay.specs.Agreement.{Agrees}
 use Rattle.serial_replay.specs.Remade.{said_lists}
 use Rattle.serial_replay.specs.Written.{said_of, lines_said, said_into, MayShow}
-use Rattle.serial_replay.proofs.Agreement.{some_one}
 
 -- one line more of a caller
 module _ (said : List Said) (lines : List SeenLine) (n : ℕ) (line : SeenLine) (is : slice_get lines n ≡ Some line) where

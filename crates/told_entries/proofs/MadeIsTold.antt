@@ -1,24 +1,22 @@
 -- In what callers mean, each line's visits have the entries that its steps tell.
-use Rattle.std.proofs.Common.{◌≡◌, ℕ, inl, inr, List, [], ◌∷◌, sym, subst}
+use Rattle.std.proofs.Common.{◌≡◌, inl, inr, List, [], ◌∷◌, sym, subst}
 use Rattle.std.specs.List.{AllByRecursion}
-use Rattle.key_names.specs.declared.events.Event.{Event}
 use Rattle.key_names.specs.Book.{Book, Lists, LawfulLanes, lists_of, list_at}
-use Rattle.key_names.specs.Calls.{Setting, Call, alone, vread_call, unbound, ending, BoundAct, calls_of, setting_after_call}
+use Rattle.key_names.specs.Calls.{Setting, Call, alone, vread_call, unbound, ending, BoundAct, setting_after_call}
 use Rattle.key_names.specs.Deeds.{Deed, deeds_of}
 use Rattle.key_names.specs.LineSamples.{SamplesStand}
 use Rattle.key_names.specs.Texts.ScriptGrammar.{Script}
 use Rattle.key_names.specs.SeenLine.{SeenLine}
 use Rattle.key_names.specs.Meaning.{CallMeaning}
-use Rattle.key_names.specs.IsTranscript.{CallerMeans, LinesFit, HasLines, script_calls, start_setting}
+use Rattle.key_names.specs.IsTranscript.{HasLines, script_calls, start_setting}
 use Rattle.key_names.proofs.Unique.UniqueMeanings.{OfCall}
-use Rattle.key_names.proofs.Unique.UniqueLines.{Covers, calls_cover}
 use Rattle.line_forms.specs.LaneFacts.{LaneFacts, AllFit, facts_of}
 use Rattle.line_forms.specs.Told.{Telling, LineFills, act_telling, silent}
 use Rattle.line_forms.proofs.ActLines.{lists_fit, act_told}
 use Rattle.line_forms.proofs.ToldEvents.{form_told, end_told}
 use Rattle.told_entries.specs.Filled.{ActFills, CallFills, CallsFill, AllCallsFill}
 use Rattle.told_entries.specs.Gathered.{AllMean}
-use Rattle.told_entries.proofs.CallForms.{ActDone, CallForm, CallsForm, caller_form, all_forms}
+use Rattle.told_entries.proofs.CallForms.{ActDone, CallForm, CallsForm, all_forms}
 use Rattle.told_entries.proofs.CallLines.{to_calls}
 
 module _ (lists : Lists) (lawful : LawfulLanes lists) where

@@ -1,11 +1,11 @@
 -- A row put at the place of a mark, in the table of its lane.
-use Rattle.std.proofs.Common.{◌≡◌, ◌≢◌, ℕ, zero, suc, ◌<◌, ◌≤◌, Bool, true, false, List, [], ◌∷◌, length, Some, refl, sym, subst, ap, ◌∙◌, arith}
+use Rattle.std.proofs.Common.{◌≡◌, ◌≢◌, ℕ, ◌<◌, ◌≤◌, Bool, true, false, List, [], ◌∷◌, length, Some, refl, sym, subst, ap, ◌∙◌, arith}
 use Rattle.std.specs.Prelude.{slice_get, ◌==◌, ◌&&◌}
 use Rattle.std.proofs.lemmas.Bool.{and_parts, eq-eqb, eqb-true}
 use Rattle.key_names.specs.declared.names.LaneId.{LaneId}
 use Rattle.key_names.specs.declared.names.LaneId.TheVariants.{Pool as PoolLane, Base as BaseLane, Cpu as CpuLane}
 use Rattle.key_names.specs.declared.names.Mark.{Mark}
-use Rattle.key_names.specs.declared.names.Step.TheVariants.{Look, Visit as Marked}
+use Rattle.key_names.specs.declared.names.Step.TheVariants.{Visit as Marked}
 use Rattle.key_names.specs.Book.{list_at}
 use Rattle.key_names.specs.IsTranscript.{is_same_lane}
 use Rattle.key_names.proofs.Transcripts.LaneCounts.{lane_itself, same_lane}

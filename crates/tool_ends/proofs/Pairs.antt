@@ -8,7 +8,7 @@ use Rattle.std.proofs.lemmas.List.Sums.{sum_by-cons}
 use Rattle.key_names.specs.declared.events.Event.{Event}
 use Rattle.key_names.specs.declared.faults.FaultKind.TheVariants.{TooLong}
 use Rattle.key_names.specs.declared.faults.ScriptFault.{ScriptFault}
-use Rattle.key_names.specs.IsTranscript.{EachCaller, HasLines, LinesFit}
+use Rattle.key_names.specs.IsTranscript.{HasLines}
 use Rattle.key_names.specs.Texts.ScriptFaults.{front}
 use Rattle.key_names.specs.Texts.ScriptGrammar.{Script, IsScript, WellFormed}
 use Rattle.key_names.specs.SeenLine.{SeenLine}

@@ -1,4 +1,4 @@
-use Rattle.std.proofs.Common.{◌≡◌, ◌≤◌, ◌<◌, ◌+◌, ◌^◌, ◌++◌, [], ◌∷◌, suc, Some, length, refl, sym, subst, ap, ◌∙◌, false, true, arith}
+use Rattle.std.proofs.Common.{◌≡◌, ◌≤◌, ◌<◌, ◌+◌, ◌^◌, ◌++◌, [], ◌∷◌, suc, Some, length, refl, sym, subst, ap, ◌∙◌, arith}
 use Rattle.std.proofs.lemmas.Bool.{false≢true}
 use Rattle.key_names.specs.declared.entries.BaseEntry.{BaseEntry}
 use Rattle.key_names.specs.BaseList.{root_of, roots_after}
