@@ -1,7 +1,8 @@
 //! A small transcript, and changed ones: which clause on lines and marks is the first that fails.
 use event_script::read;
-use line_orders::begin::early_fault;
+use line_orders::begin::{Begun, begin};
 use line_orders::clause::Clause;
+use line_orders::seen::bare_callers;
 use std::test::Fail;
 
 const SCRIPT: &[u8] =
@@ -55,7 +56,12 @@ fn changed_transcripts_are_judged(rt: HostRuntime) -> Result<(), Fail> {
     for (text, fault) in CASES {
         assert!(rt; text.len() < 1000);
         let transcript = transcript_text::read(rt.alloc(), text)?;
-        assert_eq!(rt; early_fault(rt.alloc(), &script, &transcript)?, fault);
+        let lines = bare_callers(rt.alloc(), &transcript)?;
+        let first = match begin(rt.alloc(), &script, &lines)? {
+            Begun::No(clause) => Some(clause),
+            Begun::Stands(_) => None,
+        };
+        assert_eq!(rt; first, fault);
     }
     Ok(())
 }

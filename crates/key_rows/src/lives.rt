@@ -18,7 +18,7 @@ use key_uses::cpu_uses::{CpuKeys, Fill};
 use key_uses::state_uses::StateOf;
 use key_uses::used::Origin;
 use key_uses::{base_uses, cpu_uses};
-use list_replay::{KeptBase, KeptCpu};
+use list_replay::{KeptBase, KeptCpu, base_refill_of, root_of};
 use std::alloc::{AllocError, Global};
 
 /// The bytes of a key, and the most that a read takes without a call key.
@@ -162,7 +162,7 @@ impl Lives {
     {
         let by = Origin::Lane(LaneId::Base, place);
         let used = base_uses::key_in_use(entry, key);
-        if let Some(root) = base_uses::root_of(entry) {
+        if let Some(root) = root_of(entry) {
             self.end(key, by)?;
             self.bear(
                 KeyName::Root(root),
@@ -222,7 +222,7 @@ impl Lives {
     {
         let by = Origin::Lane(LaneId::Cpu(cpu), place);
         let used = cpu_uses::key_in_use(entry, key);
-        if cpu_uses::refill_of(entry).is_some() {
+        if base_refill_of(entry).is_some() {
             self.end(key, by)?;
         }
         match entry {

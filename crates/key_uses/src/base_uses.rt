@@ -1,6 +1,6 @@
 //! What the entries of the base put to use.
 ghost use Rattle.std.specs.Prelude.{◌≡◌, ◌++◌, IfOk, OnOk};
-ghost use Rattle.key_names.specs.BaseList.{BaseState, base_start, base_step, base_key_in_use, base_key_after, root_of};
+ghost use Rattle.key_names.specs.BaseList.{BaseState, base_start, base_step, base_key_in_use, base_key_after};
 ghost use Rattle.key_names.specs.Uses.{base_uses_at, uses_from};
 ghost use Rattle.key_uses.specs.KeptEntries.{base_entries};
 ghost use Rattle.key_uses.specs.UsesSeen.{uses_seen};
@@ -8,20 +8,8 @@ ghost use Rattle.key_uses.specs.UsesSeen.{uses_seen};
 use crate::read_uses::{InUse, push_read};
 use crate::used::{Origin, Used};
 use key_names::{BaseEntry, KeyName, LaneId};
-use list_replay::KeptBase;
+use list_replay::{KeptBase, root_of};
 use std::alloc::{AllocError, Global};
-
-/// The root that an entry names.
-pub fn root_of(entry: BaseEntry) -> Option<u64>
-    ensures { result ≡ root_of entry }
-{
-    match entry {
-        BaseEntry::Early { root } | BaseEntry::Tick { root, .. } | BaseEntry::Draw { root, .. } =>
-            root,
-        BaseEntry::Reseed { root, .. } => Some(root),
-        _ => None,
-    }
-}
 
 /// The key in use at an entry: the root that it names, or else the key before it.
 pub fn key_in_use(entry: BaseEntry, key: Option<KeyName>) -> Option<KeyName>

@@ -1,7 +1,7 @@
 //! What the entries of a CPU put to use.
 ghost use Rattle.std.specs.Prelude.{ℕ, Bool, List, ◌≡◌, ◌+◌, ◌*◌, ◌++◌, Option, None, IfOk, OnOk};
 ghost use Rattle.key_names.specs.declared.entries.BaseEntry.{BaseEntry as BookBase};
-ghost use Rattle.key_names.specs.CpuList.{CpuState, cpu_start, cpu_step, cpu_key_in_use, cpu_key_after, base_refill_of};
+ghost use Rattle.key_names.specs.CpuList.{CpuState, cpu_start, cpu_step, cpu_key_in_use, cpu_key_after};
 ghost use Rattle.key_names.specs.Batches.{Fill as BookFill, one_more_served};
 ghost use Rattle.key_names.specs.Uses.{batch_uses, cpu_uses_at, uses_from};
 ghost use Rattle.key_uses.specs.Fills.{fill_of, served_more, AreFills, CpuStands, rekeys_of};
@@ -11,7 +11,7 @@ ghost use Rattle.key_uses.specs.UsesSeen.{uses_seen};
 use crate::read_uses::{InUse, push_read};
 use crate::used::{Origin, Used};
 use key_names::{CpuEntry, KeyName, LaneId};
-use list_replay::KeptCpu;
+use list_replay::{KeptCpu, base_refill_of};
 use std::alloc::{AllocError, Global};
 
 /// The widths of batches that a byte can tell.
@@ -31,21 +31,11 @@ pub struct CpuKeys {
     pub fills: [Option<Fill>; WIDTHS],
 }
 
-/// The refill that an entry names.
-pub fn refill_of(entry: CpuEntry) -> Option<u64>
-    ensures { result ≡ base_refill_of entry }
-{
-    match entry {
-        CpuEntry::Read { refill, .. } | CpuEntry::Int { refill, .. } => refill,
-        _ => None,
-    }
-}
-
 /// The key in use at an entry: what the base handed over in the refill that it names, or else the key before it.
 pub fn key_in_use(entry: CpuEntry, key: Option<KeyName>) -> Option<KeyName>
     ensures { result ≡ cpu_key_in_use entry key }
 {
-    match refill_of(entry) {
+    match base_refill_of(entry) {
         Some(refill) => Some(KeyName::Call(LaneId::Base, refill)),
         None => key,
     }

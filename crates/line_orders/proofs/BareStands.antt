@@ -13,9 +13,6 @@ use Rattle.key_names.specs.History.{stamps_of, caller_orders}
 use Rattle.key_names.specs.IsTranscript.{LineIs, LinesFit, EachCaller, HasLines, MarkBy, lane_marks, Rises}
 use Rattle.key_names.specs.IsTranscript.{PlacesStand, MarksStand, script_calls}
 use Rattle.key_names.proofs.Unique.BareLines.{bare_all, bare_marks, bare_orders}
-use Rattle.line_orders.specs.declared.clause.Clause.{Clause}
-use Rattle.line_orders.specs.declared.clause.Clause.TheVariants.{Lines, Marks}
-use Rattle.line_orders.specs.Begun.{IsEarlyFault}
 
 to_bare : (c n : ℕ) (word : Word) (l : SeenLine) → LineIs c n word l → LineIs c n word (bare l)
 to_bare c n word l is = record { caller = is.caller; event = is.event; word_is = is.word_is }
@@ -85,10 +82,3 @@ bare_twice (l ∷ ls) = ap (λ ks. bare l ∷ ks) (bare_twice ls)
 pub same_bare : (t : List (List SeenLine)) → SameSteps (map (map bare) t) t
 same_bare [] = refl
 same_bare (ls ∷ t) = λ i. bare_twice ls i ∷ same_bare t i
-
--- what is judged of bare lines is so of the lines themselves
-pub fault_of_bare : (script : Script) (t : List (List SeenLine)) (clause : Clause) →
-    IsEarlyFault script (map (map bare) t) clause → IsEarlyFault script t clause
-fault_of_bare script t Lines f = λ has. f ((lines_both script t).1 has)
-fault_of_bare script t Marks f = ((lines_both script t).0 f.0, (λ stand. f.1 ((marks_both script t).1 stand)))
-fault_of_bare script t clause f = absurd f

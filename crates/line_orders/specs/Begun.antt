@@ -31,8 +31,3 @@ IsEarlyFault script t _ = ⊥
 abbrev pub IsBegun : Script → List (List SeenLine) → Begun → Type 0
 IsBegun script t (Stands parts) = PartsStand script t parts
 IsBegun script t (No clause) = IsEarlyFault script t clause
-
--- neither of the two fails
-pub record LinesAndMarksStand (script : Script) (t : List (List SeenLine)) : Type 0 where
-  pub lines : HasLines script t
-  pub marks : MarksStand script t

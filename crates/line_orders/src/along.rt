@@ -1,6 +1,6 @@
 //! What goes along the orders of callers: it begins with nothing, each step changes it, and a child begins with what its
 //! parent had at the fork.
-ghost use Rattle.std.specs.Prelude.{◌≡◌, ◌↔◌, ◌<◌, ◌≤◌, ℕ, [], ◌∷◌, true, IsTrue, IfOk, Option, None, map, length};
+ghost use Rattle.std.specs.Prelude.{◌≡◌, ◌↔◌, ◌<◌, ℕ, [], ◌∷◌, true, IsTrue, IfOk, Option, None, map};
 ghost use Rattle.std.specs.Bool.{OnTrue};
 ghost use Rattle.std.specs.List.{AllByRecursion};
 ghost use Rattle.key_names.specs.declared.names.Step.{Step};
@@ -155,7 +155,7 @@ fn kept_of<C: Carry>(
 }
 
 // What a child begins with, of what its ancestors carried.
-fn start_of(forks: &[Fork], kept: &[Vec<Option<u64>>], caller: u32) -> Option<u64>
+fn start_of(forks: &[Fork], kept: &[Vec<Option<u64>>], caller: usize) -> Option<u64>
     ensures { result ≡ begin_in kept.now (front_in caller forks.now) }
 {
     let fork = front_of(forks, caller)?;
@@ -174,7 +174,6 @@ pub fn all_may_follow<C: Carry>(
     forks: &[Fork],
     carry: &C,
 ) -> Result<bool, AllocError>
-    requires few { length callers.now ≤ 64 }
     requires forks { forks.now ≡ all_forks 0 (seen_calls callers.now) }
     requires above { AllByRecursion (λ fork. fork.parent < fork.child) forks.now }
     ensures { IfOk result (λ holds. IsTrue holds ↔ AllByRecursion (Along (C.after carry.now) (C.MayFollow carry.now) None)
@@ -182,11 +181,11 @@ pub fn all_may_follow<C: Carry>(
 {
     let mut kept = Vec::with_capacity(alloc, callers.len())?;
     for (caller, calls) in callers.iter().enumerate() {
-        let start = start_of(forks, &kept, caller as u32);
+        let start = start_of(forks, &kept, caller);
         if !may_go(carry, start, calls) {
             return Ok(false);
         }
-        let is_parent = is_parent(forks, caller as u32);
+        let is_parent = is_parent(forks, caller);
         kept.push(kept_of(alloc, carry, start, calls, is_parent)?)?;
     }
     Ok(true)

@@ -1,10 +1,10 @@
 //! The clauses on lines and marks: what the steps of a transcript are judged by before any list is made.
-ghost use Rattle.std.specs.Prelude.{◌≡◌, ◌≤◌, length, IfOk, MatchOption};
+ghost use Rattle.std.specs.Prelude.{◌≡◌, ◌≤◌, length, IfOk};
 ghost use Rattle.key_names.specs.Texts.ScriptGrammar.{WellFormed};
 ghost use Rattle.key_names.specs.IsTranscript.{HasLines, script_calls};
 ghost use Rattle.line_orders.specs.Seen.{seen_callers};
 ghost use Rattle.line_orders.specs.Called.{seen_calls};
-ghost use Rattle.line_orders.specs.Begun.{IsBegun, IsEarlyFault, LinesAndMarksStand};
+ghost use Rattle.line_orders.specs.Begun.{IsBegun};
 
 use crate::along::all_may_follow;
 use crate::bare::BareLine;
@@ -13,11 +13,9 @@ use crate::clause::Clause;
 use crate::lines::lines_fit;
 use crate::marks::{MarkOf, places_count, sorted_marks};
 use crate::order::{Fork, all_forks};
-use crate::seen::bare_callers;
 use crate::stamps::Stamps;
 use event_script::Script;
 use std::alloc::{AllocError, Global};
-use transcript_text::Transcript;
 
 /// The calls, marks and forks of a transcript whose lines and marks stand.
 #[derive(Drop)]
@@ -83,25 +81,4 @@ pub fn begin<'a>(
         marks,
         forks,
     }))
-}
-
-/// The first of the clauses on lines and on marks that fails, if one does.
-///
-/// # Errors
-///
-/// `AllocError` where there is no memory to judge them.
-pub fn early_fault(
-    alloc: Global,
-    script: &Script,
-    t: &Transcript,
-) -> Result<Option<Clause>, AllocError>
-    requires { WellFormed script.now }
-    ensures { IfOk result (λ fault. MatchOption fault (LinesAndMarksStand script.now t.now)
-        (IsEarlyFault script.now t.now)) }
-{
-    let lines = bare_callers(alloc, t)?;
-    match begin(alloc, script, &lines)? {
-        Begun::No(clause) => Ok(Some(clause)),
-        Begun::Stands(_) => Ok(None),
-    }
 }

@@ -228,11 +228,11 @@ pub(crate) fn all_forks(alloc: Global, callers: &[Vec<Called<'_>>]) -> Result<Ve
 }
 
 /// Where a caller is forked, if it is.
-pub fn front_of(forks: &[Fork], child: u32) -> Option<Fork>
+pub fn front_of(forks: &[Fork], child: usize) -> Option<Fork>
     ensures { result ≡ front_in child forks.now }
 {
     for fork in forks {
-        if fork.child == child {
+        if fork.child as usize == child {
             return Some(*fork);
         }
     }
@@ -240,8 +240,8 @@ pub fn front_of(forks: &[Fork], child: u32) -> Option<Fork>
 }
 
 /// Whether a caller forks another.
-pub(crate) fn is_parent(forks: &[Fork], caller: u32) -> bool
+pub(crate) fn is_parent(forks: &[Fork], caller: usize) -> bool
     ensures { result ≡ is_parent_in caller forks.now }
 {
-    forks.iter().any(|fork| fork.parent == caller)
+    forks.iter().any(|fork| fork.parent as usize == caller)
 }

@@ -1,5 +1,5 @@
 //! The setting that each call finds.
-ghost use Rattle.std.specs.Prelude.{◌≡◌, ◌<◌, ◌≤◌, IfOk, map, length};
+ghost use Rattle.std.specs.Prelude.{◌≡◌, ◌<◌, IfOk, map};
 ghost use Rattle.std.specs.List.{AllByRecursion};
 ghost use Rattle.key_names.specs.Calls.{setting_after_call};
 ghost use Rattle.line_orders.specs.Called.{seen_call, seen_calls};
@@ -39,7 +39,7 @@ fn caller_settings(
 }
 
 // What a caller starts with: what its parent has at the fork.
-fn start_setting(forks: &[Fork], settings: &[Vec<Setting>], caller: u32) -> Setting
+fn start_setting(forks: &[Fork], settings: &[Vec<Setting>], caller: usize) -> Setting
     ensures { result ≡ first_found settings.now (front_in caller forks.now) }
 {
     let Some(fork) = front_of(forks, caller) else {
@@ -64,14 +64,13 @@ pub fn all_settings(
     callers: &[Vec<Called<'_>>],
     forks: &[Fork],
 ) -> Result<Vec<Vec<Setting>>, AllocError>
-    requires few { length callers.now ≤ 64 }
     requires forks { forks.now ≡ all_forks 0 (seen_calls callers.now) }
     requires rise { AllByRecursion (λ fork. fork.parent < fork.child) forks.now }
     ensures { IfOk result (λ settings. AreSettings (seen_calls callers.now) settings.items) }
 {
     let mut settings = Vec::new(alloc);
     for (caller, calls) in callers.iter().enumerate() {
-        let start = start_setting(forks, &settings, caller as u32);
+        let start = start_setting(forks, &settings, caller);
         settings.push(caller_settings(alloc, start, calls)?)?;
     }
     Ok(settings)

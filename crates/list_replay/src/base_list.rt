@@ -10,6 +10,7 @@ ghost use Rattle.list_replay.specs.Tables.{tables_of, EntryIsNear, BaseIsNear};
 ghost use Rattle.input_pool.specs.PoolStands.{crossing_of};
 
 use crate::kept::{KeptBase, KeptPool};
+use crate::names::root_of;
 use crate::told::Told;
 use base_gen::{Base, Phase};
 use input_pool::Crossing;
@@ -91,18 +92,6 @@ fn close(base: &Base, told: BaseTold, pool: &[KeptPool]) -> BaseEntry
                 BaseEntry::Interrupt
             }
         }
-    }
-}
-
-/// The root that an entry names.
-fn root_of(entry: BaseEntry) -> Option<u64>
-    ensures { result ≡ root_of entry }
-{
-    match entry {
-        BaseEntry::Early { root } | BaseEntry::Tick { root, .. } | BaseEntry::Draw { root, .. } =>
-            root,
-        BaseEntry::Reseed { root, .. } => Some(root),
-        _ => None,
     }
 }
 

@@ -1,23 +1,41 @@
 //! Names that are answered: an extraction names the base's entry that takes its root, and a refill the CPU's entry that
 //! takes its key.
 ghost use Rattle.std.specs.Prelude.{◌≡◌, ◌↔◌, ◌<◌, ◌^◌, IsTrue, map, option_and_then};
-ghost use Rattle.key_names.specs.BaseList.{refill_of};
+ghost use Rattle.key_names.specs.BaseList.{root_of, refill_of};
+ghost use Rattle.key_names.specs.CpuList.{base_refill_of};
 ghost use Rattle.list_replay.specs.Names.{AnsweredBy, root_named_in, refill_named_in, AllExtractionsAnswered};
 ghost use Rattle.list_replay.specs.Names.{AllRefillsAnswered};
 
 use crate::kept::{KeptBase, KeptCpu, KeptPool};
 use key_names::{BaseEntry, CpuEntry};
 
-/// The root that the base's entry at a place names.
-fn root_at(base: &[KeptBase], place: u64) -> Option<u64>
-    ensures { result ≡ root_named_in base.now place }
+/// The root that an entry names.
+pub fn root_of(entry: BaseEntry) -> Option<u64>
+    ensures { result ≡ root_of entry }
 {
-    match base.get(place as usize)?.entry {
+    match entry {
         BaseEntry::Early { root } | BaseEntry::Tick { root, .. } | BaseEntry::Draw { root, .. } =>
             root,
         BaseEntry::Reseed { root, .. } => Some(root),
         _ => None,
     }
+}
+
+/// The refill that an entry names.
+pub fn base_refill_of(entry: CpuEntry) -> Option<u64>
+    ensures { result ≡ base_refill_of entry }
+{
+    match entry {
+        CpuEntry::Read { refill, .. } | CpuEntry::Int { refill, .. } => refill,
+        _ => None,
+    }
+}
+
+/// The root that the base's entry at a place names.
+fn root_at(base: &[KeptBase], place: u64) -> Option<u64>
+    ensures { result ≡ root_named_in base.now place }
+{
+    root_of(base.get(place as usize)?.entry)
 }
 
 /// Whether each extraction is answered by the base's entry that it names.
@@ -38,10 +56,7 @@ pub(crate) fn extractions_answered(pool: &[KeptPool], base: &[KeptBase]) -> bool
 fn refill_at(cpus: &[Vec<KeptCpu>], cpu: u32, place: u64) -> Option<u64>
     ensures { result ≡ refill_named_in (map (λ lane. lane.items) cpus.now) cpu place }
 {
-    match cpus.get(cpu as usize)?.get(place as usize)?.entry {
-        CpuEntry::Read { refill, .. } | CpuEntry::Int { refill, .. } => refill,
-        _ => None,
-    }
+    base_refill_of(cpus.get(cpu as usize)?.get(place as usize)?.entry)
 }
 
 /// Whether the visit of the base at a place, where it is a refill, is answered by the CPU's entry that it names.

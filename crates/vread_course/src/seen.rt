@@ -1,8 +1,6 @@
 //! What is kept of a step of a line for those that make its bytes.
 ghost use Rattle.std.specs.Prelude.{◌≡◌};
-ghost use Rattle.vread_course.specs.Seen.{seen_kind, rises};
-
-use line_forms::kind::Kind;
+ghost use Rattle.vread_course.specs.Seen.{rises};
 
 /// What is seen of a step: its kind, the generation that a look found, and of a visit that may serve bytes the key in
 /// use, before the visit erases it.
@@ -22,23 +20,6 @@ pub enum Seen {
     Cpu([u8; 32]),
     /// A visit of another CPU, or nothing.
     Elsewhere,
-}
-
-impl Seen {
-    /// The step's kind, of which rows of forms are made.
-    pub fn kind(&self) -> Kind
-        ensures { result ≡ seen_kind self.now }
-    {
-        match self {
-            Seen::Unready => Kind::Unready,
-            Seen::Ready(_) => Kind::Ready,
-            Seen::Pool => Kind::Pool,
-            Seen::Base(_) => Kind::Base,
-            Seen::Resumed => Kind::Resumed,
-            Seen::Cpu(_) => Kind::Cpu,
-            Seen::Elsewhere => Kind::OtherCpu,
-        }
-    }
 }
 
 /// Whether no look found less than the one before it.

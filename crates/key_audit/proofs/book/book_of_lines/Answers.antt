@@ -2,15 +2,9 @@ use Rattle.std.proofs.Common.{List}
 use Rattle.key_names.specs.SeenLine.{SeenLine}
 use Rattle.line_orders.specs.Seen.{seen_callers}
 use Rattle.list_replay.specs.Tables.{tables_of}
-use Rattle.serial_replay.proofs.RemadeLines.{few_calls, forks_rise}
+use Rattle.serial_replay.proofs.RemadeLines.{forks_rise}
 use Rattle.key_audit.proofs.Books.{is_book, keeps_book, not_begun, not_none}
 use Rattle.key_audit.proofs.book.book_of_lines.Goals as goal
-
-pub all_settings-requires-clause-few : goal.all_settings-requires-clause-few
-all_settings-requires-clause-few c =
-    let stand = rw c.in-Stands.is at c.in_ok-begin.ensures in
-    rw c.deref.ensures.value
-    (few_calls c.args.script.now (seen_callers c.args.lines.now) c.in-Stands.parts stand c.requires)
 
 pub all_settings-requires-clause-rise : goal.all_settings-requires-clause-rise
 all_settings-requires-clause-rise c =

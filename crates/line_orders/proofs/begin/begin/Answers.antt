@@ -53,8 +53,6 @@ all_may_follow-requires c =
     let forks : c.in_ok-forks.forks.items ≡ all_forks 0 (seen_calls c.in_ok-calls.calls.items) =
     c.in_ok-forks.ensures ∙ ap (λ (calls : List (Vec Called)). all_forks 0 (seen_calls calls)) c.deref-2.ensures.value in
     rw (c.deref-3.ensures.value, c.deref-4.ensures.value) (record {
-      few = few_callers c.args.script.now (seen_callers c.args.lines.now) c.in_ok-calls.calls.items c.requires.well
-          c.in_ok-calls.ensures;
       forks = forks;
       above = subst (λ (fs : List Fork). AllByRecursion (λ fork. fork.parent < fork.child) fs)
           (sym (forks ∙ ap (all_forks 0) c.in_ok-calls.ensures))

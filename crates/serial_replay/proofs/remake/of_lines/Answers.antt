@@ -9,12 +9,6 @@ pub returns-in-No : goal.returns-in-No
 returns-in-No g c = early_fails c.args.script.now (seen_callers c.args.lines.now) c.in-No.clause
     (rw c.in-No.is at c.in_ok-clause.ensures)
 
-pub all_settings-requires-clause-few : goal.all_settings-requires-clause-few
-all_settings-requires-clause-few g c =
-    let stand = rw c.in-Stands.is at c.in_ok-clause.ensures in
-    rw c.deref.ensures.value
-    (few_calls c.args.script.now (seen_callers c.args.lines.now) c.in-Stands.parts stand c.requires.well)
-
 pub all_settings-requires-clause-rise : goal.all_settings-requires-clause-rise
 all_settings-requires-clause-rise g c =
     let stand = rw c.in-Stands.is at c.in_ok-clause.ensures in
@@ -62,7 +56,6 @@ pub all_may_follow-requires : goal.all_may_follow-requires
 all_may_follow-requires g c =
     let stand = rw c.in-Stands.is at c.in_ok-clause.ensures in
     rw (c.deref-6.ensures.value, c.deref-7.ensures.value) (record {
-      few = few_calls c.args.script.now (seen_callers c.args.lines.now) c.in-Stands.parts stand c.requires.well;
       forks = forks_are c.args.script.now (seen_callers c.args.lines.now) c.in-Stands.parts stand c.requires.well;
       above = forks_rise c.args.script.now (seen_callers c.args.lines.now) c.in-Stands.parts stand c.requires.well;
     })
