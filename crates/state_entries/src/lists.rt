@@ -8,7 +8,7 @@ ghost use Rattle.key_names.specs.SeenLine.{SeenLine};
 ghost use Rattle.key_names.specs.Texts.ScriptGrammar.{Script};
 ghost use Rattle.line_orders.specs.Begun.{PartsStand};
 ghost use Rattle.line_orders.specs.Called.{seen_call, seen_calls};
-ghost use Rattle.line_orders.specs.Orders.{all_forks, front_in};
+ghost use Rattle.line_orders.specs.Orders.{all_forks};
 ghost use Rattle.state_entries.specs.Cut.{AreCutByStamp};
 ghost use Rattle.state_entries.specs.Entries.{all_lists_in};
 ghost use Rattle.state_entries.specs.Laws.{AreStateLists};
@@ -21,20 +21,8 @@ use crate::stamps::latest;
 use key_names::Step;
 use line_orders::begin::Parts;
 use line_orders::called::Called;
-use line_orders::order::{Fork, all_own_steps};
+use line_orders::order::{Fork, all_own_steps, front_of};
 use std::alloc::{AllocError, Global};
-
-// The fork of a caller, if there is one.
-fn fork_of(forks: &[Fork], caller: usize) -> Option<Fork>
-    ensures { result ≡ front_in caller forks.now }
-{
-    for fork in forks {
-        if fork.child as usize == caller {
-            return Some(*fork);
-        }
-    }
-    None
-}
 
 // The first steps of some, or all where they are fewer.
 fn first_steps(steps: &[Step], count: usize) -> &[Step]
@@ -68,7 +56,7 @@ fn start_stamp(starts: &[u64], own: &[Vec<Step>], forks: &[Fork], caller: usize)
         ((p : ℕ) → p < caller → unwrap_or (slice_get starts.now p) 0 ≡ start_stamp callers p) →
         result ≡ start_stamp callers caller }
 {
-    match fork_of(forks, caller) {
+    match front_of(forks, caller) {
         None => 0,
         Some(fork) => latest(
             start_at(starts, fork.parent as usize),
