@@ -2,7 +2,7 @@
 use Rattle.std.proofs.Common.{◌≡◌, ℕ, Some, None, List, map, sym, ap, subst, ◌∙◌}
 use Rattle.std.specs.Prelude.{Option, Result, Ok, Err, IfOk, MatchOption, IsPermutation}
 use Rattle.std.specs.Global.{Vec}
-use Rattle.key_names.specs.Book.{Book, Lists, lists_of}
+use Rattle.key_names.specs.Book.{Book, lists_of}
 use Rattle.key_names.specs.Calls.{Call}
 use Rattle.key_names.specs.IsTranscript.{CallerMeans, EachCaller, IsTranscriptBy, MadeBook, MarkBy, all_marks, script_calls, state_lists}
 use Rattle.key_names.specs.IsTranscript.{start_setting}
@@ -12,66 +12,53 @@ use Rattle.key_names.specs.SeenLine.{SeenLine}
 use Rattle.key_names.specs.Texts.ScriptGrammar.{Script}
 use Rattle.key_names.proofs.Unique.BareLines.{bare_marks}
 use Rattle.key_names.proofs.Unique.BareMeanings.{steps_make_the_book}
-use Rattle.line_orders.specs.declared.begin.Parts.{Parts}
 use Rattle.line_orders.specs.declared.clause.Clause.{Clause}
-use Rattle.line_orders.specs.declared.clause.Clause.TheVariants.{Lines, Marks}
-use Rattle.line_orders.specs.Begun.{IsEarlyFault, PartsStand}
+use Rattle.line_orders.specs.declared.clause.Clause.TheVariants.{Lines, Marks, Forms}
 use Rattle.line_orders.specs.Called.{seen_calls}
 use Rattle.line_orders.specs.Marks.{seen_mark}
 use Rattle.line_orders.proofs.BareStands.{same_bare}
-use Rattle.list_replay.specs.declared.kept.Lists.{Lists as KeptLists}
-use Rattle.list_replay.specs.Fills.{Fills}
-use Rattle.list_replay.specs.Kept.{Keeps}
-use Rattle.list_replay.specs.Lawful.{Lawful}
-use Rattle.list_replay.specs.Tables.{Tables}
-use Rattle.serial_replay.proofs.MadeBooks.{made_fills, made_lawful}
+use Rattle.serial_replay.specs.declared.lists.Basis.{Basis}
+use Rattle.serial_replay.specs.Found.{BasisStands}
+use Rattle.serial_replay.specs.Remade.{FailsEarly}
+use Rattle.serial_replay.proofs.RemadeLines.{keeps_made}
 use Rattle.key_uses.specs.Moments.{first_calls}
 use Rattle.state_entries.specs.Cut.{AreCutByStamp}
 use Rattle.state_entries.specs.declared.entry.StateEntry.{StateEntry}
 use Rattle.state_entries.specs.Entries.{all_lists_in}
 use Rattle.state_entries.specs.Laws.{AreStateLists}
-use Rattle.told_entries.specs.Gathered.{IsBookOf, IsGathered}
 use Rattle.key_audit.specs.declared.book.KeptBook.{KeptBook}
 use Rattle.key_audit.specs.Kept.{KeepsBook}
 use Rattle.key_audit.proofs.CutStates.{cut_states, over_bare}
 use Rattle.key_audit.proofs.VisitMarks.{marks_visits}
 
--- where lines or marks do not stand no book is made
-pub not_begun : (script : Script) (t : List (List SeenLine)) (clause : Clause) → IsEarlyFault script t clause →
+-- where a clause fails no book is made
+pub not_found : (script : Script) (t : List (List SeenLine)) (clause : Clause) → FailsEarly script t clause →
     MadeBook script t → ⊥
-not_begun script t Lines fault m = fault m.lines
-not_begun script t Marks fault m = fault.1 m.marks
-not_begun script t clause fault m = absurd fault
+not_found script t Lines f m = f.fails m.lines
+not_found script t Marks f m = f.fails.1 m.marks
+not_found script t Forms f m = f.fails.2 m
+not_found script t clause f m = absurd f.early
 
-pub is_book : (script : Script) (t : List (List SeenLine)) (m : MadeBook script t) → IsBookOf script t m.book
-is_book script t m = record { cpus = m.forms.cpus; visits = m.forms.visits }
-
-module _ (script : Script) (t : List (List SeenLine)) (parts : Parts) (stand : PartsStand script t parts)
-    (told : Tables) (gathered : IsGathered script t told) (m : MadeBook script t) where
-  -- the lists of the book are as told and lawful
-  pub not_none : ((lists : Lists) → Fills told lists → Lawful told lists → ⊥) → ⊥
-  not_none none = none (lists_of m.book) (made_fills script t parts stand told gathered m)
-      (made_lawful script t parts stand told gathered m)
-
-  pub keeps_book : (lanes : KeptLists) → ((lists : Lists) → Fills told lists → Lawful told lists → Keeps lanes lists) →
-      (states : Vec (Vec (Vec StateEntry))) → AreStateLists (seen_calls parts.calls.items) (all_lists_in states.items) →
-      AreCutByStamp (script_calls script t) states.items →
-      KeepsBook (record { lanes = lanes; states = states; marks = parts.marks }) t (script_calls script t) m.book
-      m.meanings
-  keeps_book lanes keeps states are cut = record {
-    lanes = keeps (lists_of m.book) (made_fills script t parts stand told gathered m)
-        (made_lawful script t parts stand told gathered m);
-    states = are (lists_of m.book) (start_setting (script_calls script t)) m.meanings
-        (subst (λ (calls : List (List Call)).
-        EachCaller (λ c calls ms. CallerMeans (lists_of m.book) (start_setting (script_calls script t) c) calls ms) 0 calls
-        m.meanings) (sym stand.calls) m.forms.callers) ∙ sym m.forms.states;
-    cut = cut_states (lists_of m.book) (start_setting (script_calls script t)) (script_calls script t) m.meanings
-        states.items m.forms.callers cut;
-    marks = stand.all_marks;
-    sorted = stand.sorted;
-    visits = marks_visits m.book (all_marks t) parts.marks.items stand.all_marks stand.sorted m.marks.lanes
-        m.forms.visits;
-  }
+-- the lists of the book are as told and lawful
+pub keeps_book : (script : Script) (t : List (List SeenLine)) (basis : Basis) → BasisStands script t basis →
+    (m : MadeBook script t) (states : Vec (Vec (Vec StateEntry))) →
+    AreStateLists (seen_calls basis.parts.calls.items) (all_lists_in states.items) →
+    AreCutByStamp (script_calls script t) states.items →
+    KeepsBook (record { lanes = basis.lists; states = states; marks = basis.parts.marks }) t (script_calls script t) m.book
+    m.meanings
+keeps_book script t basis stand m states are cut = record {
+  lanes = keeps_made script t basis stand m;
+  states = are (lists_of m.book) (start_setting (script_calls script t)) m.meanings
+      (subst (λ (calls : List (List Call)).
+      EachCaller (λ c calls ms. CallerMeans (lists_of m.book) (start_setting (script_calls script t) c) calls ms) 0 calls
+      m.meanings) (sym stand.parts.calls) m.forms.callers) ∙ sym m.forms.states;
+  cut = cut_states (lists_of m.book) (start_setting (script_calls script t)) (script_calls script t) m.meanings
+      states.items m.forms.callers cut;
+  marks = stand.parts.all_marks;
+  sorted = stand.parts.sorted;
+  visits = marks_visits m.book (all_marks t) basis.parts.marks.items stand.parts.all_marks stand.parts.sorted m.marks.lanes
+      m.forms.visits;
+}
 
 -- ---- from bare lines to the lines themselves
 

@@ -10,7 +10,7 @@ use Rattle.key_names.specs.Texts.ScriptGrammar.{Script}
 use Rattle.key_uses.specs.HeldUnused.{HoldsUnused}
 use Rattle.tool_ends.specs.Pairs.{IsNoPair, IsPair, RefusalOf}
 use Rattle.tool_ends.specs.declared.pair.NoPair.{NoPair}
-use Rattle.tool_ends.specs.declared.pair.NoPair.TheVariants.{ReadFault as SourceFails, Refused as FirstFault, No as Clause, NoMemory as Unread}
+use Rattle.tool_ends.specs.declared.pair.NoPair.TheVariants.{ReadFault as SourceFails, Refused as FirstFault, NoTranscript, TooManyLines, NoMemory as Unread}
 use Rattle.tool_ends.specs.declared.status.Status.{Status}
 use Rattle.tool_ends.specs.declared.status.Status.TheVariants.{Done, No, Usage, ReadFault, WriteFault, Refused, NoMemory}
 use Rattle.tool_ends.proofs.Inputs.{IsLimited}
@@ -36,8 +36,10 @@ pub of_none : (ask : Ask) (input : List ℕ) (why : NoPair) → IsNoPair input w
 of_none ask input SourceFails is s o said = absurd is
 of_none ask input (FirstFault fault) is s o said =
     subst (λ status. Calls ask input status o) (sym said.0) (record { fault = fault; first = is; line = said.1 })
-of_none ask input (Clause number) is s o said =
-    subst (λ status. Calls ask input status o) (sym said.0) (inr (record { number = number; fails = is; line = said.1 }))
+of_none ask input NoTranscript is s o said =
+    subst (λ status. Calls ask input status o) (sym said.0) (inr (record { number = 1; fails = is; line = said.1 }))
+of_none ask input TooManyLines is s o said =
+    subst (λ status. Calls ask input status o) (sym said.0) (inr (record { number = 2; fails = is; line = said.1 }))
 of_none ask input Unread is s o said = absurd said
 
 pub is_limited : (ask : Ask) → IsLimited 100663296 (Calls ask)

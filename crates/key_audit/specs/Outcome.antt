@@ -3,11 +3,11 @@ use Rattle.std.specs.Prelude.{ℕ, ◌≡◌, ◌⊎◌, ⊤, List, ◌++◌, Op
 use Rattle.std.specs.List.{flat_map}
 use Rattle.key_names.specs.Book.{Book, lists_of}
 use Rattle.key_names.specs.Calls.{Call}
-use Rattle.key_names.specs.IsTranscript.{script_calls}
+use Rattle.key_names.specs.IsTranscript.{Clause, FirstFails, clause_number, script_calls}
 use Rattle.key_names.specs.Meaning.{CallMeaning}
 use Rattle.key_names.specs.SeenLine.{SeenLine}
 use Rattle.key_names.specs.Texts.ScriptGrammar.{Script}
-use Rattle.transcript_check.specs.Judged.{FailsFirst, IsSound}
+use Rattle.transcript_check.specs.Judged.{IsSound}
 use Rattle.key_uses.specs.HeldUnused.{HoldsUnused}
 use Rattle.key_rows.specs.declared.moments.Moments.{Moments}
 use Rattle.key_rows.specs.declared.rows.Row.{Row}
@@ -78,9 +78,9 @@ pub record TellsLawful (ask : Ask) (script : Script) (t : List (List SeenLine)) 
 
 -- the number of the first clause that fails
 pub record TellsClause (script : Script) (t : List (List SeenLine)) (output : List ℕ) : Type 0 where
-  pub number : ℕ
-  pub fails : FailsFirst script t number
-  pub line : output ≡ no_line number
+  pub clause : Clause
+  pub fails : FirstFails script t clause
+  pub line : output ≡ no_line (clause_number clause)
 
 abbrev pub ToldOf : Ask → Script → List (List SeenLine) → Status → List ℕ → Type 0
 ToldOf ask script t Done output = TellsLawful ask script t output

@@ -28,7 +28,7 @@ fn tell<K: Sink>(alloc: Global, ask: Ask, script: &Script, t: &Transcript, sink:
             Ok(text) => put_answer(Status::Done, &text, sink),
             Err(_) => Status::NoMemory,
         },
-        Ok(Verdict::No(number)) => put_line(Status::No, &no_line(number), sink),
+        Ok(Verdict::No(clause)) => put_line(Status::No, &no_line(clause.number()), sink),
         Err(_) => Status::NoMemory,
     }
 }

@@ -9,14 +9,12 @@ ghost use Rattle.key_audit.specs.Kept.{KeepsBook};
 
 use event_script::Script;
 use line_orders::bare::BareLine;
-use line_orders::begin::{Begun, begin};
 use line_orders::marks::MarkOf;
 use line_orders::seen::bare_callers;
-use line_orders::settings::all_settings;
-use list_replay::{Lists, replay_lists};
+use list_replay::Lists;
+use serial_replay::lists::{Found, find_lists};
 use state_entries::{StateEntry, state_lists};
 use std::alloc::{AllocError, Global};
-use told_entries::gather::gather;
 use transcript_text::Transcript;
 
 /// What is kept of a transcript's book.
@@ -40,22 +38,15 @@ fn book_of_lines(
         IfOk result (λ o. MatchOption o ⊥ (λ kept. KeepsBook kept (seen_callers lines.now)
         (script_calls script.now (seen_callers lines.now)) made.book made.meanings)) }
 {
-    let parts = match begin(alloc, script, lines)? {
-        Begun::No(_) => return Ok(None),
-        Begun::Stands(parts) => parts,
+    let basis = match find_lists(alloc, script, lines)? {
+        Found::No(_) => return Ok(None),
+        Found::Stands(basis) => basis,
     };
-    let settings = all_settings(alloc, &parts.calls, &parts.forks)?;
-    let Some(told) = gather(alloc, script, &parts, &settings)? else {
-        return Ok(None);
-    };
-    let Some(lanes) = replay_lists(alloc, &told)? else {
-        return Ok(None);
-    };
-    let states = state_lists(alloc, &parts)?;
+    let states = state_lists(alloc, &basis.parts)?;
     Ok(Some(KeptBook {
-        lanes,
+        lanes: basis.lists,
         states,
-        marks: parts.marks,
+        marks: basis.parts.marks,
     }))
 }
 

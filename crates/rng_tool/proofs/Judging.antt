@@ -1,13 +1,13 @@
 -- What is said of a script and of the transcript behind it, as what their text calls for.
-use Rattle.std.proofs.Common.{ℕ, List, sym, subst, refl, inl, inr}
-use Rattle.key_names.specs.IsTranscript.{HasLines, lines_clause}
+use Rattle.std.proofs.Common.{◌≡◌, ℕ, List, sym, subst, refl, inl, inr}
+use Rattle.key_names.specs.IsTranscript.{HasLines, clause_number, lines_clause}
 use Rattle.key_names.specs.Texts.ScriptGrammar.{Script}
 use Rattle.key_names.specs.SeenLine.{SeenLine}
 use Rattle.key_names.specs.Texts.TranscriptGrammar.{TranscriptFits, transcript_text}
 use Rattle.serial_replay.specs.Replayed.{IsTheTranscript}
-use Rattle.tool_ends.specs.Pairs.{FailsAsText, IsNoPair, IsPair, RefusalOf, behind}
+use Rattle.tool_ends.specs.Pairs.{FailsAsText, IsNoPair, IsPair, RefusalOf, behind, no_line}
 use Rattle.tool_ends.specs.declared.pair.NoPair.{NoPair}
-use Rattle.tool_ends.specs.declared.pair.NoPair.TheVariants.{ReadFault as SourceFails, Refused as FirstFault, No as Clause, NoMemory as Unread}
+use Rattle.tool_ends.specs.declared.pair.NoPair.TheVariants.{ReadFault as SourceFails, Refused as FirstFault, NoTranscript, TooManyLines, NoMemory as Unread}
 use Rattle.tool_ends.specs.declared.status.Status.{Status}
 use Rattle.tool_ends.specs.declared.status.Status.TheVariants.{Done, No, Usage, ReadFault, WriteFault, Refused, NoMemory}
 use Rattle.rng_tool.specs.JudgeOutcome.{Fails, GivesBack, IsClause, JudgeCalls, SaidOf}
@@ -36,8 +36,8 @@ pair_said judge input script t pair No o said = record {
   short = pair.short;
   script = script;
   is_script = pair.is_script;
-  number = said.0;
-  clause = inr (t, pair.text, said.1);
+  number = clause_number said.0;
+  clause = inr (t, pair.text, said.0, said.1, refl);
   line = said.2;
 }
 pair_said judge input script t pair Refused o said = absurd said
@@ -48,9 +48,9 @@ pair_said judge input script t pair NoMemory o said = absurd said
 
 -- without its lines a transcript fails the second clause
 lacks_lines : (judge : Judge) (script : Script) (t : List (List SeenLine)) → (HasLines script t → ⊥) →
-    Fails judge script t 2
-lacks_lines Check script t fails = record { clause = lines_clause; is = refl; fails = fails }
-lacks_lines Replay script t fails = record { clause = lines_clause; is = refl; fails = fails }
+    Fails judge script t lines_clause
+lacks_lines Check script t fails = fails
+lacks_lines Replay script t fails = fails
 
 clause_said : (judge : Judge) (input : List ℕ) (number : ℕ) (fails : FailsAsText input number) →
     IsClause judge fails.script (behind input) number
@@ -59,10 +59,23 @@ clause_said judge input number fails = elim fails.clause [
   | inr lacks ↦ inr (
     lacks.1.lines,
     lacks.1.is_text,
-    subst (Fails judge fails.script lacks.1.lines) (sym lacks.0)
-        (lacks_lines judge fails.script lacks.1.lines lacks.1.fails),
+    lines_clause,
+    lacks_lines judge fails.script lacks.1.lines lacks.1.fails,
+    lacks.0,
   )
 ]
+
+-- so what fails as text is said
+text_said : (judge : Judge) (input : List ℕ) (number : ℕ) → FailsAsText input number → (s : Status) (o : List ℕ) →
+    (s ≡ No) × (o ≡ no_line number) → JudgeCalls judge input s o
+text_said judge input number is s o said = subst (λ status. JudgeCalls judge input status o) (sym said.0) (record {
+  short = is.short;
+  script = is.script;
+  is_script = is.is_script;
+  number = number;
+  clause = clause_said judge input number is;
+  line = said.1;
+})
 
 -- what is said of an input that is not read is said of its text
 pub none_said : (judge : Judge) (input : List ℕ) (why : NoPair) → IsNoPair input why → (s : Status) (o : List ℕ) →
@@ -70,13 +83,6 @@ pub none_said : (judge : Judge) (input : List ℕ) (why : NoPair) → IsNoPair i
 none_said judge input SourceFails is s o said = absurd is
 none_said judge input (FirstFault fault) is s o said = subst (λ status. JudgeCalls judge input status o) (sym said.0)
     (record { fault = fault; first = is; line = said.1 })
-none_said judge input (Clause number) is s o said = subst (λ status. JudgeCalls judge input status o) (sym said.0)
-    (record {
-      short = is.short;
-      script = is.script;
-      is_script = is.is_script;
-      number = number;
-      clause = clause_said judge input number is;
-      line = said.1;
-    })
+none_said judge input NoTranscript is s o said = text_said judge input 1 is s o said
+none_said judge input TooManyLines is s o said = text_said judge input 2 is s o said
 none_said judge input Unread is s o said = absurd said

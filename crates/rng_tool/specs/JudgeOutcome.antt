@@ -1,12 +1,13 @@
 -- What `check` and `replay` promise: a script, and a transcript behind it.
 use Rattle.std.specs.Prelude.{ℕ, ◌≡◌, ◌⊎◌, ◌≤◌, List, [], ◌∷◌, ◌++◌, Option, String, string_bytes, codes, length, map}
+use Rattle.key_names.specs.IsTranscript.{Clause, FirstFails, clause_number}
 use Rattle.key_names.specs.Texts.ScriptFaults.{front}
 use Rattle.key_names.specs.Texts.ScriptGrammar.{Script, IsScript}
 use Rattle.key_names.specs.SeenLine.{SeenLine}
 use Rattle.key_names.specs.Texts.TranscriptGrammar.{IsTranscriptText}
-use Rattle.transcript_check.specs.Judged.{IsSound, FailsFirst}
-use Rattle.serial_replay.specs.Replayed.{IsTheTranscript, StopsAt}
-use Rattle.tool_ends.specs.Pairs.{IsPair, TellsFault, behind, most_input, no_line}
+use Rattle.transcript_check.specs.Judged.{IsSound}
+use Rattle.serial_replay.specs.Replayed.{IsTheTranscript, StepsFail}
+use Rattle.tool_ends.specs.Pairs.{IsNoTranscript, IsPair, TellsFault, behind, most_input, no_line}
 use Rattle.tool_ends.specs.Reads.{ReadsEnds}
 use Rattle.tool_ends.specs.declared.status.Status.{Status}
 use Rattle.tool_ends.specs.declared.status.Status.TheVariants.{Done, No, Usage, ReadFault, WriteFault, Refused, NoMemory}
@@ -33,10 +34,10 @@ abbrev pub Says : Judge → Script → List (List SeenLine) → List ℕ → Typ
 Says Check = SaysYes
 Says Replay = GivesBack
 
--- the clause of this number is the first that fails
-abbrev pub Fails : Judge → Script → List (List SeenLine) → ℕ → Type 0
-Fails Check = FailsFirst
-Fails Replay = StopsAt
+-- the clause is the first that fails
+abbrev pub Fails : Judge → Script → List (List SeenLine) → Clause → Type 0
+Fails Check = FirstFails
+Fails Replay = StepsFail
 
 -- ---- of an input
 
@@ -47,11 +48,12 @@ pub record JudgeAnswer (judge : Judge) (input output : List ℕ) : Type 0 where
   pub pair : IsPair input script lines
   pub says : Says judge script lines output
 
--- the text behind the script is no transcript's, which is clause 1, or it is one of which a clause fails
+-- the text behind the script is no transcript's, which is clause 1, or it is one of which the clause of this number fails
 abbrev pub IsClause : Judge → Script → List ℕ → ℕ → Type 0
 IsClause judge script text number =
-    (number ≡ 1) × ((lines : List (List SeenLine)) → IsTranscriptText text lines → ⊥)
-    ⊎ (lines : List (List SeenLine)) × IsTranscriptText text lines × Fails judge script lines number
+    (number ≡ 1) × IsNoTranscript text
+    ⊎ (lines : List (List SeenLine)) × IsTranscriptText text lines
+    × (clause : Clause) × Fails judge script lines clause × (number ≡ clause_number clause)
 
 pub record JudgeVerdict (judge : Judge) (input output : List ℕ) : Type 0 where
   pub short : length input ≤ most_input
@@ -64,7 +66,7 @@ pub record JudgeVerdict (judge : Judge) (input output : List ℕ) : Type 0 where
 -- what is said of a transcript, and the status that says so
 abbrev pub SaidOf : Judge → Script → List (List SeenLine) → Status → List ℕ → Type 0
 SaidOf judge script t Done output = Says judge script t output
-SaidOf judge script t No output = (number : ℕ) × Fails judge script t number × (output ≡ no_line number)
+SaidOf judge script t No output = (clause : Clause) × Fails judge script t clause × (output ≡ no_line (clause_number clause))
 SaidOf judge script t Refused output = ⊥
 SaidOf judge script t Usage output = ⊥
 SaidOf judge script t ReadFault output = ⊥

@@ -68,7 +68,7 @@ fn say_checked<K: Sink>(alloc: Global, script: &Script, t: &Transcript, sink: &m
 {
     match check(alloc, script, t) {
         Ok(Verdict::Yes) => put_line(Status::Done, &yes_line(), sink),
-        Ok(Verdict::No(number)) => put_line(Status::No, &no_line(number), sink),
+        Ok(Verdict::No(clause)) => put_line(Status::No, &no_line(clause.number()), sink),
         Err(_) => Status::NoMemory,
     }
 }
@@ -86,7 +86,7 @@ fn say_replayed<K: Sink>(alloc: Global, script: &Script, t: &Transcript, sink: &
             Ok(()) => Status::Done,
             Err(Failed) => Status::WriteFault,
         },
-        Ok(Replayed::No(number)) => put_line(Status::No, &no_line(number), sink),
+        Ok(Replayed::No(clause)) => put_line(Status::No, &no_line(clause.number()), sink),
         Err(_) => Status::NoMemory,
     }
 }

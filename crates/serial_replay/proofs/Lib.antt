@@ -1,3 +1,4 @@
+pub mod Clauses
 pub mod LooksStand
 pub mod MarksCounted
 pub mod LaneVisits

@@ -3,14 +3,17 @@ use Rattle.std.proofs.Common.{◌≡◌, ◌⊎◌, List, inl, inr, refl, sym, s
 use Rattle.key_names.specs.Texts.ScriptGrammar.{Script}
 use Rattle.key_names.specs.SeenLine.{SeenLine}
 use Rattle.key_names.specs.SameSteps.{SameSteps}
-use Rattle.key_names.specs.IsTranscript.{IsTranscript, MadeBook, FirstFails, Clause, clause_number}
+use Rattle.key_names.specs.IsTranscript.{IsTranscript, MadeBook, FirstFails, Clause}
 use Rattle.key_names.specs.IsTranscript.{lines_clause, marks_clause, forms_clause, answers_clause, data_clause, looks_clause}
 use Rattle.key_names.proofs.Unique.BareMeanings.{steps_make_the_book}
 use Rattle.key_names.proofs.Unique.UniqueBook.{book_is_unique, first_fail_is_unique}
+use Rattle.line_orders.specs.Clauses.{clause_of}
+use Rattle.line_orders.specs.declared.clause.Clause as judged
 use Rattle.serial_replay.specs.declared.replay.Replayed.{Replayed}
 use Rattle.serial_replay.specs.declared.replay.Replayed.TheVariants.{Made, No}
 use Rattle.serial_replay.specs.Replayed.{IsReplay, StepsFail}
 use Rattle.serial_replay.proofs.BareMade.{same_looks}
+use Rattle.serial_replay.proofs.Clauses.{same_clause}
 use Rattle.serial_replay.proofs.Replays.{lawful_book}
 
 module _ (script : Script) (t : List (List SeenLine)) where
@@ -57,9 +60,10 @@ module _ (script : Script) (t : List (List SeenLine)) where
 pub made_of : (script : Script) (t : List (List SeenLine)) (r : Replayed) (u : List (List SeenLine)) → IsReplay script t r →
     SameSteps t u → IsTranscript script u → r ≡ Made u
 made_of script t (Made v) u j same is = ap Made (sym (j.only u same is))
-made_of script t (No number) u j same is = absurd (none_stops script t u same is j.clause j.fails)
+made_of script t (No clause) u j same is = absurd (none_stops script t u same is (clause_of clause) j)
 
-pub no_of : (script : Script) (t : List (List SeenLine)) (r : Replayed) (clause : Clause) → IsReplay script t r →
-    StepsFail script t clause → r ≡ No (clause_number clause)
-no_of script t (Made u) clause j f = absurd (none_stops script t u j.same j.lawful clause f)
-no_of script t (No number) clause j f = ap No (j.is ∙ ap clause_number (one_stops script t j.clause clause j.fails f))
+pub no_of : (script : Script) (t : List (List SeenLine)) (r : Replayed) (clause : judged.Clause) → IsReplay script t r →
+    StepsFail script t (clause_of clause) → r ≡ No clause
+no_of script t (Made u) clause j f = absurd (none_stops script t u j.same j.lawful (clause_of clause) f)
+no_of script t (No other) clause j f =
+    ap No (same_clause other clause (one_stops script t (clause_of other) (clause_of clause) j f))

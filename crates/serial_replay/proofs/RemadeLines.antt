@@ -9,7 +9,7 @@ use Rattle.key_names.specs.Calls.{Setting, Call}
 use Rattle.key_names.specs.History.{caller_orders}
 use Rattle.key_names.specs.Texts.ScriptGrammar.{Script, WellFormed}
 use Rattle.key_names.specs.SeenLine.{SeenLine}
-use Rattle.key_names.specs.IsTranscript.{script_calls, start_setting, EachCaller, EachLine}
+use Rattle.key_names.specs.IsTranscript.{MadeBook, script_calls, start_setting, EachCaller, EachLine}
 use Rattle.line_orders.specs.declared.begin.Parts.{Parts}
 use Rattle.line_orders.specs.declared.called.Called.{Called}
 use Rattle.line_orders.specs.declared.order.Fork.{Fork}
@@ -23,7 +23,6 @@ use Rattle.line_orders.specs.Settings.{AreSettings}
 use Rattle.line_orders.proofs.AllCalls.{calls_long}
 use Rattle.line_orders.proofs.ForksRise.{all_rise}
 use Rattle.line_orders.proofs.LineFits.{callers_long}
-use Rattle.list_replay.specs.declared.kept.Lists.{Lists as KeptLists}
 use Rattle.list_replay.specs.Tables.{Tables}
 use Rattle.list_replay.specs.Fills.{Fills}
 use Rattle.list_replay.specs.Kept.{Keeps}
@@ -33,7 +32,9 @@ use Rattle.told_entries.specs.Gathered.{IsBookOf, IsGathered}
 use Rattle.caller_answers.specs.declared.said.Said.{Said}
 use Rattle.caller_answers.specs.Said.{CallInRange, IsSaid, SaysIt}
 use Rattle.caller_answers.proofs.CallsRange.{all_in_range}
+use Rattle.serial_replay.specs.declared.lists.Basis.{Basis}
 use Rattle.serial_replay.specs.declared.remake.Made.{Made}
+use Rattle.serial_replay.specs.Found.{BasisStands}
 use Rattle.serial_replay.specs.Remade.{StepsFit, CallersStand, MeansSome, AllMeanSome, AllSaid, said_of_caller, made_by, AllMade}
 use Rattle.serial_replay.specs.Remade.{FailsEarly}
 use Rattle.serial_replay.specs.Seen.{seen_behind, MayLook, reseeds_in}
@@ -49,9 +50,6 @@ early_fails script t clause f = absurd f
 
 module _ (script : Script) (t : List (List SeenLine)) (parts : Parts) (stand : PartsStand script t parts)
     (well : WellFormed script) where
-  abbrev calls : List (List Call)
-  calls = script_calls script t
-
   pub few_calls : length parts.calls.items ≤ 64
   few_calls =
       let many : length parts.calls.items ≡ length script.callers =
@@ -75,62 +73,76 @@ module _ (script : Script) (t : List (List SeenLine)) (parts : Parts) (stand : P
   none_gathered none = stops script t parts stand
       (λ m. none m.book (record { cpus = m.forms.cpus; visits = m.forms.visits }))
 
-  module _ (settings : List (Vec Setting)) (fit : StepsFit t) (are : AreSettings (seen_calls parts.calls.items) settings)
-      (told : Tables) (gathered : IsGathered script t told) where
-    -- no lists are as told and lawful
-    pub none_replayed : ((lists : Lists) → Fills told lists → Lawful told lists → ⊥) → FailsEarly script t Forms
-    none_replayed none = stops script t parts stand
-        (λ m. none (lists_of m.book) (made_fills script t parts stand told gathered m)
-        (made_lawful script t parts stand told gathered m))
+  -- no lists are as told and lawful
+  pub none_replayed : (told : Tables) → IsGathered script t told →
+      ((lists : Lists) → Fills told lists → Lawful told lists → ⊥) → FailsEarly script t Forms
+  none_replayed told gathered none = stops script t parts stand
+      (λ m. none (lists_of m.book) (made_fills script t parts stand told gathered m)
+      (made_lawful script t parts stand told gathered m))
 
-    pub callers_stand : CallersStand script t (seen_calls parts.calls.items) settings
-    callers_stand = record { lines = stand.lines; fit = fit; calls = stand.calls; found = are }
+module _ (script : Script) (t : List (List SeenLine)) (basis : Basis) (stand : BasisStands script t basis) where
+  abbrev calls : List (List Call)
+  calls = script_calls script t
 
-    module _ (kept : KeptLists) (keeps : (lists : Lists) → Fills told lists → Lawful told lists → Keeps kept lists) where
-      -- the steps of some line are no form
-      pub none_said :
-          ((lists : Lists) → Keeps kept lists → LawfulLanes lists → AllMeanSome lists (seen_calls parts.calls.items) → ⊥) →
-          FailsEarly script t Forms
-      none_said none = stops script t parts stand (λ m.
-          let lists : Lists = lists_of m.book in
-          let means : AllMeanSome lists calls =
-          (λ c low. subst (λ n. MeansSome lists (start_setting calls n) (list_at calls c)) (omega arith)
-          (caller_means lists (start_setting calls) 0 calls m.meanings m.forms.callers c low)) in
-          none lists (keeps lists (made_fills script t parts stand told gathered m)
-          (made_lawful script t parts stand told gathered m)) m.forms.lanes
-          (subst (AllMeanSome lists) (sym stand.calls) means))
+  -- of the lists of a book that is made the same is kept
+  pub keeps_made : (m : MadeBook script t) → Keeps basis.lists (lists_of m.book)
+  keeps_made m = stand.keeps (lists_of m.book)
+      (made_fills script t basis.parts stand.parts stand.told stand.gathered m)
+      (made_lawful script t basis.parts stand.parts stand.told stand.gathered m)
 
-      module _ (lists : Lists) (fills : Fills told lists) (lawful : Lawful told lists) where
-        pub all_fill : AllCallsFill lists (seen_calls parts.calls.items)
-        all_fill = subst (AllCallsFill lists) (sym stand.calls)
-            (lines_fill script t parts stand told gathered lists fills lawful)
+  pub callers_stand : StepsFit t → CallersStand script t (seen_calls basis.parts.calls.items) basis.settings.items
+  callers_stand fit = record {
+    lines = stand.parts.lines;
+    fit = fit;
+    calls = stand.parts.calls;
+    found = stand.settings;
+  }
 
-        module _ {Noted : Type 0} (IsNoted : ℕ → ℕ → Said → Noted → Type 0) (m : Made Noted)
-            (all : AllSaid IsNoted lists (seen_calls parts.calls.items) m.callers.items) where
-          abbrev at : ℕ → ℕ → Said → Type 0
-          at = said_of_caller IsNoted (made_by m)
+  -- the steps of some line are no form
+  pub none_said :
+      ((lists : Lists) → Keeps basis.lists lists → LawfulLanes lists →
+      AllMeanSome lists (seen_calls basis.parts.calls.items) → ⊥) →
+      FailsEarly script t Forms
+  none_said none = stops script t basis.parts stand.parts (λ m.
+      let lists : Lists = lists_of m.book in
+      let means : AllMeanSome lists calls =
+      (λ c low. subst (λ n. MeansSome lists (start_setting calls n) (list_at calls c)) (omega arith)
+      (caller_means lists (start_setting calls) 0 calls m.meanings m.forms.callers c low)) in
+      none lists (keeps_made m) m.forms.lanes (subst (AllMeanSome lists) (sym stand.parts.calls) means))
 
-          said : SaidByAll lists (start_setting calls) at 0 calls
-          said =
-              let each : AllSaid IsNoted lists calls m.callers.items =
-              subst (λ cs. AllSaid IsNoted lists cs m.callers.items) stand.calls all in
-              said_by_all lists (start_setting calls) at 0 calls (λ d low.
-              subst (λ n. IsSaid lists (start_setting calls n) (list_at calls d) (at n)) (omega arith) (each.each d low))
+  pub all_fill : AllCallsFill stand.lists (seen_calls basis.parts.calls.items)
+  all_fill = subst (AllCallsFill stand.lists) (sym stand.parts.calls)
+      (lines_fill script t basis.parts stand.parts stand.told stand.gathered stand.lists stand.fills stand.lawful)
 
-          long : length (made_by m) ≡ length t
-          long =
-              length-map m.callers.items (λ (s : Vec Noted). s.items) ∙ all.long ∙ ap length stand.calls
-              ∙ calls_long script.callers t ∙ sym (callers_long 0 script.callers t stand.lines)
+  module _ {Noted : Type 0} (IsNoted : ℕ → ℕ → Said → Noted → Type 0) (m : Made Noted)
+      (all : AllSaid IsNoted stand.lists (seen_calls basis.parts.calls.items) m.callers.items) where
+    abbrev at : ℕ → ℕ → Said → Type 0
+    at = said_of_caller IsNoted (made_by m)
 
-          pub all_made : (reseeds : ℕ) → reseeds ≡ reseeds_in kept.base.items →
-              (IsTrue m.looks_stand ↔ AllByRecursion (Along (seen_behind kept) (MayLook reseeds) None) (caller_orders calls)) →
-              AllMade IsNoted script t m
-          all_made reseeds is looks =
-              let both = looks_stand kept lists (keeps lists fills lawful) reseeds is (caller_orders calls) in
-              let of = of_lists script t parts stand told gathered lists fills lawful at said in record {
-                made = of.made;
-                long = long;
-                says = subst (λ mss. EachCaller (λ c calls' ms. EachLine (SaysIt (at c)) calls' ms) 0 calls mss)
-                    (sym of.meanings) said.says;
-                looks = of.looks m.looks_stand ((λ h. both.0 (looks.0 h)), (λ h. looks.1 (both.1 h)));
-              }
+    said : SaidByAll stand.lists (start_setting calls) at 0 calls
+    said =
+        let each : AllSaid IsNoted stand.lists calls m.callers.items =
+        subst (λ cs. AllSaid IsNoted stand.lists cs m.callers.items) stand.parts.calls all in
+        said_by_all stand.lists (start_setting calls) at 0 calls (λ d low.
+        subst (λ n. IsSaid stand.lists (start_setting calls n) (list_at calls d) (at n)) (omega arith) (each.each d low))
+
+    long : length (made_by m) ≡ length t
+    long =
+        length-map m.callers.items (λ (s : Vec Noted). s.items) ∙ all.long ∙ ap length stand.parts.calls
+        ∙ calls_long script.callers t ∙ sym (callers_long 0 script.callers t stand.parts.lines)
+
+    pub all_made : (reseeds : ℕ) → reseeds ≡ reseeds_in basis.lists.base.items →
+        (IsTrue m.looks_stand ↔
+        AllByRecursion (Along (seen_behind basis.lists) (MayLook reseeds) None) (caller_orders calls)) →
+        AllMade IsNoted script t m
+    all_made reseeds is looks =
+        let both = looks_stand basis.lists stand.lists (stand.keeps stand.lists stand.fills stand.lawful) reseeds is
+        (caller_orders calls) in
+        let of = of_lists script t basis.parts stand.parts stand.told stand.gathered stand.lists stand.fills stand.lawful at
+        said in record {
+          made = of.made;
+          long = long;
+          says = subst (λ mss. EachCaller (λ c calls' ms. EachLine (SaysIt (at c)) calls' ms) 0 calls mss)
+              (sym of.meanings) said.says;
+          looks = of.looks m.looks_stand ((λ h. both.0 (looks.0 h)), (λ h. looks.1 (both.1 h)));
+        }

@@ -6,15 +6,18 @@ use Rattle.key_names.specs.Book.{list_at}
 use Rattle.key_names.specs.Texts.ScriptGrammar.{Script}
 use Rattle.key_names.specs.SeenLine.{SeenLine}
 use Rattle.key_names.specs.SameSteps.{bare, SameSteps}
-use Rattle.key_names.specs.IsTranscript.{MadeBook, AnswersStand, DataStand, IsTranscript, clause_number}
+use Rattle.key_names.specs.IsTranscript.{MadeBook, AnswersStand, DataStand, IsTranscript}
 use Rattle.key_names.specs.IsTranscript.{looks_clause}
 use Rattle.key_names.proofs.Unique.UniqueBook.{book_is_unique}
+use Rattle.line_orders.specs.Clauses.{clause_of}
+use Rattle.line_orders.specs.declared.clause.Clause.{Clause}
+use Rattle.line_orders.specs.declared.clause.Clause.TheVariants.{Lines, Marks, Forms}
 use Rattle.caller_answers.specs.declared.said.Said.{Said}
 use Rattle.caller_answers.specs.Said.{shown_by, itself}
 use Rattle.serial_replay.specs.declared.remake.Made.{Made}
 use Rattle.serial_replay.specs.Agreement.{Agrees, SameAnswer, SameShown, AllAgree}
-use Rattle.serial_replay.specs.Remade.{AllMade, made_by}
-use Rattle.serial_replay.specs.Replayed.{IsTheTranscript, StopsAt}
+use Rattle.serial_replay.specs.Remade.{AllMade, FailsEarly, made_by}
+use Rattle.serial_replay.specs.Replayed.{IsTheTranscript, StepsFail}
 use Rattle.serial_replay.specs.Written.{said_of, lines_said, said_into, MayShow}
 use Rattle.serial_replay.proofs.Agreement.{some_one, answers_both, data_both}
 use Rattle.serial_replay.proofs.BareMade.{all_made}
@@ -159,11 +162,15 @@ module _ (script : Script) (t : List (List SeenLine)) (m : Made Said) (of : AllM
             shown;
       }
 
+-- what fails before any answer stops the steps
+pub early_stops : (script : Script) (t : List (List SeenLine)) (clause : Clause) → FailsEarly script t clause →
+    StepsFail script t (clause_of clause)
+early_stops script t Lines f = f.fails
+early_stops script t Marks f = f.fails
+early_stops script t Forms f = f.fails
+early_stops script t clause f = absurd f.early
+
 -- where looks do not stand
-pub looks_stop : (script : Script) (t : List (List SeenLine)) (m : Made Said) (number : ℕ) →
-    number ≡ clause_number looks_clause → AllMade itself script t m → (IsTrue m.looks_stand → ⊥) → StopsAt script t number
-looks_stop script t m number is a fall = record {
-  clause = looks_clause;
-  is = is;
-  fails = (a.made, (λ stand. fall (a.looks.1 stand)));
-}
+pub looks_stop : (script : Script) (t : List (List SeenLine)) (m : Made Said) → AllMade itself script t m →
+    (IsTrue m.looks_stand → ⊥) → StepsFail script t looks_clause
+looks_stop script t m a fall = (a.made, (λ stand. fall (a.looks.1 stand)))

@@ -1,4 +1,5 @@
 pub mod Remade
+pub mod Found
 pub mod Replayed
 pub mod Seen
 pub mod Agreement

@@ -1,12 +1,13 @@
 -- What a replay answers.
-use Rattle.std.specs.Prelude.{ℕ, ◌≡◌, List}
+use Rattle.std.specs.Prelude.{◌≡◌, List}
 use Rattle.key_names.specs.Book.{lists_of}
 use Rattle.key_names.specs.Texts.ScriptGrammar.{Script}
 use Rattle.key_names.specs.SeenLine.{SeenLine}
 use Rattle.key_names.specs.SameSteps.{SameSteps}
-use Rattle.key_names.specs.IsTranscript.{IsTranscript, MadeBook, SeenStands, FirstFails, Clause, clause_number}
+use Rattle.key_names.specs.IsTranscript.{IsTranscript, MadeBook, SeenStands, FirstFails, Clause}
 use Rattle.key_names.specs.IsTranscript.{lines_clause, marks_clause, forms_clause, answers_clause, data_clause}
 use Rattle.key_names.specs.IsTranscript.{looks_clause}
+use Rattle.line_orders.specs.Clauses.{clause_of}
 use Rattle.serial_replay.specs.declared.replay.Replayed.{Replayed}
 use Rattle.serial_replay.specs.declared.replay.Replayed.TheVariants.{Made, No}
 
@@ -25,11 +26,6 @@ pub record IsTheTranscript (script : Script) (t u : List (List SeenLine)) : Type
   pub lawful : IsTranscript script u
   pub only : (v : List (List SeenLine)) → SameSteps t v → IsTranscript script v → v ≡ u
 
-pub record StopsAt (script : Script) (t : List (List SeenLine)) (number : ℕ) : Type 0 where
-  pub clause : Clause
-  pub is : number ≡ clause_number clause
-  pub fails : StepsFail script t clause
-
 abbrev pub IsReplay : Script → List (List SeenLine) → Replayed → Type 0
 IsReplay script t (Made u) = IsTheTranscript script t u
-IsReplay script t (No number) = StopsAt script t number
+IsReplay script t (No clause) = StepsFail script t (clause_of clause)

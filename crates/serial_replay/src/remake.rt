@@ -13,6 +13,7 @@ ghost use Rattle.told_entries.specs.Filled.{AllCallsFill};
 ghost use Rattle.caller_answers.specs.Said.{CallInRange, IsSaid};
 ghost use Rattle.serial_replay.specs.Remade.{IsRemade, CallersStand, StepsFit, AllMeanSome, AllSaid};
 
+use crate::lists::{Found, find_lists};
 use crate::looks::Looks;
 use caller_answers::calls::caller_said;
 use caller_answers::said::Note;
@@ -20,14 +21,11 @@ use event_script::Script;
 use line_forms::setting::Setting;
 use line_orders::along::all_may_follow;
 use line_orders::bare::BareLine;
-use line_orders::begin::{Begun, begin};
 use line_orders::called::Called;
 use line_orders::clause::Clause;
 use line_orders::seen::bare_callers;
-use line_orders::settings::all_settings;
-use list_replay::{Lists, replay_lists};
+use list_replay::Lists;
 use std::alloc::{AllocError, Global};
-use told_entries::gather::gather;
 use transcript_text::Transcript;
 
 /// What was noted of each caller's lines, by the numbers of their events, and whether the looks of the transcript
@@ -93,21 +91,16 @@ fn of_lines<N: Note>(
     requires fit { StepsFit (seen_callers lines.now) }
     ensures { IfOk result (λ remade. IsRemade (N.IsNoted how.now) script.now (seen_callers lines.now) remade) }
 {
-    let parts = match begin(alloc, script, lines)? {
-        Begun::No(clause) => return Ok(Remade::No(clause)),
-        Begun::Stands(parts) => parts,
+    let basis = match find_lists(alloc, script, lines)? {
+        Found::No(clause) => return Ok(Remade::No(clause)),
+        Found::Stands(basis) => basis,
     };
-    let settings = all_settings(alloc, &parts.calls, &parts.forks)?;
-    let Some(told) = gather(alloc, script, &parts, &settings)? else {
+    let parts = &basis.parts;
+    let Some(callers) = all_said(alloc, &parts.calls, &basis.settings, &basis.lists, how)? else {
         return Ok(Remade::No(Clause::Forms));
     };
-    let Some(kept) = replay_lists(alloc, &told)? else {
-        return Ok(Remade::No(Clause::Forms));
-    };
-    let Some(callers) = all_said(alloc, &parts.calls, &settings, &kept, how)? else {
-        return Ok(Remade::No(Clause::Forms));
-    };
-    let looks_stand = all_may_follow(alloc, &parts.calls, &parts.forks, &Looks::of(&kept))?;
+    let looks = Looks::of(&basis.lists);
+    let looks_stand = all_may_follow(alloc, &parts.calls, &parts.forks, &looks)?;
     Ok(Remade::Made(Made {
         callers,
         looks_stand,

@@ -1,7 +1,7 @@
 //! A transcript from its steps.
 ghost use Rattle.std.specs.Prelude.{◌≡◌, ◌^◌, ◌<◌, ◌∷◌, [], ◌++◌, List, length, Some, IfOk, OnOk, slice_get};
 ghost use Rattle.std.specs.List.{AllByRecursion};
-ghost use Rattle.key_names.specs.IsTranscript.{IsTranscript, clause_number};
+ghost use Rattle.key_names.specs.IsTranscript.{IsTranscript};
 ghost use Rattle.key_names.specs.SameSteps.{SameSteps};
 ghost use Rattle.key_names.specs.SeenLine.{SeenLine};
 ghost use Rattle.key_names.specs.Texts.TranscriptGrammar.{LineFits, ShownFits};
@@ -25,8 +25,8 @@ use transcript_text::{CallerLines, LineView, Shown, Transcript};
 #[derive(Drop)]
 pub enum Replayed {
     Made(Transcript),
-    /// Which clause fails first, of those that no answer or data has a part in: 2, 3, 4, 7.
-    No(u8),
+    /// Which clause fails first, of those that no answer or data has a part in: lines, marks, forms, looks.
+    No(Clause),
 }
 
 // One more line.
@@ -158,11 +158,11 @@ fn replay_steps(alloc: Global, script: &Script, steps: &Transcript) -> Result<Re
     ensures { IfOk result (λ replayed. IsReplay script.now steps.now replayed) }
 {
     let made = match remake(alloc, script, steps, &Whole)? {
-        Remade::No(clause) => return Ok(Replayed::No(clause.number())),
+        Remade::No(clause) => return Ok(Replayed::No(clause)),
         Remade::Made(made) => made,
     };
     if !made.looks_stand {
-        return Ok(Replayed::No(Clause::Looks.number()));
+        return Ok(Replayed::No(Clause::Looks));
     }
     Ok(Replayed::Made(all_lines(alloc, steps, &made.callers)?))
 }
@@ -178,7 +178,7 @@ pub fn replay(alloc: Global, script: &Script, steps: &Transcript) -> Result<Repl
     ensures made { (t : List (List SeenLine)) → SameSteps steps.now t → IsTranscript script.now t
         → IfOk result (λ replayed. replayed ≡ Replayed.Made t) }
     ensures stops { (clause : Clause) → StepsFail script.now steps.now (clause_of clause)
-        → IfOk result (λ replayed. replayed ≡ Replayed.No (clause_number (clause_of clause))) }
+        → IfOk result (λ replayed. replayed ≡ Replayed.No clause) }
 {
     replay_steps(alloc, script, steps)
 }

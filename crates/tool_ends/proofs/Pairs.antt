@@ -16,7 +16,7 @@ use Rattle.key_names.proofs.Samples.Lines.{AllFit, fits_long}
 use Rattle.transcript_text.specs.ReadTexts.{HasMoreLines}
 use Rattle.tool_ends.specs.Pairs.{IsNoPair, IsNoText, LacksLines, RefusalOf, TellsFault, behind, no_line, pair_fault, refusal_line}
 use Rattle.tool_ends.specs.declared.pair.NoPair.{NoPair}
-use Rattle.tool_ends.specs.declared.pair.NoPair.TheVariants.{ReadFault, Refused, No, NoMemory}
+use Rattle.tool_ends.specs.declared.pair.NoPair.TheVariants.{ReadFault, Refused, NoTranscript, TooManyLines, NoMemory}
 use Rattle.tool_ends.specs.declared.status.Status.{Status}
 use Rattle.tool_ends.specs.declared.status.Status.TheVariants.{Refused as IsRefused, No as IsNo}
 
@@ -69,14 +69,17 @@ pub no_pair : (input : List ℕ) (script : Script) → length input ≤ 10066329
     (why : NoPair) → IsNoText (behind input) why → IsNoPair input why
 no_pair input script short is ReadFault not = absurd not
 no_pair input script short is (Refused fault) not = absurd not
-no_pair input script short is (No number) not = record {
+no_pair input script short is NoTranscript not = record {
   short = short;
   script = script;
   is_script = is;
-  clause = elim not [
-    | inl none ↦ inl none
-    | inr many ↦ inr (many.0, too_many script (behind input) is.well_formed many.1)
-  ];
+  clause = inl (refl, not);
+}
+no_pair input script short is TooManyLines not = record {
+  short = short;
+  script = script;
+  is_script = is;
+  clause = inr (refl, too_many script (behind input) is.well_formed not);
 }
 no_pair input script short is NoMemory not = tt
 
@@ -87,5 +90,5 @@ pub refused_by : (fault : ScriptFault) (line : List ℕ) → line ≡ refusal_li
 refused_by fault line is s o said = (said.0, said.1 ∙ is)
 
 pub failed_by : (number : ℕ) (line : List ℕ) → line ≡ no_line number → (s : Status) (o : List ℕ) →
-    (s ≡ IsNo) × (o ≡ line) → RefusalOf (No number) s o
+    (s ≡ IsNo) × (o ≡ line) → (s ≡ IsNo) × (o ≡ no_line number)
 failed_by number line is s o said = (said.0, said.1 ∙ is)

@@ -3,7 +3,7 @@ use Rattle.std.proofs.Common.{ℕ, List, Option, sym, subst}
 use Rattle.tool_ends.specs.Pairs.{GivesNoPair, IsNoPair, RefusalEnds, RefusalOf, WasRead}
 use Rattle.tool_ends.specs.Reads.{ReadsEnds, WritesEnds}
 use Rattle.tool_ends.specs.declared.pair.NoPair.{NoPair}
-use Rattle.tool_ends.specs.declared.pair.NoPair.TheVariants.{ReadFault as SourceFails, Refused as FirstFault, No as Clause, NoMemory as Unread}
+use Rattle.tool_ends.specs.declared.pair.NoPair.TheVariants.{ReadFault as SourceFails, Refused as FirstFault, NoTranscript, TooManyLines, NoMemory as Unread}
 use Rattle.tool_ends.specs.declared.status.Status.{Status}
 use Rattle.tool_ends.specs.declared.status.Status.TheVariants.{Done, No, Usage, ReadFault, WriteFault, Refused, NoMemory}
 use Rattle.tool_ends.proofs.Inputs.{IsLimited, reads_end, wider}
@@ -36,6 +36,8 @@ module _ (Of : List ℕ → Status → List ℕ → Type 0) (limited : IsLimited
       subst (λ s. ReadsEnds Of s left left_after held held_after) (sym e.0) e.1
   refused_of (FirstFault fault) says none status e = said_of none.0 none.1 status
       (wider _ (Of none.0) (says none.0 none.2) status held held_after e)
-  refused_of (Clause number) says none status e = said_of none.0 none.1 status
+  refused_of NoTranscript says none status e = said_of none.0 none.1 status
+      (wider _ (Of none.0) (says none.0 none.2) status held held_after e)
+  refused_of TooManyLines says none status e = said_of none.0 none.1 status
       (wider _ (Of none.0) (says none.0 none.2) status held held_after e)
   refused_of Unread says none status e = unread status e

@@ -14,7 +14,7 @@ use Rattle.tool_ends.specs.Intakes.{HasEndLine, HasTaken, IsFound}
 use Rattle.tool_ends.specs.declared.intake.Intake.{Intake}
 use Rattle.tool_ends.specs.Pairs.{GivesNoPair, GivesPair, IsNoPair, IsPair, WasRead, behind}
 use Rattle.tool_ends.specs.declared.pair.NoPair.{NoPair}
-use Rattle.tool_ends.specs.declared.pair.NoPair.TheVariants.{ReadFault, Refused, No, NoMemory}
+use Rattle.tool_ends.specs.declared.pair.NoPair.TheVariants.{ReadFault, Refused, NoTranscript, TooManyLines, NoMemory}
 use Rattle.tool_ends.proofs.FrontStays.{front_stays}
 
 pub on_ok : {T E A B : Type 0} (answer : Result T E) → (A → B) → OnOk answer A → OnOk answer B
@@ -106,7 +106,8 @@ no_input : (left after : Option (List ℕ)) (input : List ℕ) (why : NoPair) �
     → IsNoPair input why → GivesNoPair left after why
 no_input left after input ReadFault read is = absurd is
 no_input left after input (Refused fault) read is = (input, read, is)
-no_input left after input (No number) read is = (input, read, is)
+no_input left after input NoTranscript read is = (input, read, is)
+no_input left after input TooManyLines read is = (input, read, is)
 no_input left after input NoMemory read is = tt
 
 pub gives_no_pair : {T : Type 0} (left after : Option (List ℕ)) (input : List ℕ) (answer : Result T NoPair)

@@ -13,7 +13,7 @@ use Rattle.key_names.specs.Texts.Spelling.{lined, spaced}
 use Rattle.key_names.specs.Texts.TranscriptGrammar.{IsTranscriptText}
 use Rattle.transcript_text.specs.ReadTexts.{HasMoreLines}
 use Rattle.tool_ends.specs.declared.pair.NoPair.{NoPair}
-use Rattle.tool_ends.specs.declared.pair.NoPair.TheVariants.{ReadFault, Refused, No, NoMemory}
+use Rattle.tool_ends.specs.declared.pair.NoPair.TheVariants.{ReadFault, Refused, NoTranscript, TooManyLines, NoMemory}
 use Rattle.tool_ends.specs.declared.status.Status.{Status}
 use Rattle.tool_ends.specs.declared.status.Status.TheVariants.{ReadFault as Unread, Refused as IsRefused, No as IsNo}
 use Rattle.tool_ends.specs.Reads.{WritesEnds}
@@ -36,6 +36,10 @@ abbrev pub pair_fault : List ℕ → Option ScriptFault
 pair_fault input =
     if nat_lt most_input (length input) then Some (record { line = 0; kind = TooLong }) else first_fault (front input)
 
+-- a text that is no transcript's
+abbrev pub IsNoTranscript : List ℕ → Type 0
+IsNoTranscript text = (lines : List (List SeenLine)) → IsTranscriptText text lines → ⊥
+
 -- a text of a transcript without the lines of the script
 pub record LacksLines (script : Script) (text : List ℕ) : Type 0 where
   pub lines : List (List SeenLine)
@@ -47,22 +51,22 @@ pub record FailsAsText (input : List ℕ) (number : ℕ) : Type 0 where
   pub short : length input ≤ most_input
   pub script : Script
   pub is_script : IsScript script (front input)
-  pub clause : (number ≡ 1) × ((lines : List (List SeenLine)) → IsTranscriptText (behind input) lines → ⊥)
-      ⊎ (number ≡ 2) × LacksLines script (behind input)
+  pub clause : (number ≡ 1) × IsNoTranscript (behind input) ⊎ (number ≡ 2) × LacksLines script (behind input)
 
 -- why a text is not read as a transcript
 abbrev pub IsNoText : List ℕ → NoPair → Type 0
 IsNoText text ReadFault = ⊥
 IsNoText text (Refused fault) = ⊥
-IsNoText text (No number) = (number ≡ 1) × ((lines : List (List SeenLine)) → IsTranscriptText text lines → ⊥)
-    ⊎ (number ≡ 2) × HasMoreLines 65600 text
+IsNoText text NoTranscript = IsNoTranscript text
+IsNoText text TooManyLines = HasMoreLines 65600 text
 IsNoText text NoMemory = ⊤
 
 -- why an input is not read
 abbrev pub IsNoPair : List ℕ → NoPair → Type 0
 IsNoPair input ReadFault = ⊥
 IsNoPair input (Refused fault) = pair_fault input ≡ Some fault
-IsNoPair input (No number) = FailsAsText input number
+IsNoPair input NoTranscript = FailsAsText input 1
+IsNoPair input TooManyLines = FailsAsText input 2
 IsNoPair input NoMemory = ⊤
 
 -- ---- from a source
@@ -82,7 +86,8 @@ abbrev pub GivesNoPair : Option (List ℕ) → Option (List ℕ) → NoPair → 
 GivesNoPair left left_after ReadFault = ⊤
 GivesNoPair left left_after (Refused fault) =
     (input : List ℕ) × WasRead left left_after input × (pair_fault input ≡ Some fault)
-GivesNoPair left left_after (No number) = (input : List ℕ) × WasRead left left_after input × FailsAsText input number
+GivesNoPair left left_after NoTranscript = (input : List ℕ) × WasRead left left_after input × FailsAsText input 1
+GivesNoPair left left_after TooManyLines = (input : List ℕ) × WasRead left left_after input × FailsAsText input 2
 GivesNoPair left left_after NoMemory = ⊤
 
 -- ---- the answers
@@ -106,12 +111,14 @@ pub record TellsFault (input output : List ℕ) : Type 0 where
 abbrev pub RefusalOf : NoPair → Status → List ℕ → Type 0
 RefusalOf ReadFault status output = ⊥
 RefusalOf (Refused fault) status output = (status ≡ IsRefused) × (output ≡ refusal_line fault)
-RefusalOf (No number) status output = (status ≡ IsNo) × (output ≡ no_line number)
+RefusalOf NoTranscript status output = (status ≡ IsNo) × (output ≡ no_line 1)
+RefusalOf TooManyLines status output = (status ≡ IsNo) × (output ≡ no_line 2)
 RefusalOf NoMemory status output = ⊥
 
 -- how an answer ends that says why
 abbrev pub RefusalEnds : NoPair → Status → Option (List ℕ) → Option (List ℕ) → Type 0
 RefusalEnds ReadFault status held held_after = (status ≡ Unread) × Keeps held held_after
 RefusalEnds (Refused fault) status held held_after = WritesEnds (RefusalOf (Refused fault)) status held held_after
-RefusalEnds (No number) status held held_after = WritesEnds (RefusalOf (No number)) status held held_after
+RefusalEnds NoTranscript status held held_after = WritesEnds (RefusalOf NoTranscript) status held held_after
+RefusalEnds TooManyLines status held held_after = WritesEnds (RefusalOf TooManyLines) status held held_after
 RefusalEnds NoMemory status held held_after = WritesEnds (RefusalOf NoMemory) status held held_after

@@ -55,8 +55,8 @@ fn transcript_of(reader: Reader) -> Result<Transcript, NoPair>
 {
     match reader.finish() {
         Ok(t) => Ok(t),
-        Err(TextError::Fault { .. }) => Err(NoPair::No(1)),
-        Err(TextError::TooManyLines) => Err(NoPair::No(2)),
+        Err(TextError::Fault { .. }) => Err(NoPair::NoTranscript),
+        Err(TextError::TooManyLines) => Err(NoPair::TooManyLines),
         Err(TextError::NoMemory) => Err(NoPair::NoMemory),
     }
 }

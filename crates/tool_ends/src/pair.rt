@@ -24,9 +24,10 @@ pub enum NoPair {
     ReadFault,
     /// The input is too long, or its script has a fault: this is the first.
     Refused(ScriptFault),
-    /// The text behind the script is no transcript's, which is clause 1; or it has more lines than the script can have,
-    /// which is clause 2.
-    No(u8),
+    /// The text behind the script is no transcript's: clause 1 fails.
+    NoTranscript,
+    /// It is one of more lines than any script's transcript has: clause 2 fails.
+    TooManyLines,
     /// There was no memory for it.
     NoMemory,
 }

@@ -6,7 +6,7 @@ use Rattle.key_names.specs.Book.{lists_of}
 use Rattle.key_names.specs.Deeds.{Deed, looked, at_pool, at_base, at_cpu, nothing_there, deeds_of}
 use Rattle.key_names.specs.History.{LooksStand, caller_orders}
 use Rattle.key_names.specs.CallerOrders.{LooksFrom}
-use Rattle.key_names.specs.IsTranscript.{IsTranscript, IsTranscriptBy, MadeBook, SeenStands, FirstFails, Clause, clause_number}
+use Rattle.key_names.specs.IsTranscript.{IsTranscript, IsTranscriptBy, MadeBook, SeenStands, FirstFails}
 use Rattle.key_names.specs.IsTranscript.{answers_clause, data_clause, looks_clause}
 use Rattle.key_names.specs.IsTranscript.{AnswersStand, DataStand, script_calls}
 use Rattle.key_names.specs.Texts.ScriptGrammar.{Script, WellFormed}
@@ -18,14 +18,17 @@ use Rattle.key_names.proofs.History.CallerOrders.{looks_are_counted}
 use Rattle.key_names.proofs.Values.PrintedNamed.{transcript_prints_named}
 use Rattle.key_names.proofs.Transcripts.TranscriptLaws.{transcript_is_lawful}
 use Rattle.key_names.proofs.Unique.UniqueBook.{first_fail_is_unique}
+use Rattle.line_orders.specs.Clauses.{clause_of}
+use Rattle.line_orders.specs.declared.clause.Clause.{Clause}
 use Rattle.serial_replay.specs.declared.remake.Made.{Made}
 use Rattle.serial_replay.specs.Agreement.{AllAgree}
 use Rattle.serial_replay.specs.Remade.{AllMade, made_by}
+use Rattle.serial_replay.proofs.Clauses.{same_clause}
 use Rattle.transcript_check.specs.declared.check.Verdict.{Verdict}
 use Rattle.transcript_check.specs.declared.check.Verdict.TheVariants.{Yes, No}
 use Rattle.transcript_check.specs.declared.compare.Same.{Same}
 use Rattle.transcript_check.specs.Compared.{IsCompared}
-use Rattle.transcript_check.specs.Judged.{IsSound, FailsFirst, IsJudged}
+use Rattle.transcript_check.specs.Judged.{IsSound, IsJudged}
 use Rattle.transcript_check.proofs.Compared.{AnswerSame, DataSame, answers_same, data_same}
 
 -- looks that stand never fall
@@ -96,27 +99,14 @@ module _ (script : Script) (t : List (List SeenLine)) (well : WellFormed script)
     shown : DataStand script t a.made.meanings ↔ Data
     shown = data_same script t a.made.meanings (made_by m) a.made.lines a.says
 
-    pub other_answers : (number : ℕ) → number ≡ clause_number answers_clause → (Answers → ⊥) → FailsFirst script t number
-    other_answers number is_number differ = record {
-      clause = answers_clause;
-      is = is_number;
-      fails = (a.made, (λ stand. differ (answers.0 stand)));
-    }
+    pub other_answers : (Answers → ⊥) → FirstFails script t answers_clause
+    other_answers differ = (a.made, (λ stand. differ (answers.0 stand)))
 
-    pub other_data : (number : ℕ) → number ≡ clause_number data_clause → Answers → (Data → ⊥) → FailsFirst script t number
-    other_data number is_number same differ = record {
-      clause = data_clause;
-      is = is_number;
-      fails = (a.made, answers.1 same, (λ stand. differ (shown.0 stand)));
-    }
+    pub other_data : Answers → (Data → ⊥) → FirstFails script t data_clause
+    other_data same differ = (a.made, answers.1 same, (λ stand. differ (shown.0 stand)))
 
-    pub other_looks : (number : ℕ) → number ≡ clause_number looks_clause → Answers → Data →
-        (IsTrue m.looks_stand → ⊥) → FailsFirst script t number
-    other_looks number is_number same same' fall = record {
-      clause = looks_clause;
-      is = is_number;
-      fails = (a.made, answers.1 same, shown.1 same', (λ stand. fall (a.looks.1 stand)));
-    }
+    pub other_looks : Answers → Data → (IsTrue m.looks_stand → ⊥) → FirstFails script t looks_clause
+    other_looks same same' fall = (a.made, answers.1 same, shown.1 same', (λ stand. fall (a.looks.1 stand)))
 
     pub all_same : Answers → Data → IsTrue m.looks_stand → IsSound script t
     all_same same same' stand = sound a.made (answers.1 same) (shown.1 same') (a.looks.0 stand)
@@ -125,11 +115,11 @@ module _ (script : Script) (t : List (List SeenLine)) (well : WellFormed script)
 
 pub yes_of : (script : Script) (t : List (List SeenLine)) (v : Verdict) → IsJudged script t v → IsTranscript script t → v ≡ Yes
 yes_of script t Yes j is = refl
-yes_of script t (No number) j is = absurd ((first_fail_is_unique script t j.clause j.fails).1 is)
+yes_of script t (No clause) j is = absurd ((first_fail_is_unique script t (clause_of clause) j).1 is)
 
 pub no_of : (script : Script) (t : List (List SeenLine)) (v : Verdict) (clause : Clause) → IsJudged script t v →
-    FirstFails script t clause → v ≡ No (clause_number clause)
+    FirstFails script t (clause_of clause) → v ≡ No clause
 no_of script t Yes clause j f =
-    absurd ((first_fail_is_unique script t clause f).1 (j.book, j.meanings, j.lawful))
-no_of script t (No number) clause j f =
-    ap No (j.is ∙ ap clause_number ((first_fail_is_unique script t j.clause j.fails).0 clause f))
+    absurd ((first_fail_is_unique script t (clause_of clause) f).1 (j.book, j.meanings, j.lawful))
+no_of script t (No other) clause j f =
+    ap No (same_clause other clause ((first_fail_is_unique script t (clause_of other) j).0 (clause_of clause) f))

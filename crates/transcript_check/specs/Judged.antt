@@ -1,16 +1,17 @@
 -- What a check answers.
-use Rattle.std.specs.Prelude.{ℕ, ◌≡◌, List}
+use Rattle.std.specs.Prelude.{List}
 use Rattle.std.specs.List.{AllByRecursion}
 use Rattle.key_names.specs.Book.{Book, lists_of}
 use Rattle.key_names.specs.Deeds.{deeds_of}
 use Rattle.key_names.specs.History.{caller_orders}
-use Rattle.key_names.specs.IsTranscript.{IsTranscriptBy, FirstFails, Clause, clause_number, script_calls}
+use Rattle.key_names.specs.IsTranscript.{IsTranscriptBy, FirstFails, script_calls}
 use Rattle.key_names.specs.Meaning.{CallMeaning}
 use Rattle.key_names.specs.PrintedBytes.{PrintsNamed}
 use Rattle.key_names.specs.Texts.ScriptGrammar.{Script}
 use Rattle.key_names.specs.SeenLine.{SeenLine}
 use Rattle.key_names.specs.Uses.{IsDisjoint}
 use Rattle.key_names.specs.VreadSteps.{NeverFall, looks_of}
+use Rattle.line_orders.specs.Clauses.{clause_of}
 use Rattle.transcript_check.specs.declared.check.Verdict.{Verdict}
 use Rattle.transcript_check.specs.declared.check.Verdict.TheVariants.{Yes, No}
 
@@ -25,12 +26,6 @@ pub record IsSound (script : Script) (t : List (List SeenLine)) : Type 0 where
   pub rising : AllByRecursion (λ order. NeverFall (looks_of (deeds_of (lists_of book) order)))
       (caller_orders (script_calls script t))
 
--- the clause of this number is the first that fails
-pub record FailsFirst (script : Script) (t : List (List SeenLine)) (number : ℕ) : Type 0 where
-  pub clause : Clause
-  pub is : number ≡ clause_number clause
-  pub fails : FirstFails script t clause
-
 abbrev pub IsJudged : Script → List (List SeenLine) → Verdict → Type 0
 IsJudged script t Yes = IsSound script t
-IsJudged script t (No number) = FailsFirst script t number
+IsJudged script t (No clause) = FirstFails script t (clause_of clause)

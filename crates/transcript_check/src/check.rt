@@ -1,7 +1,7 @@
 //! The check of a transcript.
 ghost use Rattle.std.specs.Prelude.{◌≡◌, IfOk};
 ghost use Rattle.key_names.specs.Texts.ScriptGrammar.{WellFormed};
-ghost use Rattle.key_names.specs.IsTranscript.{IsTranscript, FirstFails, clause_number};
+ghost use Rattle.key_names.specs.IsTranscript.{IsTranscript, FirstFails};
 ghost use Rattle.line_orders.specs.Clauses.{clause_of};
 ghost use Rattle.transcript_check.specs.Judged.{IsJudged};
 
@@ -16,8 +16,8 @@ use transcript_text::Transcript;
 #[derive(Clone, Copy, Debug, PartialEq, Eq)]
 pub enum Verdict {
     Yes,
-    /// This clause is the first that fails: 2 to 7.
-    No(u8),
+    /// This clause is the first that fails.
+    No(Clause),
 }
 
 // The first clause that fails, if one does.
@@ -26,19 +26,19 @@ fn judge(alloc: Global, script: &Script, t: &Transcript) -> Result<Verdict, Allo
     ensures { IfOk result (λ verdict. IsJudged script.now t.now verdict) }
 {
     let made = match remake(alloc, script, t, &Compare { t })? {
-        Remade::No(clause) => return Ok(Verdict::No(clause.number())),
+        Remade::No(clause) => return Ok(Verdict::No(clause)),
         Remade::Made(made) => made,
     };
     if !all_agree(&Answers, t, &made.callers) {
-        return Ok(Verdict::No(Clause::Answers.number()));
+        return Ok(Verdict::No(Clause::Answers));
     }
     if !all_agree(&Data, t, &made.callers) {
-        return Ok(Verdict::No(Clause::Data.number()));
+        return Ok(Verdict::No(Clause::Data));
     }
     if made.looks_stand {
         Ok(Verdict::Yes)
     } else {
-        Ok(Verdict::No(Clause::Looks.number()))
+        Ok(Verdict::No(Clause::Looks))
     }
 }
 
@@ -51,7 +51,7 @@ pub fn check(alloc: Global, script: &Script, t: &Transcript) -> Result<Verdict, 
     ensures judged { IfOk result (λ verdict. IsJudged script.now t.now verdict) }
     ensures yes { IsTranscript script.now t.now → IfOk result (λ verdict. verdict ≡ Verdict.Yes) }
     ensures no { (clause : Clause) → FirstFails script.now t.now (clause_of clause)
-        → IfOk result (λ verdict. verdict ≡ Verdict.No (clause_number (clause_of clause))) }
+        → IfOk result (λ verdict. verdict ≡ Verdict.No clause) }
 {
     // It says what is true of every script.
     let _version = script.version();

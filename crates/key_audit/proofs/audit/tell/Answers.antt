@@ -1,5 +1,7 @@
-use Rattle.std.proofs.Common.{subst, sym}
+use Rattle.std.proofs.Common.{ap, subst, sym, ◌∙◌}
 use Rattle.key_names.specs.IsTranscript.{script_calls}
+use Rattle.line_orders.specs.Clauses.{clause_of}
+use Rattle.tool_ends.specs.Pairs.{no_line}
 use Rattle.tool_ends.specs.declared.status.Status.TheVariants.{Done, No}
 use Rattle.tool_ends.proofs.Inputs.{the_answer, wider}
 use Rattle.key_audit.specs.Outcome.{Tells, ToldOf}
@@ -20,4 +22,4 @@ returns-in-Ok-No-clause-ends g c =
     let fails = rw c.in-Ok-No.field-0-is at c.in-Ok-No.ensures.judged in
     let Of = ToldOf c.args.ask c.args.script.now c.args.t.now in
     wider _ Of (the_answer Of No c.no_line.result.bytes
-    (record { number = c.in-Ok-No.number; fails = fails; line = c.no_line.ensures })) _ _ _ c.put_line.ensures.ends
+    (record { clause = clause_of c.in-Ok-No.clause; fails = fails; line = c.no_line.ensures ∙ ap no_line c.number.ensures })) _ _ _ c.put_line.ensures.ends

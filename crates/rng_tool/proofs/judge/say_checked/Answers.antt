@@ -1,4 +1,7 @@
+use Rattle.std.proofs.Common.{ap, ◌∙◌}
+use Rattle.line_orders.specs.Clauses.{clause_of}
 use Rattle.rng_tool.specs.JudgeOutcome.{SaidOf}
+use Rattle.tool_ends.specs.Pairs.{no_line}
 use Rattle.rng_tool.specs.declared.judge.Judge.TheVariants.{Check}
 use Rattle.tool_ends.specs.declared.status.Status.TheVariants.{No}
 use Rattle.tool_ends.proofs.Inputs.{the_answer, wider}
@@ -9,4 +12,4 @@ returns-in-Ok-No-clause-ends g c =
     let fails = rw c.in-Ok-No.field-0-is at c.in-Ok-No.ensures.judged in
     let Of = SaidOf Check c.args.script.now c.args.t.now in
     wider _ Of (the_answer Of No c.no_line.result.bytes
-    (c.in-Ok-No.number, fails, c.no_line.ensures)) _ _ _ c.put_line-in-Ok-No.ensures.ends
+    (clause_of c.in-Ok-No.clause, fails, c.no_line.ensures ∙ ap no_line c.number.ensures)) _ _ _ c.put_line-in-Ok-No.ensures.ends

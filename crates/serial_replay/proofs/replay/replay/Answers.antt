@@ -1,6 +1,4 @@
 use Rattle.std.proofs.Common.{◌≡◌}
-use Rattle.key_names.specs.IsTranscript.{clause_number}
-use Rattle.line_orders.specs.Clauses.{clause_of}
 use Rattle.serial_replay.specs.declared.replay.Replayed.TheVariants.{Made, No}
 use Rattle.serial_replay.specs.Replayed.{IsReplay}
 use Rattle.serial_replay.proofs.BareMade.{if_ok}
@@ -14,5 +12,5 @@ returns-clause-made c = λ t same is.
 
 pub returns-clause-stops : goal.returns-clause-stops
 returns-clause-stops c = λ clause fails.
-    if_ok (IsReplay c.args.script.now c.args.steps.now) (λ r. r ≡ No (clause_number (clause_of clause)))
-    (λ r j. no_of c.args.script.now c.args.steps.now r (clause_of clause) j fails) c.replay_steps.result c.replay_steps.ensures
+    if_ok (IsReplay c.args.script.now c.args.steps.now) (λ r. r ≡ No clause)
+    (λ r j. no_of c.args.script.now c.args.steps.now r clause j fails) c.replay_steps.result c.replay_steps.ensures

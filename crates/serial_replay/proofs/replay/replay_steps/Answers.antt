@@ -1,13 +1,16 @@
 use Rattle.std.proofs.Common.{◌≡◌, true, false}
-use Rattle.serial_replay.proofs.Replays.{is_the_transcript, looks_stop}
+use Rattle.serial_replay.proofs.Replays.{early_stops, is_the_transcript, looks_stop}
 use Rattle.serial_replay.proofs.ShownKinds.{all_kinds}
 use Rattle.serial_replay.proofs.replay.replay_steps.Goals as goal
+
+pub returns-in-No : goal.returns-in-No
+returns-in-No c =
+    early_stops c.args.script.now c.args.steps.now c.in-No.clause (rw c.in-No.is at c.in_ok-clause.ensures.made)
 
 pub returns-then-not-made : goal.returns-then-not-made
 returns-then-not-made c =
     let a = rw c.in-Made.is at c.in_ok-clause.ensures.made in
-    looks_stop c.args.script.now c.args.steps.now c.in-Made.made c.number-then-not-made.result
-    c.number-then-not-made.ensures a
+    looks_stop c.args.script.now c.args.steps.now c.in-Made.made a
     (λ stand. let fall : c.in-Made.made.looks_stand ≡ false = c.if-not-made.true in
     let stands : c.in-Made.made.looks_stand ≡ true = stand in cc)
 

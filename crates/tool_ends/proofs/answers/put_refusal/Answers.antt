@@ -7,7 +7,12 @@ returns-in-Refused-clause-ends g c =
     rw c.in-Refused.is
     (wider _ _ (refused_by c.in-Refused.fault _ c.refusal_line.ensures) _ _ _ c.put_line.ensures.ends)
 
-pub returns-in-No-clause-ends : goal.returns-in-No-clause-ends
-returns-in-No-clause-ends g c =
-    rw c.in-No.is
-    (wider _ _ (failed_by c.in-No.number _ c.no_line.ensures) _ _ _ c.put_line-in-No.ensures.ends)
+pub returns-in-NoTranscript-clause-ends : goal.returns-in-NoTranscript-clause-ends
+returns-in-NoTranscript-clause-ends g c =
+    rw c.in-NoTranscript.is
+    (wider _ _ (failed_by 1 _ c.no_line.ensures) _ _ _ c.put_line-in-NoTranscript.ensures.ends)
+
+pub returns-in-TooManyLines-clause-ends : goal.returns-in-TooManyLines-clause-ends
+returns-in-TooManyLines-clause-ends g c =
+    rw c.in-TooManyLines.is
+    (wider _ _ (failed_by 2 _ c.no_line-in-TooManyLines.ensures) _ _ _ c.put_line-in-TooManyLines.ensures.ends)

@@ -1,6 +1,4 @@
 use Rattle.std.proofs.Common.{◌≡◌}
-use Rattle.key_names.specs.IsTranscript.{clause_number}
-use Rattle.line_orders.specs.Clauses.{clause_of}
 use Rattle.transcript_check.specs.declared.check.Verdict.TheVariants.{Yes, No}
 use Rattle.transcript_check.specs.Judged.{IsJudged}
 use Rattle.serial_replay.proofs.BareMade.{if_ok}
@@ -14,5 +12,5 @@ returns-clause-yes c = λ is.
 
 pub returns-clause-no : goal.returns-clause-no
 returns-clause-no c = λ clause fails.
-    if_ok (IsJudged c.args.script.now c.args.t.now) (λ v. v ≡ No (clause_number (clause_of clause)))
-    (λ v j. no_of c.args.script.now c.args.t.now v (clause_of clause) j fails) c.judge.result c.judge.ensures
+    if_ok (IsJudged c.args.script.now c.args.t.now) (λ v. v ≡ No clause)
+    (λ v j. no_of c.args.script.now c.args.t.now v clause j fails) c.judge.result c.judge.ensures

@@ -6,8 +6,7 @@ pub returns-then-not-all_agree : goal.returns-then-not-all_agree
 returns-then-not-all_agree c =
     let a = rw c.in-Made.is at c.in_ok-clause.ensures.made in
     let answers = rw c.deref.ensures.value at c.if-not-all_agree.ensures in
-    other_answers c.args.script.now c.args.t.now c.requires c.in-Made.made a c.number-then-not-all_agree.result
-    c.number-then-not-all_agree.ensures
+    other_answers c.args.script.now c.args.t.now c.requires c.in-Made.made a
     (λ agree. let never : false ≡ true = answers.1 agree in cc)
 
 pub returns-then-not-all_agree-2 : goal.returns-then-not-all_agree-2
@@ -15,8 +14,7 @@ returns-then-not-all_agree-2 c =
     let a = rw c.in-Made.is at c.in_ok-clause.ensures.made in
     let answers = rw c.deref.ensures.value at c.if-not-all_agree.ensures in
     let same = rw c.deref-2.ensures.value at c.if-not-all_agree-2.ensures in
-    other_data c.args.script.now c.args.t.now c.requires c.in-Made.made a c.number-then-not-all_agree-2.result
-    c.number-then-not-all_agree-2.ensures (answers.0 refl)
+    other_data c.args.script.now c.args.t.now c.requires c.in-Made.made a (answers.0 refl)
     (λ agree. let never : false ≡ true = same.1 agree in cc)
 
 pub returns-then-made : goal.returns-then-made
@@ -31,7 +29,6 @@ returns c =
     let a = rw c.in-Made.is at c.in_ok-clause.ensures.made in
     let answers = rw c.deref.ensures.value at c.if-not-all_agree.ensures in
     let same = rw c.deref-2.ensures.value at c.if-not-all_agree-2.ensures in
-    other_looks c.args.script.now c.args.t.now c.requires c.in-Made.made a c.number-else-made.result
-    c.number-else-made.ensures (answers.0 refl) (same.0 refl)
+    other_looks c.args.script.now c.args.t.now c.requires c.in-Made.made a (answers.0 refl) (same.0 refl)
     (λ stand. let fall : c.in-Made.made.looks_stand ≡ false = c.if-made.false in
     let stands : c.in-Made.made.looks_stand ≡ true = stand in cc)

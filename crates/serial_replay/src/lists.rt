@@ -1,0 +1,64 @@
+//! The lists of the lanes, made anew from the lines and steps of a transcript.
+ghost use Rattle.std.specs.Prelude.{IfOk};
+ghost use Rattle.key_names.specs.Texts.ScriptGrammar.{WellFormed};
+ghost use Rattle.line_orders.specs.Seen.{seen_callers};
+ghost use Rattle.serial_replay.specs.Found.{IsFound};
+
+use event_script::Script;
+use line_forms::setting::Setting;
+use line_orders::bare::BareLine;
+use line_orders::begin::{Begun, Parts, begin};
+use line_orders::clause::Clause;
+use line_orders::settings::all_settings;
+use list_replay::{Lists, replay_lists};
+use std::alloc::{AllocError, Global};
+use told_entries::gather::gather;
+
+/// What all that is made of a transcript stands on: its parts, the setting that each of its calls finds, and what is kept
+/// of the lists of its lanes.
+#[derive(Drop)]
+pub struct Basis<'a> {
+    pub parts: Parts<'a>,
+    pub settings: Vec<Vec<Setting>>,
+    pub lists: Lists,
+}
+
+/// The lists of a transcript's lanes, or why there are none.
+#[derive(Drop)]
+pub enum Found<'a> {
+    Stands(Basis<'a>),
+    /// The first of the clauses on lines, marks and forms that fails.
+    No(Clause),
+}
+
+/// Judges the lines and marks of a transcript, and makes the lists of its lanes of what the steps tell. Where there are
+/// lists, the steps of a line can still be no form.
+///
+/// # Errors
+///
+/// `AllocError` where there is no memory for it.
+pub fn find_lists<'a>(
+    alloc: Global,
+    script: &'a Script,
+    lines: &[Vec<BareLine<'a>>],
+) -> Result<Found<'a>, AllocError>
+    requires { WellFormed script.now }
+    ensures { IfOk result (λ found. IsFound script.now (seen_callers lines.now) found) }
+{
+    let parts = match begin(alloc, script, lines)? {
+        Begun::No(clause) => return Ok(Found::No(clause)),
+        Begun::Stands(parts) => parts,
+    };
+    let settings = all_settings(alloc, &parts.calls, &parts.forks)?;
+    let Some(told) = gather(alloc, script, &parts, &settings)? else {
+        return Ok(Found::No(Clause::Forms));
+    };
+    let Some(lists) = replay_lists(alloc, &told)? else {
+        return Ok(Found::No(Clause::Forms));
+    };
+    Ok(Found::Stands(Basis {
+        parts,
+        settings,
+        lists,
+    }))
+}
