@@ -5,7 +5,7 @@ use Rattle.line_orders.specs.Clauses.{clause_of}
 use Rattle.line_orders.specs.declared.clause.Clause.{Clause}
 use Rattle.line_orders.specs.declared.clause.Clause.TheVariants.{Lines, Marks, Forms, Answers, Data, Looks}
 
-judged_as : laws.Clause → Clause
+abbrev judged_as : laws.Clause → Clause
 judged_as laws.lines_clause = Lines
 judged_as laws.marks_clause = Marks
 judged_as laws.forms_clause = Forms

@@ -44,7 +44,7 @@ returns g c =
     let fill = all_fill c.args.script.now t c.in-Stands.basis stand in
     let keeps = stand.keeps stand.lists stand.fills stand.lawful in
     let said = some c.args.script.now t stand.lists there keeps stand.lawful.lanes fill in
-    let looks = rw (c.of.ensures.lists, c.deref-3.ensures.value, stand.parts.calls) at c.in_ok-looks_stand.ensures in
+    let looks = rw (c.of-looks.ensures.lists, c.deref-3.ensures.value, stand.parts.calls) at c.in_ok-looks_stand.ensures in
     all_made c.args.script.now t c.in-Stands.basis stand (g.N.Note.IsNoted c.args.how.now)
-    (record { callers = c.in-Some.callers; looks_stand = c.in_ok-looks_stand.looks_stand }) said c.of.result.reseeds
-    c.of.ensures.reseeds looks
+    (record { callers = c.in-Some.callers; looks_stand = c.in_ok-looks_stand.looks_stand }) said c.of-looks.result.reseeds
+    c.of-looks.ensures.reseeds looks
