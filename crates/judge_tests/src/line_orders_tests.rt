@@ -1,9 +1,11 @@
 //! A small transcript, and changed ones: which clause on lines and marks is the first that fails.
-use event_script::read;
+use event_script::{Script, read};
 use line_orders::begin::{Begun, begin};
 use line_orders::clause::Clause;
 use line_orders::seen::bare_callers;
+use std::alloc::{AllocError, Global};
 use std::test::Fail;
+use transcript_text::Transcript;
 
 const SCRIPT: &[u8] =
     b"rngscript 1\ncpus 1\ncaller 0\nwrite 616263\nfork 1\nbits\ncaller 1\nread 16 4\nend\n";
@@ -50,18 +52,27 @@ const CASES: [(&[u8], Option<Clause>); 8] = [
     ),
 ];
 
+fn first_fault<'a>(
+    alloc: Global,
+    script: &'a Script,
+    transcript: &'a Transcript,
+) -> Result<Option<Clause>, AllocError> {
+    // A script tells that it is well-formed, which `begin` asks for.
+    let _version = script.version();
+    let lines = bare_callers(alloc, transcript)?;
+    match begin(alloc, script, &lines)? {
+        Begun::No(clause) => Ok(Some(clause)),
+        Begun::Stands(_) => Ok(None),
+    }
+}
+
 #[test]
 fn changed_transcripts_are_judged(rt: HostRuntime) -> Result<(), Fail> {
     let script = read(rt.alloc(), SCRIPT)?;
     for (text, fault) in CASES {
         assert!(rt; text.len() < 1000);
         let transcript = transcript_text::read(rt.alloc(), text)?;
-        let lines = bare_callers(rt.alloc(), &transcript)?;
-        let first = match begin(rt.alloc(), &script, &lines)? {
-            Begun::No(clause) => Some(clause),
-            Begun::Stands(_) => None,
-        };
-        assert_eq!(rt; first, fault);
+        assert_eq!(rt; first_fault(rt.alloc(), &script, &transcript)?, fault);
     }
     Ok(())
 }
