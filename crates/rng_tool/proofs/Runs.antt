@@ -6,12 +6,12 @@ use Rattle.key_names.specs.IsTranscript.{LinesFit}
 use Rattle.key_names.specs.Texts.ScriptGrammar.{Script, WellFormed}
 use Rattle.key_names.specs.SeenLine.{SeenLine}
 use Rattle.key_names.specs.Texts.TranscriptGrammar.{UnderOwnNumber}
+use Rattle.key_names.proofs.Samples.Lines.{AllFit}
 use Rattle.key_names.proofs.Uses.BookUses.{lawful_is_disjoint}
 use Rattle.key_names.proofs.Values.PrintedNamed.{transcript_prints_named}
 use Rattle.key_names.proofs.Transcripts.TranscriptLaws.{transcript_is_lawful}
 use Rattle.lane_table.specs.declared.view.View.{View}
 use Rattle.caller_run.specs.Laws.{LawfulRuns}
-use Rattle.tool_ends.proofs.Pairs.{Fit}
 use Rattle.rng_tool.specs.Outcome.{IsRunOf}
 
 -- the lines of a caller have its number
@@ -23,7 +23,7 @@ own_lines c n [] (line ∷ next ∷ lines) fit = absurd fit
 own_lines c n (event ∷ events) [] fit = absurd fit
 own_lines c n (event ∷ events) (line ∷ lines) fit = (fit.0.caller, own_lines c (suc n) events lines fit.1)
 
-pub under_own_number : (c : ℕ) (callers : List (List Event)) (t : List (List SeenLine)) → Fit c callers t
+pub under_own_number : (c : ℕ) (callers : List (List Event)) (t : List (List SeenLine)) → AllFit c callers t
     → UnderOwnNumber c t
 under_own_number c [] [] fit = tt
 under_own_number c [] (lines ∷ t) fit = absurd fit
@@ -31,7 +31,7 @@ under_own_number c (events ∷ callers) [] fit = absurd fit
 under_own_number c (events ∷ callers) (lines ∷ t) fit =
     (own_lines c 0 events lines fit.0, under_own_number (suc c) callers t fit.1)
 
-pub as_many : (c : ℕ) (callers : List (List Event)) (t : List (List SeenLine)) → Fit c callers t
+pub as_many : (c : ℕ) (callers : List (List Event)) (t : List (List SeenLine)) → AllFit c callers t
     → length t ≡ length callers
 as_many c [] [] fit = refl
 as_many c [] (lines ∷ t) fit = absurd fit
