@@ -32,8 +32,9 @@ use Rattle.line_forms.specs.LaneFacts.{facts_of, DeedFits}
 use Rattle.list_replay.specs.declared.kept.KeptBase.{KeptBase}
 use Rattle.list_replay.specs.declared.kept.KeptCpu.{KeptCpu}
 use Rattle.list_replay.specs.declared.kept.Lists.{Lists as KeptLists}
+use Rattle.list_replay.specs.declared.kept.Source.{Source}
 use Rattle.list_replay.specs.Places.{AllKept}
-use Rattle.list_replay.specs.Kept.{KeepsPool, KeepsCpu, Keeps, Source, source_in, source_of}
+use Rattle.list_replay.specs.Kept.{KeepsPool, KeepsCpu, Keeps, source_in, source_of}
 use Rattle.vread_course.specs.Recipe.{bytes_made, no_recipe, int_recipe}
 use Rattle.vread_course.specs.Seen.{ServesBy}
 use Rattle.vread_course.proofs.CalledSays.{user_bytes}
@@ -67,8 +68,8 @@ base_made _ key used h = (refl, refl)
 -- of a visit of a CPU
 pub record MetCpu (k : KeptCpu) (v : CpuVisit) : Type 0 where
   pub entry : k.entry ≡ v.entry
-  pub serves : ServesBy (unwrap_or k.key zero_key) v.entry v.serves
-  pub bytes : bytes_made (cpu_recipe k.entry k.key k.served) ≡ v.serves
+  pub serves : ServesBy (unwrap_or k.source.key zero_key) v.entry v.serves
+  pub bytes : bytes_made (cpu_recipe k.entry k.source.key k.source.served) ≡ v.serves
 
 not_used_up : (n count : ℕ) (b : Bool) → nat_le n count || b ≡ false → suc count ≤ n
 not_used_up n count b h = (let low : count < n = grind (arith, common_steps) in omega arith)
@@ -179,12 +180,12 @@ module _ (kept : KeptLists) (book : Lists) (keeps : Keeps kept book)
       let made = cpu_made book c v.before.fills place v.before e refl fits in
       let P : Source → Type 0 = λ s. CpuServes book c v.before.fills place e s in
       let kept_made = subst P (sym keeps_it.source) made in
-      let Q : List ℕ → Type 0 = λ u. ServesBy (unwrap_or k.key zero_key) e (cpu_serves book c v.before.fills u e)
-      × (bytes_made (cpu_recipe e k.key k.served) ≡ cpu_serves book c v.before.fills u e) in
+      let Q : List ℕ → Type 0 = λ u. ServesBy (unwrap_or k.source.key zero_key) e (cpu_serves book c v.before.fills u e)
+      × (bytes_made (cpu_recipe e k.source.key k.source.served) ≡ cpu_serves book c v.before.fills u e) in
       let here = subst Q (ap (cpu_value_at book before) is) kept_made in record {
         entry = keeps_it.entry;
         serves = here.0;
-        bytes = ap (λ x. bytes_made (cpu_recipe x k.key k.served)) keeps_it.entry ∙ here.1;
+        bytes = ap (λ x. bytes_made (cpu_recipe x k.source.key k.source.served)) keeps_it.entry ∙ here.1;
       }
 
   fits_at : (c place : ℕ) (e : CpuEntry) → slice_get (cpu_list book c) place ≡ Some e →

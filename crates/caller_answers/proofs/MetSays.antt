@@ -110,7 +110,7 @@ module _ (cpu : ℕ) where
   base_is _ key v is h = (ap base_kind is, h)
 
   cpu_is : (on : ℕ) (k : KeptCpu) (p : OfCpu on k) (b : Bool) → (on == cpu) ≡ b →
-      IsSeen cpu (cpu_seen b (unwrap_or k.key zero_key)) (at_cpu p.v)
+      IsSeen cpu (cpu_seen b (unwrap_or k.source.key zero_key)) (at_cpu p.v)
   cpu_is on k p true h = (let e : on ≡ cpu = grind (arith, nat_tests) in sym p.same ∙ e, p.met.serves)
   cpu_is on k p false h = ap (λ c. c == cpu) (sym p.same) ∙ h
 
@@ -164,7 +164,7 @@ module _ (cpu : ℕ) where
       | None ↦ tt
       | Some lane ↦ elim (slice_get lane.items place) as (λ o. LookFits (seen_of cpu (cpu_met c o))) [
         | None ↦ tt
-        | Some k ↦ cpu_fits (c == cpu) (unwrap_or k.key zero_key)
+        | Some k ↦ cpu_fits (c == cpu) (unwrap_or k.source.key zero_key)
       ]
     ]
 

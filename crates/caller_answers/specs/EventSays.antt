@@ -65,7 +65,7 @@ abbrev pub recipe_met : Met → Recipe
 recipe_met (Looked g) = no_recipe
 recipe_met (InPool kept) = no_recipe
 recipe_met (InBase kept) = base_recipe kept.entry kept.key
-recipe_met (InCpu on kept) = cpu_recipe kept.entry kept.key kept.served
+recipe_met (InCpu on kept) = cpu_recipe kept.entry kept.source.key kept.source.served
 recipe_met Nothing = no_recipe
 
 abbrev pub recipe_or_none : Option Met → Recipe

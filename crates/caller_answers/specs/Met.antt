@@ -64,7 +64,7 @@ abbrev pub seen_of : ℕ → Met → Seen
 seen_of cpu (Looked g) = look_seen g
 seen_of cpu (InPool kept) = Pool
 seen_of cpu (InBase kept) = base_seen (is_resume kept.entry) (unwrap_or kept.key zero_key)
-seen_of cpu (InCpu on kept) = cpu_seen (on == cpu) (unwrap_or kept.key zero_key)
+seen_of cpu (InCpu on kept) = cpu_seen (on == cpu) (unwrap_or kept.source.key zero_key)
 seen_of cpu Nothing = Elsewhere
 
 abbrev pub seen_in : ℕ → List Met → List Seen

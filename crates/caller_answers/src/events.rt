@@ -58,11 +58,12 @@ fn base_served(kept: &KeptBase) -> Served
 }
 
 fn cpu_served(kept: &KeptCpu) -> Served
-    ensures { result ≡ cpu_recipe kept.now.entry kept.now.key kept.now.served }
+    ensures { result ≡ cpu_recipe kept.now.entry kept.now.source.key kept.now.source.served }
 {
-    match (kept.entry, kept.key) {
+    let source = kept.source;
+    match (kept.entry, source.key) {
         (CpuEntry::Read { taken, .. }, Some(key)) => taken_served(&key, taken),
-        (CpuEntry::Int { width, .. }, Some(key)) => int_served(&key, width, kept.served),
+        (CpuEntry::Int { width, .. }, Some(key)) => int_served(&key, width, source.served),
         _ => Served::none(),
     }
 }

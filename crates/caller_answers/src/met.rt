@@ -124,7 +124,7 @@ fn seen_of(cpu: u32, met: &Met) -> Seen
         Met::Looked(found) => Seen::Ready(*found),
         Met::InPool(_) => Seen::Pool,
         Met::InBase(kept) => base_seen(kept),
-        Met::InCpu(on, kept) if *on == cpu => Seen::Cpu(kept.key.unwrap_or([0; 32])),
+        Met::InCpu(on, kept) if *on == cpu => Seen::Cpu(kept.source.key.unwrap_or([0; 32])),
         Met::InCpu(..) | Met::Nothing => Seen::Elsewhere,
     }
 }

@@ -5,7 +5,9 @@ ghost use Rattle.list_replay.specs.declared.told.ToldCpu.{ToldCpu};
 use input_pool::Crossing;
 use key_names::{BaseEntry, CpuEntry, PoolNote, Taken};
 use line_forms::told::{BaseTold, CpuTold};
-use list_replay::{KeptBase, KeptCpu, KeptPool, Root, Told, ToldCpu, ToldPool, replay_lists};
+use list_replay::{
+    KeptBase, KeptCpu, KeptPool, Root, Source, Told, ToldCpu, ToldPool, replay_lists,
+};
 use std::alloc::{AllocError, Global};
 
 // The first root of a pool that "abc" was mixed into, by Python's hashlib; bytes 32 to 64 of its keystream, and bytes
@@ -106,8 +108,10 @@ fn kept_cpu(entry: CpuEntry, key: [u8; 32], served: u32) -> KeptCpu {
     KeptCpu {
         entry,
         generation: 1,
-        key: Some(key),
-        served,
+        source: Source {
+            key: Some(key),
+            served,
+        },
     }
 }
 

@@ -163,20 +163,15 @@ module _ (keys : ℕ → List ℕ) where
       record { one = h.one; two = h.two; four = h.four; eight = h.eight }
 
   -- what the bytes come from
-  source_in_is : (o : Option Fill) →
-      record { key = (source_kept (kept_fill keys o)).key; served = (source_kept (kept_fill keys o)).served }
-      ≡ source_in keys o
+  source_in_is : (o : Option Fill) → source_kept (kept_fill keys o) ≡ source_in keys o
   source_in_is None = refl
   source_in_is (Some fill) = refl
 
   source_is : (fills : ℕ → Option Fill) (f : LastFills) (place : ℕ) (e : CpuEntry) → EntryIsWide e →
-      FillsStand keys fills f →
-      record { key = (source_entered e (keys place) f).key; served = (source_entered e (keys place) f).served }
-      ≡ source_of keys fills place e
+      FillsStand keys fills f → source_entered e (keys place) f ≡ source_of keys fills place e
   source_is fills f place (Int look refill width true) wide h = refl
   source_is fills f place (Int look refill width false) wide h =
-      ap (λ o. record { key = (source_kept o).key; served = (source_kept o).served }) (slot_is keys fills f h width wide)
-      ∙ source_in_is (fills width)
+      ap source_kept (slot_is keys fills f h width wide) ∙ source_in_is (fills width)
   source_is fills f place (Read look refill taken) wide h = refl
   source_is fills f place (Irq v1 v2 now) wide h = refl
   source_is fills f place (Dump now) wide h = refl
@@ -456,20 +451,18 @@ module _ (told : Tables) (base : List KeptBase) (keeps : KeepsBaseLane base (clo
           (refill_there (closed told) base keeps c i entry stands);
     }
 
-    keeps_it : CpuKeeps (closed told) c i (record {
+    abbrev made_here : KeptCpu
+    made_here = record {
       entry = entry;
       generation = (cpu_entered entry handed cpu).generation;
-      key = (source_entered entry (key_used handed cpu) f).key;
-      served = (source_entered entry (key_used handed cpu) f).served;
-    }) entry
+      source = source_entered entry (key_used handed cpu) f;
+    }
+
+    keeps_it : CpuKeeps (closed told) c i made_here entry
     keeps_it = record {
       entry = refl;
       generation = ap (λ (x : CpuValue). x.generation) stepped;
-      source = (let P : List ℕ → Type 0 = λ k. record {
-        key = (source_entered entry k f).key;
-        served = (source_entered entry k f).served;
-      } ≡ source_of keys s.fills i entry in
-          subst P (sym key_is) (source_is keys s.fills f i entry entry_wide stand));
+      source = ap (λ k. source_entered entry k f) key_is ∙ source_is keys s.fills f i entry entry_wide stand;
     }
 
     fills_next : FillsStand keys (cpu_step (closed told).base c s entry).fills
@@ -483,21 +476,10 @@ module _ (told : Tables) (base : List KeptBase) (keeps : KeepsBaseLane base (clo
 
     pub cpu_more : CpuBehind (closed told) c (i + 1) (cpu_entered entry handed cpu)
         (fills_entered entry (key_used handed cpu) f)
-        (made ++ record {
-          entry = entry;
-          generation = (cpu_entered entry handed cpu).generation;
-          key = (source_entered entry (key_used handed cpu) f).key;
-          served = (source_entered entry (key_used handed cpu) f).served;
-        } ∷ [])
+        (made ++ made_here ∷ [])
     cpu_more = record {
       behind = behind_more (CpuMay (closed told) c) (CpuKeeps (closed told) c) (cpu_list (closed told) c) i made
-          (record {
-            entry = entry;
-            generation = (cpu_entered entry handed cpu).generation;
-            key = (source_entered entry (key_used handed cpu) f).key;
-            served = (source_entered entry (key_used handed cpu) f).served;
-          })
-          entry at h.behind may keeps_it;
+          made_here entry at h.behind may keeps_it;
       cpu_stands = stepped
           ∙ ap (λ (x : CpuState). cpu_at x (cpu_value_step (closed told) value entry)) (sym state_more)
           ∙ ap (cpu_at (cpu_after (closed told).base c (take (i + 1) (cpu_list (closed told) c)))) (sym value_more);

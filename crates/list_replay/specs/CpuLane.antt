@@ -13,7 +13,8 @@ use Rattle.line_forms.specs.declared.told.CpuTold.TheVariants.{Is as cpu_is, Bat
 use Rattle.list_replay.specs.declared.kept.KeptBase.{KeptBase}
 use Rattle.list_replay.specs.declared.last_fills.LastFill.{LastFill}
 use Rattle.list_replay.specs.declared.last_fills.LastFills.{LastFills}
-use Rattle.list_replay.specs.declared.cpu_list.Source.{Source}
+use Rattle.list_replay.specs.declared.kept.Source.{Source}
+use Rattle.list_replay.specs.Kept.{no_source}
 use Rattle.list_replay.specs.Places.{AllPlaces}
 
 -- ---- batches
@@ -130,9 +131,6 @@ fills_entered (Irq v1 v2 now) key f = f
 fills_entered (Dump now) key f = f
 fills_entered Prepare key f = no_fills
 fills_entered Online key f = f
-
-abbrev pub no_source : Source
-no_source = record { key = None; served = 0 }
 
 abbrev pub source_kept : Option LastFill → Source
 source_kept None = no_source

@@ -16,6 +16,7 @@ use Rattle.list_replay.specs.declared.kept.KeptPool.{KeptPool}
 use Rattle.list_replay.specs.declared.kept.KeptBase.{KeptBase}
 use Rattle.list_replay.specs.declared.kept.KeptCpu.{KeptCpu}
 use Rattle.list_replay.specs.declared.kept.Lists.{Lists as KeptLists}
+use Rattle.list_replay.specs.declared.kept.Source.{Source}
 use Rattle.list_replay.specs.Places.{AllKept}
 
 -- the root that an entry of the pool gives in a state
@@ -37,12 +38,6 @@ pub record KeepsBase (used : List ℕ) (k : KeptBase) (v : BaseVisit) : Type 0 w
   pub generation : k.generation ≡ v.after.generation
   pub key : base_erases v.entry ≡ true → k.key ≡ Some used
 
--- the key that the bytes of an entry come from, given the key in use at each place of its CPU, and how many integers
--- its batch had served
-pub record Source : Type 0 where
-  pub key : Option (List ℕ)
-  pub served : ℕ
-
 abbrev pub no_source : Source
 no_source = record { key = None; served = 0 }
 
@@ -50,6 +45,7 @@ abbrev pub source_in : (ℕ → List ℕ) → Option Fill → Source
 source_in used None = no_source
 source_in used (Some fill) = record { key = Some (used fill.place); served = fill.count }
 
+-- what the bytes of an entry come from, given the key in use at each place of its CPU
 abbrev pub source_of : (ℕ → List ℕ) → (ℕ → Option Fill) → ℕ → CpuEntry → Source
 source_of used fills place (Read look refill taken) = record { key = Some (used place); served = 0 }
 source_of used fills place (Int look refill width true) = record { key = Some (used place); served = 0 }
@@ -63,7 +59,7 @@ source_of used fills place Online = no_source
 pub record KeepsCpu (used : ℕ → List ℕ) (k : KeptCpu) (v : CpuVisit) : Type 0 where
   pub entry : k.entry ≡ v.entry
   pub generation : k.generation ≡ v.after.generation
-  pub source : record { key = k.key; served = k.served } ≡ source_of used v.before.fills v.place v.entry
+  pub source : k.source ≡ source_of used v.before.fills v.place v.entry
 
 abbrev pub KeepsPoolLane : List KeptPool → Lists → Type 0
 KeepsPoolLane kept lists = AllKept (λ p k e. KeepsPool k (pool_visit lists p e)) kept lists.pool

@@ -39,7 +39,6 @@ fn fits(base: &Base, entry: BaseEntry) -> bool
 /// The base after an entry that fits it, given the root that the entry names; and the key in use, if the entry erases
 /// it.
 fn enter(base: &mut Base, entry: BaseEntry, root: [u8; 32]) -> Option<[u8; 32]>
-    requires fits { Fits base.old entry }
     requires generation { base.old.generation < 2 ^ 63 }
     requires moment { EntryIsNear entry }
     ensures state { base.new ≡ after_entry entry root base.old }

@@ -13,7 +13,7 @@ ghost use Rattle.list_replay.specs.Places.{AllKept};
 ghost use Rattle.list_replay.specs.Tables.{tables_of, EntryIsWide, CpuIsWide};
 ghost use Rattle.list_replay.specs.declared.told.ToldCpu.{ToldCpu};
 
-use crate::kept::{KeptBase, KeptCpu};
+use crate::kept::{KeptBase, KeptCpu, Source};
 use crate::last_fills::{LastFill, LastFills};
 use crate::told::Told;
 use chacha_blocks::derive_key;
@@ -87,13 +87,6 @@ fn handed(base: &[KeptBase], cpu: u32, place: u64, entry: CpuEntry) -> Option<Op
     Some(Some(hand_over(&kept)?))
 }
 
-/// The key that the bytes of an entry come from, and how many integers its batch had served.
-#[derive(Clone, Copy)]
-pub(crate) struct Source {
-    pub(crate) key: Option<[u8; 32]>,
-    pub(crate) served: u32,
-}
-
 /// A CPU's generator, and the last fills of its batches.
 #[derive(Drop)]
 pub(crate) struct Lane {
@@ -152,12 +145,7 @@ impl Lane {
         ensures source { result ≡ source_kept (slot self.old.fills width) }
     {
         match self.fills.last(width) {
-            None => {
-                Source {
-                    key: None,
-                    served: 0,
-                }
-            }
+            None => Source::none(),
             Some(fill) => {
                 self.fills.put(
                     width,
@@ -186,10 +174,6 @@ impl Lane {
         if let Some(handed) = handed {
             self.cpu = handed;
         }
-        let no_source = Source {
-            key: None,
-            served: 0,
-        };
         match entry {
             CpuEntry::Read { .. } => Source {
                 key: Some(self.cpu.front(&mut []).key),
@@ -217,9 +201,9 @@ impl Lane {
             CpuEntry::Prepare => {
                 self.cpu.prepare();
                 self.fills = LastFills::none();
-                no_source
+                Source::none()
             }
-            CpuEntry::Irq { .. } | CpuEntry::Dump { .. } | CpuEntry::Online => no_source,
+            CpuEntry::Irq { .. } | CpuEntry::Dump { .. } | CpuEntry::Online => Source::none(),
         }
     }
 }
@@ -257,8 +241,7 @@ fn replay_cpu(
         kept.push(KeptCpu {
             entry,
             generation: lane.cpu.generation(),
-            key: source.key,
-            served: source.served,
+            source,
         })?;
     }
     Ok(Some(kept))

@@ -1,4 +1,7 @@
 //! What is kept of the lanes' lists for those who make answers and bytes from them.
+ghost use Rattle.std.specs.Prelude.{◌≡◌};
+ghost use Rattle.list_replay.specs.Kept.{no_source};
+
 use input_pool::Crossing;
 use key_names::{BaseEntry, CpuEntry};
 
@@ -32,16 +35,34 @@ pub struct KeptBase {
     pub key: Option<[u8; 32]>,
 }
 
+/// The key that the bytes of a CPU's entry come from, if it serves any.
+#[derive(Clone, Copy, Debug, PartialEq, Eq)]
+pub struct Source {
+    /// Of a read the key in use, and of an integer the key in use where its batch was filled.
+    pub key: Option<[u8; 32]>,
+    /// How many integers the batch had served before, if the entry is an integer.
+    pub served: u32,
+}
+
+impl Source {
+    /// No bytes are served.
+    pub(crate) fn none() -> Source
+        ensures { result ≡ no_source }
+    {
+        Source {
+            key: None,
+            served: 0,
+        }
+    }
+}
+
 /// What is kept of a visit of a CPU.
 #[derive(Clone, Copy, Debug, PartialEq, Eq)]
 pub struct KeptCpu {
     pub entry: CpuEntry,
     /// The CPU's generation behind the visit.
     pub generation: u64,
-    /// Of a read the key in use, and of an integer the key in use where its batch was filled.
-    pub key: Option<[u8; 32]>,
-    /// How many integers the batch had served before, if the entry is an integer.
-    pub served: u32,
+    pub source: Source,
 }
 
 /// What is kept of the lanes' lists, by place.

@@ -26,7 +26,7 @@ ghost use Rattle.list_replay.specs.Tables.{InRange, tables_of};
 
 use base_list::replay_base;
 use cpu_list::replay_cpus;
-pub use kept::{KeptBase, KeptCpu, KeptPool, Lists, Root};
+pub use kept::{KeptBase, KeptCpu, KeptPool, Lists, Root, Source};
 pub use names::{base_refill_of, root_of};
 use names::{extractions_answered, refills_answered};
 use pool_list::replay_pool;

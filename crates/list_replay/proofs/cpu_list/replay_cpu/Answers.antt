@@ -3,7 +3,7 @@ use Rattle.std.proofs.lemmas.Bool.{false≢true}
 use Rattle.key_names.specs.declared.entries.CpuEntry.{CpuEntry}
 use Rattle.key_names.specs.Book.{list_at, cpu_list}
 use Rattle.cpu_gen.specs.CpuValue.{CpuValue, start}
-use Rattle.list_replay.specs.declared.cpu_list.Source.{Source}
+use Rattle.list_replay.specs.declared.kept.Source.{Source}
 use Rattle.list_replay.specs.declared.told.ToldCpu.{ToldCpu}
 use Rattle.list_replay.specs.Closed.{closed}
 use Rattle.list_replay.specs.CpuLane.{no_fills, cpu_entered}
@@ -66,19 +66,13 @@ loop-place-preserved c = record {
       c.enter-source.ensures.fills
       (c.in_ok-push.ensures.items
       ∙ ap
-      (λ g. c.loop-place.kept.items ++ record {
-        entry = entry;
-        generation = g;
-        key = c.enter-source.result.key;
-        served = c.enter-source.result.served;
-      } ∷ [])
+      (λ g. c.loop-place.kept.items ++ record { entry = entry; generation = g; source = c.enter-source.result } ∷ [])
       (c.generation.ensures ∙ ap (λ (x : CpuValue). x.generation) c.enter-source.ensures.cpu)
       ∙ ap
       (λ (s : Source). c.loop-place.kept.items ++ record {
         entry = entry;
         generation = (cpu_entered entry c.in-Some.handed c.loop-place.lane.cpu).generation;
-        key = s.key;
-        served = s.served;
+        source = s;
       } ∷ [])
       c.enter-source.ensures.source));
 }
