@@ -4,7 +4,8 @@
 #           non-zero where a run writes another line, fails, or has 20 MB resident
 #   speed   160,000 samples of 16 feeders through the queue, and the same by one caller without it, in turn
 # Other builds of the programs are run where BENCH_RNG and BENCH_FEEDS name them, and BENCH_TIMES says how often. What
-# BENCH_UNDER says stands before each measured program: `chrt --rr 1`, as root, keeps the machine's other work away.
+# BENCH_UNDER says stands before each program that `speed` measures: `chrt --rr 1`, as root, keeps the machine's other work
+# away.
 set -eu
 cd "$(dirname "$0")/.."
 . bench/built.sh
@@ -35,7 +36,7 @@ same() {
         { seconds += $2; worked += $3 + $4; if (NR == 1 || $2 < least) least = $2; if ($2 > longest) longest = $2 }
         END {
             printf "%d runs beside %d busy loops, load %s, each: %s\n", NR, loops, load, line
-            printf "resident at most %d KiB, %.2f to %.2f s a run, %.2f in the middle, %.2f s of processors\n",
+            printf "resident at most %d KiB, %.2f to %.2f s a run, %.2f on the average, %.2f s of processors\n",
                 most, least, longest, seconds / NR, worked / NR
             exit most * 1024 >= 20000000
         }' "$room/all"

@@ -9,7 +9,8 @@ half second is lost; the system's own sum stands behind the table. The table has
 first. The command's status is the answer.
 
 `--page` puts the table into a page, as of CONTRIBUTING.md, between its two lines `gate times`. A crate's budget there is
-kept; a crate that has none gets what it took and a fifth more. What is over its budget is told.
+kept; a crate that has none gets what it took and a fifth more. What is over its budget is told. Where a crate of the page
+did not work, since an earlier run's results were kept, the page stays as it is and the status is 1.
 """
 import os
 import re
@@ -131,6 +132,9 @@ def into_page(path, rows, ending):
     if not last:
         sys.exit('%s has no lines %s and %s' % (path, *map(str.strip, MARKS)))
     granted = budgets_of(old)
+    kept = sorted(set(granted) - set(rows))
+    if kept:
+        sys.exit('%s is left as it is, since nothing was done for %s' % (path, ', '.join(kept)))
     budgets = {name: granted.get(name, int(whole(row) * 1.2) + 1) for name, row in rows.items()}
     with open(path, 'w', encoding='utf-8') as file:
         file.write(front + first + page_table(rows, budgets, ending) + last + back)
