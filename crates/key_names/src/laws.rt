@@ -84,8 +84,8 @@ pub fn lawful_serves_named()
     ensures { LawfulServesNamed }
 {}
 
-/// In a lawful transcript, after any number of a caller's calls, each of its vgetrandom states holds the batch and the
-/// position that its list of entries replays to, and unless its generation is 0 the key too.
+/// In a lawful transcript, after any number of a caller's calls, each of its vgetrandom states holds the key, the batch and
+/// the position that its list of entries replays to.
 pub fn states_are_replayed()
     ensures { StatesAreReplayed }
 {}
