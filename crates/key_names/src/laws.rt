@@ -108,7 +108,7 @@ pub fn order_is_start_and_own()
     ensures { OrderIsStartAndOwn }
 {}
 
-/// A child starts with a front of its parent's order.
+/// A child starts with what its parent starts with, and with what the parent does up to and with the visit of the fork.
 #[tactic(auto, using(crate::proofs::History::CallerOrders::start_is_a_front))]
 pub fn start_is_a_front()
     ensures { StartIsAFront }
