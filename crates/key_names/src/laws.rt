@@ -18,7 +18,8 @@ pub fn lawful_is_disjoint()
 {}
 
 /// Of what a lawful book's states still hold, no key was replaced and no two have one name, no byte of a batch's unserved
-/// rest was used, and served bytes are 0. That no byte of a held key was used is `books_hold_unused` of `key_uses`.
+/// rest was used and no two rests share a byte, and served bytes are 0. That no byte of a held key was used is
+/// `books_hold_unused` of `key_uses`.
 pub fn lawful_is_erased()
     ensures { LawfulIsErased }
 {}
