@@ -171,7 +171,7 @@ timer_after early_boot Interrupt timer = timer
 timer_after early_boot Stall timer = timer
 timer_after early_boot Unstall timer = timer
 
--- a running count of 32 bits stays at its ends
+-- the running count has 32 bits and does not wrap
 abbrev pub one_more : ℕ → ℕ
 one_more n = min (2 ^ 32 - 1) (n + 1)
 

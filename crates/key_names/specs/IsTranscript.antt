@@ -182,7 +182,7 @@ abbrev pub DataStand : Script → List (List SeenLine) → List (List CallMeanin
 DataStand script t ms =
     EachCaller (λ c calls ms. EachLine (λ line m. line.shown ≡ m.shown) calls ms) 0 (script_calls script t) ms
 
--- what a look finds lies between the greatest generation that its caller knew and the last one of the base
+-- each look of each caller's order stands
 abbrev pub SeenStands : Script → List (List SeenLine) → Lists → Type 0
 SeenStands script t lists =
     AllByRecursion (λ order. LooksStand (base_after lists.base).generation [] (deeds_of lists order))

@@ -30,12 +30,11 @@ HasName key = (name : KeyName) × (key ≡ Some name)
 abbrev pub IsNamed : NamedState → Type 0
 IsNamed t = HasName t.key × ((t.pos ≡ 96) ⊎ HasName t.batch_key)
 
--- a state holds what its list replays to. Of generation 0 the key is not told: the read of a key that failed may have
--- left anything in it, and it is read anew before its next use
+-- a state holds what its list replays to, and one that has a generation holds keys with names
 pub record IsReplayed (lists : Lists) (caller k : ℕ) (es : List VEntry) (s : VgetrandomState) : Type 0 where
   pub batch : s.batch ≡ (fold (state_bytes_step lists) state_bytes_start es).batch
   pub pos : s.pos ≡ (state_after caller k es).pos
-  pub key : 1 ≤ s.generation → s.key ≡ state_value_after lists es
+  pub key : s.key ≡ state_value_after lists es
   pub named : 1 ≤ s.generation → IsNamed (state_after caller k es)
 
 -- each of a caller's sixteen states

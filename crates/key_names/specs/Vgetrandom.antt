@@ -181,20 +181,12 @@ pub record AttemptAndRest (n flags : ℕ) (Outdated : ℕ → VgetrandomState �
 abbrev pub AfterBoth : ℕ → ℕ → ℕ → VgetrandomState → List HostStep → Outcome → Type 0
 AfterBoth n flags c s steps outcome = BySystem n flags (state_after_call s) steps outcome
 
--- the rest of a call, Tail being the rest of its second attempt
-abbrev pub SecondTail : ℕ → ℕ → (List HostStep → Attempt → Type 0) → List HostStep → Outcome → Type 0
-SecondTail n flags Tail steps outcome = AttemptAndRest n flags (AfterBoth n flags) Tail steps outcome
-
 -- the second attempt goes on with the block that the first one came to
 abbrev pub SecondAttempt : ℕ → ℕ → ℕ → VgetrandomState → List HostStep → Outcome → Type 0
-SecondAttempt n flags c s steps outcome = SecondTail n flags (IsAttempt n c s) steps outcome
-
--- the rest of a call, Tail being the rest of its first attempt
-abbrev pub FirstTail : ℕ → ℕ → (List HostStep → Attempt → Type 0) → List HostStep → Outcome → Type 0
-FirstTail n flags Tail steps outcome = AttemptAndRest n flags (SecondAttempt n flags) Tail steps outcome
+SecondAttempt n flags c s steps outcome = AttemptAndRest n flags (AfterBoth n flags) (IsAttempt n c s) steps outcome
 
 abbrev pub FirstAttempt : ℕ → ℕ → VgetrandomState → List HostStep → Outcome → Type 0
-FirstAttempt n flags s steps outcome = FirstTail n flags (IsAttempt n 0 s) steps outcome
+FirstAttempt n flags s steps outcome = AttemptAndRest n flags (SecondAttempt n flags) (IsAttempt n 0 s) steps outcome
 
 -- no bytes are wanted
 pub record ByNothing (s : VgetrandomState) (steps : List HostStep) (outcome : Outcome) : Type 0 where

@@ -18,7 +18,8 @@ pub fn lawful_is_disjoint()
 {}
 
 /// Of what a lawful book's states still hold, no key was replaced and no two have one name, no byte of a batch's unserved
-/// rest was used, and served bytes are 0. That no byte of a held key was used is `books_hold_unused` of `key_uses`.
+/// rest was used and no two rests share a byte, and served bytes are 0. That no byte of a held key was used is
+/// `books_hold_unused` of `key_uses`.
 pub fn lawful_is_erased()
     ensures { LawfulIsErased }
 {}
@@ -84,8 +85,8 @@ pub fn lawful_serves_named()
     ensures { LawfulServesNamed }
 {}
 
-/// In a lawful transcript, after any number of a caller's calls, each of its vgetrandom states holds the batch and the
-/// position that its list of entries replays to, and unless its generation is 0 the key too.
+/// In a lawful transcript, after any number of a caller's calls, each of its vgetrandom states holds the key, the batch and
+/// the position that its list of entries replays to.
 pub fn states_are_replayed()
     ensures { StatesAreReplayed }
 {}
@@ -108,7 +109,7 @@ pub fn order_is_start_and_own()
     ensures { OrderIsStartAndOwn }
 {}
 
-/// A child starts with a front of its parent's order.
+/// A child starts with what its parent starts with, and with what the parent does up to and with the visit of the fork.
 #[tactic(auto, using(crate::proofs::History::CallerOrders::start_is_a_front))]
 pub fn start_is_a_front()
     ensures { StartIsAFront }

@@ -54,16 +54,18 @@ good_shown lists set (system_call n flags answer ∷ steps) deeds there known sh
     let P : List Deed → Type 0 = λ ds. AllThere lists ds in
     let h : AllThere lists shows.call × AllThere lists shows.rest = there_append lists shows.call shows.rest
     (subst P shows.deeds_are there) in
-    let R : List Deed → Type 0 = λ ds. AllKnown 1 (looks_of ds) in (
+    let R : List Deed → Type 0 = λ ds. AllKnown 1 (looks_of ds) in
+    let after : AllKnown 1 (looks_of (shows.call ++ shows.rest)) = subst R shows.deeds_are known in (
       λ is_32 no_flags. let F : ℕ → Type 0 = λ i. SysForm set i flags shows.call in
           let G : ℕ → Type 0 = λ i. SysForm set 32 i shows.call in
           let form : SysForm set 32 0 shows.call = subst G no_flags (subst F is_32 shows.form) in
           let Q : SystemAnswer → Type 0 = λ a. KeyIs lists a in
           let same : answer ≡ answer_behind 0 shows.call = shows.answers
           ∙ ap (λ f. answer_behind f shows.call) no_flags in
-          subst Q (sym same) (sys_answered lists set shows.call h.0 form).1,
-      good_shown lists set steps shows.rest h.1 (looks_append 1 shows.call shows.rest (subst R shows.deeds_are known))
-          shows.goes_on,
+          let S : List Deed → Type 0 = λ ds. AllKnown 1 (looks_of (ds ++ shows.rest)) in
+          let looks : AllKnown 1 (looks_of (looked form.0 ∷ (form.1 ++ shows.rest))) = subst S form.2 after in
+          subst Q (sym same) ((sys_answered lists set shows.call h.0 form).1 looks.0),
+      good_shown lists set steps shows.rest h.1 (looks_append 1 shows.call shows.rest after) shows.goes_on,
     )
 
 -- the same of a whole call, whose first look may have found none

@@ -1,6 +1,7 @@
 -- In a lawful transcript a system call for a new key took 32 bytes of a CPU, and read those that its visit hands over.
-use Rattle.std.proofs.Common.{◌≡◌, ℕ, Bool, true, false, List, [], ◌∷◌, ◌++◌, ◌⊎◌, inl, inr, refl, sym, subst, ap, ◌∙◌, Some, None, Option, take}
+use Rattle.std.proofs.Common.{◌≡◌, ℕ, ◌≤◌, Bool, true, false, List, [], ◌∷◌, ◌++◌, ◌⊎◌, inl, inr, refl, sym, subst, ap, ◌∙◌, arith, Some, None, Option, take}
 use Rattle.std.specs.Prelude.{◌==◌, ◌&&◌, slice_get, option_and_then}
+use Rattle.std.proofs.lemmas.Bool.{eqb-true}
 use Rattle.key_names.specs.declared.names.LaneId.{LaneId}
 use Rattle.key_names.specs.declared.names.LaneId.TheVariants.{Pool as PoolLane, Base as BaseLane, Cpu as CpuLane}
 use Rattle.key_names.specs.declared.names.Step.{Step}
@@ -166,32 +167,45 @@ waited_answered lists set g call rest is there waited = go waited.reads
         (took lists refilled.cpu refilled.look (Some refilled.base.place) refilled.reads h.1.1.1.1.1.0).is)
 
 vain_answered : (lists : Lists) (g : ℕ) (call rest : List Deed) → call ≡ looked g ∷ rest → WaitedInVain rest →
-    Answered lists call
+    IsKeyRead (cpu_list lists) (answer_behind 0 call)
 vain_answered lists g call rest is vain =
     let ds : List Deed = looked g ∷ at_base vain.wait ∷ at_base vain.interrupt ∷ [] in
     let all : call ≡ ds = is ∙ ap (λ ds. looked g ∷ ds) vain.deeds_are in
     let stopped : was_interrupted ds ≡ true = ap is_interrupt vain.interrupts in
-    let Q : List Deed → Type 0 = λ ds. Answered lists ds in
-    let P : Option Errno → Type 0 = λ e. WasRead lists (answer_with e ds) in
-    subst Q (sym all) (subst P (sym (ap errno_of (answers_interrupted ds stopped))) (tt, tt))
+    let Q : List Deed → Type 0 = λ ds. IsKeyRead (cpu_list lists) (answer_behind 0 ds) in
+    let P : Option Errno → Type 0 = λ e. IsKeyRead (cpu_list lists) (answer_with e ds) in
+    subst Q (sym all) (subst P (sym (ap errno_of (answers_interrupted ds stopped))) tt)
 
--- a system call of 32 bytes with no flags
-pub sys_answered : (lists : Lists) (set : Setting) (call : List Deed) → AllThere lists call → SysForm set 32 0 call →
-    Answered lists call
+known_look : (g : ℕ) → 1 ≤ g → (g == 0 && true) ≡ true → ⊥
+known_look g some unready = go (g == 0) refl unready
+  where
+    go : (b : Bool) → (g == 0) ≡ b → (b && true) ≡ true → ⊥
+    go true is same = let zero_is : g ≡ 0 = eqb-true g 0 is in absurd (omega arith)
+    go false is same = cc
+
+-- a system call of 32 bytes with no flags: only one whose look found the core not ready may fail
+abbrev AnsweredLook : Lists → ℕ → List Deed → Type 0
+AnsweredLook lists look call =
+    IsKeyRead (cpu_list lists) (answer_behind 0 call) × (1 ≤ look → KeyIs lists (answer_behind 0 call))
+
+pub sys_answered : (lists : Lists) (set : Setting) (call : List Deed) → AllThere lists call →
+    (form : SysForm set 32 0 call) → AnsweredLook lists form.0 call
 sys_answered lists set call there form = go form.0 form.1 form.2 form.3
   where
-    go : (g : ℕ) (rest : List Deed) → call ≡ looked g ∷ rest → LookedForm set 32 0 g rest → Answered lists call
+    always : (g : ℕ) → Answered lists call → AnsweredLook lists g call
+    always g answered = (answered.0, λ some. answered.1)
+
+    go : (g : ℕ) (rest : List Deed) → call ≡ looked g ∷ rest → LookedForm set 32 0 g rest → AnsweredLook lists g call
     go g rest is looked_form = match_cases (WaitedInVain rest ⊎ Waited set 32 rest) (ReadForm set (User 32) g rest)
-        (Answered lists call)
+        (AnsweredLook lists g call)
         (g == 0 && true)
         (λ unready w. elim w [
-          | inl v ↦ vain_answered lists g call rest is v
-          | inr w ↦
-              waited_answered lists set g call rest is there w
+          | inl vain ↦ (vain_answered lists g call rest is vain, λ some. absurd (known_look g some unready))
+          | inr waited ↦ always g (waited_answered lists set g call rest is there waited)
         ])
         (λ known r. elim r [
-          | inl d ↦ (let zero_is : (g == 0 && true) ≡ true = ap (λ i. i == 0 && true) d.0 in cc)
-          | inr f ↦ cpu_read_answered lists set g call rest is there f
+          | inl draw ↦ (let zero_is : (g == 0 && true) ≡ true = ap (λ i. i == 0 && true) draw.0 in cc)
+          | inr read ↦ always g (cpu_read_answered lists set g call rest is there read)
         ])
         looked_form
 

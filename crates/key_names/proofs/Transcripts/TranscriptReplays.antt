@@ -21,7 +21,7 @@ use Rattle.key_names.specs.BatchCopy.{serves_locally, state_after_copy}
 use Rattle.key_names.specs.VreadSteps.{published_by, NeverFall, looks_of}
 use Rattle.key_names.specs.Meaning.{CallerState, caller_start, CallMeaning, LineMeaning, AloneMeans, current_state, ByLocalCopy, ByVgetrandom, tries_local, LocalOrCall, VreadMeans, Means}
 use Rattle.key_names.specs.IsTranscript.{CallsMean, EachOfCall, EachLine, EachCaller, entries_of_state, CallerMeans, start_setting, script_calls}
-use Rattle.key_names.specs.StatesReplayed.{state_number, caller_end, IsReplayed, StatesReplayed, StatesAreReplayed}
+use Rattle.key_names.specs.StatesReplayed.{state_number, caller_end, IsNamed, IsReplayed, StatesReplayed, StatesAreReplayed}
 use Rattle.key_names.proofs.Vgetrandom.CallsKeep.{match_cases, some_bytes}
 use Rattle.key_names.proofs.Transcripts.TranscriptStates.{set_here, set_other, length_set}
 use Rattle.key_names.proofs.Transcripts.TranscriptBooks.{HasStates, all_states, later_states, own_list}
@@ -123,22 +123,14 @@ module _ (lists : Lists) (caller k : ℕ) (below : k < 16) where
   not_true true h = cc
   not_true false h = refl
 
-  -- a copy that the batch serves alone, of a state that has a generation
-  local_holds : (x : Both) (n look : ℕ) (rest : List Deed) (m : CallMeaning) → 1 ≤ n →
-      length m.before.states ≡ 16 → Holds x (state_number k m.before) →
-      serves_locally (published_by look) (current_state m.before) n ≡ true → ByLocalCopy n rest m → Leaves x m
-  local_holds x n look rest m some len h serves by =
-      set_state x m (state_after_copy (current_state m.before) 0 n) len h (ap (λ (s : CallerState). s.states) by.after)
-      (λ same. let s : VgetrandomState = current_state m.before in
-      let g : ℕ = published_by look in
-      let ready : 1 ≤ g = some_bytes g (not_true (g == 0) (and_left (not (g == 0)) _ serves)) in
-      let current : g ≡ s.generation = eqb-true g s.generation
-      (and_left (g == s.generation) _ (and_right (not (g == 0)) _ serves)) in
-      let known : 1 ≤ s.generation = omega arith in
-      let b : Holds x s = current_holds x m same h in
-      let P : List VEntry → Type 0 = λ es. Holds (after x es) (state_after_copy s 0 n) in
-      subst P (sym by.entries) (replay.exact_holds lists caller k _ _ (replay.copy_exact lists caller k x s 0 n some
-      (record { batch = b.batch; pos = b.pos; key = b.key known; named = b.named }))))
+  -- a copy that the batch serves alone
+  local_holds : (x : Both) (n : ℕ) (rest : List Deed) (m : CallMeaning) → 1 ≤ n → length m.before.states ≡ 16 →
+      Holds x (state_number k m.before) → ByLocalCopy n rest m → Leaves x m
+  local_holds x n rest m some len h by =
+      let s : VgetrandomState = current_state m.before in
+      set_state x m (state_after_copy s 0 n) len h (ap (λ (s : CallerState). s.states) by.after)
+      (λ same. let P : List VEntry → Type 0 = λ es. Holds (after x es) (state_after_copy s 0 n) in
+      subst P (sym by.entries) (replay.copy_holds lists caller k x s 0 n some (current_holds x m same h)))
 
   pub wants_bytes : (n flags : ℕ) (acts : List BoundAct) → tries_local n flags acts ≡ true → 1 ≤ n
   wants_bytes n flags acts tries =
@@ -151,7 +143,7 @@ module _ (lists : Lists) (caller k : ℕ) (below : k < 16) where
       (tries_local n flags acts)
       (λ tries looked. match_cases (ByLocalCopy n looked.1 m) (ByVgetrandom n flags acts m) (Leaves x m)
       (serves_locally (published_by looked.0) (current_state m.before) n)
-      (λ serves by. local_holds x n looked.0 looked.1 m (wants_bytes n flags acts tries) len h serves by)
+      (λ serves by. local_holds x n looked.1 m (wants_bytes n flags acts tries) len h by)
       (λ not_served by. vgetrandom_holds x n flags acts m len h there means.looks by) looked.3)
       (λ no by. vgetrandom_holds x n flags acts m len h there means.looks by)
       means.ways
@@ -203,9 +195,8 @@ module _ (lists : Lists) (caller k : ℕ) (below : k < 16) where
   replayed es s h = record {
     batch = sym h.batch ∙ ap (λ (b : StateBytes). b.batch) (bytes_is start es);
     pos = sym h.pos ∙ ap (λ t. t.pos) (named_is start es);
-    key = λ g. sym (h.key g) ∙ ap (λ (b : StateBytes). b.key) (bytes_is start es)
-        ∙ bytes_key lists state_bytes_start es;
-    named = λ g. subst (replay.Named lists caller k) (named_is start es) (h.named g);
+    key = sym h.key ∙ ap (λ (b : StateBytes). b.key) (bytes_is start es) ∙ bytes_key lists state_bytes_start es;
+    named = λ g. subst IsNamed (named_is start es) (h.named g);
   }
 
   pub start_holds : (setting : Setting) → Holds start (state_number k (caller_start setting))
@@ -218,12 +209,7 @@ module _ (lists : Lists) (caller k : ℕ) (below : k < 16) where
       fresh_at (suc n) (suc i) = fresh_at n i
 
       fresh : Holds start wiped_state
-      fresh = record {
-        batch = refl;
-        pos = refl;
-        key = λ g. absurd (omega arith);
-        named = λ g. absurd (omega arith);
-      }
+      fresh = record { batch = refl; pos = refl; key = refl; named = λ g. absurd (omega arith) }
 
   pub state_replayed : (setting : Setting) (calls : List Call) (ms : List CallMeaning) (j : ℕ) →
       CallerMeans lists setting calls ms →

@@ -14,6 +14,7 @@ use Rattle.key_names.specs.Uses.{Use, kept, served, named_use, state_uses_at, us
 use Rattle.key_names.specs.VgetrandomState.{VgetrandomState}
 use Rattle.key_names.specs.BatchCopy.{bytes_left, whole_blocks, new_batch_bytes, has_left, copy_bytes, serve_entry, refill_entries, copy_entries}
 use Rattle.key_names.specs.ServedNamed.{served_in, span_bytes, bytes_for}
+use Rattle.key_names.specs.StatesReplayed.{HasName}
 use Rattle.std.specs.Prelude.{◌==◌}
 use Rattle.std.proofs.lemmas.Bool.{eqb-true}
 use Rattle.std.proofs.lemmas.List.Sums.{fold-append}
@@ -29,7 +30,6 @@ use Rattle.key_names.specs.Vgetrandom.{SystemAnswer, read, failed, HostStep, pub
 use Rattle.key_names.proofs.Vgetrandom.CallsKeep.{match_cases, some_bytes}
 use Rattle.key_names.proofs.Vgetrandom.StatesReplay.{Good, good_append, KeyIs}
 use Rattle.key_names.proofs.Standards.Keystreams.{keystream-add, take-keystream}
-use Rattle.key_names.proofs.Values.ServedNamed.{HasKey}
 use Rattle.key_names.proofs.Vgetrandom.StatesReplay as replay
 
 served_append : (lists : Lists) (us vs : List Use) → served_in lists (us ++ vs) ≡ served_in lists us ++ served_in lists vs
@@ -112,12 +112,12 @@ module _ (lists : Lists) (caller k : ℕ) where
       ∙ sym (keystream-add (value_of lists name) (64 * c) (64 * suc m) r)
 
   -- a copy out of a state whose keys have names
-  pub copy_named : (x : Both) (s : VgetrandomState) (c n : ℕ) → 1 ≤ n → replay.Exact lists caller k x s →
+  pub copy_named : (x : Both) (s : VgetrandomState) (c n : ℕ) → 1 ≤ n → replay.Holds lists caller k x s →
       1 ≤ s.generation → NamesTell x →
       copy_bytes s c n ≡ served_in lists (entry_uses x.named (copy_entries s c n))
   copy_named x s c n some h known tell = go (has_left s n) refl
     where
-      key : HasKey x.named.key
+      key : HasName x.named.key
       key = (h.named known).0
 
       left : ℕ
@@ -247,7 +247,7 @@ module _ (lists : Lists) (caller k : ℕ) where
   held_if false is = cc
 
   from_serve_named : (n c : ℕ) → 1 ≤ n → (x : Both) (s : VgetrandomState) (steps : List HostStep)
-      (attempt : Attempt) → Good lists steps → FromServe n c s steps attempt → replay.Exact lists caller k x s →
+      (attempt : Attempt) → Good lists steps → FromServe n c s steps attempt → replay.Holds lists caller k x s →
       AttemptNamed x attempt
   from_serve_named n c some x s steps attempt good from h fronts held =
       go at.wiped at.goes_on at.attempt_is
@@ -294,13 +294,10 @@ module _ (lists : Lists) (caller k : ℕ) where
 
   serve_point_named : (n c : ℕ) → 1 ≤ n → (x : Both) (s : VgetrandomState) (steps : List HostStep)
       (attempt : Attempt) → Good lists steps → AtPoint ServePoint (FromServe n c) s steps attempt →
-      replay.Exact lists caller k x s → AttemptNamed x attempt
+      replay.Holds lists caller k x s → AttemptNamed x attempt
   serve_point_named n c some x s steps attempt good at h =
-      point_named (replay.Exact lists caller k) (replay.wiped_exact lists caller k) ServePoint (FromServe n c) x s steps
+      point_named (replay.Holds lists caller k) (replay.wiped_holds lists caller k) ServePoint (FromServe n c) x s steps
       attempt (λ u r rest later g f b. from_serve_named n c some u r rest later g f b) at good h
-
-  not_held : not_keyed ≡ holds → ⊥
-  not_held is = cc
 
   written_named : (n c : ℕ) → 1 ≤ n → (x : Both) (s : VgetrandomState) (steps : List HostStep) (attempt : Attempt) →
       Good lists steps → FromWritten n c s steps attempt → replay.Loose lists caller k x s → AttemptNamed x attempt
@@ -321,20 +318,16 @@ module _ (lists : Lists) (caller k : ℕ) where
             key = sym is;
             named = λ some. ((Call (CpuLane at.cpu) at.place, refl), inl refl);
           }))
-      go (failed errno) is g unkeyed = λ fronts held.
-          absurd (not_held (sym (ap (λ (a : Attempt). a.end) unkeyed.attempt_is) ∙ held))
+      go (failed errno) is g unkeyed = absurd is
 
-  start_named : (n c published : ℕ) → 1 ≤ n → 1 ≤ published → (x : Both) (s : VgetrandomState)
-      (steps : List HostStep) (attempt : Attempt) → Good lists steps →
-      FromStart n c published s steps attempt → replay.Holds lists caller k x s → AttemptNamed x attempt
-  start_named n c published some known x s steps attempt good from h =
+  start_named : (n c published : ℕ) → 1 ≤ n → (x : Both) (s : VgetrandomState) (steps : List HostStep)
+      (attempt : Attempt) → Good lists steps → FromStart n c published s steps attempt →
+      replay.Holds lists caller k x s → AttemptNamed x attempt
+  start_named n c published some x s steps attempt good from h =
       match_cases (AtPoint ServePoint (FromServe n c) s steps attempt)
       (AtPoint Written (FromWritten n c) (record s { generation = published }) steps attempt)
       (AttemptNamed x attempt) (s.generation == published)
-      (λ is at. let same : s.generation ≡ published = eqb-true s.generation published is in
-      let g : 1 ≤ s.generation = omega arith in
-      serve_point_named n c some x s steps attempt good at
-      (record { batch = h.batch; pos = h.pos; key = h.key g; named = h.named }))
+      (λ is at. serve_point_named n c some x s steps attempt good at h)
       (λ is at. point_named (replay.Loose lists caller k) (replay.wiped_loose lists caller k) Written (FromWritten n c) x
       (record s { generation = published }) steps attempt
       (λ u r rest later g f b. written_named n c some u r rest later g f b) at good
@@ -348,7 +341,7 @@ module _ (lists : Lists) (caller k : ℕ) where
       let g : (1 ≤ is.published) × Good lists is.rest =
       subst (λ (xs : List HostStep). Good lists xs) is.steps_are good in
       point_named (replay.Holds lists caller k) (replay.wiped_holds lists caller k) Start (FromStart n c is.published) x s
-      is.rest attempt (λ u r rest later good f b. start_named n c is.published some g.0 u r rest later good f b)
+      is.rest attempt (λ u r rest later good f b. start_named n c is.published some u r rest later good f b)
       is.goes_on g.1 h
 
   -- the last of some entries have these bytes

@@ -16,6 +16,7 @@ use Rattle.key_names.specs.BaseList.{BaseState, Phase, empty, early, base_after,
 use Rattle.key_names.specs.Deeds.{base_visit}
 use Rattle.key_names.specs.Uses.{read_uses, use_of, kept, served, named_uses}
 use Rattle.key_names.specs.ServedNamed.{served_in, base_place_uses}
+use Rattle.key_names.specs.StatesReplayed.{HasName}
 use Rattle.key_names.proofs.Lists.Growing.{may_at}
 use Rattle.key_names.proofs.Values.Named.{base_key_at, base_key_named}
 use Rattle.std.specs.Option.{option_map_or}
@@ -34,9 +35,6 @@ use Rattle.key_names.specs.Uses.{is_rekeyed, batch_uses, named_use}
 use Rattle.key_names.specs.ServedNamed.{cpu_place_uses, LawfulServesNamed}
 use Rattle.key_names.proofs.Values.Named.{cpu_key_at, cpu_key_named, every_front}
 use Rattle.key_names.proofs.Values.HeldBytes.{entry_behind, front_of}
-
-abbrev pub HasKey : Option KeyName → Type 0
-HasKey o = (k : KeyName) × (o ≡ Some k)
 
 -- what a read serves, by names
 module _ (lists : Lists) (key call : KeyName) (used : List ℕ) (is : value_of lists key ≡ used)
@@ -67,7 +65,7 @@ place_at place step next s (x ∷ xs) (suc i) e is =
 
 -- past the empty phase the base has a key
 abbrev BaseKeyed : BaseState → Type 0
-BaseKeyed s = (s.phase ≡ empty → ⊥) → HasKey s.key
+BaseKeyed s = (s.phase ≡ empty → ⊥) → HasName s.key
 
 keyed_step : (s : BaseState) (e : BaseEntry) → BaseKeyed s → BaseKeyed (base_step s e)
 keyed_step s (Early None) keyed = keyed
@@ -97,7 +95,7 @@ early_late is = cc
 
 -- a draw has a key in use
 draw_keyed : (s : BaseState) (o : Option ℕ) (taken : Taken) → BaseKeyed s → BaseFits s (Draw o taken) →
-    HasKey (base_key_in_use (Draw o taken) s.key)
+    HasName (base_key_in_use (Draw o taken) s.key)
 draw_keyed s None taken keyed fits = keyed (late_phase s.phase early fits early_late)
 draw_keyed s (Some r) taken keyed fits = (Root r, refl)
 
@@ -119,7 +117,7 @@ module _ (lists : Lists) (lawful : LawfulBase lists.pool lists.base) where
       let s : BaseState = base_after (take i lists.base) in
       let may : BaseMayCome lists.pool s e = may_at (BaseMayCome lists.pool) base_step base_start lists.base i e lawful is
       in
-      let key : HasKey (base_key_in_use e s.key) =
+      let key : HasName (base_key_in_use e s.key) =
       draw_keyed s o taken (base_keyed base_start (take i lists.base) (λ late. absurd (late refl))) may.fits in
       let at : s.place ≡ i = (let p : s.place ≡ 0 + i = place_at (λ s. s.place) base_step (λ s e. refl) base_start
       lists.base i e is in omega arith) in
@@ -156,11 +154,11 @@ module _ (lists : Lists) (lawful : LawfulBase lists.pool lists.base) where
 module _ (lists : Lists) (c : ℕ) where
   record FillOk (f : Fill) : Type 0 where
     used_key : cpu_key_at lists c f.place ≡ f.key
-    keyed : HasKey f.key
+    keyed : HasName f.key
 
   -- a CPU that has a generation has a key, and each fill is of the key in use at its place
   record CpuOk (s : CpuState) : Type 0 where
-    keyed : 1 ≤ s.generation → HasKey s.key
+    keyed : 1 ≤ s.generation → HasName s.key
     fills : (w : ℕ) (f : Fill) → s.fills w ≡ Some f → FillOk f
 
   same_fill_ok : (g f : Fill) → g.place ≡ f.place → g.key ≡ f.key → FillOk g → FillOk f
@@ -169,14 +167,14 @@ module _ (lists : Lists) (c : ℕ) where
     keyed = (ok.keyed.0, sym key ∙ ok.keyed.1);
   }
 
-  call_keyed : (o : Option ℕ) (g : ℕ) (key : Option KeyName) → (1 ≤ g → HasKey key) →
-      1 ≤ generation_or lists.base o g → HasKey (call_or o key)
+  call_keyed : (o : Option ℕ) (g : ℕ) (key : Option KeyName) → (1 ≤ g → HasName key) →
+      1 ≤ generation_or lists.base o g → HasName (call_or o key)
   call_keyed None g key keyed some = keyed some
   call_keyed (Some b) g key keyed some = (Call BaseLane b, refl)
 
   fill_ok : (b : Bool) (name : Option KeyName) (place look : ℕ) (o : Option Fill) (f : Fill) →
       (if b then Some (record { key = name; place = place; count = 1; look = look }) else o) ≡ Some f →
-      cpu_key_at lists c place ≡ name → HasKey name → (o ≡ Some f → FillOk f) → FillOk f
+      cpu_key_at lists c place ≡ name → HasName name → (o ≡ Some f → FillOk f) → FillOk f
   fill_ok true name place look o f is used keyed old =
       let new : Fill = record { key = name; place = place; count = 1; look = look } in
       same_fill_ok new f (ap (λ o. option_map_or (λ (x : Fill). x.place) o place) is)
@@ -193,14 +191,14 @@ module _ (lists : Lists) (c : ℕ) where
 
   -- the key in use at a read, and at an integer that fills its batch
   read_keyed : (s : CpuState) (look : ℕ) (refill : Option ℕ) → CpuOk s → ReadFits s look refill →
-      HasKey (call_or refill s.key)
+      HasName (call_or refill s.key)
   read_keyed s look None ok fits =
       let g : look ≡ s.generation = fits.names.0 refl in let known : 1 ≤ look = fits.looks.known in
       ok.keyed (omega arith)
   read_keyed s look (Some b) ok fits = (Call BaseLane b, refl)
 
   int_keyed : (s : CpuState) (look width : ℕ) (refill : Option ℕ) → CpuOk s → IntFits s look refill width true →
-      HasKey (call_or refill s.key)
+      HasName (call_or refill s.key)
   int_keyed s look width None ok fits = elim (fits.names.0 refl) [
     | inl none ↦ cc
     | inr g ↦ (let known : 1 ≤ look = fits.looks.known in ok.keyed (omega arith))
@@ -282,7 +280,7 @@ module _ (lists : Lists) (c : ℕ) where
     read_visit k look refill taken is none =
         let e : CpuEntry = Read look refill taken in
         let s : CpuState = cpu_at k in
-        let key : HasKey (call_or refill s.key) = read_keyed s look refill (cpu_ok k) (may_come k e is).fits in
+        let key : HasName (call_or refill s.key) = read_keyed s look refill (cpu_ok k) (may_come k e is).fits in
         let used : List ℕ = cpu_value_in_use lists e (cpu_value_after lists (take k es)) in
         let at : s.place ≡ k = cpu_place_is k e is in
         let next : value_of lists (Call (CpuLane c) s.place) ≡ keystream used 32 32 =
@@ -298,7 +296,7 @@ module _ (lists : Lists) (c : ℕ) where
     fill_visit k look width refill is =
         let e : CpuEntry = Int look refill width true in
         let s : CpuState = cpu_at k in
-        let key : HasKey (call_or refill s.key) = int_keyed s look width refill (cpu_ok k) (may_come k e is).fits in
+        let key : HasName (call_or refill s.key) = int_keyed s look width refill (cpu_ok k) (may_come k e is).fits in
         let used : List ℕ = cpu_value_in_use lists e (cpu_value_after lists (take k es)) in
         let first : 32 + width * 0 ≡ 32 = omega arith in
         ap (λ v. keystream v (32 + width * 0) width) (sym (value_in_use k e is key.0 key.1))

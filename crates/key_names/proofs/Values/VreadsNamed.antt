@@ -89,13 +89,11 @@ module _ (lists : Lists) (caller k : ℕ) (below : k < 16) where
       let current : g ≡ s.generation = eqb-true g s.generation (walk.and_left lists caller k below (g == s.generation) _
       (walk.and_right lists caller k below (not (g == 0)) _ serves)) in
       let known : 1 ≤ s.generation = omega arith in
-      let exact : replay.Exact lists caller k x s =
-      record { batch = b.batch; pos = b.pos; key = b.key known; named = b.named } in
       showed_batch (copy_bytes s 0 n) by.shown (record {
         earlier = [];
         last = m.entries;
         entries_are = refl;
-        bytes_are = batch.copy_named lists caller k x s 0 n some exact known (fronts [] m.entries refl)
+        bytes_are = batch.copy_named lists caller k x s 0 n some b known (fronts [] m.entries refl)
             ∙ ap (batch.bytes_of lists caller k x) (sym by.entries);
       })
 

@@ -1,10 +1,10 @@
 -- A vgetrandom state has the key, the batch and the position that its list of entries replays to.
-use Rattle.std.proofs.Common.{◌≡◌, ℕ, zero, suc, ◌+◌, ◌-◌, ◌*◌, ◌≤◌, Bool, true, false, List, [], ◌∷◌, ◌++◌, ◌⊎◌, inl, inr, refl, sym, subst, ap, ◌∙◌, arith, Some, None, Option, take, drop, append-nil}
+use Rattle.std.proofs.Common.{◌≡◌, ℕ, zero, suc, ◌+◌, ◌-◌, ◌*◌, ◌≤◌, Bool, true, false, List, [], ◌∷◌, ◌++◌, inl, inr, refl, sym, subst, ap, ◌∙◌, arith, Some, None, Option, take, drop, append-nil}
 use Rattle.std.specs.Prelude.{◌==◌, ⊤, if◌then◌else◌}
 use Rattle.std.specs.List.{fold}
 use Rattle.std.proofs.lemmas.List.{take-append-drop}
 use Rattle.std.proofs.lemmas.List.Sums.{fold-append}
-use Rattle.std.proofs.lemmas.Bool.{leb-true, eqb-true}
+use Rattle.std.proofs.lemmas.Bool.{leb-true}
 use Rattle.key_names.specs.declared.names.KeyName.{KeyName}
 use Rattle.key_names.specs.declared.names.KeyName.TheVariants.{Call, Vdso}
 use Rattle.key_names.specs.declared.names.LaneId.TheVariants.{Cpu as CpuLane}
@@ -19,11 +19,11 @@ use Rattle.key_names.specs.Book.{Lists}
 use Rattle.key_names.specs.Flags.{is_bad}
 use Rattle.key_names.specs.StateList.{NamedState, state_step, refill_key}
 use Rattle.key_names.specs.LiveMaterial.{StateBytes, state_bytes_step}
+use Rattle.key_names.specs.StatesReplayed.{HasName, IsNamed}
 use Rattle.key_names.specs.VgetrandomState.{VgetrandomState, wiped_state, state_left}
 use Rattle.key_names.specs.BatchCopy.{bytes_left, whole_blocks, new_batch_bytes, has_left, copy_bytes, state_of_same_batch, state_of_new_batch, state_after_copy, block_after_copy, serve_entry, refill_entries, copy_entries}
 use Rattle.key_names.specs.Vgetrandom.{SystemAnswer, read, failed, HostStep, publishes, system_call, at_point, AttemptEnd, holds, outdated, not_keyed, Attempt, wipe_entry, AtPoint, AfterKeyRead, FromEnd, FromServe, FromWritten, FromStart, IsAttempt, Outcome, BySystem, ByNothing, AfterAttempt, AttemptAndRest, AfterBoth, state_after_call, SecondAttempt, FirstAttempt, FromPublished, FromLook, IsCall}
 use Rattle.key_names.proofs.Vgetrandom.CallsKeep.{match_cases, some_bytes}
-use Rattle.key_names.proofs.Values.ServedNamed.{HasKey}
 
 -- bytes of which none are set to 0
 no_zeros : (pos : ℕ) (bytes : List ℕ) → bytes ≡ with_zeros pos 0 bytes
@@ -32,12 +32,12 @@ no_zeros pos bytes =
     sym (take-append-drop pos bytes) ∙ ap (λ ys. ys ++ drop pos bytes) (sym (append-nil (take pos bytes)))
     ∙ ap (λ i. (take pos bytes ++ []) ++ drop i bytes) p
 
-has_key : (o p : Option KeyName) → p ≡ o → HasKey o → HasKey p
-has_key o p is h = (h.0, is ∙ h.1)
+has_name : (o p : Option KeyName) → p ≡ o → HasName o → HasName p
+has_name o p is h = (h.0, is ∙ h.1)
 
 -- a system call for a new key read what the visit of a CPU handed over
 abbrev pub KeyIs : Lists → SystemAnswer → Type 0
-KeyIs lists (failed errno) = ⊤
+KeyIs lists (failed errno) = ⊥
 KeyIs lists (read bytes None) = ⊥
 KeyIs lists (read bytes (Some at)) = bytes ≡ cpu_call_value lists at.cpu at.place
 
@@ -66,40 +66,23 @@ module _ (lists : Lists) (caller k : ℕ) where
   abbrev pub after : Both → List VEntry → Both
   after x es = fold step x es
 
-  -- the key has a name, and so has the key of the batch unless it is used up
-  abbrev pub Named : NamedState → Type 0
-  Named t = HasKey t.key × ((t.pos ≡ 96) ⊎ HasKey t.batch_key)
-
   -- the batch and the position are those of the replay
   pub record Loose (x : Both) (s : VgetrandomState) : Type 0 where
     pub batch : x.bytes.batch ≡ s.batch
     pub pos : x.named.pos ≡ s.pos
 
-  -- and the key of a state that has a generation
+  -- and so is the key
   pub record Holds (x : Both) (s : VgetrandomState) : Type 0 where
     pub batch : x.bytes.batch ≡ s.batch
     pub pos : x.named.pos ≡ s.pos
-    pub key : 1 ≤ s.generation → x.bytes.key ≡ s.key
-    pub named : 1 ≤ s.generation → Named x.named
-
-  -- or the key of any state
-  pub record Exact (x : Both) (s : VgetrandomState) : Type 0 where
-    pub batch : x.bytes.batch ≡ s.batch
-    pub pos : x.named.pos ≡ s.pos
     pub key : x.bytes.key ≡ s.key
-    pub named : 1 ≤ s.generation → Named x.named
-
-  pub wiped_exact : (x : Both) → Exact (step x Wipe) wiped_state
-  wiped_exact x = record { batch = refl; pos = refl; key = refl; named = λ some. absurd (omega arith) }
+    pub named : 1 ≤ s.generation → IsNamed x.named
 
   pub wiped_loose : (x : Both) → Loose (step x Wipe) wiped_state
   wiped_loose x = record { batch = refl; pos = refl }
 
-  pub exact_holds : (x : Both) (s : VgetrandomState) → Exact x s → Holds x s
-  exact_holds x s h = record { batch = h.batch; pos = h.pos; key = λ some. h.key; named = h.named }
-
   pub wiped_holds : (x : Both) → Holds (step x Wipe) wiped_state
-  wiped_holds x = exact_holds (step x Wipe) wiped_state (wiped_exact x)
+  wiped_holds x = record { batch = refl; pos = refl; key = refl; named = λ some. absurd (omega arith) }
 
   -- what the entry of some bytes of the batch leaves
   pub record Served (x y : Both) (pos n : ℕ) : Type 0 where
@@ -125,10 +108,10 @@ module _ (lists : Lists) (caller k : ℕ) where
     pub batch : y.bytes.batch ≡ with_zeros 0 r (keystream x.bytes.key (64 * at) 96)
     pub key : y.bytes.key ≡ keystream x.bytes.key (64 * at + 96) 32
     pub pos_is : y.named.pos ≡ r
-    pub name : HasKey x.named.key → HasKey y.named.key
+    pub name : HasName x.named.key → HasName y.named.key
     pub batch_name : y.named.batch_key ≡ x.named.key
 
-  kept_name : (n : ℕ) (o : Option KeyName) → HasKey o → HasKey (refill_key caller k n o)
+  kept_name : (n : ℕ) (o : Option KeyName) → HasName o → HasName (refill_key caller k n o)
   kept_name n None h = let e = h.1 in cc
   kept_name n (Some key) h = (Vdso caller k n, refl)
 
@@ -137,7 +120,7 @@ module _ (lists : Lists) (caller k : ℕ) where
     batch = served.batch;
     key = served.key;
     pos_is = (let p : y.named.pos ≡ 0 + r = served.pos_is in let q : y.named.pos ≡ r = omega arith in q);
-    name = λ h. has_key (refill_key caller k x.named.refills x.named.key) y.named.key served.name
+    name = λ h. has_name (refill_key caller k x.named.refills x.named.key) y.named.key served.name
         (kept_name x.named.refills x.named.key h);
     batch_name = served.batch_name;
   }
@@ -151,12 +134,12 @@ module _ (lists : Lists) (caller k : ℕ) where
       record { batch = h.batch; key = h.key; pos_is = h.pos_is; name = h.name; batch_name = h.batch_name }
 
   -- a copy leaves what its entries replay to
-  pub copy_exact : (x : Both) (s : VgetrandomState) (c n : ℕ) → 1 ≤ n → Exact x s →
-      Exact (after x (copy_entries s c n)) (state_after_copy s c n)
-  copy_exact x s c n some h = go (has_left s n) refl
+  pub copy_holds : (x : Both) (s : VgetrandomState) (c n : ℕ) → 1 ≤ n → Holds x s →
+      Holds (after x (copy_entries s c n)) (state_after_copy s c n)
+  copy_holds x s c n some h = go (has_left s n) refl
     where
       go : (b : Bool) → has_left s n ≡ b →
-          Exact (after x (if b then serve_entry s.pos n
+          Holds (after x (if b then serve_entry s.pos n
           else serve_entry s.pos (bytes_left s) ++ refill_entries c (whole_blocks s n) (new_batch_bytes s n)))
           (if b then state_of_same_batch s n else state_of_new_batch s (c + whole_blocks s n) (new_batch_bytes s n))
       go true is =
@@ -166,12 +149,12 @@ module _ (lists : Lists) (caller k : ℕ) where
             batch = v.batch ∙ ap (with_zeros s.pos n) h.batch;
             pos = v.pos_is;
             key = v.key ∙ h.key;
-            named = λ g. let m : Named x.named = h.named g in (
-              has_key x.named.key y.named.key v.name m.0,
+            named = λ g. let m : IsNamed x.named = h.named g in (
+              has_name x.named.key y.named.key v.name m.0,
               elim m.1 [
                 | inl full ↦ absurd (let le : n ≤ 96 - s.pos = leb-true n (bytes_left s) is in let p = h.pos in
                     omega arith)
-                | inr key ↦ inr (has_key x.named.batch_key y.named.batch_key v.batch_name key)
+                | inr key ↦ inr (has_name x.named.batch_key y.named.batch_key v.batch_name key)
               ],
             );
           }
@@ -184,13 +167,13 @@ module _ (lists : Lists) (caller k : ℕ) where
           let w : Refilled u (after u es) at (new_batch_bytes s n) =
           refill_after u c (whole_blocks s n) (new_batch_bytes s n) in
           let key : u.bytes.key ≡ s.key = v.key ∙ h.key in
-          let P : Both → Type 0 = λ y. Exact y (state_of_new_batch s at (new_batch_bytes s n)) in
+          let P : Both → Type 0 = λ y. Holds y (state_of_new_batch s at (new_batch_bytes s n)) in
           subst P (sym (fold-append step x rest es)) (let m : P (after u es) = record {
             batch = w.batch ∙ ap (λ v. with_zeros 0 (new_batch_bytes s n) (keystream v (64 * at) 96)) key;
             pos = w.pos_is;
             key = w.key ∙ ap (λ v. keystream v (64 * at + 96) 32) key;
-            named = λ g. let name : HasKey u.named.key = has_key x.named.key u.named.key v.name (h.named g).0 in
-                (w.name name, inr (has_key u.named.key (after u es).named.batch_key w.batch_name name));
+            named = λ g. let name : HasName u.named.key = has_name x.named.key u.named.key v.name (h.named g).0 in
+                (w.name name, inr (has_name u.named.key (after u es).named.batch_key w.batch_name name));
           } in m)
 
   -- what an attempt, and a call, leave
@@ -225,24 +208,24 @@ module _ (lists : Lists) (caller k : ℕ) where
       go true g = on (step x Wipe) wiped_state at.rest at.attempt_after rest_good g (wiped_before x)
 
   end_holds : (out : List ℕ) (c : ℕ) (x : Both) (s : VgetrandomState) (steps : List HostStep) (attempt : Attempt) →
-      FromEnd out c s steps attempt → Exact x s → AttemptHolds x attempt
+      FromEnd out c s steps attempt → Holds x s → AttemptHolds x attempt
   end_holds out c x s steps attempt e h =
-      let P : Attempt → Type 0 = λ a. AttemptHolds x a in subst P (sym e.attempt_is) (exact_holds x s h)
+      let P : Attempt → Type 0 = λ a. AttemptHolds x a in subst P (sym e.attempt_is) h
 
   from_serve_holds : (n c : ℕ) → 1 ≤ n → (x : Both) (s : VgetrandomState) (steps : List HostStep) (attempt : Attempt) →
-      Good lists steps → FromServe n c s steps attempt → Exact x s → AttemptHolds x attempt
+      Good lists steps → FromServe n c s steps attempt → Holds x s → AttemptHolds x attempt
   from_serve_holds n c some x s steps attempt good from h =
       behind_holds x (copy_entries s c n) attempt from.attempt_after from.attempt_is
-      (point_holds Exact wiped_exact End (FromEnd (copy_bytes s c n) (block_after_copy s c n))
+      (point_holds Holds wiped_holds End (FromEnd (copy_bytes s c n) (block_after_copy s c n))
       (after x (copy_entries s c n)) (state_after_copy s c n) steps from.attempt_after
       (λ u r rest later g e b. end_holds (copy_bytes s c n) (block_after_copy s c n) u r rest later e b)
-      from.goes_on good (copy_exact x s c n some h))
+      from.goes_on good (copy_holds x s c n some h))
 
   serve_point_holds : (n c : ℕ) → 1 ≤ n → (x : Both) (s : VgetrandomState) (steps : List HostStep)
-      (attempt : Attempt) → Good lists steps → AtPoint ServePoint (FromServe n c) s steps attempt → Exact x s →
+      (attempt : Attempt) → Good lists steps → AtPoint ServePoint (FromServe n c) s steps attempt → Holds x s →
       AttemptHolds x attempt
   serve_point_holds n c some x s steps attempt good at h =
-      point_holds Exact wiped_exact ServePoint (FromServe n c) x s steps attempt
+      point_holds Holds wiped_holds ServePoint (FromServe n c) x s steps attempt
       (λ u r rest later g f b. from_serve_holds n c some u r rest later g f b) at good h
 
   written_holds : (n c : ℕ) → 1 ≤ n → (x : Both) (s : VgetrandomState) (steps : List HostStep) (attempt : Attempt) →
@@ -264,26 +247,16 @@ module _ (lists : Lists) (caller k : ℕ) where
             key = sym is;
             named = λ some. ((Call (CpuLane at.cpu) at.place, refl), inl refl);
           }))
-      go (failed errno) is g unkeyed =
-          let P : Attempt → Type 0 = λ a. AttemptHolds x a in
-          subst P (sym unkeyed.attempt_is) (let m : Holds x (record s { key = unkeyed.key; generation = 0 }) = record {
-            batch = h.batch;
-            pos = h.pos;
-            key = λ some. absurd (omega arith);
-            named = λ some. absurd (omega arith);
-          } in m)
+      go (failed errno) is g unkeyed = absurd is
 
-  start_holds : (n c published : ℕ) → 1 ≤ n → 1 ≤ published → (x : Both) (s : VgetrandomState)
-      (steps : List HostStep) (attempt : Attempt) → Good lists steps →
-      FromStart n c published s steps attempt → Holds x s → AttemptHolds x attempt
-  start_holds n c published some known x s steps attempt good from h =
+  start_holds : (n c published : ℕ) → 1 ≤ n → (x : Both) (s : VgetrandomState) (steps : List HostStep)
+      (attempt : Attempt) → Good lists steps → FromStart n c published s steps attempt → Holds x s →
+      AttemptHolds x attempt
+  start_holds n c published some x s steps attempt good from h =
       match_cases (AtPoint ServePoint (FromServe n c) s steps attempt)
       (AtPoint Written (FromWritten n c) (record s { generation = published }) steps attempt)
       (AttemptHolds x attempt) (s.generation == published)
-      (λ is at. let same : s.generation ≡ published = eqb-true s.generation published is in
-      let g : 1 ≤ s.generation = omega arith in
-      serve_point_holds n c some x s steps attempt good at
-      (record { batch = h.batch; pos = h.pos; key = h.key g; named = h.named }))
+      (λ is at. serve_point_holds n c some x s steps attempt good at h)
       (λ is at. point_holds Loose wiped_loose Written (FromWritten n c) x (record s { generation = published }) steps
       attempt (λ u r rest later g f b. written_holds n c some u r rest later g f b) at good
       (record { batch = h.batch; pos = h.pos }))
@@ -295,7 +268,7 @@ module _ (lists : Lists) (caller k : ℕ) where
       let g : (1 ≤ is.published) × Good lists is.rest =
       subst (λ (xs : List HostStep). Good lists xs) is.steps_are good in
       point_holds Holds wiped_holds Start (FromStart n c is.published) x s is.rest attempt
-      (λ u r rest later good f b. start_holds n c is.published some g.0 u r rest later good f b) is.goes_on g.1 h
+      (λ u r rest later good f b. start_holds n c is.published some u r rest later good f b) is.goes_on g.1 h
 
   none_holds : (x : Both) (s : VgetrandomState) (outcome : Outcome) → outcome.entries ≡ [] → outcome.state ≡ s →
       Holds x s → OutcomeHolds x outcome
