@@ -31,7 +31,7 @@ binary_digits n = length (digits_of 2 n)
 abbrev pub least_delta : InputTimer → ℕ → ℕ
 least_delta t now = min (nat_abs (delta t now)) (min (nat_abs (delta2 t now)) (nat_abs (delta3 t now)))
 
--- at most 11: the digits of half the least difference
+-- at most 11: the digits of half the least difference, cut to 32 bits (fls)
 abbrev pub timer_bits : InputTimer → ℕ → ℕ
 timer_bits t now = min (binary_digits (least_delta t now / 2 % 2 ^ 32)) 11
 

@@ -20,7 +20,7 @@ pub record PoolState : Type 0 where
 abbrev pub pool_start : PoolState
 pool_start = record { key = None; text = []; bits = 0; value = 0; timer = timer_start }
 
--- the bits after a credit: never above 256 (credit_init_bits)
+-- the bits after a credit: never above 256 (_credit_init_bits)
 abbrev pub credit : ℕ → ℕ → ℕ
 credit bits more = min 256 (bits + min more 256)
 

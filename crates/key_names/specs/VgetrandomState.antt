@@ -1,8 +1,8 @@
 -- A vgetrandom state as its caller's memory holds it (`struct vgetrandom_state`).
 use Rattle.std.specs.Prelude.{ℕ, Bool, false, List, replicate, if◌then◌else◌}
 
--- the batch of 96 bytes, of which those before pos were served; the key that the next batch comes from; the published
--- generation that the key was read for, or 0; and whether a call is inside
+-- the batch of 96 bytes, of which those from pos on are still served; the key that the next batch comes from; the
+-- published generation that the key was read for, or 0; and whether a call is inside
 pub record VgetrandomState : Type 0 where
   pub batch : List ℕ
   pub key : List ℕ
