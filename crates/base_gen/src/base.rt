@@ -146,8 +146,8 @@ impl Base {
         now + reseed_interval(&mut self.early_boot, now)
     }
 
-    /// Erases the key, and hands out the first bytes that its block has over, and the old key from block 1 on
-    /// (`crng_fast_key_erasure`).
+    /// Erases the key, and hands out the first bytes that its block has over, at most 32, and the old key from block 1
+    /// on (`crng_fast_key_erasure`).
     pub fn draw(&mut self, out: &mut [u8]) -> Detached
         requires { length out.old ≤ 32 }
         ensures state { self.new ≡ erased self.old }
@@ -158,7 +158,8 @@ impl Base {
         erase(&mut self.key, out)
     }
 
-    /// Erases the key, and hands out the key of a CPU that is refilled (`crng_make_state`).
+    /// Erases the key, and hands out 32 bytes as a key: of a CPU that is refilled, or, before the core is ready, of one
+    /// user's read that is longer than 32 bytes (`crng_make_state`).
     pub fn call_key(&mut self) -> [u8; 32]
         ensures state { self.new ≡ erased self.old }
         ensures key { result ≡ keystream self.old.key 32 32 }

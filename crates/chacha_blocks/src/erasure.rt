@@ -63,7 +63,7 @@ pub fn erase(key: &mut [u8; 32], out: &mut [u8]) -> Detached
 
 /// Replaces the key by bytes 0 to 32 of its own keystream, and fills `buf` with the bytes from 32 on, of any number
 /// below 2^40 - 32. It is a kernel read whole (`_get_random_bytes`): what [`erase`] writes to the first 32 bytes and
-/// [`Detached::more`] to the rest.
+/// [`Detached::more`] to the rest. For no bytes the key is erased all the same; the kernel's then does nothing.
 pub fn erase_and_fill(key: &mut [u8; 32], buf: &mut [u8])
     requires { 32 + length buf.old < 2 ^ 40 }
     ensures erased { key.new ≡ keystream key.old 0 32 }

@@ -10,7 +10,7 @@ use crate::stream::fill_from_block;
 
 /// Erases `key` and fills `buf` for a user, as the kernel's `get_random_bytes_user`: up to 32 bytes are what the
 /// erasure's block has over; for more, that is a key of this read alone, and the bytes are its stream from block 1 on.
-/// They are fewer than 2^40 - 1.
+/// They are fewer than 2^40 - 1. For no bytes the key is erased all the same; the kernel's then does nothing.
 ///
 /// It is for a caller with one key and no lanes: the core makes the same read in two parts, under a lane and behind it.
 pub fn user_read(key: &mut [u8; 32], buf: &mut [u8])

@@ -63,7 +63,7 @@ impl Cpu {
         *self = Cpu::with(key, g);
     }
 
-    /// Erases the key, and hands out the key of one read that is longer than 32 bytes, or of a vgetrandom state.
+    /// Erases the key, and hands out the key of one user's read that is longer than 32 bytes (`get_random_bytes_user`).
     pub fn call_key(&mut self) -> [u8; 32]
         ensures state { self.new ≡ erased self.old }
         ensures key { result ≡ keystream self.old.key 32 32 }
@@ -71,8 +71,8 @@ impl Cpu {
         derive_key(&mut self.key)
     }
 
-    /// Erases the key, and hands out the first bytes that its block has over, and the old key from block 1 on
-    /// (`crng_fast_key_erasure`).
+    /// Erases the key, and hands out the first bytes that its block has over, at most 32, and the old key from block 1
+    /// on (`crng_fast_key_erasure`).
     pub fn front(&mut self, out: &mut [u8]) -> Detached
         requires { length out.old ≤ 32 }
         ensures state { self.new ≡ erased self.old }

@@ -78,12 +78,13 @@ module _ {R : Type 0} (h last : LaneHost R) (idle : length h.acts.now ≡ 0) (tw
   abbrev floor_of : LaneHost R → ℕ
   floor_of k = published_by (floor (view k.site.pass.now))
 
-  pub stopped_over : (turn : Turn) (point : Point) (begun : ℕ) (left : Stage) (looks calls : ℕ) (t : VgetrandomState)
-      (out : List ℕ) →
-      Stopped hosting floor_of (RestOfCall stage n flags held s) n flags turn point begun left looks calls h last t out →
+  pub stopped_over : (turn : Turn) (point : Point) (begun look : ℕ) (left : Stage) (looks calls : ℕ)
+      (t : VgetrandomState) (out : List ℕ) →
+      Stopped hosting floor_of (RestOfCall stage n flags held s) n flags turn point begun look left looks calls h last t
+      out →
       StoppedOver h.site.set n flags stage held s turn point left out t (moment h.site.pass.now h.site.trace.now)
       (moment last.site.pass.now last.site.trace.now)
-  stopped_over turn point begun left looks calls t out k = record {
+  stopped_over turn point begun look left looks calls t out k = record {
     stop = record {
       place = k.place;
       turn_is = k.turn_is;

@@ -78,7 +78,7 @@ impl Pool {
         self.hash.update(text);
     }
 
-    /// Credits bits for what was mixed, up to 256 in all, and says which bound they crossed (`credit_init_bits`).
+    /// Credits bits for what was mixed, up to 256 in all, and says which bound they crossed (`_credit_init_bits`).
     pub fn credit(&mut self, bits: u32) -> Crossing
         ensures credited { (s : PoolState) → PoolStands self.old s
             → PoolStands self.new (record s { bits = credit s.bits bits }) }

@@ -30,7 +30,7 @@ impl<const W: usize> Model for Batch<W> {
 }
 
 impl<const W: usize> Batch<W> {
-    /// A batch that has nothing to serve.
+    /// A batch that has nothing to serve. `W` is 1 to 96.
     pub fn start() -> Batch<W>
         requires some { 0 < W }
         requires fits { W ≤ 96 }

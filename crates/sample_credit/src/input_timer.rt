@@ -59,8 +59,9 @@ impl InputTimer {
     }
 
     /// The bits, 0 to 11, that an event at the moment `now` is worth: how many binary digits half the least of the
-    /// first, second and third difference of moments has (`add_timer_randomness`). The moment and the differences are
-    /// kept. `now` is in milliseconds and below 2^40; it may stand before the last moment.
+    /// first, second and third difference of moments has, cut to 32 bits as the kernel's `fls` does
+    /// (`add_timer_randomness`). The moment and the differences are kept. `now` is in milliseconds and below 2^40; it
+    /// may stand before the last moment.
     pub fn bits(&mut self, now: u64) -> u32
         requires { now < 2 ^ 40 }
         ensures bits { result ≡ timer_bits self.old.timer now }

@@ -17,8 +17,8 @@ use Rattle.vdso_state.specs.declared.place.Place.{Place}
 use Rattle.vdso_state.specs.declared.place.Came.TheVariants.{At, Ended}
 use Rattle.vdso_state.specs.Host.{Doings}
 use Rattle.vdso_state.specs.Turns.{turn_number, turns_before}
-use Rattle.vdso_state.specs.Places.{BehindPlace, AtPlace, Leads, CameTo}
-use Rattle.vdso_state.proofs.Leading.{points_append, says, then_leads, then_ends, at_leads}
+use Rattle.vdso_state.specs.Places.{BehindPlace, AtPlace, last_look, Leads, CameTo}
+use Rattle.vdso_state.proofs.Leading.{points_append, last_look_append, says, then_leads, then_ends, at_leads}
 use Rattle.vcall_fork.specs.declared.stage.Stage.{Stage}
 use Rattle.vcall_fork.specs.declared.stage.Stage.TheVariants.{At as StandsAt, Over}
 use Rattle.vcall_fork.specs.Stops.{turn_at, is_wanted, passes_by, Misses, Stopped, EndedBefore, CameAt, CameToEnd}
@@ -86,11 +86,12 @@ module _ (turn : Turn) (point : Point) where
       ∙ ap (passes_by turn point (turn_number t)) none
 
   module _ {H : Type 0} (host : Doings H) (floor : H → ℕ) (From : List HostStep → Outcome → Type 0) (n flags : ℕ)
-      (begun : ℕ) where
-    -- a call came to a place, and past no wanted point
+      (begun look : ℕ) where
+    -- a call came to a place, past no wanted point, and knows what it found published last
     pub record Walked (at : Place) (h next : H) (s : VgetrandomState) (buf : List ℕ) : Type 0 where
       pub leads : Leads host floor From (AtPlace n flags at buf s) h next
       pub passes : passes_by turn point begun (points_of leads.steps) ≡ Some (turns_before at.turn at.point)
+      pub found : at.published ≡ last_look look leads.steps
 
     module _ (at : Place) (h mid behind : H) (s t : VgetrandomState) (buf : List ℕ) (wiped : Bool)
         (walked : Walked at h mid s buf) (left : t ≡ state_left wiped s)
@@ -102,7 +103,7 @@ module _ (turn : Turn) (point : Point) where
           (at_leads host floor n flags at buf s t wiped mid behind left passed more)
 
       pub walk_on : (next : Place) (last : H) (u : VgetrandomState) (buf_then : List ℕ) →
-          CameTo host floor (BehindPlace n flags at buf t) n flags (At next) behind last u buf_then →
+          CameTo host floor (BehindPlace n flags at buf t) n flags at.published (At next) behind last u buf_then →
           turns_before next.turn next.point ≡ turn_number at.turn → Walked next h last u buf_then
       walk_on next last u buf_then came turns = record {
         leads = then_leads host floor From (BehindPlace n flags at buf t) h behind to_behind
@@ -111,10 +112,14 @@ module _ (turn : Turn) (point : Point) where
             (append_assoc walked.leads.steps (at_point at.point wiped ∷ []) came.0.steps)
             ∙ point_on begun at.turn at.point wiped walked.leads.steps came.0.steps walked.passes other came.1
             ∙ ap (λ (k : ℕ). Some k) (sym turns);
+        found = came.2
+            ∙ ap (λ g. last_look g came.0.steps)
+            (walked.found ∙ sym (last_look_append look walked.leads.steps (at_point at.point wiped ∷ [])))
+            ∙ sym (last_look_append look (walked.leads.steps ++ at_point at.point wiped ∷ []) came.0.steps);
       }
 
       pub walk_to_end : (result : Result VEnd Errno) (last : H) (u : VgetrandomState) (buf_then : List ℕ) →
-          CameTo host floor (BehindPlace n flags at buf t) n flags (Ended result) behind last u buf_then →
+          CameTo host floor (BehindPlace n flags at buf t) n flags at.published (Ended result) behind last u buf_then →
           CameToEnd host floor From turn point begun result h last u buf_then
       walk_to_end result last u buf_then came = record {
         ends = then_ends host floor From (BehindPlace n flags at buf t) h behind to_behind last
@@ -128,16 +133,17 @@ module _ (turn : Turn) (point : Point) where
       }
 
   module _ {H : Type 0} (host : Doings H) (floor : H → ℕ) (From : List HostStep → Outcome → Type 0) (n flags : ℕ)
-      (begun : ℕ) where
+      (begun look : ℕ) where
     pub walk_starts : (at : Place) (h : H) (s : VgetrandomState) (buf : List ℕ) →
-        Walked host floor (AtPlace n flags at buf s) n flags (turns_before at.turn at.point) at h h s buf
+        Walked host floor (AtPlace n flags at buf s) n flags (turns_before at.turn at.point) at.published at h h s buf
     walk_starts at h s buf = record {
       leads = says host floor (AtPlace n flags at buf s) (AtPlace n flags at buf s) h (λ steps outcome r. r);
       passes = refl;
+      found = refl;
     }
 
     module _ (at : Place) (h mid : H) (s : VgetrandomState) (buf : List ℕ)
-        (came : CameTo host floor From n flags (At at) h mid s buf)
+        (came : CameTo host floor From n flags look (At at) h mid s buf)
         (turns : turns_before at.turn at.point ≡ begun) where
       first_quiet : (xs ys : List HostStep) → points_of xs ≡ [] →
           (misses : Misses turn point (turns_before at.turn at.point) ys) →
@@ -150,9 +156,9 @@ module _ (turn : Turn) (point : Point) where
       pub stops : (place : Place) (last : H) (u : VgetrandomState) (buf_then : List ℕ) (stage : Stage) →
           stage ≡ StandsAt place →
           (looks calls : ℕ) →
-          CameAt host floor (AtPlace n flags at buf s) n flags turn point (turns_before at.turn at.point) place looks
-          calls mid last u buf_then →
-          Stopped host floor From n flags turn point begun stage looks calls h last u buf_then
+          CameAt host floor (AtPlace n flags at buf s) n flags turn point (turns_before at.turn at.point) at.published
+          place looks calls mid last u buf_then →
+          Stopped host floor From n flags turn point begun look stage looks calls h last u buf_then
       stops place last u buf_then stage is looks calls k = record {
         place = place;
         stage_is = is;
@@ -165,6 +171,8 @@ module _ (turn : Turn) (point : Point) where
           behind = k.misses.behind;
           passes = first_quiet came.0.steps k.leads.steps came.1 k.misses;
         };
+        found = k.found ∙ ap (λ g. last_look g k.leads.steps) came.2
+            ∙ sym (last_look_append look came.0.steps k.leads.steps);
       }
 
       pub ends_before : (result : Result VEnd Errno) (last : H) (u : VgetrandomState) (buf_then : List ℕ)
@@ -184,7 +192,7 @@ module _ (turn : Turn) (point : Point) where
 
     -- the call ended before any point
     pub ends_at_once : (result : Result VEnd Errno) (h last : H) (u : VgetrandomState) (buf : List ℕ) (stage : Stage) →
-        stage ≡ Over → CameTo host floor From n flags (Ended result) h last u buf →
+        stage ≡ Over → CameTo host floor From n flags look (Ended result) h last u buf →
         EndedBefore host floor From turn point begun stage result h last u buf
     ends_at_once result h last u buf stage is came = record {
       over = is;

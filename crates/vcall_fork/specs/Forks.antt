@@ -47,8 +47,8 @@ takes_key taken (system_call n flags (read bytes visit) ∷ steps) = takes_key (
 takes_key taken (system_call n flags (failed errno) ∷ steps) = takes_key taken steps
 takes_key taken (at_point point wiped ∷ steps) = takes_key (if is_same_point point Start then false else taken) steps
 
--- a child whose bytes are out of its state read the key that made them after the fork, through its own host, in the
--- attempt that gave them
+-- a child whose bytes are out of its state read a key after the fork, through its own host, in the attempt that gave
+-- them
 abbrev pub ChildTakesKey : Type 0
 ChildTakesKey = (n flags : ℕ) (place : Place) (out : List ℕ) (steps : List HostStep) (outcome : Outcome)
     (high : ℕ) (bytes : List ℕ) → BehindPlace n flags place out wiped_state steps outcome → 1 ≤ place.published →

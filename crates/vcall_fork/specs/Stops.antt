@@ -14,7 +14,7 @@ use Rattle.vdso_state.specs.declared.place.Came.{Came}
 use Rattle.vdso_state.specs.declared.place.Came.TheVariants.{At as CameAtPlace, Ended as CameEnded}
 use Rattle.vdso_state.specs.Host.{Doings}
 use Rattle.vdso_state.specs.Turns.{turn_number}
-use Rattle.vdso_state.specs.Places.{BehindPlace, AtPlace, Leads, Ends, MayGoOn}
+use Rattle.vdso_state.specs.Places.{BehindPlace, AtPlace, last_look, Leads, Ends, MayGoOn}
 use Rattle.vcall_fork.specs.declared.stage.Progress.{Progress}
 use Rattle.vcall_fork.specs.declared.stage.Progress.TheVariants.{At, Ended}
 use Rattle.vcall_fork.specs.declared.stage.Stage.{Stage}
@@ -47,10 +47,11 @@ pub record Misses (turn : Turn) (point : Point) (begun : ℕ) (steps : List Host
   pub passes : passes_by turn point begun (points_of steps) ≡ Some behind
 
 module _ {H : Type 0} (host : Doings H) (floor : H → ℕ) where
-  -- the call stands at this point of this attempt, and what happens there is still ahead; the host has these looks and
-  -- system calls left for it
+  -- the call, which found look published last, stands at this point of this attempt, and what happens there is still
+  -- ahead; it knows what it found last, and the host has these looks and system calls left for it
   pub record Stopped (From : List HostStep → Outcome → Type 0) (n flags : ℕ) (turn : Turn) (point : Point)
-      (begun : ℕ) (stage : Stage) (looks calls : ℕ) (h next : H) (s : VgetrandomState) (buf : List ℕ) : Type 0 where
+      (begun look : ℕ) (stage : Stage) (looks calls : ℕ) (h next : H) (s : VgetrandomState)
+      (buf : List ℕ) : Type 0 where
     pub place : Place
     pub stage_is : stage ≡ StandsAt place
     pub turn_is : place.turn ≡ turn
@@ -58,6 +59,7 @@ module _ {H : Type 0} (host : Doings H) (floor : H → ℕ) where
     pub may : MayGoOn place looks calls (floor next)
     pub leads : Leads host floor From (AtPlace n flags place buf s) h next
     pub misses : Misses turn point begun leads.steps
+    pub found : place.published ≡ last_look look leads.steps
 
   -- it ended before
   pub record EndedBefore (From : List HostStep → Outcome → Type 0) (turn : Turn) (point : Point) (begun : ℕ)
@@ -66,18 +68,20 @@ module _ {H : Type 0} (host : Doings H) (floor : H → ℕ) where
     pub ends : Ends host floor From h last (record { state = s; result = result; buf = buf })
     pub misses : Misses turn point begun ends.runs.steps
 
-  abbrev pub RanTo : (List HostStep → Outcome → Type 0) → ℕ → ℕ → Turn → Point → ℕ → Stage → Progress → ℕ → ℕ → H →
-      H → VgetrandomState → List ℕ → Type 0
-  RanTo From n flags turn point begun stage At looks calls h next s buf =
-      Stopped From n flags turn point begun stage looks calls h next s buf
-  RanTo From n flags turn point begun stage (Ended result) looks calls h last s buf =
+  abbrev pub RanTo : (List HostStep → Outcome → Type 0) → ℕ → ℕ → Turn → Point → ℕ → ℕ → Stage → Progress → ℕ → ℕ →
+      H → H → VgetrandomState → List ℕ → Type 0
+  RanTo From n flags turn point begun look stage At looks calls h next s buf =
+      Stopped From n flags turn point begun look stage looks calls h next s buf
+  RanTo From n flags turn point begun look stage (Ended result) looks calls h last s buf =
       EndedBefore From turn point begun stage result h last s buf
 
   -- from a place on a call came to this point of this attempt
   pub record CameAt (From : List HostStep → Outcome → Type 0) (n flags : ℕ) (turn : Turn) (point : Point)
-      (begun : ℕ) (place : Place) (looks calls : ℕ) (h next : H) (s : VgetrandomState) (buf : List ℕ) : Type 0 where
+      (begun look : ℕ) (place : Place) (looks calls : ℕ) (h next : H) (s : VgetrandomState)
+      (buf : List ℕ) : Type 0 where
     pub leads : Leads host floor From (AtPlace n flags place buf s) h next
     pub misses : Misses turn point begun leads.steps
+    pub found : place.published ≡ last_look look leads.steps
     pub wanted : is_wanted turn point (turn_number place.turn) place.point ≡ true
     pub may : MayGoOn place looks calls (floor next)
 
@@ -87,9 +91,9 @@ module _ {H : Type 0} (host : Doings H) (floor : H → ℕ) where
     pub ends : Ends host floor From h last (record { state = s; result = result; buf = buf })
     pub misses : Misses turn point begun ends.runs.steps
 
-  abbrev pub CameBy : (List HostStep → Outcome → Type 0) → ℕ → ℕ → Turn → Point → ℕ → Came → ℕ → ℕ → H → H →
+  abbrev pub CameBy : (List HostStep → Outcome → Type 0) → ℕ → ℕ → Turn → Point → ℕ → ℕ → Came → ℕ → ℕ → H → H →
       VgetrandomState → List ℕ → Type 0
-  CameBy From n flags turn point begun (CameAtPlace place) looks calls h next s buf =
-      CameAt From n flags turn point begun place looks calls h next s buf
-  CameBy From n flags turn point begun (CameEnded result) looks calls h last s buf =
+  CameBy From n flags turn point begun look (CameAtPlace place) looks calls h next s buf =
+      CameAt From n flags turn point begun look place looks calls h next s buf
+  CameBy From n flags turn point begun look (CameEnded result) looks calls h last s buf =
       CameToEnd From turn point begun result h last s buf

@@ -48,7 +48,7 @@ fn until<H: VHost>(
     requires may { MayGoOn place (H.looks_left host.old) (H.calls_left host.old) (H.floor host.old) }
     requires short { length buf.old ≤ 2 ^ 20 }
     ensures { CameBy (doings H.publishes H.answers H.passes) H.floor (AtPlace (length buf.old) flags place buf.old st.old)
-        (length buf.old) flags attempt point (turns_before place.turn place.point)
+        (length buf.old) flags attempt point (turns_before place.turn place.point) place.published
         result (H.looks_left host.new) (H.calls_left host.new) host.old host.new st.new buf.new }
 {
     let mut at = place;
@@ -86,7 +86,7 @@ impl VCall {
         requires known { published_or 0 self.now.stage ≤ H.floor host.old }
         ensures came { CameTo (doings H.publishes H.answers H.passes) H.floor
             (RestOfCall self.now.stage self.now.len self.now.flags buf.old st.old)
-            self.now.len self.now.flags result host.old host.new st.new buf.new }
+            self.now.len self.now.flags (published_or 0 self.now.stage) result host.old host.new st.new buf.new }
         ensures may { MayFinish result (turns_begun self.now.stage)
             (H.looks_left host.new) (H.calls_left host.new) (H.floor host.new) }
     {
@@ -111,9 +111,10 @@ impl VCall {
     /// does not come to is run past, and the call is then over. Where the call stood at a point before, what happens
     /// there is left to the caller: the host's `at` is not called for it.
     ///
-    /// Needs a buffer of the call's length, and a host that publishes no generation below the one that the call read
-    /// last, and has looks and system calls left for all that may come: 5 and 3 for a new call, and no more for one that
-    /// stands at a point. Where the call then stands at the point, the host has enough of both left to end it.
+    /// Needs a call that is not over, a buffer of the call's length, and a host that publishes no generation below the
+    /// one that the call read last, and has looks and system calls left for all that may come: 5 and 3 for a new call,
+    /// and no more for one that stands at a point. Where the call then stands at the point, the host has enough of both
+    /// left to end it.
     pub fn run_to<H: VHost>(
         &mut self,
         host: &mut H,
@@ -131,7 +132,8 @@ impl VCall {
         ensures flags { self.new.flags ≡ self.old.flags }
         ensures ran { RanTo (doings H.publishes H.answers H.passes) H.floor
             (RestOfCall self.old.stage self.old.len self.old.flags buf.old st.old)
-            self.old.len self.old.flags attempt point (turns_begun self.old.stage) self.new.stage result
+            self.old.len self.old.flags attempt point (turns_begun self.old.stage)
+            (published_or 0 self.old.stage) self.new.stage result
             (H.looks_left host.new) (H.calls_left host.new) host.old host.new st.new buf.new }
     {
         match self.go_on(host, st, buf) {

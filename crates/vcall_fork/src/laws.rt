@@ -7,7 +7,7 @@ pub fn forks_are_told()
     ensures { ForksAreTold }
 {}
 
-/// A child that gives out bytes of its state read the key that made them behind the fork, in the attempt that gave them.
+/// A child that gives out bytes of its state read a key behind the fork, in the attempt that gave them.
 pub fn child_takes_key()
     ensures { ChildTakesKey }
 {}

@@ -7,7 +7,8 @@
 //!
 //! The parent's call is the one that it would have been. The child's is a call that was wiped at the point of the fork
 //! ([`laws::forks_are_told`]). Where its bytes come out of its state, the attempt that gave them read a new key behind
-//! the fork ([`laws::child_takes_key`]): no byte of the parent's key is given out twice.
+//! the fork ([`laws::child_takes_key`]). In a lawful book the states of two callers put no byte of a key to use twice
+//! ([`laws::forks_share_nothing`]).
 //!
 //! It stands on `vdso_state`, whose calls come in parts, each from one point to the next.
 #![tactic(auto)]

@@ -11,7 +11,7 @@ use Rattle.vdso_state.specs.declared.place.Came.{Came}
 use Rattle.vdso_state.specs.declared.place.Came.TheVariants.{At, Ended}
 use Rattle.vdso_state.specs.Host.{Doings, DoesAll}
 use Rattle.vdso_state.specs.Call.{Finish}
-use Rattle.vdso_state.specs.Places.{FromPoint, IfOutdated, RestOf, BehindPlace, AtPlace, Climbs, Leads, Ends, CameTo, MayGoOn}
+use Rattle.vdso_state.specs.Places.{FromPoint, IfOutdated, RestOf, BehindPlace, AtPlace, Climbs, last_look, Leads, Ends, CameTo, MayGoOn}
 
 climbs_below : (a b c : ℕ) (xs : List HostStep) → a ≤ b → Climbs b c xs → Climbs a c xs
 climbs_below a b c [] low h = omega arith
@@ -32,6 +32,12 @@ points_append (system_call n flags answer ∷ xs) ys = points_append xs ys
 points_append (at_point point wiped ∷ xs) ys =
     let reached : PointReached = record { point = point; wiped = wiped } in
     ap (λ (ps : List PointReached). reached ∷ ps) (points_append xs ys)
+
+pub last_look_append : (look : ℕ) (xs ys : List HostStep) → last_look look (xs ++ ys) ≡ last_look (last_look look xs) ys
+last_look_append look [] ys = refl
+last_look_append look (publishes g ∷ xs) ys = last_look_append g xs ys
+last_look_append look (system_call n flags answer ∷ xs) ys = last_look_append look xs ys
+last_look_append look (at_point point wiped ∷ xs) ys = last_look_append look xs ys
 
 -- the entries before an attempt change nothing of what follows it
 pub after_same : (n flags : ℕ) (Outdated : ℕ → VgetrandomState → List HostStep → Outcome → Type 0) (end : AttemptEnd)
@@ -91,14 +97,16 @@ module _ {H : Type 0} (host : Doings H) (floor : H → ℕ) where
           second.climbs;
     }
 
-    pub then_came : points_of first.steps ≡ [] → (n flags : ℕ) (came : Came) (last : H) (s : VgetrandomState)
+    pub then_came : points_of first.steps ≡ [] → (n flags look : ℕ) (came : Came) (last : H) (s : VgetrandomState)
         (buf : List ℕ) →
-        CameTo host floor Mid n flags came mid last s buf → CameTo host floor From n flags came h last s buf
-    then_came quiet n flags (At place) last s buf second = (
+        CameTo host floor Mid n flags (last_look look first.steps) came mid last s buf →
+        CameTo host floor From n flags look came h last s buf
+    then_came quiet n flags look (At place) last s buf second = (
       then_leads (AtPlace n flags place buf s) last second.0,
       points_append first.steps second.0.steps ∙ (λ i. quiet i ++ second.1 i),
+      second.2 ∙ sym (last_look_append look first.steps second.0.steps),
     )
-    then_came quiet n flags (Ended result) last s buf second = (
+    then_came quiet n flags look (Ended result) last s buf second = (
       then_ends last (record { state = s; result = result; buf = buf }) second.0,
       points_append first.steps second.0.runs.steps ∙ (λ i. quiet i ++ second.1 i),
     )

@@ -97,14 +97,14 @@ module _ {H : Type 0} (host : Doings H) (floor : H → ℕ) where
       (ends : Ends host floor (BySystem n flags s) h last finish) → points_of ends.runs.steps ≡ []
   asks_at_once n flags s h last finish ends = ap points_of ends.runs.relates.steps_are
 
-  module _ (turn : Turn) (n flags : ℕ) (Tail : List HostStep → Attempt → Type 0) (h mid last : H)
+  module _ (turn : Turn) (n flags look : ℕ) (Tail : List HostStep → Attempt → Type 0) (h mid last : H)
       (tried : List HostStep) (attempt : Attempt) (does : DoesAll host h tried mid)
       (climbs : Climbs (floor h) (floor mid) tried) (tries : Tail tried attempt) (quiet : points_of tried ≡ []) where
     -- an attempt ends, and what follows it ends the call
     ends_behind : (s : VgetrandomState) (result : Result VEnd Errno) (buf : List ℕ) →
         (ends : Ends host floor (AfterAttempt n flags (IfOutdated turn n flags) attempt.end attempt) mid last
         (record { state = s; result = result; buf = buf })) → points_of ends.runs.steps ≡ [] →
-        CameTo host floor (RestOf turn n flags Tail) n flags (Ended result) h last s buf
+        CameTo host floor (RestOf turn n flags Tail) n flags look (Ended result) h last s buf
     ends_behind s result buf ends too = (
       record {
         runs = record {
@@ -133,23 +133,25 @@ module _ {H : Type 0} (host : Doings H) (floor : H → ℕ) where
 
   start_current : (turn : Turn) (n flags c published : ℕ) (out : List ℕ) (s : VgetrandomState) (h : H) →
       s.generation ≡ published →
-      CameTo host floor (RestOf turn n flags (FromStart n c published s)) n flags
+      CameTo host floor (RestOf turn n flags (FromStart n c published s)) n flags published
       (At (record { turn = turn; point = Serve; published = published; next_block = c })) h h s out
   start_current turn n flags c published out s h same = (
     in_call host floor turn n flags (FromStart n c published s) (AtPoint Serve (FromServe n c) s) h h [] [] refl
         (omega arith) (λ rest attempt r. match_true _ _ _ (eq-eqb s.generation published same) r),
     refl,
+    refl,
   )
 
   start_other : (turn : Turn) (n flags c published : ℕ) (out : List ℕ) (s : VgetrandomState) (h : H) →
       s.generation ≢ published →
-      CameTo host floor (RestOf turn n flags (FromStart n c published s)) n flags
+      CameTo host floor (RestOf turn n flags (FromStart n c published s)) n flags published
       (At (record { turn = turn; point = Written; published = published; next_block = c })) h h
       (record s { generation = published }) out
   start_other turn n flags c published out s h other = (
     in_call host floor turn n flags (FromStart n c published s)
         (AtPoint Written (FromWritten n c) (record s { generation = published })) h h [] [] refl
         (omega arith) (λ rest attempt r. match_false _ _ _ (ne-eqb s.generation published other) r),
+    refl,
     refl,
   )
 
@@ -158,11 +160,11 @@ module _ {H : Type 0} (host : Doings H) (floor : H → ℕ) where
       (s.generation ≡ place.published → (t ≡ s) × (next ≡ record place { point = Serve })) →
       (s.generation ≢ place.published →
       (t ≡ record s { generation = place.published }) × (next ≡ record place { point = Written })) →
-      CameTo host floor (BehindPlace n flags place out s) n flags (At next) h h t out
+      CameTo host floor (BehindPlace n flags place out s) n flags place.published (At next) h h t out
   start_came n flags place next out s t h point current other =
       let Goal : Point → Place → VgetrandomState → Type 0 = λ p to u.
       CameTo host floor (RestOf place.turn n flags (FromPoint p n place.next_block place.published out s)) n flags
-      (At to) h h u out in
+      place.published (At to) h h u out in
       let given : Goal Start next t = elim (eqb_tells s.generation place.published) [
         | inl same ↦ let k = current same.1 in
             subst (λ (to : Place). Goal Start to t) (sym k.1) (subst (λ (u : VgetrandomState).
@@ -181,11 +183,12 @@ module _ {H : Type 0} (host : Doings H) (floor : H → ℕ) where
       (answer : SystemAnswer) →
       next ≡ record place { point = Serve } → KeyIsRead answer (Ok tt) s t → host.answers_as h 32 0 answer last →
       floor h ≤ floor last →
-      CameTo host floor (RestOf place.turn n flags (FromWritten n place.next_block s)) n flags (At next) h last t out
+      CameTo host floor (RestOf place.turn n flags (FromWritten n place.next_block s)) n flags
+      place.published (At next) h last t out
   key_came n flags place next out s t h last (failed errno) at reads answers more = absurd (no_error errno reads.0)
   key_came n flags place next out s t h last (read key visit) at reads answers more =
       subst (λ (to : Place). CameTo host floor (RestOf place.turn n flags (FromWritten n place.next_block s)) n flags
-      (At to) h last t out) (sym at) (
+      place.published (At to) h last t out) (sym at) (
         in_call host floor place.turn n flags (FromWritten n place.next_block s)
             (AtPoint Serve (FromServe n place.next_block) t) h last
             (system_call 32 0 (read key visit) ∷ []) (rekey_entry visit) (last, answers, refl) more
@@ -201,20 +204,21 @@ module _ {H : Type 0} (host : Doings H) (floor : H → ℕ) where
               };
             }),
         refl,
+        refl,
       )
 
-  pub key_failed : (turn : Turn) (n flags c : ℕ) (s t : VgetrandomState) (h mid last : H) (answer : SystemAnswer)
+  pub key_failed : (turn : Turn) (n flags look c : ℕ) (s t : VgetrandomState) (h mid last : H) (answer : SystemAnswer)
       (errno : Errno) (u : VgetrandomState) (result : Result VEnd Errno) (buf : List ℕ) →
       KeyIsRead answer (Err errno) s t → host.answers_as h 32 0 answer mid → floor h ≤ floor mid →
       Ends host floor (BySystem n flags (state_after_call t)) mid last
       (record { state = u; result = result; buf = buf }) →
-      CameTo host floor (RestOf turn n flags (FromWritten n c s)) n flags (Ended result) h last u buf
-  key_failed turn n flags c s t h mid last (read key visit) errno u result buf reads answers more ends =
+      CameTo host floor (RestOf turn n flags (FromWritten n c s)) n flags look (Ended result) h last u buf
+  key_failed turn n flags look c s t h mid last (read key visit) errno u result buf reads answers more ends =
       absurd (no_error errno (sym reads.0))
-  key_failed turn n flags c s t h mid last (failed why) errno u result buf reads answers more ends =
+  key_failed turn n flags look c s t h mid last (failed why) errno u result buf reads answers more ends =
       let attempt : Attempt =
       record { out = []; state = t; next_block = c; entries = []; end = not_keyed } in
-      ends_behind turn n flags (FromWritten n c s) h mid last (system_call 32 0 (failed why) ∷ []) attempt
+      ends_behind turn n flags look (FromWritten n c s) h mid last (system_call 32 0 (failed why) ∷ []) attempt
       (mid, answers, refl) more
       (record {
         answer = failed why;
@@ -234,18 +238,19 @@ module _ {H : Type 0} (host : Doings H) (floor : H → ℕ) where
   pub serve_came : (n flags : ℕ) (place next : Place) (before out : List ℕ) (s t : VgetrandomState) (h : H) →
       place.point ≡ Serve → out ≡ copy_bytes s place.next_block n → t ≡ state_after_copy s place.next_block n →
       next ≡ record place { point = End; next_block = block_after_copy s place.next_block n } →
-      CameTo host floor (BehindPlace n flags place before s) n flags (At next) h h t out
+      CameTo host floor (BehindPlace n flags place before s) n flags place.published (At next) h h t out
   serve_came n flags place next before out s t h point bytes state at =
       let c = place.next_block in
       let Goal : Point → Place → VgetrandomState → List ℕ → Type 0 = λ p to u bs.
       CameTo host floor (RestOf place.turn n flags (FromPoint p n c place.published before s)) n flags
-      (At to) h h u bs in
+      place.published (At to) h h u bs in
       let given : Goal Serve (record place { point = End; next_block = block_after_copy s c n })
       (state_after_copy s c n) (copy_bytes s c n) = (
         in_call host floor place.turn n flags (FromServe n c s)
             (AtPoint End (FromEnd (copy_bytes s c n) (block_after_copy s c n)) (state_after_copy s c n)) h h []
             (copy_entries s c n) refl (omega arith)
             (λ rest attempt r. record { attempt_after = attempt; goes_on = r; attempt_is = refl }),
+        refl,
         refl,
       ) in
       subst (λ (p : Point). Goal p next t out) (sym point)
@@ -260,12 +265,12 @@ module _ {H : Type 0} (host : Doings H) (floor : H → ℕ) where
   -- Behind End
 
   -- the bytes are given out
-  pub end_holds : (turn : Turn) (n flags c e : ℕ) (out : List ℕ) (s t : VgetrandomState) (h last : H) →
+  pub end_holds : (turn : Turn) (n flags look c e : ℕ) (out : List ℕ) (s t : VgetrandomState) (h last : H) →
       e ≡ s.generation → t ≡ state_after_call s → host.publishes_as h e last → floor h ≤ e → e ≤ floor last →
-      CameTo host floor (RestOf turn n flags (FromEnd out c s)) n flags (Ended (Ok Batch)) h last t out
-  end_holds turn n flags c e out s t h last same state look low high =
-      ends_behind turn n flags (FromEnd out c s) h last last (publishes e ∷ [])
-      (record { out = out; state = s; next_block = c; entries = []; end = holds }) (last, look, refl) (low, high)
+      CameTo host floor (RestOf turn n flags (FromEnd out c s)) n flags look (Ended (Ok Batch)) h last t out
+  end_holds turn n flags look c e out s t h last same state found low high =
+      ends_behind turn n flags look (FromEnd out c s) h last last (publishes e ∷ [])
+      (record { out = out; state = s; next_block = c; entries = []; end = holds }) (last, found, refl) (low, high)
       (record {
         published = e;
         steps_are = refl;
@@ -290,16 +295,16 @@ module _ {H : Type 0} (host : Doings H) (floor : H → ℕ) where
       }) refl
 
   -- the second attempt begins
-  pub end_again : (n flags c e g : ℕ) (out : List ℕ) (s : VgetrandomState) (h mid last : H) →
+  pub end_again : (n flags look c e g : ℕ) (out : List ℕ) (s : VgetrandomState) (h mid last : H) →
       e ≢ s.generation → host.publishes_as h e mid → host.publishes_as mid g last → floor h ≤ e → e ≤ floor mid →
       floor mid ≤ g → g ≤ floor last →
-      CameTo host floor (RestOf First n flags (FromEnd out c s)) n flags
+      CameTo host floor (RestOf First n flags (FromEnd out c s)) n flags look
       (At (record { turn = Second; point = Start; published = g; next_block = c })) h last s out
-  end_again n flags c e g out s h mid last other look again low high above below = (
+  end_again n flags look c e g out s h mid last other found again low high above below = (
     record {
       steps = publishes e ∷ publishes g ∷ [];
       entries = [];
-      does = (mid, look, (last, again, refl));
+      does = (mid, found, (last, again, refl));
       climbs = (low, (omega arith, below));
       leads = λ rest outcome r. record {
         tried = publishes e ∷ [];
@@ -322,16 +327,17 @@ module _ {H : Type 0} (host : Doings H) (floor : H → ℕ) where
       };
     },
     refl,
+    refl,
   )
 
   -- the system call has to serve
-  pub end_outdated : (n flags c e : ℕ) (out : List ℕ) (s t : VgetrandomState) (h mid last : H)
+  pub end_outdated : (n flags look c e : ℕ) (out : List ℕ) (s t : VgetrandomState) (h mid last : H)
       (result : Result VEnd Errno) (buf : List ℕ) →
       e ≢ s.generation → host.publishes_as h e mid → floor h ≤ e → e ≤ floor mid →
       Ends host floor (BySystem n flags (state_after_call s)) mid last
       (record { state = t; result = result; buf = buf }) →
-      CameTo host floor (RestOf Second n flags (FromEnd out c s)) n flags (Ended result) h last t buf
-  end_outdated n flags c e out s t h mid last result buf other look low high ends =
-      ends_behind Second n flags (FromEnd out c s) h mid last (publishes e ∷ []) (outdated_attempt out c s)
-      (mid, look, refl) (low, high) (ended_outdated out c e s other) refl t result buf ends
+      CameTo host floor (RestOf Second n flags (FromEnd out c s)) n flags look (Ended result) h last t buf
+  end_outdated n flags look c e out s t h mid last result buf other found low high ends =
+      ends_behind Second n flags look (FromEnd out c s) h mid last (publishes e ∷ []) (outdated_attempt out c s)
+      (mid, found, refl) (low, high) (ended_outdated out c e s other) refl t result buf ends
       (asks_at_once n flags (state_after_call s) mid last (record { state = t; result = result; buf = buf }) ends)

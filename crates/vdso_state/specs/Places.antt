@@ -51,6 +51,13 @@ Climbs low high (publishes g ∷ steps) = (low ≤ g) × Climbs g high steps
 Climbs low high (system_call n flags answer ∷ steps) = Climbs low high steps
 Climbs low high (at_point point wiped ∷ steps) = Climbs low high steps
 
+-- the generation that steps published last, or look where they published none
+abbrev pub last_look : ℕ → List HostStep → ℕ
+last_look look [] = look
+last_look look (publishes g ∷ steps) = last_look g steps
+last_look look (system_call n flags answer ∷ steps) = last_look look steps
+last_look look (at_point point wiped ∷ steps) = last_look look steps
+
 module _ {H : Type 0} (host : Doings H) (floor : H → ℕ) where
   -- the host's steps from h to next lead from what From relates to what To relates: before steps of the second they are
   -- steps of the first
@@ -67,12 +74,13 @@ module _ {H : Type 0} (host : Doings H) (floor : H → ℕ) where
     pub runs : Runs host From h last finish
     pub climbs : Climbs (floor h) (floor last) runs.steps
 
-  -- from what From relates a call of n bytes came, past no point, to where it stands or to its end, with this state and
-  -- this buffer
-  abbrev pub CameTo : (List HostStep → Outcome → Type 0) → ℕ → ℕ → Came → H → H → VgetrandomState → List ℕ → Type 0
-  CameTo From n flags (At place) h next s buf =
+  -- from what From relates a call of n bytes, which found look published last, came, past no point, to where it stands
+  -- or to its end, with this state and this buffer; where it stands it knows what it found last
+  abbrev pub CameTo : (List HostStep → Outcome → Type 0) → ℕ → ℕ → ℕ → Came → H → H → VgetrandomState → List ℕ → Type 0
+  CameTo From n flags look (At place) h next s buf =
       (leads : Leads From (AtPlace n flags place buf s) h next) × (points_of leads.steps ≡ [])
-  CameTo From n flags (Ended result) h last s buf =
+      × (place.published ≡ last_look look leads.steps)
+  CameTo From n flags look (Ended result) h last s buf =
       (ends : Ends From h last (record { state = s; result = result; buf = buf })) × (points_of ends.runs.steps ≡ [])
 
 -- a host with these looks and system calls left and this floor serves what is ahead, and the key has blocks enough

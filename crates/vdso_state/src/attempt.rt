@@ -106,7 +106,7 @@ fn behind_written<H: VHost>(
     requires short { length buf.old ≤ 2 ^ 20 }
     ensures came { CameTo (doings H.publishes H.answers H.passes) H.floor
         (RestOf place.turn (length buf.old) flags (FromWritten (length buf.old) place.next_block st.old))
-        (length buf.old) flags result host.old host.new st.new buf.new }
+        (length buf.old) flags place.published result host.old host.new st.new buf.new }
     ensures may { MayFinish result (turn_number place.turn)
         (H.looks_left host.new) (H.calls_left host.new) (H.floor host.new) }
     ensures ahead { points_ahead result < points_for place.turn place.point }
@@ -151,7 +151,7 @@ fn behind_end<H: VHost>(
     requires short { length buf.old ≤ 2 ^ 20 }
     ensures came { CameTo (doings H.publishes H.answers H.passes) H.floor
         (RestOf place.turn (length buf.old) flags (FromEnd buf.old place.next_block st.old))
-        (length buf.old) flags result host.old host.new st.new buf.new }
+        (length buf.old) flags place.published result host.old host.new st.new buf.new }
     ensures may { MayFinish result (turn_number place.turn)
         (H.looks_left host.new) (H.calls_left host.new) (H.floor host.new) }
     ensures ahead { points_ahead result < points_for place.turn place.point }
@@ -173,6 +173,14 @@ fn behind_end<H: VHost>(
 }
 
 /// Goes on from where a call stands, behind its point: to the next point, or to the end of the call.
+///
+/// Needs a place that `begin` or this call answered, a buffer of at most 2^20 bytes, and a host that publishes nothing
+/// below `place.published` and has what may still come left: 3 looks in the first attempt and 1 in the second, and at
+/// most 3 system calls.
+///
+/// # Errors
+///
+/// The call may have ended by an error of the last system call. The buffer is then unspecified.
 pub fn behind<H: VHost>(
     host: &mut H,
     st: &mut VState,
@@ -184,7 +192,7 @@ pub fn behind<H: VHost>(
     requires short { length buf.old ≤ 2 ^ 20 }
     ensures came { CameTo (doings H.publishes H.answers H.passes) H.floor
         (BehindPlace (length buf.old) flags place buf.old st.old)
-        (length buf.old) flags result host.old host.new st.new buf.new }
+        (length buf.old) flags place.published result host.old host.new st.new buf.new }
     ensures may { MayFinish result (turn_number place.turn)
         (H.looks_left host.new) (H.calls_left host.new) (H.floor host.new) }
     ensures ahead { points_ahead result < points_for place.turn place.point }

@@ -20,7 +20,7 @@ pub fn begin<H: VHost>(host: &mut H, st: &mut VState, buf: &mut [u8], flags: u32
     requires calls { 3 ≤ H.calls_left host.old }
     requires short { length buf.old ≤ 2 ^ 20 }
     ensures came { CameTo (doings H.publishes H.answers H.passes) H.floor (IsCall (length buf.old) flags st.old)
-        (length buf.old) flags result host.old host.new st.new buf.new }
+        (length buf.old) flags 0 result host.old host.new st.new buf.new }
     ensures may { MayFinish result 0 (H.looks_left host.new) (H.calls_left host.new) (H.floor host.new) }
 {
     if flags::are_bad(flags) {
@@ -46,7 +46,7 @@ pub fn begin<H: VHost>(host: &mut H, st: &mut VState, buf: &mut [u8], flags: u32
 
 /// Ends a call from where it stands, behind the point there.
 ///
-/// Needs a buffer of at most 2^20 bytes.
+/// Needs what [`behind`] needs.
 ///
 /// # Errors
 ///

@@ -26,7 +26,8 @@ pub struct Passed {
     pub next_block: u64,
 }
 
-/// A vgetrandom state. The bytes of the batch before `pos` were served and are 0.
+/// A vgetrandom state. Of the batch only the bytes from `pos` on can still be served. Those before it were served and
+/// are 0, or a new key gave them up (`pos` is then 96).
 #[derive(Drop)]
 pub struct VState {
     pub(crate) batch: [u8; 96],
@@ -135,7 +136,8 @@ impl VState {
         self.pos = 96;
     }
 
-    /// Copies the next bytes of the batch over all of `out`, and sets them to 0 where they lay.
+    /// Copies the next bytes of the batch over all of `out`, which has room for no more than are
+    /// [`left`](VState::left), and sets them to 0 where they lay.
     pub fn copy_from_batch(&mut self, out: &mut [u8])
         requires { length out.old ≤ bytes_left self.old }
         ensures bytes { out.new ≡ take (length out.old) (drop self.old.pos self.old.batch) }
@@ -199,7 +201,7 @@ impl VState {
     }
 
     /// Copies bytes over all of `out`, those left in the batch first. The key's next block is `next_block`; answers the
-    /// one after the copy.
+    /// one after the copy. Block and length are at most 2^20.
     pub fn copy(&mut self, next_block: u64, out: &mut [u8]) -> u64
         requires near { next_block ≤ 2 ^ 20 }
         requires short { length out.old ≤ 2 ^ 20 }
@@ -220,6 +222,7 @@ impl VState {
     }
 
     /// Goes over the next `len` bytes as [`copy`](VState::copy) does, and makes none of them but those left in the batch.
+    /// Block and length are at most 2^20.
     pub fn pass(&mut self, next_block: u64, len: u32) -> Passed
         requires near { next_block ≤ 2 ^ 20 }
         requires short { len ≤ 2 ^ 20 }

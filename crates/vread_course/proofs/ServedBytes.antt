@@ -1,7 +1,7 @@
 -- The bytes of a recipe, in parts.
-use Rattle.std.proofs.Common.{◌≡◌, ℕ, ◌+◌, ◌-◌, ◌≤◌, ◌<◌, ◌^◌, List, ◌++◌, length, take, drop, refl, sym, subst, ap, ◌∙◌, append_assoc, arith}
-use Rattle.std.specs.Prelude.{slice_range}
-use Rattle.std.proofs.Math.Seq.{take-add, drop-append_seam}
+use Rattle.std.proofs.Common.{◌≡◌, ℕ, ◌+◌, ◌-◌, ◌≤◌, ◌<◌, ◌^◌, List, ◌++◌, length, take, drop, refl, sym, subst, ap, ◌∙◌, append_assoc, Ok, Err, arith}
+use Rattle.std.specs.Prelude.{Result, OnErr, slice_range}
+use Rattle.std.proofs.Math.Seq.{take-add, take-append-add, drop-append_seam}
 use Rattle.std.proofs.lemmas.List.{length-append, length-take-le, take-append-drop}
 use Rattle.key_names.specs.Keystream.{keystream}
 use Rattle.vread_course.specs.Recipe.{Recipe, bytes_made}
@@ -27,6 +27,21 @@ put_more old items more part key from done next were is made =
     made ∙ ap (λ x. x ++ part) were ∙ append_assoc old (keystream key from done) part
     ∙ ap (λ x. old ++ x) (ap (λ x. keystream key from done ++ x) is
     ∙ keystream-append key from done (from + done) next (done + next) refl (λ some. refl))
+
+pub on_err : {T E : Type 0} (result : Result T E) (P : Type 0) → P → OnErr result P
+on_err (Ok value) P p = tt
+on_err (Err error) P p = p
+
+-- what was put of the rest is put of all
+pub put_some : {T E : Type 0} (result : Result T E) (old mid items front made : List ℕ) → mid ≡ old ++ front →
+    OnErr result ((n : ℕ) × (items ≡ mid ++ take n made)) →
+    OnErr result ((n : ℕ) × (items ≡ old ++ take n (front ++ made)))
+put_some (Ok done) old mid items front made were part = part
+put_some (Err error) old mid items front made were part = (
+  length front + part.0,
+  part.1 ∙ ap (λ x. x ++ take part.0 made) were ∙ append_assoc old front (take part.0 made)
+      ∙ ap (λ x. old ++ x) (sym (take-append-add front made part.0)),
+)
 
 pub same_more : (bytes key : List ℕ) (from done next : ℕ) → take done bytes ≡ keystream key from done →
     take next (drop done bytes) ≡ keystream key (from + done) next → take (done + next) bytes ≡ keystream key from (done + next)

@@ -26,7 +26,7 @@ pub(crate) fn published(found: u64) -> u64
     found.saturating_add(1)
 }
 
-fn leave(st: &mut VState, wiped: bool)
+fn pass_point(st: &mut VState, wiped: bool)
     ensures { st.new ≡ state_left wiped st.old }
 {
     if wiped {
@@ -52,7 +52,7 @@ fn copied<'a>(
     match seen {
         [Seen::Ready(found), rest @ ..] => {
             let (served, next_block) = Served::of_copy(st, next_block, len);
-            leave(st, inside.end);
+            pass_point(st, inside.end);
             let tried = Tried {
                 served,
                 keyed,
@@ -80,7 +80,7 @@ fn from_serve<'a>(
         ≡ Some (record { tried = r.0; state = st.new; rest = r.1.now })) }
     ensures near { IfSome result (λ r. r.0.next_block ≤ next_block + 2 ^ 14 + 2) }
 {
-    leave(st, inside.serve);
+    pass_point(st, inside.serve);
     copied(st, inside, len, next_block, keyed, seen)
 }
 
@@ -124,17 +124,17 @@ fn from_start<'a>(
         from_serve(st, inside, len, next_block, false, seen)
     } else {
         st.begin_generation(generation);
-        leave(st, inside.written);
+        pass_point(st, inside.written);
         let (key, rest) = key_in_front(seen)?;
         st.take_key(key);
         from_serve(st, inside, len, next_block, true, rest)
     }
 }
 
-/// Follows an attempt to copy `len` bytes, `next_block` being the next block of the state's key. Answers what it came to
-/// and what is seen behind its steps, or `None` where they are not those of an attempt; what then stands in the state
-/// is not said.
-pub fn attempt<'a>(
+/// Follows an attempt to copy `len` bytes, `next_block` being the next block of the state's key, both at most 2^20.
+/// Answers what it came to and what is seen behind its steps, or `None` where they are not those of an attempt; what
+/// then stands in the state is not said.
+pub(crate) fn attempt<'a>(
     st: &mut VState,
     inside: Inside,
     len: u32,
@@ -150,7 +150,7 @@ pub fn attempt<'a>(
 {
     match seen {
         [Seen::Ready(found), rest @ ..] => {
-            leave(st, inside.start);
+            pass_point(st, inside.start);
             from_start(st, inside, len, next_block, published(*found), rest)
         }
         _ => None,

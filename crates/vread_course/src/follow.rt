@@ -151,9 +151,9 @@ fn copy_or_call(
     }
 }
 
-/// Follows a `vread` of `len` bytes with these flags on the caller's current state, over what is seen of the steps of
-/// its line. Answers what it came to and leaves the state as the call does, or answers `None` where the steps are not
-/// those of such a call on this state; what then stands in the state is not said.
+/// Follows a `vread` of `len` bytes, at most 2^20, with these flags on the caller's current state, over what is seen of
+/// the steps of its line. Answers what it came to and leaves the state as the call does, or answers `None` where the
+/// steps are not those of such a call on this state; what then stands in the state is not said.
 pub fn follow(
     st: &mut VState,
     len: u32,

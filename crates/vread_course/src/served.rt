@@ -1,5 +1,5 @@
 //! How the bytes of a read are made.
-ghost use Rattle.std.specs.Prelude.{◌≡◌, ◌+◌, ◌^◌, ◌<◌, ◌↔◌, ◌++◌, length, IsTrue, IfOk};
+ghost use Rattle.std.specs.Prelude.{◌≡◌, ℕ, ◌+◌, ◌^◌, ◌<◌, ◌↔◌, ◌++◌, length, take, IsTrue, IfOk, OnErr};
 ghost use Rattle.key_names.specs.Keystream.{keystream};
 
 use chacha_blocks::{derive_key, fill};
@@ -37,7 +37,7 @@ impl Model for Served {
 }
 
 impl Served {
-    ghost use Rattle.std.specs.Prelude.{◌≡◌, ◌+◌, ◌*◌, ◌^◌, ◌<◌, ◌≤◌, ◌↔◌, [], ◌++◌, length, IsTrue, IfOk};
+    ghost use Rattle.std.specs.Prelude.{◌≡◌, ℕ, ◌+◌, ◌*◌, ◌^◌, ◌<◌, ◌≤◌, ◌↔◌, [], ◌++◌, length, take, IsTrue, IfOk, OnErr};
     ghost use Rattle.key_names.specs.BatchCopy.{state_after_copy, block_after_copy};
     ghost use Rattle.vread_course.specs.Recipe.{no_recipe, user_recipe, kernel_recipe, int_recipe, copy_recipe, bytes_made};
 
@@ -81,6 +81,7 @@ impl Served {
     }
 
     /// The integer of `width` bytes that comes after `count` others of a batch that was filled with this key in use.
+    /// `width * count` has to be below 2^31.
     pub fn of_int(key: &[u8; 32], width: u8, count: u32) -> Served
         requires { width * count < 2 ^ 31 }
         ensures { result ≡ int_recipe key.now width count }
@@ -93,7 +94,7 @@ impl Served {
     }
 
     /// What a copy of `len` bytes out of a state serves, `next_block` being the next block of the state's key, and the
-    /// one after the copy. The state is left as a copy leaves it.
+    /// one after the copy. Block and length are at most 2^20. The state is left as a copy leaves it.
     pub fn of_copy(st: &mut VState, next_block: u64, len: u32) -> (Served, u64)
         requires near { next_block ≤ 2 ^ 20 }
         requires short { len ≤ 2 ^ 20 }
@@ -130,10 +131,11 @@ impl Served {
     ///
     /// # Errors
     ///
-    /// Want of memory; `out` may then have got some of the bytes.
+    /// Want of memory; `out` may then have got the first of the bytes.
     pub fn put(&self, out: &mut Vec<u8>) -> Result<(), AllocError>
         ensures short { length (bytes_made self.now) < 2 ^ 32 }
         ensures made { IfOk result (λ _. out.new.items ≡ out.old.items ++ bytes_made self.now) }
+        ensures part { OnErr result ((n : ℕ) × (out.new.items ≡ out.old.items ++ take n (bytes_made self.now))) }
     {
         out.extend_from_slice(&self.front[..usize::from(self.front_len)])?;
         put_key(&self.key, self.from, self.len as usize, out)
@@ -162,7 +164,8 @@ fn are_same(a: &[u8], b: &[u8]) -> bool
 /// since it is cleared for each read.
 fn put_key(key: &[u8; 32], from: u64, len: usize, out: &mut Vec<u8>) -> Result<(), AllocError>
     requires { from + len < 2 ^ 40 }
-    ensures { IfOk result (λ _. out.new.items ≡ out.old.items ++ keystream key.now from len) }
+    ensures made { IfOk result (λ _. out.new.items ≡ out.old.items ++ keystream key.now from len) }
+    ensures part { OnErr result ((n : ℕ) × (out.new.items ≡ out.old.items ++ take n (keystream key.now from len))) }
 {
     if len <= SHORT_BYTES {
         put_key_by(key, from, len, out, &mut [0; SHORT_BYTES])
@@ -181,7 +184,8 @@ fn put_key_by(
 ) -> Result<(), AllocError>
     requires near { from + len < 2 ^ 40 }
     requires room { 0 < length piece.old }
-    ensures { IfOk result (λ _. out.new.items ≡ out.old.items ++ keystream key.now from len) }
+    ensures made { IfOk result (λ _. out.new.items ≡ out.old.items ++ keystream key.now from len) }
+    ensures part { OnErr result ((n : ℕ) × (out.new.items ≡ out.old.items ++ take n (keystream key.now from len))) }
 {
     let mut done = 0;
     while done < len {

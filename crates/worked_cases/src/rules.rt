@@ -8,7 +8,7 @@ ghost use Rattle.key_names.specs.PoolList.{credit, crossing, ready, early, none,
 ghost use Rattle.key_names.specs.BaseList.{base_after, interval};
 ghost use Rattle.worked_cases.specs.Rules.{bits_after, timer_at, finished, rounds, siphash_start};
 
-/// One more bit crosses 128 and 256, and a credit that passes both crosses 256 alone (`credit_init_bits`).
+/// One more bit crosses 128 and 256, and a credit that passes both crosses 256 alone (`_credit_init_bits`).
 #[tactic(auto, using(crate::proofs::WorkedRules::crossings, crate::proofs::WorkedRules::early_is_skipped))]
 pub fn credits()
     ensures crossings { map (λ (n : ℕ). crossing n (credit n 1)) (126 ∷ 127 ∷ 254 ∷ 255 ∷ 256 ∷ [])

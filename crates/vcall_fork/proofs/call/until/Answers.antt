@@ -14,7 +14,8 @@ points-init g c =
     record {
       walked = walk_starts c.args.attempt c.args.point host g.H.VHost.floor
           (AtPlace n c.args.flags c.args.place c.args.buf.now c.args.st.now) n c.args.flags
-          (turns_before c.args.place.turn c.args.place.point) c.args.place c.args.host.now c.args.st.now c.args.buf.now;
+          (turns_before c.args.place.turn c.args.place.point) c.args.place.published c.args.place c.args.host.now
+          c.args.st.now c.args.buf.now;
       may = c.requires.may;
     }
 
@@ -27,11 +28,11 @@ returns-in-Ended g c =
     let passes = c.at.ensures.passes in
     walk_to_end c.args.attempt c.args.point host g.H.VHost.floor
     (AtPlace n c.args.flags c.args.place c.args.buf.now c.args.st.now) n c.args.flags
-    (turns_before c.args.place.turn c.args.place.point) l.at c.args.host.now l.host c.at.new.self l.st c.at.new.st l.buf
-    passes.0 l.invariant.walked passes.1 passes.2 c.at.ensures.floor (sym c.points-test.ensures) c.in-Ended.result
-    c.behind.new.host c.behind.new.st c.behind.new.buf
+    (turns_before c.args.place.turn c.args.place.point) c.args.place.published l.at c.args.host.now l.host
+    c.at.new.self l.st c.at.new.st l.buf passes.0 l.invariant.walked passes.1 passes.2 c.at.ensures.floor
+    (sym c.points-test.ensures) c.in-Ended.result c.behind.new.host c.behind.new.st c.behind.new.buf
     (subst (λ (k : ℕ). CameTo host g.H.VHost.floor (BehindPlace k c.args.flags l.at l.buf c.at.new.st) k c.args.flags
-    (Ended c.in-Ended.result) c.at.new.self c.behind.new.host c.behind.new.st c.behind.new.buf) same
+    l.at.published (Ended c.in-Ended.result) c.at.new.self c.behind.new.host c.behind.new.st c.behind.new.buf) same
     c.in-Ended.ensures.came)
 
 pub points-preserved : goal.points-preserved
@@ -45,12 +46,12 @@ points-preserved g c =
     record {
       walked = walk_on c.args.attempt c.args.point host g.H.VHost.floor
           (AtPlace n c.args.flags c.args.place c.args.buf.now c.args.st.now) n c.args.flags
-          (turns_before c.args.place.turn c.args.place.point) l.at c.args.host.now l.host c.at.new.self l.st
-          c.at.new.st l.buf passes.0 l.invariant.walked passes.1 passes.2 c.at.ensures.floor
+          (turns_before c.args.place.turn c.args.place.point) c.args.place.published l.at c.args.host.now l.host
+          c.at.new.self l.st c.at.new.st l.buf passes.0 l.invariant.walked passes.1 passes.2 c.at.ensures.floor
           (sym c.points-test.ensures) c.in-At.next c.behind.new.host c.behind.new.st c.behind.new.buf
           (subst (λ (k : ℕ). CameTo host g.H.VHost.floor (BehindPlace k c.args.flags l.at l.buf c.at.new.st) k
-          c.args.flags (At c.in-At.next) c.at.new.self c.behind.new.host c.behind.new.st c.behind.new.buf) same
-          c.in-At.ensures.came) goes.turns_are;
+          c.args.flags l.at.published (At c.in-At.next) c.at.new.self c.behind.new.host c.behind.new.st
+          c.behind.new.buf) same c.in-At.ensures.came) goes.turns_are;
       may = goes.may;
     }
 
@@ -64,6 +65,7 @@ returns g c =
     record {
       leads = l.invariant.walked.leads;
       misses = record { behind = turns_before l.at.turn l.at.point; passes = l.invariant.walked.passes };
+      found = l.invariant.walked.found;
       wanted = sym c.points-test.ensures;
       may = l.invariant.may;
     }

@@ -17,6 +17,7 @@ returns-in-Written-clause-came g c =
     let n = length c.args.buf.now in
     subst (λ (p : Point). CameTo host g.H.VHost.floor (RestOf c.args.place.turn n c.args.flags
     (FromPoint p n c.args.place.next_block c.args.place.published c.args.buf.now c.args.st.now)) n c.args.flags
+    c.args.place.published
     c.behind_written.result c.args.host.now c.behind_written.new.host c.behind_written.new.st c.behind_written.new.buf)
     (sym c.in-Written.is) c.behind_written.ensures.came
 
@@ -32,5 +33,6 @@ returns-in-End-clause-came g c =
     let n = length c.args.buf.now in
     subst (λ (p : Point). CameTo host g.H.VHost.floor (RestOf c.args.place.turn n c.args.flags
     (FromPoint p n c.args.place.next_block c.args.place.published c.args.buf.now c.args.st.now)) n c.args.flags
+    c.args.place.published
     c.behind_end.result c.args.host.now c.behind_end.new.host c.behind_end.new.st c.behind_end.new.buf)
     (sym c.in-End.is) c.behind_end.ensures.came

@@ -13,5 +13,5 @@ pub returns-in-Err-clause-came : goal.returns-in-Err-clause-came
 returns-in-Err-clause-came g c =
     let host = doings g.H.VHost.publishes g.H.VHost.answers g.H.VHost.passes in
     let reads = c.in-Err.ensures.reads in
-    key_failed host g.H.VHost.floor _ _ _ _ _ _ _ _ _ reads.0 c.in-Err.field-0 _ _ _ reads.1 reads.2
-    c.in-Err.ensures.floor c.give_up.ensures
+    key_failed host g.H.VHost.floor _ _ _ c.args.place.published _ _ _ _ _ _ reads.0 c.in-Err.field-0 _ _ _ reads.1
+    reads.2 c.in-Err.ensures.floor c.give_up.ensures

@@ -1,8 +1,8 @@
-use Rattle.std.proofs.Common.{◌≡◌, ◌<◌, ◌≤◌, ◌+◌, length, take, drop, ap, ◌∙◌, arith}
+use Rattle.std.proofs.Common.{◌≡◌, ◌<◌, ◌≤◌, ◌+◌, ◌++◌, length, take, drop, sym, ap, ◌∙◌, arith}
 use Rattle.std.proofs.lemmas.List.{length-append, length-take-le}
 use Rattle.key_names.specs.Keystream.{keystream}
-use Rattle.key_names.proofs.Standards.Keystreams.{length-keystream}
-use Rattle.vread_course.proofs.ServedBytes.{put_more}
+use Rattle.key_names.proofs.Standards.Keystreams.{length-keystream, take-keystream}
+use Rattle.vread_course.proofs.ServedBytes.{put_more, on_err}
 use Rattle.vread_course.proofs.served.put_key_by.Goals as goal
 
 pub loop-done-preserved : goal.loop-done-preserved
@@ -21,4 +21,13 @@ loop-done-preserved c =
           (c.fill.ensures ∙ ap (keystream c.args.key.now (c.args.from + done)) whole)
           c.in_ok-extend_from_slice.ensures.items,
       rw (length-append c.fill.new.buf (drop next piece)) (omega (arith, made, some)),
+    )
+
+pub returns-in_err-extend_from_slice-clause-part : goal.returns-in_err-extend_from_slice-clause-part
+returns-in_err-extend_from_slice-clause-part c =
+    let l = c.loop-done in
+    on_err c.from_residual.result _ (
+      l.done,
+      c.in_err-extend_from_slice.ensures.items ∙ l.invariant.1 ∙ ap (λ x. c.args.out.now.items ++ x)
+          (sym (take-keystream c.args.key.now c.args.from c.args.len l.done l.invariant.0)),
     )
