@@ -120,12 +120,38 @@ struct call {
     unsigned long count;
 };
 
+// The thread group of a thread.
+static uint32_t process_of(uint32_t thread) {
+    char path[64], line[256];
+    unsigned long group = thread;
+    (void)snprintf(path, sizeof path, "/proc/%u/status", thread);
+    FILE *status = fopen(path, "r");
+    while (status && fgets(line, sizeof line, status))
+        if (!strncmp(line, "Tgid:", 5))
+            group = strtoul(line + 5, NULL, 10);
+    if (status)
+        (void)fclose(status);
+    return (uint32_t)group;
+}
+
+// One who cannot be served has to end: an answer of another kind would not be the core's.
+static void end_process(uint32_t process) { kill((pid_t)process, SIGKILL); }
+
+// So has a process that forbids that others look into it, whatever it reads: its files are not told either.
+static void end_closed(uint32_t process) {
+    (void)fprintf(stderr, "rng-under: process %u lets nobody read and write its memory\n", process);
+    end_process(process);
+}
+
 // What a file of the program is read by: its word and flags. Not a random device: -1.
 static int word_of_file(const struct seccomp_notif *asked, uint32_t *flags) {
     char path[64], line[256];
     struct stat of;
     (void)snprintf(path, sizeof path, "/proc/%u/fd/%u", asked->pid, (unsigned)asked->data.args[0]);
-    int word = stat(path, &of) ? -1 : word_of_device(of.st_mode, of.st_rdev);
+    int is_known = !stat(path, &of);
+    if (!is_known && errno == EACCES)
+        end_closed(process_of(asked->pid));
+    int word = is_known ? word_of_device(of.st_mode, of.st_rdev) : -1;
     if (word < 0)
         return -1;
     (void)snprintf(path, sizeof path, "/proc/%u/fdinfo/%u", asked->pid, (unsigned)asked->data.args[0]);
@@ -143,26 +169,17 @@ static int word_of_file(const struct seccomp_notif *asked, uint32_t *flags) {
 static int copy_pieces(const struct seccomp_notif *asked, struct call *call) {
     struct iovec here = {call->pieces, asked->data.args[2] * sizeof(struct iovec)};
     struct iovec there = {(void *)asked->data.args[1], here.iov_len}; // NOLINT(performance-no-int-to-ptr)
-    if (asked->data.args[2] > PIECES || process_vm_readv((pid_t)asked->pid, &here, 1, &there, 1, 0) < 0)
+    if (asked->data.args[2] > PIECES)
+        return -1;
+    ssize_t copied = process_vm_readv((pid_t)asked->pid, &here, 1, &there, 1, 0);
+    if (copied < 0 && errno == EPERM)
+        end_closed(call->wish.process);
+    if (copied < 0 || (size_t)copied != here.iov_len)
         return -1;
     call->count = asked->data.args[2];
     for (unsigned long at = 0; at < call->count; at++)
         call->wish.asked += call->pieces[at].iov_len;
     return 0;
-}
-
-// The thread group of a thread.
-static uint32_t process_of(uint32_t thread) {
-    char path[64], line[256];
-    unsigned long group = thread;
-    (void)snprintf(path, sizeof path, "/proc/%u/status", thread);
-    FILE *status = fopen(path, "r");
-    while (status && fgets(line, sizeof line, status))
-        if (!strncmp(line, "Tgid:", 5))
-            group = strtoul(line + 5, NULL, 10);
-    if (status)
-        (void)fclose(status);
-    return (uint32_t)group;
 }
 
 // Whether the call is one that is served, and which.
@@ -187,9 +204,6 @@ static int read_call(const struct seccomp_notif *asked, struct call *call) {
     return 1;
 }
 
-// One who cannot be served has to end: an answer of another kind would not be the core's.
-static void end_process(uint32_t process) { kill((pid_t)process, SIGKILL); }
-
 static long serve(struct draws *draws, struct call *call) {
     const unsigned char *data = NULL;
     long got = draws_take(draws, call->wish, &data);
@@ -198,10 +212,8 @@ static long serve(struct draws *draws, struct call *call) {
     if (got > 0) {
         struct iovec here = {(void *)data, (size_t)got};
         ssize_t put = process_vm_writev((pid_t)call->wish.thread, &here, 1, call->pieces, call->count, 0);
-        if (put < 0 && errno == EPERM) {
-            (void)fprintf(stderr, "rng-under: process %u lets nobody write its memory\n", call->wish.process);
-            end_process(call->wish.process);
-        }
+        if (put < 0 && errno == EPERM)
+            end_closed(call->wish.process);
         got = put < 0 ? -EFAULT : put;
     }
     draws_release(draws);

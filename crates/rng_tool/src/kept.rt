@@ -4,7 +4,7 @@ ghost use Rattle.std.specs.Io.{ReadsAtMost};
 ghost use Rattle.std.specs.Io.KnownBytes.{Consumes, IsAtEnd, Keeps};
 ghost use Rattle.io_edges.specs.Faults.{Rose};
 ghost use Rattle.rng_tool.specs.Kept.{given_by, is_over, source_of};
-ghost use Rattle.tool_ends.specs.Intakes.{HasEndLine};
+ghost use Rattle.tool_ends.specs.Intakes.{HasEndLine, last_part};
 
 use io_edges::{Failed, Source};
 use std::alloc::Global;
@@ -39,6 +39,7 @@ fn with_more(mut given: Vec<u8>, more: &[u8]) -> Option<Vec<u8>>
 impl<S: Source + Drop> KeptSource<S> {
     /// A source that gives what `source` gives: a script, and where it `has_more`, something else behind it.
     pub(crate) fn of(alloc: Global, source: S, has_more: bool) -> KeptSource<S>
+        ensures source { source_of result ≡ source }
         ensures given { given_by result ≡ Some [] }
         ensures more { result.has_more ≡ has_more }
         ensures begun { is_over result ≡ false }
@@ -58,6 +59,8 @@ impl<S: Source + Drop> KeptSource<S> {
         ensures few { is_over self.old ≡ false → IfSome (given_by self.new) (λ all. length all ≤ 16777217) }
         ensures over { is_over self.old ≡ true → (given_by self.new ≡ given_by self.old) × (is_over self.new ≡ true) }
         ensures ends { is_over self.old ≡ false → is_over self.new ≡ true → IfSome (given_by self.new) HasEndLine }
+        ensures goes_on { self.old.has_more ≡ true → is_over self.new ≡ false
+            → IfSome (given_by self.new) (λ all. HasEndLine (last_part (length more.now) all) → ⊥) }
         ensures alone { self.old.has_more ≡ false → is_over self.new ≡ is_over self.old }
         ensures more { self.new.has_more ≡ self.old.has_more }
         ensures gone { given_by self.old ≡ None → given_by self.new ≡ None }
@@ -100,6 +103,8 @@ impl<S: Source + Drop> Source for KeptSource<S> {
             IfSome (given_by self.new) (λ all. length all ≤ 16777217)) }
         ensures over { is_over self.old ≡ true → (given_by self.new ≡ given_by self.old) × (is_over self.new ≡ true) }
         ensures ends { is_over self.old ≡ false → is_over self.new ≡ true → IfSome (given_by self.new) HasEndLine }
+        ensures goes_on { self.old.has_more ≡ true → is_over self.new ≡ false → IfOk result (λ n.
+            IfSome (given_by self.new) (λ all. HasEndLine (last_part n all) → ⊥)) }
         ensures alone { self.old.has_more ≡ false → is_over self.new ≡ is_over self.old }
         ensures more { self.new.has_more ≡ self.old.has_more }
         ensures gone { given_by self.old ≡ None → given_by self.new ≡ None }

@@ -29,8 +29,8 @@ use tool_ends::{Status, end_output};
 
 /// Runs the command that the words are.
 ///
-/// Commands without numbers read all of the input, the others nothing. A number is spelt as in a script; START is below
-/// 2^32.
+/// Commands without numbers read all of the input, the others nothing. A script has at most 16 MiB, and with a transcript
+/// behind it 96 MiB; a longer input is answered by `refused 0 1`. A number is spelt as in a script; START is below 2^32.
 ///
 /// - `run`: the input is a script, whose callers run in threads. The output is its transcript, which is lawful for the
 ///   script however the callers' calls fell together; or the line `refused LINE KIND`, the first fault of what is no
@@ -39,7 +39,8 @@ use tool_ends::{Status, end_output};
 ///   the transcript is lawful for the script, and `no K` where clause K is the first that fails. Faults of the script
 ///   are told as in a run; no caller is started.
 /// - `replay`: the input is the same. The output is the one lawful transcript with these lines, words and steps,
-///   whatever answers and data were read; or `no K`, where lines, marks, forms or looks fail.
+///   whatever answers and data were read; or `no K`, where the text is no transcript's (clause 1), or lines, marks,
+///   forms or looks fail.
 /// - `load START CALLERS EVENTS`: the script of a load is run and its transcript checked, with 1 to 64 callers of 1 to
 ///   1,000 calls each. The output is the line `callers CALLERS events V bytes B check yes`: how many events the script
 ///   has, and how many bytes its lines show.
@@ -48,8 +49,9 @@ use tool_ends::{Status, end_output};
 /// - `vfork POINT ATTEMPT N`: a vgetrandom call for N bytes, up to 2^20, is forked at one of four points of one of two
 ///   attempts. The output is `parent HEX` and `child HEX`, the bytes that each gives out.
 /// - `feed START FEEDERS SAMPLES`: a CPU gets the interrupt samples of 1 to 16 threads, 1 to 10,000 of each, at moment
-///   0. The output is the line `feeders FEEDERS samples N dumps D bits B`, the same however the threads fell together:
-///   samples mixed, dumps made, and the pool's bits behind them.
+///   0. Sample i of thread f has the words START + i and f. The output is the line
+///   `feeders FEEDERS samples N dumps D bits B`, the same however the threads fell together: samples mixed, dumps made,
+///   and the pool's bits behind them.
 ///
 /// The last three begin with a new table of one CPU; before draws and forks a sample of 32 bytes makes it ready.
 ///
