@@ -74,7 +74,8 @@ fn start_words(alloc: Global, count: usize, first: u64) -> Result<Vec<u64>, Allo
 
 impl Lanes {
     /// A table with this many CPUs, 1 to 256, each lane in its starting state and the generation 0, and the pass of
-    /// caller 0, which has the whole share. Tickets, serving numbers and stamps start at `first`, at most 2^62.
+    /// caller 0, which has the whole share. Stamps start at `first`, at most 2^62. Tickets and serving numbers do so
+    /// too, and that is not promised.
     ///
     /// # Errors
     ///
