@@ -10,8 +10,9 @@ use lane_table::{Lanes, Pass};
 use rng_core::{Setting, Site, stall, unstall};
 use std::sync::Wait;
 
-/// Runs a child whose closure was handed back, as its parent, which waits meanwhile: two visits of the base tell so, one
-/// before the child and one behind it. The answer is the child's.
+/// Runs a child whose closure was handed back, in its parent's thread. Two visits of the base tell so: by the first the
+/// parent stops running, and by the second it goes on. The two visits are made in this order. That the child runs between
+/// them is tested and not promised. The answer is the child's.
 pub fn run_here<R: Wait, F: FnOnce() -> (Pass, Room)>(
     rt: &R,
     lanes: &Lanes,

@@ -25,7 +25,7 @@ use Rattle.lane_table.specs.Steps.{Seated, Grows, KeepsHeld, OwesNothing, MayNam
 abbrev pub count_of : Lanes → ℕ
 count_of t = t.cpus + 2
 
--- the table's first ticket and stamp
+-- above it are the stamps of all visits of the table
 abbrev pub first_of : Lanes → ℕ
 first_of t = t.table.shared.key.first
 
@@ -158,7 +158,7 @@ pub record Unspent (lane : ℕ) (m m' : Seated) : Type 0 where
   pub ticket : (at lane m'.0).found < 2 ^ 62
   pub last : m'.0.drawn ≡ m.0.drawn + 1 → last_stamp m'.0.first (known_of m'.0 lane) < 2 ^ 62
 
--- the exchange found another ticket than the serving number that was loaded, and drew none
+-- the ticket word was read above the serving number that was loaded, and no ticket was drawn
 pub record IsBusy (lane serving ticket : ℕ) (m m' : Seated) : Type 0 where
   pub unspent : Unspent lane m m'
   pub above : serving < ticket

@@ -1,5 +1,5 @@
 //! The generation word, which is read without a lane.
-ghost use Rattle.std.specs.Prelude.{◌≡◌, ◌+◌, ◌^◌, ◌<◌};
+ghost use Rattle.std.specs.Prelude.{◌≡◌, ◌+◌};
 ghost use Rattle.lane_table.specs.Meaning.{replay};
 ghost use Rattle.lane_table.specs.WorldRule.{at, known_of};
 ghost use Rattle.lane_table.specs.Calls.{view, IsPassOf, IsSamePass, Holds, Looked, Raised};
@@ -25,7 +25,6 @@ impl Lanes {
         requires base { _held.now.turn.lane ≡ 1 }
         requires once { (at 1 (view pass.old)).raised ≡ 0 }
         requires next { g ≡ (replay (known_of (view pass.old) 1)).base.generation + 1 }
-        requires small { g < 2 ^ 63 }
         ensures pass { IsSamePass self.now pass.old pass.new }
         ensures held { Holds self.now pass.new _held.now }
         ensures raised { Raised g pass.old.seat.me pass.new.seat.me }

@@ -66,13 +66,14 @@ pub struct Held {
     pub(crate) state: Boxed,
 }
 
-/// Why `try_take` did not get a lane. They are looked for in this order.
+/// Why `try_take` did not get a lane. They are looked for in this order, but that the lane's last stamp is read only once
+/// the lane was got.
 #[derive(Clone, Copy, Debug, PartialEq, Eq)]
 pub enum TakeFault {
     /// Some number that would have to grow is 2^62 or more: the lane's tickets, its last stamp, or the stamp of the
     /// pass.
     Spent,
-    /// The lane serves another: `serving` was loaded, and then the ticket word was `ticket`.
+    /// The lane serves another: the ticket word was read as `ticket`, above `serving`, which was loaded.
     Busy { serving: u64, ticket: u64 },
 }
 

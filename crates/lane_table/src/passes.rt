@@ -74,7 +74,8 @@ fn start_words(alloc: Global, count: usize, first: u64) -> Result<Vec<u64>, Allo
 
 impl Lanes {
     /// A table with this many CPUs, 1 to 256, each lane in its starting state and the generation 0, and the pass of
-    /// caller 0, which has the whole share. Tickets, serving numbers and stamps start at `first`, at most 2^62.
+    /// caller 0, which has the whole share. Stamps start at `first`, at most 2^62. Tickets and serving numbers do so
+    /// too, and that is not promised.
     ///
     /// # Errors
     ///
@@ -137,14 +138,13 @@ impl Lanes {
         pass.stamp = pass.stamp.max(stamp);
     }
 
-    /// Changes nothing. Where the pass has the whole share, which it has once all others were joined into it, it knows
-    /// each lane's whole list then, and made all of its visits.
+    /// Changes nothing. Where the pass stands at no lane and has the whole share, which it has once all others were
+    /// joined into it, it knows each lane's whole list then, and made all of its visits.
     pub fn settle(&self, pass: &mut Pass)
-        requires pass { IsPassOf self.now pass.old }
-        requires idle { IsIdle (view pass.old) }
+        requires { IsPassOf self.now pass.old }
         ensures pass { IsSamePass self.now pass.old pass.new }
         ensures same { pass.new.seat.me ≡ pass.old.seat.me }
-        ensures ended { (view pass.old).share ≡ 2 ^ (view pass.old).halvings
+        ensures ended { (view pass.old).share ≡ 2 ^ (view pass.old).halvings → IsIdle (view pass.old)
             → Ended (count_of self.now) (view pass.old) }
     {
         let _generation = self.table.shared.load::<Settle>(&mut pass.seat, GENERATION);

@@ -120,9 +120,8 @@ impl Lanes {
     /// # Errors
     ///
     /// `Spent` exactly where a number that would have to grow is 2^62 or more: the stamp of the pass, the ticket word
-    /// as this call read it, by a load or by its exchange, or the lane's last stamp, which is read once the lane was
-    /// got. `Busy` where the exchange found a ticket above the serving number that this call loaded, so that it drew
-    /// none.
+    /// as it was read last, or the lane's last stamp, which is read once the lane was got. `Busy` where the ticket word
+    /// was read above the serving number that was loaded; no ticket was drawn then.
     pub fn try_take(&self, pass: &mut Pass, lane: LaneId) -> Result<Held, TakeFault>
         requires pass { IsPassOf self.now pass.old }
         requires lane { index_of lane < count_of self.now }

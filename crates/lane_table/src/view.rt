@@ -61,7 +61,7 @@ pub struct LaneView {
 
 /// What a caller knows of the whole table.
 ///
-/// - `first`: the first ticket and stamp of the table.
+/// - `first`: above it are the stamps of all visits of the table.
 /// - `share` and `halvings`: its share of the table, which is `share / 2^halvings`.
 /// - `stamp`: at least that of each visit that it made, or that a pass made before it was split off from it.
 /// - `stamps`: those of these visits.
@@ -81,7 +81,7 @@ pub struct View {
     pub lanes: LinkedList<LaneView>,
 }
 
-/// What a table is made by: the number of its lanes, and its first ticket and stamp.
+/// What a table is made by: the number of its lanes, and where its stamps, tickets and serving numbers start.
 #[derive(Drop)]
 pub struct Plan {
     pub count: usize,

@@ -101,7 +101,6 @@ pub(crate) fn raise(lanes: &Lanes, pass: &mut Pass, base: &Held, root: u64, gene
     requires has { HoldsLanes lanes.now 0 (hand base.now.turn (Some root) 0 ∷ []) pass.old }
     requires at { base.now.turn.lane ≡ 1 }
     requires next { generation ≡ (model pass.old 1).base.generation + 1 }
-    requires small { generation < 2 ^ 63 }
     ensures has { HoldsLanes lanes.now 0 (hand base.now.turn (Some root) 1 ∷ []) pass.new }
     ensures kept { model pass.new 1 ≡ model pass.old 1 }
     ensures behind { known_of (view pass.new) 0 ≡ known_of (view pass.old) 0 }

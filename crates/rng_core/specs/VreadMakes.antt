@@ -120,6 +120,6 @@ pub record ReadsLocally (result : Local) (n flags : ℕ) (s t : VgetrandomState)
     : Type 0 where
   pub same : Same l m
   pub has : HasInHands [] m
-  pub current : IsCurrent t m
+  pub current : IsCurrent s l → IsCurrent t m
   pub room : length m.trace.now ≤ length l.trace.now + 1
   pub read : LocalRead result n flags s t out l.set (at l) (at m)

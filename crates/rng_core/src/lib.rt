@@ -4,9 +4,10 @@
 //! set. The folders follow the sections of random.c.
 //!
 //! For every interleaving of the callers it is promised that a call's trace tells exactly the looks and visits that it
-//! made, that these are a form of its event, that its answer and its bytes are those of the form, and that its hands
-//! are empty again. No lane is held while the bytes of a read behind the first 32 are made. A call may wait: for a
-//! lane, and a blocking read for readiness; that a wait ends is not promised.
+//! made, but for the look by which `vread_local`, alone or in `vread`, finds that the batch cannot serve; that these are
+//! a form of its event, that its answer and its bytes are those of the form, and that its hands are empty again. No lane
+//! is held while the bytes of a read behind the first 32 are made; a fill of a batch of integers makes its 96 bytes while
+//! the CPU is held. A call may wait: for a lane, and a blocking read for readiness; that a wait ends is not promised.
 //!
 //! It stands on `lane_table` for what a pass may know of the lanes, on the parts for what an entry makes of a value,
 //! and on `vdso_state` for a read out of a caller's own state.

@@ -9,7 +9,8 @@ use crate::site::Site;
 use key_names::{BaseEntry, LaneId};
 use std::sync::Wait;
 
-/// The caller waits for a thread.
+/// Counts the caller as not running, in a visit of the base: it is about to run a child in its own thread. No kernel
+/// function does this.
 pub fn stall<R: Wait>(rt: &R, site: &mut Site)
     requires idle { IsIdle 1 site.old }
     ensures does { Does 1 (BaseOnly Stall) site.old site.new }
@@ -20,7 +21,7 @@ pub fn stall<R: Wait>(rt: &R, site: &mut Site)
     site.visit_base(base, BaseEntry::Stall);
 }
 
-/// The caller goes on.
+/// Counts it as running again, in a visit of the base.
 pub fn unstall<R: Wait>(rt: &R, site: &mut Site)
     requires idle { IsIdle 1 site.old }
     ensures does { Does 1 (BaseOnly Unstall) site.old site.new }

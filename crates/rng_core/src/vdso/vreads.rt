@@ -19,12 +19,8 @@ use vdso_state::{Local, VEnd, VState, local, vgetrandom};
 /// and the batch has as many left. Else the state and `buf` stay as they were, as for no bytes and for bad flags, where
 /// it does not even look. It waits for nobody. A look whose value is not used is no step: the trace then stays as it
 /// was.
-///
-/// The state's generation has to be one that the pass has seen published, as it is where only these calls and wipes
-/// changed the state.
 pub fn vread_local(site: &mut Site, st: &mut VState, buf: &mut [u8], flags: u32) -> Local
-    requires idle { IsIdle 1 site.old }
-    requires current { IsCurrent st.old site.old }
+    requires { IsIdle 1 site.old }
     ensures reads { ReadsLocally result (length buf.old) flags st.old st.new buf.new site.old site.new }
     ensures kept { result ≡ NeedsSystem → buf.new ≡ buf.old }
 {

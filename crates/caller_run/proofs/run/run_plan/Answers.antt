@@ -13,11 +13,6 @@ pub run_family-pass-requires : goal.run_family-pass-requires
 run_family-pass-requires g c = let r = c.requires in
     rw c.first.ensures (search rules, (search rules, can_all r.has r.well r.cpus r.plan))
 
-pub settle-requires-clause-idle : goal.settle-requires-clause-idle
-settle-requires-clause-idle g c =
-    let back = rw c.first.ensures at c.run_family-pass.ensures in
-    idle_of c.args.shared.now.lanes.now 0 c.run_family-pass.result.0 back.has
-
 pub gather-requires : goal.gather-requires
 gather-requires g c =
     let r = c.requires in let back = rw c.first.ensures at c.run_family-pass.ensures in
@@ -42,4 +37,6 @@ returns-clause-whole g c =
     (c.of.ensures.lines
     ∙ slots_back slots.len slots.items c.deref_mut.result.now c.gather.new.slots
     (told_by (plot c.run_family-pass.result.1)) c.deref_mut.ensures.value (omega (arith, slots.ok.0)) c.gather.ensures)
-    c.settle.new.pass c.settle.ensures.same c.settle.ensures.ended
+    c.settle.new.pass c.settle.ensures.same
+    (λ share. c.settle.ensures.ended share
+    (idle_of c.args.shared.now.lanes.now 0 c.run_family-pass.result.0 back.has))

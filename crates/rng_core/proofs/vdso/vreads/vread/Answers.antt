@@ -12,7 +12,7 @@ pub returns-in-Served : goal.returns-in-Served
 returns-in-Served g c = let l = c.vread_local.ensures.reads in record {
   loans = record { site = l.same; acts = refl; out = refl };
   has = l.has;
-  current = l.current;
+  current = l.current c.requires.current;
   did = served_read (length c.args.buf.now) c.args.flags c.args.st.now c.vread_local.new.st
       c.vread_local.new.buf c.args.host.now.site.set _ _ (rw c.in-Served.is at l.read);
 }
