@@ -59,10 +59,10 @@ abbrev BaseServes : BaseEntry → Option (List ℕ) → List ℕ → Type 0
 BaseServes e key used =
     (base_serves used e ≡ base_serves (unwrap_or key zero_key) e) × (bytes_made (base_recipe e key) ≡ base_serves used e)
 
-base_made : (e : BaseEntry) (key : Option (List ℕ)) (used : List ℕ) → (base_erases e ≡ true → key ≡ Some used) →
-    BaseServes e key used
+base_made : (e : BaseEntry) (key : Option (List ℕ)) (used : List ℕ) →
+    key ≡ (if base_erases e then Some used else None) → BaseServes e key used
 base_made (Draw root taken) key used h =
-    subst (λ k. BaseServes (Draw root taken) k used) (sym (h refl)) (refl, sym (taken_made used taken))
+    subst (λ k. BaseServes (Draw root taken) k used) (sym h) (refl, sym (taken_made used taken))
 base_made _ key used h = (refl, refl)
 
 -- of a visit of a CPU
@@ -159,7 +159,7 @@ module _ (kept : KeptLists) (book : Lists) (keeps : Keeps kept book)
       let keeps_it = keeps.base.each place k e kept_is is in
       let before = base_value_after book.pool (take place book.base) in
       let made = base_made e k.key (base_value_in_use book.pool e before)
-      (λ erases. keeps_it.key erases ∙ ap (λ o. Some (base_value_at book.pool before o)) is) in record {
+      (keeps_it.key ∙ ap (λ o. if base_erases e then Some (base_value_at book.pool before o) else None) is) in record {
         entry = keeps_it.entry;
         serves = made.0;
         bytes = ap (λ x. bytes_made (base_recipe x k.key)) keeps_it.entry ∙ made.1;

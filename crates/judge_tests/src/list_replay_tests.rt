@@ -123,7 +123,6 @@ fn keys_of_a_refilled_cpu(rt: HostRuntime) -> Result<(), AllocError> {
     if let Some(kept) = kept {
         let extracted = KeptPool {
             before: 256,
-            bits: 256,
             crossing: Crossing::None,
             root: Some(Root {
                 value: ROOT,
@@ -191,7 +190,7 @@ fn dumped<'a>(alloc: Global, dumps: bool, place: u64) -> Result<Told<'a>, AllocE
     ]
     .to_vec(alloc)?)?;
     Ok(Told {
-        pool: [ToldPool::Dumped { cpu: 0, place }].to_vec(alloc)?,
+        pool: [ToldPool::Dumped { cpu: 0, place }, ToldPool::Is(PoolNote::Bits)].to_vec(alloc)?,
         base: Vec::new(alloc),
         cpus,
     })
@@ -204,8 +203,8 @@ fn dumps_that_are_due(rt: HostRuntime) -> Result<(), AllocError> {
         let kept = replay_lists(rt.alloc(), &told)?;
         assert_eq!(rt; kept.is_some(), lawful, "{dumps} {place}");
         if let Some(kept) = kept {
-            for pool in &kept.pool {
-                assert_eq!(rt; (pool.before, pool.bits), (0, 1));
+            for (pool, before) in kept.pool.iter().zip([0, 1]) {
+                assert_eq!(rt; pool.before, before);
             }
         }
     }

@@ -1,7 +1,7 @@
 //! The laws of forms and rows, each as the contract of a function without code.
 //!
-//! Where all entries fit, as they do in lawful lists, a line's steps are a form of its event exactly where their kinds
-//! are a row of it and each visit has the entry that the steps around it tell.
+//! Where all entries fit and the samples of the line stand, a line's steps are a form of its event exactly where their
+//! kinds are a row of it and each visit has the entry that the steps around it tell.
 ghost use Rattle.line_forms.specs.Laws.{KeyRowIsCall, LastRowIsCall, KeyCallIsTold, LastCallIsTold};
 ghost use Rattle.line_forms.specs.Laws.{LawfulListsFit, ActHasForm, ActIsTold, ActRowIsForm};
 ghost use Rattle.line_forms.specs.Laws.{ActFormIsRow, FormIsTold, EndIsTold, SystemCallIsTold, SystemRowIsForm};

@@ -9,14 +9,14 @@ use input_pool::Crossing;
 use key_names::{Event, InsideAct, flags};
 
 /// Bytes from the base of a core that is not ready.
-pub fn is_draw(kinds: &[Kind]) -> bool
+fn is_draw(kinds: &[Kind]) -> bool
     ensures { IsTrue result ↔ IsDraw kinds.now }
 {
     matches!(kinds, [Kind::Pool, Kind::Base] | [Kind::Base])
 }
 
 /// Bytes from a CPU, which may first have got a new key from the base.
-pub fn is_cpu_read(kinds: &[Kind]) -> bool
+fn is_cpu_read(kinds: &[Kind]) -> bool
     ensures { IsTrue result ↔ IsCpuRead kinds.now }
 {
     matches!(
@@ -26,14 +26,14 @@ pub fn is_cpu_read(kinds: &[Kind]) -> bool
 }
 
 /// What follows the first look of a read, `ready` saying what the look found.
-pub fn is_read(ready: bool, kinds: &[Kind]) -> bool
+fn is_read(ready: bool, kinds: &[Kind]) -> bool
     ensures { IsTrue result ↔ IsRead ready kinds.now }
 {
     (!ready && is_draw(kinds)) || is_cpu_read(kinds)
 }
 
 /// What follows the first look of a system call of `len` bytes (getrandom(2)).
-pub fn is_behind_look(len: u32, flags: u32, ready: bool, kinds: &[Kind]) -> bool
+fn is_behind_look(len: u32, flags: u32, ready: bool, kinds: &[Kind]) -> bool
     ensures { IsTrue result ↔ IsBehindLook len flags ready kinds.now }
 {
     if ready || flags::is_insecure(flags) {
@@ -60,7 +60,7 @@ pub fn is_behind_look(len: u32, flags: u32, ready: bool, kinds: &[Kind]) -> bool
 }
 
 /// A system call of `len` bytes with these flags (getrandom(2)).
-pub fn is_system_call(len: u32, flags: u32, kinds: &[Kind]) -> bool
+fn is_system_call(len: u32, flags: u32, kinds: &[Kind]) -> bool
     ensures { IsTrue result ↔ IsSystemCall len flags kinds.now }
 {
     if flags::are_bad(flags) {
@@ -74,7 +74,7 @@ pub fn is_system_call(len: u32, flags: u32, kinds: &[Kind]) -> bool
 }
 
 /// A read that begins with a look.
-pub fn is_looked_read(kinds: &[Kind]) -> bool
+fn is_looked_read(kinds: &[Kind]) -> bool
     ensures { IsTrue result ↔ IsLookedRead kinds.now }
 {
     match kinds {
@@ -85,7 +85,7 @@ pub fn is_looked_read(kinds: &[Kind]) -> bool
 }
 
 /// A read of `len` bytes by the kernel or into user memory: no steps for no bytes.
-pub fn is_plain_read(len: u32, kinds: &[Kind]) -> bool
+fn is_plain_read(len: u32, kinds: &[Kind]) -> bool
     ensures { IsTrue result ↔ IsPlainRead len kinds.now }
 {
     if len == 0 {
@@ -96,7 +96,7 @@ pub fn is_plain_read(len: u32, kinds: &[Kind]) -> bool
 }
 
 /// A random integer (`get_random_u8` to `get_random_u64`).
-pub fn is_int(kinds: &[Kind]) -> bool
+fn is_int(kinds: &[Kind]) -> bool
     ensures { IsTrue result ↔ IsInt kinds.now }
 {
     match kinds {
@@ -107,7 +107,7 @@ pub fn is_int(kinds: &[Kind]) -> bool
 }
 
 /// A forced reseed, which a core that is not ready refuses.
-pub fn is_reseed(kinds: &[Kind]) -> bool
+fn is_reseed(kinds: &[Kind]) -> bool
     ensures { IsTrue result ↔ IsReseed kinds.now }
 {
     matches!(
@@ -117,7 +117,7 @@ pub fn is_reseed(kinds: &[Kind]) -> bool
 }
 
 /// What follows a credit of the pool that crossed this.
-pub fn is_behind_credit(crossed: Crossing, kinds: &[Kind]) -> bool
+fn is_behind_credit(crossed: Crossing, kinds: &[Kind]) -> bool
     ensures { IsTrue result ↔ IsBehindCredit crossed kinds.now }
 {
     match crossed {
@@ -128,7 +128,7 @@ pub fn is_behind_credit(crossed: Crossing, kinds: &[Kind]) -> bool
 }
 
 /// A credit of the pool, and what it set off.
-pub fn is_credit(crossed: Crossing, kinds: &[Kind]) -> bool
+fn is_credit(crossed: Crossing, kinds: &[Kind]) -> bool
     ensures { IsTrue result ↔ IsCredit crossed kinds.now }
 {
     match kinds {
@@ -138,7 +138,7 @@ pub fn is_credit(crossed: Crossing, kinds: &[Kind]) -> bool
 }
 
 /// An interrupt: its sample, and where the fast pool was dumped into the pool what that set off.
-pub fn is_interrupt(crossed: Crossing, kinds: &[Kind]) -> bool
+fn is_interrupt(crossed: Crossing, kinds: &[Kind]) -> bool
     ensures { IsTrue result ↔ IsInterrupt crossed kinds.now }
 {
     match kinds {
@@ -149,21 +149,21 @@ pub fn is_interrupt(crossed: Crossing, kinds: &[Kind]) -> bool
 }
 
 /// A tick of the reseed timer, which fired or did not.
-pub fn is_tick(kinds: &[Kind]) -> bool
+fn is_tick(kinds: &[Kind]) -> bool
     ensures { IsTrue result ↔ IsTick kinds.now }
 {
     matches!(kinds, [Kind::Base] | [Kind::Pool, Kind::Base])
 }
 
 /// A fork, whose child may have been run by its parent's own thread.
-pub fn is_fork(kinds: &[Kind]) -> bool
+fn is_fork(kinds: &[Kind]) -> bool
     ensures { IsTrue result ↔ IsFork kinds.now }
 {
     matches!(kinds, [Kind::Base] | [Kind::Base, Kind::Base, Kind::Base])
 }
 
 /// A fork of the virtual machine (`add_vmfork_randomness`).
-pub fn is_vmfork(kinds: &[Kind]) -> bool
+fn is_vmfork(kinds: &[Kind]) -> bool
     ensures { IsTrue result ↔ IsVmfork kinds.now }
 {
     matches!(

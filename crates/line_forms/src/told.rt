@@ -79,7 +79,8 @@ fn pool_place_in(sign: Sign) -> u64
     }
 }
 
-fn base_place_in(sign: Sign) -> u64
+/// The base's place that is visited there, 0 where none is.
+pub fn base_place_in(sign: Sign) -> u64
     ensures { result ≡ told.base_place_in sign }
 {
     match sign {

@@ -59,7 +59,7 @@ fn vreads_end(events: &[Event]) -> usize
 /// # Errors
 ///
 /// `AllocError` where there is no memory for them.
-pub fn caller_calls<'a>(
+pub(crate) fn caller_calls<'a>(
     alloc: Global,
     events: &'a [Event],
     lines: &[BareLine<'a>],

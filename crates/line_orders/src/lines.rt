@@ -29,7 +29,7 @@ fn caller_fits(caller: u32, events: &[Event], lines: &[BareLine<'_>]) -> bool
 }
 
 /// Whether each caller has its lines, and no other has any.
-pub fn lines_fit(script: &Script, callers: &[Vec<BareLine<'_>>]) -> bool
+pub(crate) fn lines_fit(script: &Script, callers: &[Vec<BareLine<'_>>]) -> bool
     ensures { IsTrue result ↔ HasLines script.now (seen_callers callers.now) }
 {
     if callers.len() != script.callers() as usize {

@@ -115,7 +115,7 @@ fn lane_rank(lane: LaneId) -> u64
 /// # Errors
 ///
 /// `AllocError` where there is no memory for them.
-pub fn sorted_marks(alloc: Global, callers: &[Vec<BareLine<'_>>]) -> Result<Vec<MarkOf>, AllocError>
+pub(crate) fn sorted_marks(alloc: Global, callers: &[Vec<BareLine<'_>>]) -> Result<Vec<MarkOf>, AllocError>
     ensures all { IfOk result (λ marks. IsPermutation (all_marks (seen_callers callers.now)) (map seen_mark marks.items)) }
     ensures sorted { IfOk result (λ marks. IsSortedByLane marks.items) }
 {
@@ -136,7 +136,7 @@ fn follows(last: Option<Mark>, mark: Mark) -> bool
 }
 
 /// Whether the places of each lane count up from 0, and the stamps rise with them.
-pub fn places_count(marks: &[MarkOf]) -> bool
+pub(crate) fn places_count(marks: &[MarkOf]) -> bool
     requires { IsSortedByLane marks.now }
     ensures { IsTrue result ↔ ((lane : LaneId) → PlacesStand (lane_marks lane (map seen_mark marks.now))) }
 {

@@ -1,5 +1,5 @@
 -- The base along its list, on what is kept of the pool.
-use Rattle.std.proofs.Common.{◌≡◌, ◌<◌, ◌≤◌, ◌+◌, ℕ, suc, List, [], ◌∷◌, ◌++◌, length, take, true, Option, Some, None, refl, sym, subst, ap, ◌∙◌, arith, ◌⊎◌, inl, inr}
+use Rattle.std.proofs.Common.{◌≡◌, ◌<◌, ◌≤◌, ◌+◌, ℕ, suc, List, [], ◌∷◌, ◌++◌, length, take, Option, Some, None, refl, sym, subst, ap, ◌∙◌, arith, ◌⊎◌, inl, inr}
 use Rattle.std.specs.Prelude.{slice_get, option_and_then, nat_le, if◌then◌else◌}
 use Rattle.key_names.specs.declared.entries.PoolEntry.{PoolEntry}
 use Rattle.key_names.specs.declared.entries.PoolEntry.TheVariants.{Mix, Input, Bits, Extract}
@@ -19,7 +19,7 @@ use Rattle.line_forms.specs.Told.{crossed_entry}
 use Rattle.list_replay.specs.declared.kept.Root.{Root}
 use Rattle.list_replay.specs.declared.kept.KeptPool.{KeptPool}
 use Rattle.list_replay.specs.declared.kept.KeptBase.{KeptBase}
-use Rattle.list_replay.specs.BaseLane.{Fits, crossing_kept, crossed_of, base_closed, root_in, root_value_in, RootStandsIn, AllBaseMay}
+use Rattle.list_replay.specs.BaseLane.{Fits, state_of, crossing_kept, crossed_of, root_in, root_value_in, RootStandsIn, AllBaseMay}
 use Rattle.list_replay.specs.Closed.{closed, base_entry}
 use Rattle.list_replay.specs.Kept.{root_kept, KeepsBase, KeepsPoolLane}
 use Rattle.list_replay.specs.Tables.{Tables}
@@ -118,11 +118,11 @@ module _ (lists : Lists) (pool : List KeptPool) (keeps : KeepsPoolLane pool list
   root_back s None h = tt
   root_back s (Some r) h = (h.0, place_same r ∙ h.1)
 
-  closed_same : (g : ℕ) (s : BaseState) (t : BaseTold) → g ≡ s.generation →
-      base_closed pool g t ≡ base_entry (facts_of lists).crossed_at s t
-  closed_same g s (base_is e) is = refl
-  closed_same g s (crossed root now p) is = ap (λ x. crossed_entry x root now) (crossed_same p)
-  closed_same g s woken is = ap (λ n. if nat_le 1 n then Resume else Interrupt) is
+  closed_same : (kept s : BaseState) (t : BaseTold) → kept.generation ≡ s.generation →
+      base_entry (crossed_of pool) kept t ≡ base_entry (facts_of lists).crossed_at s t
+  closed_same kept s (base_is e) is = refl
+  closed_same kept s (crossed root now p) is = ap (λ x. crossed_entry x root now) (crossed_same p)
+  closed_same kept s woken is = ap (λ n. if nat_le 1 n then Resume else Interrupt) is
 
 pub root_within : (pool : List KeptPool) (least place r : ℕ) → RootStandsIn pool least place (Some r) → r < length pool
 root_within pool least place r h =
@@ -173,7 +173,7 @@ pub record BaseBehind (lists : Lists) (i : ℕ) (base : BaseValue) (least : ℕ)
 module _ (told : Tables) (pool : List KeptPool) (keeps : KeepsPoolLane pool (closed told)) (i : ℕ) (t : BaseTold)
     (is : slice_get told.base i ≡ Some t) (base : BaseValue) (least : ℕ) (made : List KeptBase)
     (h : BaseBehind (closed told) i base least made) (entry : BaseEntry)
-    (entry_is : entry ≡ base_closed pool base.generation t) where
+    (entry_is : entry ≡ base_entry (crossed_of pool) (state_of base) t) where
   abbrev s : BaseState
   s = base_after (take i (closed told).base)
 
@@ -186,7 +186,7 @@ module _ (told : Tables) (pool : List KeptPool) (keeps : KeepsPoolLane pool (clo
       let filled = closes_base (facts_of (closed told)) t (base_visit (closed told) i there.0)
       ((closed_fills told).base i t there.0 is there.1) in
       let generation : base.generation ≡ s.generation = ap (λ (b : BaseValue). b.generation) h.base_stands in
-      there.1 ∙ ap Some (filled ∙ sym (closed_same (closed told) pool keeps base.generation s t generation) ∙ sym entry_is)
+      there.1 ∙ ap Some (filled ∙ sym (closed_same (closed told) pool keeps (state_of base) s t generation) ∙ sym entry_is)
 
   root_in_place : (named : Option ℕ) → RootStandsIn pool least i named → RootStandsIn pool s.roots s.place named
   root_in_place named stands =
@@ -208,7 +208,8 @@ module _ (told : Tables) (pool : List KeptPool) (keeps : KeepsPoolLane pool (clo
 
   module _ (root : List ℕ) (stands : RootStandsIn pool least i (root_of entry))
       (gives : (r : ℕ) → root_of entry ≡ Some r → root_value_in pool r ≡ Some root) (fits : Fits base entry)
-      (key : Option (List ℕ)) (uses : base_erases entry ≡ true → key ≡ Some (key_in_use (root_of entry) root base.key)) where
+      (key : Option (List ℕ))
+      (uses : key ≡ (if base_erases entry then Some (key_in_use (root_of entry) root base.key) else None)) where
     hands : HandsRoot (closed told).pool entry root
     hands place named = value_same (closed told) pool keeps place root (gives place named)
 
@@ -237,7 +238,7 @@ module _ (told : Tables) (pool : List KeptPool) (keeps : KeepsPoolLane pool (clo
     keeps_it = record {
       entry = refl;
       generation = ap (λ (b : BaseValue). b.generation) stepped;
-      key = λ erases. uses erases ∙ ap Some used;
+      key = uses ∙ ap (λ u. if base_erases entry then Some u else None) used;
     }
 
     may : BaseMay (closed told) i entry

@@ -1,6 +1,6 @@
 -- A CPU along its list, on what is kept of the base.
 use Rattle.std.proofs.Common.{◌≡◌, ◌<◌, ◌≤◌, ◌+◌, ◌/◌, ℕ, suc, List, [], ◌∷◌, ◌++◌, take, true, false, Bool, not, Option, Some, None, refl, sym, subst, ap, ◌∙◌, arith, inl, inr}
-use Rattle.std.specs.Prelude.{slice_get, option_and_then, option_map, IsSome, nat_le, ◌||◌, ◌==◌}
+use Rattle.std.specs.Prelude.{slice_get, option_and_then, option_map, IsSome, nat_le, ◌||◌, ◌==◌, if◌then◌else◌}
 use Rattle.key_names.specs.declared.names.KeyName.{KeyName}
 use Rattle.key_names.specs.declared.entries.BaseEntry.{BaseEntry}
 use Rattle.key_names.specs.declared.entries.BaseEntry.TheVariants.{Early, Reseed, Tick, Draw, Refill, Fork, End, Wait, Resume, Interrupt, Stall, Unstall}
@@ -237,12 +237,18 @@ module _ (lists : Lists) (base : List KeptBase) (keeps : KeepsBaseLane base list
   entry_at : (b : ℕ) (k : KeptBase) → slice_get base b ≡ Some k → (e : BaseEntry) × (slice_get lists.base b ≡ Some e)
   entry_at b k is = at_too lists.base base b k (sym keeps.count) is
 
-  pub keys_kept : KeysKept base
-  keys_kept b k is erases =
+  -- what erases its key keeps it
+  erased_key : (b : ℕ) (k : KeptBase) → slice_get base b ≡ Some k → base_erases k.entry ≡ true →
+      k.key ≡ Some (base_used_at lists.pool lists.base b)
+  erased_key b k is erases =
       let e = entry_at b k is in
       let one = keeps.each b k e.0 is e.1 in
-      let key = one.key (sym (ap base_erases one.entry) ∙ erases) in
-      subst (λ o. IsSome o) (sym key) refl
+      one.key
+      ∙ ap (λ x. if x then Some (base_used_at lists.pool lists.base b) else None)
+      (sym (ap base_erases one.entry) ∙ erases)
+
+  pub keys_kept : KeysKept base
+  keys_kept b k is erases = subst (λ o. IsSome o) (sym (erased_key b k is erases)) refl
 
   generation_is : (b : ℕ) (k : KeptBase) (named : ℕ × ℕ) → slice_get base b ≡ Some k → refill_of k.entry ≡ Some named →
       k.generation ≡ generation_at lists.base b
@@ -312,12 +318,7 @@ module _ (lists : Lists) (base : List KeptBase) (keeps : KeepsBaseLane base list
       go : (o : Option KeptBase) → slice_get base b ≡ o → NamesIn c place look o → handed ≡ Some (handed_at lists b)
       go None is n = absurd n
       go (Some k) is n =
-          let e = entry_at b k is in
-          let one = keeps.each b k e.0 is e.1 in
-          let erases = (refill_keeps k.entry (c, place) n.0).1 in
-          let key : k.key ≡ Some (base_used_at lists.pool lists.base b) =
-          one.key (sym (ap base_erases one.entry) ∙ erases) in
-          h k (base_used_at lists.pool lists.base b) is key
+          h k (base_used_at lists.pool lists.base b) is (erased_key b k is (refill_keeps k.entry (c, place) n.0).1)
           ∙ ap (λ g. Some (record { key = base_call_value lists b; generation = g }))
           (generation_is b k (c, place) is n.0)
 

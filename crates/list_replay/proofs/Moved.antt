@@ -70,7 +70,7 @@ module _ (l : Lists) (states : List (List (List VEntry))) where
     pool = record {
       count = h.pool.count;
       each = λ p k e made is. let one = h.pool.each p k e made is in
-          record { before = one.before; bits = one.bits; crosses = one.crosses; root = one.root };
+          record { before = one.before; crosses = one.crosses; root = one.root };
     };
     base = record {
       count = h.base.count;

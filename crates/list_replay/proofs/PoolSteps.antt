@@ -52,7 +52,7 @@ module _ (told : Tables) (dumps : List (List (Option Dump))) (all : AllDumps (cl
         root ≡ root_kept (pool_after (take i (closed told).pool)) e →
         crossing_of crossed ≡ crossing lane.pool.bits next.pool.bits →
         PoolBehind told (i + 1) next
-        (made ++ record { before = lane.pool.bits; bits = next.pool.bits; crossing = crossed; root = root } ∷ [])
+        (made ++ record { before = lane.pool.bits; crossing = crossed; root = root } ∷ [])
     pool_more next root crossed met gives crosses = record {
       stands = subst (λ (x : PoolState). LaneStands next x)
           (sym (fold_at pool_step pool_start (closed told).pool i e at)) met;
@@ -63,10 +63,9 @@ module _ (told : Tables) (dumps : List (List (Option Dump))) (all : AllDumps (cl
             subst (λ x. MixStands (closed told) x) entry (found_is (closed told) dumps all t e found).1)
       ];
       behind = behind_more Any (PoolKeeps (closed told)) (closed told).pool i made
-          (record { before = lane.pool.bits; bits = next.pool.bits; crossing = crossed; root = root }) e at h.behind tt
+          (record { before = lane.pool.bits; crossing = crossed; root = root }) e at h.behind tt
           (record {
             before = h.stands.pool.credited;
-            bits = met.pool.credited;
             crosses = crosses
                 ∙ ap (λ b. crossing b next.pool.bits) h.stands.pool.credited
                 ∙ ap (crossing (pool_after (take i (closed told).pool)).bits) met.pool.credited;
@@ -85,7 +84,7 @@ pub pool_visited : (told : Tables) (dumps : List (List (Option Dump))) (all : Al
     ((s : PoolState) (e : PoolEntry) → LaneStands lane s → entry_found dumps t ≡ Some e →
     LaneStands next (pool_step s e) × (result ≡ Some (root_kept s e))) → (root : Option Root) → result ≡ Some root →
     (crossed : Crossed) → crossing_of crossed ≡ crossing lane.pool.bits next.pool.bits → PoolBehind told (i + 1) next
-    (made ++ record { before = lane.pool.bits; bits = next.pool.bits; crossing = crossed; root = root } ∷ [])
+    (made ++ record { before = lane.pool.bits; crossing = crossed; root = root } ∷ [])
 pool_visited told dumps all i t is lane made h next result none some root gives crossed crosses =
     elim (some_or_none (entry_found dumps t)) [
       | inl nothing ↦ (let both : None ≡ Some root = sym (none nothing) ∙ gives in cc)

@@ -1,15 +1,11 @@
 -- The base as it goes along its list.
-use Rattle.std.specs.Prelude.{ℕ, ◌≡◌, ◌≤◌, ⊤, Option, Some, None, List, take, slice_get, option_and_then, nat_le, if◌then◌else◌}
+use Rattle.std.specs.Prelude.{ℕ, ◌≡◌, ◌≤◌, ⊤, Option, Some, None, List, take, slice_get, option_and_then}
 use Rattle.key_names.specs.declared.entries.BaseEntry.{BaseEntry}
-use Rattle.key_names.specs.declared.entries.BaseEntry.TheVariants.{Resume, Interrupt}
 use Rattle.key_names.specs.PoolList.{Crossing, none}
 use Rattle.key_names.specs.BaseList.{BaseState, BaseFits, BaseMayCome, base_after}
 use Rattle.key_names.specs.Book.{Lists}
 use Rattle.base_gen.specs.BaseValue.{BaseValue}
 use Rattle.input_pool.specs.PoolStands.{crossing_of}
-use Rattle.line_forms.specs.declared.told.BaseTold.{BaseTold}
-use Rattle.line_forms.specs.declared.told.BaseTold.TheVariants.{Is as base_is, Crossed as crossed, Woken as woken}
-use Rattle.line_forms.specs.Told.{crossed_entry}
 use Rattle.list_replay.specs.declared.kept.Root.{Root}
 use Rattle.list_replay.specs.declared.kept.KeptPool.{KeptPool}
 use Rattle.list_replay.specs.Places.{AllPlaces}
@@ -37,12 +33,6 @@ crossing_kept (Some kept) = crossing_of kept.crossing
 
 abbrev pub crossed_of : List KeptPool → ℕ → Crossing
 crossed_of pool place = crossing_kept (slice_get pool place)
-
--- the entry that is told at this generation
-abbrev pub base_closed : List KeptPool → ℕ → BaseTold → BaseEntry
-base_closed pool generation (base_is e) = e
-base_closed pool generation (crossed root now credit) = crossed_entry (crossed_of pool credit) root now
-base_closed pool generation woken = if nat_le 1 generation then Resume else Interrupt
 
 -- the root that the pool gave at a place
 abbrev pub root_in : List KeptPool → ℕ → Option Root

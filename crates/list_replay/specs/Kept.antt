@@ -1,5 +1,5 @@
 -- What is kept of lists.
-use Rattle.std.specs.Prelude.{ℕ, ◌≡◌, Option, Some, None, List, map, true, false}
+use Rattle.std.specs.Prelude.{ℕ, ◌≡◌, Option, Some, None, List, map, true, false, if◌then◌else◌}
 use Rattle.key_names.specs.declared.entries.PoolEntry.{PoolEntry}
 use Rattle.key_names.specs.declared.entries.PoolEntry.TheVariants.{Mix, Input, Bits, Extract}
 use Rattle.key_names.specs.declared.entries.CpuEntry.{CpuEntry}
@@ -28,7 +28,6 @@ root_kept s Bits = None
 
 pub record KeepsPool (k : KeptPool) (v : PoolVisit) : Type 0 where
   pub before : k.before ≡ v.before.bits
-  pub bits : k.bits ≡ v.after.bits
   pub crosses : crossing_of k.crossing ≡ crossing v.before.bits v.after.bits
   pub root : k.root ≡ root_kept v.before v.entry
 
@@ -36,7 +35,7 @@ pub record KeepsPool (k : KeptPool) (v : PoolVisit) : Type 0 where
 pub record KeepsBase (used : List ℕ) (k : KeptBase) (v : BaseVisit) : Type 0 where
   pub entry : k.entry ≡ v.entry
   pub generation : k.generation ≡ v.after.generation
-  pub key : base_erases v.entry ≡ true → k.key ≡ Some used
+  pub key : k.key ≡ (if base_erases v.entry then Some used else None)
 
 abbrev pub no_source : Source
 no_source = record { key = None; served = 0 }

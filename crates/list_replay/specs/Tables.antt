@@ -79,11 +79,8 @@ abbrev pub CpuIsWide : CpuTold → Type 0
 CpuIsWide (cpu_is e) = EntryIsWide e
 CpuIsWide (batch look width) = IsWidth width
 
--- what a transcript's tables keep: fewer than 2^32 visits of pool and base and as many CPUs, moments below 2^40, and the
--- widths of integers
+-- what a transcript's tables keep: fewer than 2^32 CPUs, moments below 2^40, and the widths of integers
 pub record InRange (told : Tables) : Type 0 where
-  pub pool_count : length told.pool < 2 ^ 32
-  pub base_count : length told.base < 2 ^ 32
   pub cpus_count : length told.cpus < 2 ^ 32
   pub notes : All PoolIsNear told.pool
   pub moments : All BaseIsNear told.base

@@ -1,10 +1,10 @@
 //! The base's list.
-ghost use Rattle.std.specs.Prelude.{◌≡◌, ◌↔◌, ◌<◌, ◌^◌, ℕ, All, IsTrue, IfOk, IfSome, IsSome, MatchOption, length};
-ghost use Rattle.std.specs.Prelude.{true};
+ghost use Rattle.std.specs.Prelude.{◌≡◌, ◌↔◌, ◌<◌, ◌^◌, ℕ, All, IsTrue, IfOk, IfSome, IsSome, MatchOption};
+ghost use Rattle.std.specs.Prelude.{Some, None, if◌then◌else◌};
 ghost use Rattle.base_gen.specs.BaseValue.{after_entry, key_in_use};
 ghost use Rattle.key_names.specs.BaseList.{base_erases, root_of};
-ghost use Rattle.list_replay.specs.BaseLane.{Fits, RootStandsIn, root_value_in, base_closed, crossed_of, AllBaseMay};
-ghost use Rattle.list_replay.specs.Closed.{closed};
+ghost use Rattle.list_replay.specs.BaseLane.{Fits, RootStandsIn, root_value_in, state_of, crossed_of, AllBaseMay};
+ghost use Rattle.list_replay.specs.Closed.{base_entry, closed};
 ghost use Rattle.list_replay.specs.Kept.{KeepsPoolLane, KeepsBaseLane};
 ghost use Rattle.list_replay.specs.Tables.{tables_of, EntryIsNear, BaseIsNear};
 ghost use Rattle.input_pool.specs.PoolStands.{crossing_of};
@@ -42,7 +42,7 @@ fn enter(base: &mut Base, entry: BaseEntry, root: [u8; 32]) -> Option<[u8; 32]>
     requires generation { base.old.generation < 2 ^ 63 }
     requires moment { EntryIsNear entry }
     ensures state { base.new ≡ after_entry entry root base.old }
-    ensures key { base_erases entry ≡ true → result ≡ Some (key_in_use (root_of entry) root base.old.key) }
+    ensures key { result ≡ (if base_erases entry then Some (key_in_use (root_of entry) root base.old.key) else None) }
 {
     match entry {
         BaseEntry::Early { root: Some(_) } => base.install_early(root),
@@ -76,7 +76,7 @@ fn crossed_at(pool: &[KeptPool], place: u64) -> Crossing
 
 /// The entry that is told.
 fn close(base: &Base, told: BaseTold, pool: &[KeptPool]) -> BaseEntry
-    ensures { result ≡ base_closed pool.now base.now.generation told }
+    ensures { result ≡ base_entry (crossed_of pool.now) (state_of base.now) told }
 {
     match told {
         BaseTold::Is(entry) => entry,
@@ -117,9 +117,7 @@ pub(crate) fn replay_base(
     told: &Told,
     pool: &[KeptPool],
 ) -> Result<Option<Vec<KeptBase>>, AllocError>
-    requires few { length told.now.base.items < 2 ^ 32 }
     requires moments { All BaseIsNear told.now.base.items }
-    requires roots { length pool.now < 2 ^ 32 }
     requires pool { KeepsPoolLane pool.now (closed (tables_of told.now)) }
     ensures some { IfOk result (λ o. IfSome o (λ kept. AllBaseMay (closed (tables_of told.now))
         × KeepsBaseLane kept.items (closed (tables_of told.now)))) }

@@ -17,8 +17,6 @@ pub struct Root {
 pub struct KeptPool {
     /// The pool's bits before the visit, 0 to 256.
     pub before: u32,
-    /// The pool's bits behind it.
-    pub bits: u32,
     /// What the change of the bits crossed.
     pub crossing: Crossing,
     /// The root, if the entry is an extraction.

@@ -1,11 +1,11 @@
 //! The lists of the lanes, made anew from what a transcript's steps tell of them.
 //!
 //! What the steps around a visit tell leaves four things open: what a credit crossed, whether a waiting caller went
-//! on, whether an integer filled its batch, and what a dump mixed. [`replay_lists`] closes them in the order CPUs,
-//! pool, base, judges each list as it goes, on the parts themselves, and keeps of each visit what its line's answer and
-//! bytes are made from. It answers `None` exactly where no lists are as told and lawful: `specs/Fills` says when lists are as
-//! told, `specs/Lawful` when they are lawful, and `specs/Kept` what is kept of them. It stands on `line_forms` for what
-//! is told, and on the parts for what an entry does.
+//! on, whether an integer filled its batch, and what a dump mixed. [`replay_lists`] closes them in the order CPUs' fast
+//! pools, pool, base, CPUs, judges each list as it goes, on the parts themselves, and keeps of each visit what its line's
+//! answer and bytes are made from. It answers `None` exactly where no lists are as told and lawful: `specs/Fills` says when
+//! lists are as told, `specs/Lawful` when they are lawful, and `specs/Kept` what is kept of them. It stands on `line_forms`
+//! for what is told, and on the parts for what an entry does.
 #![tactic(auto)]
 
 mod base_list;

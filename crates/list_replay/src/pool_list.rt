@@ -154,11 +154,10 @@ pub(crate) fn replay_pool(
         let Some(root) = visit(&mut lane, one, dumps) else {
             return Ok(None);
         };
-        let bits = lane.pool.bits();
+        let crossing = crossed(before, lane.pool.bits());
         kept.push(KeptPool {
             before,
-            bits,
-            crossing: crossed(before, bits),
+            crossing,
             root,
         })?;
     }

@@ -1,5 +1,5 @@
 -- Looks stand by what is kept of the lanes exactly where they stand in the lists.
-use Rattle.std.proofs.Common.{◌≡◌, ℕ, zero, suc, ◌<◌, Option, Some, None, List, [], ◌∷◌, length, map, max, take, refl, sym, subst, ap, ◌∙◌, arith}
+use Rattle.std.proofs.Common.{◌≡◌, ℕ, zero, suc, ◌<◌, ◌-◌, Option, Some, None, List, [], ◌∷◌, length, map, max, take, refl, sym, subst, ap, ◌∙◌, arith}
 use Rattle.std.specs.Prelude.{◌↔◌, slice_get, unwrap_or, option_map}
 use Rattle.std.specs.List.{fold, AllByRecursion}
 use Rattle.std.specs.Global.{Vec}
@@ -178,7 +178,9 @@ module _ (kept : KeptLists) (lists : Lists) (keeps : Keeps kept lists) where
   reseeds_from (k ∷ l ∷ ks) [] s i long each some = absurd (omega arith)
   reseeds_from (k ∷ l ∷ ks) (e ∷ []) s i long each some = absurd (omega arith)
   reseeds_from (k ∷ l ∷ ks) (e ∷ f ∷ es) s i long each some =
+      let last : suc (suc (length ks)) - 1 ≡ suc (suc (length ks) - 1) = omega arith in
       reseeds_from (l ∷ ks) (f ∷ es) (base_step s e) i (omega arith) (λ j. each (suc j)) (omega arith)
+      ∙ sym (ap (λ n. unwrap_or (option_map (λ (x : KeptBase). x.generation) (slice_get (k ∷ l ∷ ks) n)) 0) last)
 
   pub reseeds_are : (base_after lists.base).generation ≡ reseeds_in kept.base.items
   reseeds_are = by lists.base kept.base.items keeps.base.count

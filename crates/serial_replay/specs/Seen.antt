@@ -1,5 +1,5 @@
 -- What a caller has seen, read from what is kept of the lanes.
-use Rattle.std.specs.Prelude.{ℕ, ◌≤◌, ⊤, max, Option, Some, None, List, [], ◌∷◌, slice_get, unwrap_or, option_map}
+use Rattle.std.specs.Prelude.{ℕ, ◌≤◌, ⊤, ◌-◌, max, Option, Some, None, List, [], length, slice_get, unwrap_or, option_map}
 use Rattle.std.specs.Global.{Vec}
 use Rattle.key_names.specs.declared.names.LaneId.{LaneId}
 use Rattle.key_names.specs.declared.names.LaneId.TheVariants.{Pool as PoolLane, Base as BaseLane, Cpu as CpuLane}
@@ -38,8 +38,6 @@ abbrev pub MayLook : ℕ → Option ℕ → Step → Type 0
 MayLook reseeds carried (Look g) = (unwrap_or carried 0 ≤ g) × (g ≤ reseeds)
 MayLook reseeds carried (Marked mark) = ⊤
 
--- how often the base was reseeded
+-- how often the base was reseeded, by its last visit
 abbrev pub reseeds_in : List KeptBase → ℕ
-reseeds_in [] = 0
-reseeds_in (k ∷ []) = k.generation
-reseeds_in (k ∷ l ∷ kept) = reseeds_in (l ∷ kept)
+reseeds_in base = unwrap_or (option_map (λ k. k.generation) (slice_get base (length base - 1))) 0

@@ -18,10 +18,9 @@ pub(crate) struct Looks<'a> {
 fn reseeds_in(base: &[KeptBase]) -> u64
     ensures { result ≡ reseeds_in base.now }
 {
-    match base {
-        [] => 0,
-        [kept] => kept.generation,
-        [_, rest @ ..] => reseeds_in(rest),
+    match base.last() {
+        Some(kept) => kept.generation,
+        None => 0,
     }
 }
 

@@ -22,8 +22,8 @@ use event_script::Script;
 use key_names::{BaseEntry, CpuEntry, Event, InsideAct, LaneId, PoolNote, Step, Taken};
 use line_forms::setting::Setting;
 use line_forms::told::{
-    Around, BaseTold, CpuTold, PoolTold, Sign, base_told, cpu_read_told, cpu_told, pool_told,
-    read_told,
+    Around, BaseTold, CpuTold, PoolTold, Sign, base_place_in, base_told, cpu_read_told, cpu_told,
+    pool_told, read_told,
 };
 use line_orders::begin::Parts;
 use line_orders::called::{ActLine, Called};
@@ -64,15 +64,6 @@ fn sign_at(steps: &[Step], number: usize) -> Sign
     match steps.get(number) {
         Some(step) => sign(*step),
         None => Sign::Nowhere,
-    }
-}
-
-fn base_place_in(sign: Sign) -> u64
-    ensures { result ≡ forms.base_place_in sign }
-{
-    match sign {
-        Sign::InBase(place) => place,
-        _ => 0,
     }
 }
 

@@ -1,4 +1,4 @@
-use Rattle.std.proofs.Common.{◌≡◌, ◌<◌, ◌^◌, length, map, Option, Some, None, Vec, Global, IfSome, IsSome, refl, sym, subst, ap, arith}
+use Rattle.std.proofs.Common.{◌≡◌, map, Option, Some, None, Vec, Global, IfSome, IsSome, refl, sym, subst}
 use Rattle.std.proofs.lemmas.Bool.{false≢true}
 use Rattle.sample_credit.specs.declared.fast_pool.Dump.{Dump}
 use Rattle.list_replay.specs.declared.kept.KeptPool.{KeptPool}
@@ -15,7 +15,6 @@ use Rattle.list_replay.specs.Names.{AllExtractionsAnswered, AllRefillsAnswered}
 use Rattle.list_replay.specs.Places.{AllKept}
 use Rattle.list_replay.specs.PoolLane.{AllMixed}
 use Rattle.list_replay.specs.Tables.{Tables, tables_of}
-use Rattle.list_replay.proofs.Filling.{closed_fills}
 use Rattle.list_replay.proofs.Whole.{extractions_back, refills_back, base_may_come, cpus_may_come, all_due, all_mixed, closed_lawful, keeps_all, lists_found}
 use Rattle.list_replay.proofs.replay_lists.Goals as goal
 use Rattle.list_replay.proofs.replay_lists.Goals.{else-extractions_answered-via-then-extractions_answered+else-refills_answered, else-extractions_answered-via-else-extractions_answered}
@@ -51,17 +50,6 @@ returns-in_default-2-clause-only c = λ lists fills lawful.
     missed c.in_ok-pool.field-0 c.in_default-2.is
     (c.in_ok-pool.ensures.none
     (all_mixed (tables_of c.args.told.now) (closed_lawful (tables_of c.args.told.now) lists fills lawful)))
-
-pub replay_base-requires-clause-roots : goal.replay_base-requires-clause-roots
-replay_base-requires-clause-roots c =
-    let pool = found (PoolFound (tables_of c.args.told.now)) c.in_ok-pool.field-0 c.in-Some-2.pool c.in-Some-2.is
-    c.in_ok-pool.ensures.some in
-    let kept : length c.in-Some-2.pool.items ≡ length (closed (tables_of c.args.told.now)).pool = pool.1.count in
-    let filled : length (closed (tables_of c.args.told.now)).pool ≡ length (tables_of c.args.told.now).pool =
-    (closed_fills (tables_of c.args.told.now)).pool_count in
-    let few : length (tables_of c.args.told.now).pool < 2 ^ 32 = c.requires.pool_count in
-    let same : length c.deref-2.result.now ≡ length c.in-Some-2.pool.items = ap length c.deref-2.ensures.value in
-    omega arith
 
 pub returns-in_default-3-clause-only : goal.returns-in_default-3-clause-only
 returns-in_default-3-clause-only c = λ lists fills lawful.

@@ -1,4 +1,4 @@
-use Rattle.std.proofs.Common.{◌≡◌, ◌≤◌, ◌<◌, ◌+◌, ◌^◌, ◌++◌, [], ◌∷◌, suc, Some, length, refl, sym, subst, ap, ◌∙◌, arith}
+use Rattle.std.proofs.Common.{◌≡◌, ◌≤◌, ◌<◌, ◌+◌, ◌++◌, [], ◌∷◌, suc, Some, length, refl, sym, subst, ap, ◌∙◌, arith}
 use Rattle.std.proofs.lemmas.Bool.{false≢true}
 use Rattle.key_names.specs.declared.entries.BaseEntry.{BaseEntry}
 use Rattle.key_names.specs.BaseList.{root_of, roots_after}
@@ -38,7 +38,6 @@ overflow_add-least c =
     c.in-Some.ensures.0 in
     let within : c.in-Some-named.named < length c.args.pool.now =
     root_within c.args.pool.now c.loop-place.least c.loop-place.place c.in-Some-named.named stands in
-    let few : length c.args.pool.now < 2 ^ 32 = c.requires.roots in
     omega arith
 
 pub loop-place-preserved : goal.loop-place-preserved

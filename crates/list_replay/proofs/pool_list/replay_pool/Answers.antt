@@ -21,27 +21,14 @@ loop-one-preserved c =
     (found c.deref-one-items.result.now c.args.told.now.pool.items c.loop-one.one-index _
     c.deref-one-items.ensures.value c.loop-one-test.true)
     c.loop-one.lane c.loop-one.kept.items c.loop-one.invariant c.visit.new.lane c.visit.result c.visit.ensures.none.1
-    c.visit.ensures.some c.in-Some.root c.in-Some.is c.crossed.result
-    (c.crossed.ensures
-    ∙ ap (λ b. crossing b c.bits-bits.result) c.bits-before.ensures
-    ∙ ap (crossing c.loop-one.lane.pool.bits) c.bits-bits.ensures))
+    c.visit.ensures.some c.in-Some.root c.in-Some.is c.crossed-crossing.result
+    (c.crossed-crossing.ensures
+    ∙ ap (λ b. crossing b c.bits.result) c.bits-before.ensures
+    ∙ ap (crossing c.loop-one.lane.pool.bits) c.bits.ensures))
     (c.in_ok-push.ensures.items
     ∙ ap
-    (λ b. c.loop-one.kept.items ++ record {
-      before = b;
-      bits = c.bits-bits.result;
-      crossing = c.crossed.result;
-      root = c.in-Some.root;
-    } ∷ [])
-    c.bits-before.ensures
-    ∙ ap
-    (λ b. c.loop-one.kept.items ++ record {
-      before = c.loop-one.lane.pool.bits;
-      bits = b;
-      crossing = c.crossed.result;
-      root = c.in-Some.root;
-    } ∷ [])
-    c.bits-bits.ensures)
+    (λ b. c.loop-one.kept.items ++ record { before = b; crossing = c.crossed-crossing.result; root = c.in-Some.root } ∷ [])
+    c.bits-before.ensures)
 
 pub returns-clause-some : goal.returns-clause-some
 returns-clause-some c =
