@@ -62,7 +62,6 @@ fn call(alloc: Global, start: u32, caller: u32, number: u32) -> Result<Event, Al
 
 /// What a caller begins with: caller 0 makes the core ready, and forks all others.
 fn opening(alloc: Global, callers: u32, caller: u32) -> Result<Vec<Event>, AllocError>
-    requires { 1 ≤ callers }
     ensures { IfOk result (λ events. events.items ≡ opening callers caller) }
 {
     let mut events = Vec::new(alloc);
@@ -88,7 +87,6 @@ fn load_events(
     count: u32,
     caller: u32,
 ) -> Result<Vec<Event>, AllocError>
-    requires { 1 ≤ callers }
     ensures { IfOk result (λ events. events.items ≡ load_events start callers count caller) }
 {
     let mut events = opening(alloc, callers, caller)?;
@@ -106,7 +104,6 @@ pub(crate) fn load_blocks(
     callers: u32,
     count: u32,
 ) -> Result<Vec<Vec<Event>>, AllocError>
-    requires { 1 ≤ callers }
     ensures { IfOk result (λ blocks. map (λ events. events.items) blocks.items
         ≡ map (load_events start callers count) (range_with_len 0 callers)) }
 {

@@ -46,7 +46,8 @@ impl Script {
 
     /// The script of a load, of version 1: on as many CPUs as callers, caller 0 makes the core ready and forks all
     /// others, and each caller makes so many calls on its own CPU, eight kinds of them in turn. `start` says which
-    /// kind is the first, and how long the reads are.
+    /// kind is the first, and how long the reads are. There are 1 to 64 callers; `events` is the calls of each, 1 to
+    /// 1,000.
     ///
     /// # Errors
     ///
@@ -72,7 +73,7 @@ impl Script {
         self.version
     }
 
-    /// The number of CPUs, from 1.
+    /// The number of CPUs, from 1 to 64, or to 256 in version 3.
     pub fn cpus(&self) -> u32
         ensures { result ≡ self.now.cpus }
     {

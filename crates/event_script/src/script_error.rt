@@ -1,10 +1,10 @@
 //! Why a text is no script, or was not read.
 
 ghost use Rattle.std.specs.Prelude.{◌≡◌};
-ghost use Rattle.event_script.specs.declared.script_error.ScriptError.TheVariants.{Fault, NoMemory};
+ghost use Rattle.event_script.specs.declared.script_error.ScriptError.TheVariants.{NoMemory};
 
 use key_names::ScriptFault;
-use std::alloc::{AllocError, AllocFailed};
+use std::alloc::AllocError;
 
 /// Why a script could not be read.
 #[derive(Clone, Copy, Debug, PartialEq, Eq)]
@@ -20,21 +20,5 @@ impl From<AllocError> for ScriptError {
 
     fn from(_e: AllocError) -> ScriptError {
         ScriptError::NoMemory
-    }
-}
-
-impl<T: Drop> From<AllocFailed<T>> for ScriptError {
-    ghost from_gives = { λ _ e. e ≡ NoMemory };
-
-    fn from(_e: AllocFailed<T>) -> ScriptError {
-        ScriptError::NoMemory
-    }
-}
-
-impl From<ScriptFault> for ScriptError {
-    ghost from_gives = { λ fault e. e ≡ Fault fault };
-
-    fn from(fault: ScriptFault) -> ScriptError {
-        ScriptError::Fault(fault)
     }
 }

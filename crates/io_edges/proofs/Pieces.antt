@@ -1,9 +1,10 @@
 -- What calls in a row do to a sink and to a source.
-use Rattle.std.proofs.Common.{◌≡◌, ℕ, ◌+◌, List, ◌++◌, length, take, drop, Option, sym, ap, ◌∙◌, subst, le_refl}
+use Rattle.std.proofs.Common.{◌≡◌, ℕ, ◌+◌, List, ◌++◌, length, take, drop, Option, sym, ap, ◌∙◌, subst, le_refl, ◌≤◌, arith}
 use Rattle.std.proofs.Math.Seq.{take-add, take-length}
-use Rattle.std.specs.Io.KnownBytes.{Appends, Consumes}
-use Rattle.std.proofs.KnownBytes.{Appends-trans, Consumes-trans}
-use Rattle.io_edges.specs.Pieces.{AppendsPrefix, ConsumesSome}
+use Rattle.std.specs.Io.KnownBytes.{Appends, Consumes, Keeps}
+use Rattle.std.proofs.KnownBytes.{Appends-trans, Consumes-kept, Consumes-trans}
+use Rattle.std.proofs.lemmas.List.{length-append}
+use Rattle.io_edges.specs.Pieces.{AppendsPrefix, ConsumesUpTo}
 
 -- the first n bytes of a text, and m bytes of its rest
 pub Appends-next : (a b c : Option (List ℕ)) (text rest : List ℕ) (n m : ℕ)
@@ -18,7 +19,13 @@ Appends-next a b c text rest n m first is next =
 pub AppendsPrefix-of_whole : (a b : Option (List ℕ)) (xs : List ℕ) → Appends a b xs → AppendsPrefix a b xs
 AppendsPrefix-of_whole a b xs h = (length xs, le_refl (length xs), subst (Appends a b) (sym (take-length xs)) h)
 
+-- a call that took nothing leaves it at what was taken before
+pub ConsumesUpTo_kept : (most : ℕ) (a b c : Option (List ℕ)) (bs : List ℕ)
+    → Consumes a b bs → Keeps b c → length bs ≤ most → ConsumesUpTo most a c
+ConsumesUpTo_kept most a b c bs first second few = (bs, few, Consumes-kept a b c bs first second)
+
 -- the pieces that were taken are the front of what was left
-pub ConsumesSome_more : (a b c : Option (List ℕ)) (bs cs : List ℕ)
-    → Consumes a b bs → Consumes b c cs → ConsumesSome a c
-ConsumesSome_more a b c bs cs first second = (bs ++ cs, Consumes-trans a b c bs cs first second)
+pub ConsumesUpTo_more : (most : ℕ) (a b c : Option (List ℕ)) (bs cs : List ℕ)
+    → Consumes a b bs → Consumes b c cs → length bs + length cs ≤ most → ConsumesUpTo most a c
+ConsumesUpTo_more most a b c bs cs first second few =
+    (bs ++ cs, omega (arith, few, length-append bs cs), Consumes-trans a b c bs cs first second)

@@ -6,6 +6,6 @@ use Rattle.std.specs.Io.KnownBytes.{Appends, Consumes}
 abbrev pub AppendsPrefix : Option (List ℕ) → Option (List ℕ) → List ℕ → Type 0
 AppendsPrefix old new text = (n : ℕ) × (n ≤ length text) × Appends old new (take n text)
 
--- known bytes lost some of their front
-abbrev pub ConsumesSome : Option (List ℕ) → Option (List ℕ) → Type 0
-ConsumesSome old new = (front : List ℕ) × Consumes old new front
+-- known bytes lost a front of at most so many bytes
+abbrev pub ConsumesUpTo : ℕ → Option (List ℕ) → Option (List ℕ) → Type 0
+ConsumesUpTo most old new = (front : List ℕ) × (length front ≤ most) × Consumes old new front

@@ -34,10 +34,10 @@ pub trait Source {
 
 /// Where bytes go. A sink may keep bytes back until it is flushed.
 pub trait Sink {
-    /// The bytes that it holds, where the sink tells them. Those that it keeps back are among them.
+    /// The bytes that it holds, where the sink tells them.
     ghost held: { Self → Option (List ℕ) };
 
-    /// The last of the bytes that it holds: those that it keeps back.
+    /// The bytes that it keeps back, as each sink says of itself: no clause here ties them to those that it holds.
     ghost kept_back: { Self → List ℕ };
 
     /// How often it has failed. The count rises with a failure alone, and stands still at `u64::MAX`.
@@ -60,8 +60,8 @@ pub trait Sink {
     ///
     /// # Errors
     ///
-    /// `Failed` where the count of faults rose in this call, or stood at `u64::MAX` already. What was kept back is then
-    /// handed on in part.
+    /// `Failed` where the count of faults rose in this call, or stood at `u64::MAX` already. How much of what was kept
+    /// back was handed on is then not said; no byte that it holds is lost.
     fn flush(&mut self) -> Result<(), Failed>
         ensures handed_on { OnOk result (kept_back self.new ≡ []) }
         ensures kept { Keeps (held self.old) (held self.new) }

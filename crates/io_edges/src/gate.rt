@@ -4,7 +4,8 @@ use std::sync::Wait;
 
 /// What stands before each event of a caller.
 pub trait Gate: Sync {
-    /// Is called in front of every event of a caller, which it is given with its place; a caller's end has no call.
+    /// Is called in front of every event of a caller, which it is given with its place; a caller's end has no call
+    /// (tested).
     fn before<R: Wait>(&self, rt: &R, caller: u32, event: u32);
 }
 

@@ -60,7 +60,8 @@ impl<I: Read + Drop> Source for StdSource<I> {
 }
 
 /// A writer as a sink. It tells what its writer tells, which is nothing for standard output. Puts are gathered in the
-/// writer's buffer, and one that is as long as the buffer goes past it.
+/// writer's buffer, and one that is as long as the buffer goes past it. What is in the buffer is kept back, and is the
+/// last of what the sink holds.
 #[derive(Drop)]
 pub struct StdSink<O: Write + Drop> {
     writer: BufWriter<O>,

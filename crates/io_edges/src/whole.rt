@@ -3,7 +3,7 @@ ghost use Rattle.std.specs.Prelude.{◌≡◌, ◌+◌, ◌-◌, ◌^◌, ◌<�
 ghost use Rattle.std.specs.Io.KnownBytes.{Appends, Consumes, IsAtEnd};
 ghost use Rattle.io_edges.specs.declared.whole.ReadError.TheVariants.{Fault, NoMemory as Refused};
 ghost use Rattle.io_edges.specs.Faults.{Rose};
-ghost use Rattle.io_edges.specs.Pieces.{AppendsPrefix, ConsumesSome};
+ghost use Rattle.io_edges.specs.Pieces.{AppendsPrefix, ConsumesUpTo};
 
 use crate::{Failed, NoMemory, Sink, Source};
 use std::alloc::Global;
@@ -43,7 +43,7 @@ impl From<NoMemory> for ReadError {
 ///
 /// `Fault` where the source failed, which it has counted as a fault. `NoMemory` where the bytes find no room, and the
 /// source did not fail. Either way the bytes that were taken are lost.
-#[tactic(auto, using(crate::proofs::Pieces::ConsumesSome_more))]
+#[tactic(auto, using(crate::proofs::Pieces::ConsumesUpTo_kept))]
 pub fn read_to_limit<S: Source>(
     alloc: Global,
     source: &mut S,
@@ -54,7 +54,7 @@ pub fn read_to_limit<S: Source>(
     ensures taken { IfOk result (λ bytes. Consumes (S.left source.old) (S.left source.new) bytes.items) }
     ensures end { IfOk result (λ bytes. vec_len bytes ≤ limit → IsAtEnd (S.left source.new)) }
     ensures bound { IfOk result (λ bytes. vec_len bytes ≤ limit + 1) }
-    ensures front { ConsumesSome (S.left source.old) (S.left source.new) }
+    ensures front { ConsumesUpTo (limit + 1) (S.left source.old) (S.left source.new) }
     ensures cause { IsErrOf result ReadError.Fault → Rose (S.faults source.old) (S.faults source.new) }
     ensures no_memory { IsErrOf result ReadError.NoMemory → S.faults source.new ≡ S.faults source.old }
     ensures not_counted { OnOk result (S.faults source.new ≡ S.faults source.old) }

@@ -122,7 +122,7 @@ impl CallerLines {
         })
     }
 
-    /// Makes room for this line.
+    /// Makes room for this line. What room there was is kept.
     ///
     /// # Errors
     ///
@@ -131,6 +131,9 @@ impl CallerLines {
         ensures lines { self.new.lines ≡ self.old.lines }
         ensures bytes { self.new.bytes ≡ self.old.bytes }
         ensures steps { self.new.steps ≡ self.old.steps }
+        ensures line_room_stays { self.old.line_room ≤ self.new.line_room }
+        ensures step_room_stays { self.old.step_room ≤ self.new.step_room }
+        ensures byte_room_stays { self.old.byte_room ≤ self.new.byte_room }
         ensures line_room { OnOk result (0 < self.new.line_room) }
         ensures step_room { OnOk result (length line.entry.steps.now ≤ self.new.step_room) }
         ensures byte_room { OnOk result (length (bytes_of line.entry.shown) ≤ self.new.byte_room) }
@@ -166,7 +169,8 @@ impl CallerLines {
         }
     }
 
-    /// One more line. It takes no memory.
+    /// One more line, of at most 20 steps and fewer than 2^32 bytes. It takes no memory: there must be room for the line,
+    /// its steps and its bytes, which `with_room` or `reserve` makes.
     #[inline(always)]
     pub fn push(&mut self, line: LineView<'_>)
         requires line_room { 0 < self.old.line_room }
@@ -215,7 +219,8 @@ impl CallerLines {
         Ok(true)
     }
 
-    /// Another line in the place of line `number`. It takes no memory.
+    /// Another line in the place of line `number`, from 0. It takes no memory: there must be room for its steps and its
+    /// bytes, as `push` needs it, since those of the line before are kept.
     pub fn replace(&mut self, number: usize, line: LineView<'_>)
         requires number { number < length self.old.lines }
         requires step_room { length line.steps.now ≤ self.old.step_room }

@@ -9,7 +9,7 @@ ghost use Rattle.transcript_text.specs.Gathered.{IsWithin};
 ghost use Rattle.transcript_text.specs.Reading.{Reads};
 ghost use Rattle.transcript_text.specs.Shows.{AppendsSpelt, KeepsSpelt, SpellsData, SpellsNoData};
 
-use crate::lexing::{is_dash, number_below};
+use crate::lexing::{is_dash, number_u32};
 use key_names::hexes::bytes_of;
 use key_names::{Data, Word};
 use std::alloc::{AllocError, Global};
@@ -107,8 +107,8 @@ pub(crate) fn keep_data(
     if !is_bits(word) {
         return keep_bytes(alloc, kept, text);
     }
-    match number_below(1 << 32, text) {
-        Some(number) => Ok(Some(Data::Count(number as u32))),
+    match number_u32(text) {
+        Some(number) => Ok(Some(Data::Count(number))),
         None => Ok(None),
     }
 }
@@ -123,5 +123,5 @@ pub(crate) fn spells_data(alloc: Global, word: Word, text: &[u8]) -> Result<bool
     if !is_bits(word) {
         return spells_bytes(alloc, text);
     }
-    Ok(number_below(1 << 32, text).is_some())
+    Ok(number_u32(text).is_some())
 }

@@ -3,8 +3,8 @@ ghost use Rattle.std.specs.Prelude.{◌≡◌, ◌+◌, ◌≤◌, ◌++◌, [],
 ghost use Rattle.key_names.specs.Texts.TranscriptGrammar.{answer_text, lane_text, step_text, steps_text};
 ghost use Rattle.transcript_text.specs.Heads.{head_text};
 
-use crate::fields::answer_name;
 use crate::line_buffer::Piece;
+use crate::names::answer_name;
 use crate::view::LineView;
 use key_names::{Answer, LaneId, Step};
 

@@ -1,5 +1,5 @@
 //! Texts cut at a byte, and numbers.
-ghost use Rattle.std.specs.Prelude.{◌≡◌, ◌<◌, ◌∷◌, ◌++◌, ◌↔◌, true, IsTrue, MatchOption, codes, decimal};
+ghost use Rattle.std.specs.Prelude.{◌≡◌, ◌<◌, ◌^◌, ◌∷◌, ◌++◌, ◌↔◌, true, IsTrue, MatchOption, codes, decimal};
 ghost use Rattle.transcript_text.specs.Reading.{lacks, Reads};
 
 use event_script::numbers::number_up_to;
@@ -8,7 +8,7 @@ use memchr::memchr;
 /// So many bytes are looked at one by one.
 const NEAR: usize = 8;
 
-/// The numbers of callers, events and CPUs are at most this.
+/// Numbers of callers, events and CPUs, and counts of bits, are at most this.
 pub(crate) const MOST_U32: u64 = u32::MAX as u64;
 
 /// Whether a text is this one. Most have another length, which is seen without a call.
@@ -50,12 +50,10 @@ pub(crate) fn cut_near(byte: u8, text: &[u8]) -> Option<(&[u8], &[u8])>
     cut(byte, text)
 }
 
-/// The number below a limit that a text spells in decimal, without leading zeros.
-pub(crate) fn number_below(limit: u64, text: &[u8]) -> Option<u64>
-    ensures { Reads decimal (λ n. n < limit) text.now result }
+/// The number of 32 bits that a text spells in decimal, without leading zeros.
+pub(crate) fn number_u32(text: &[u8]) -> Option<u32>
+    ensures { Reads decimal (λ n. n < 2 ^ 32) text.now result }
 {
-    match number_up_to(u64::MAX, text) {
-        Some(number) if number < limit => Some(number),
-        _ => None,
-    }
+    let number = number_up_to(MOST_U32, text)?;
+    Some(number as u32)
 }

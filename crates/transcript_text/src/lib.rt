@@ -2,8 +2,8 @@
 //!
 //! What is read is a transcript exactly where the text is one, and otherwise the first faulty line is told. [`Reader`] is
 //! fed the text piece by piece; [`read`] reads one that is there as a whole. What is
-//! written is that text, or a prefix of it where the sink counted a fault; read again it is the same. [`CallerLines`]
-//! keeps what a caller tells, line by line, in memory that was taken before.
+//! written of lines under their own callers' numbers is that text, or a prefix of it where the sink counted a fault; read
+//! again it is the same. [`CallerLines`] keeps what a caller tells, line by line, in memory that was taken before.
 //!
 //! It stands on the grammar of `key_names` (`specs/Texts`), on how `event_script` reads words and numbers, and on the
 //! sinks of `io_edges`. Whether a transcript is lawful is not looked at.
@@ -12,7 +12,6 @@
 mod caller_lines;
 mod data;
 mod error;
-mod fields;
 mod grouping;
 mod head;
 pub mod laws;

@@ -1,10 +1,9 @@
-//! Words and answers, read.
-ghost use Rattle.std.specs.Prelude.{◌≡◌, ⊤};
+//! Words and answers, read, and answers as they stand on a line.
+ghost use Rattle.std.specs.Prelude.{◌≡◌, ◌≤◌, ⊤, length};
 ghost use Rattle.key_names.specs.Texts.Spelling.{word_text};
 ghost use Rattle.key_names.specs.Texts.TranscriptGrammar.{answer_text};
 ghost use Rattle.transcript_text.specs.Reading.{Reads};
 
-use crate::fields::answer_name;
 use crate::lexing::spells;
 use event_script::words;
 use key_names::{Answer, Word};
@@ -19,6 +18,24 @@ const ANSWERS: [Answer; 8] = [
     Answer::Idle,
     Answer::Unused,
 ];
+
+/// The answer as it stands on a line.
+#[tactic(auto, unfolding(key_names::specs::Texts::TranscriptGrammar::answer_text))]
+pub(crate) fn answer_name(answer: Answer) -> &'static [u8]
+    ensures text { result.now ≡ answer_text answer }
+    ensures short { length result.now ≤ 8 }
+{
+    match answer {
+        Answer::Ok => b"ok",
+        Answer::Again => b"EAGAIN",
+        Answer::Invalid => b"EINVAL",
+        Answer::NoData => b"ENODATA",
+        Answer::Interrupted => b"EINTR",
+        Answer::Fired => b"fired",
+        Answer::Idle => b"idle",
+        Answer::Unused => b"unused",
+    }
+}
 
 /// The word that a text is.
 pub(crate) fn word_of(text: &[u8]) -> Option<Word>

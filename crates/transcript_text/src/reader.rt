@@ -52,7 +52,7 @@ impl Reader {
         Ok(())
     }
 
-    /// One more piece of the text.
+    /// One more piece of the text, which has at most 2^31 bytes in all.
     ///
     /// # Errors
     ///
@@ -72,7 +72,7 @@ impl Reader {
         Ok(())
     }
 
-    /// The transcript whose text was fed.
+    /// The transcript whose text was fed, at most 2^31 bytes.
     ///
     /// # Errors
     ///

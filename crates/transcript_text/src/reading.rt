@@ -9,7 +9,7 @@ use crate::reader::Reader;
 use crate::transcript::Transcript;
 use std::alloc::Global;
 
-/// Reads the text of a transcript: the lines of each caller, under its own number.
+/// Reads the text of a transcript, at most 2^31 bytes: the lines of each caller, under its own number.
 ///
 /// # Errors
 ///

@@ -71,7 +71,6 @@ impl SoFar {
     // Whether a line is one of a caller, that may stand behind the others. Then it is kept, unless it is one of too many.
     fn takes(&mut self, alloc: Global, line: &[u8]) -> Result<bool, AllocError>
         requires short { length line.now < 2 ^ 31 }
-        requires few { self.old.lines < 2 ^ 31 }
         ensures taken { IfOk result (λ is_line. MatchBool is_line
             ((text behind : List ℕ) → HasTold self.old text (line.now ++ 10 ∷ behind)
             → HasTold (with_line self.new) text behind)

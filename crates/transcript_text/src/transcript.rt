@@ -24,13 +24,15 @@ impl Model for Transcript {
 }
 
 impl Transcript {
-    /// The transcript of these callers, the first of whom is caller 0.
+    /// The transcript of these callers, at most 64, the first of whom is caller 0 and the last of whom has a line. That
+    /// each line has its caller's number is not asked.
     pub fn of(callers: Vec<CallerLines>) -> Transcript
         requires few { vec_len callers ≤ 64 }
         requires last { LastHasLines (map (λ c. c.lines) callers.items) }
         ensures lines { result ≡ map (λ c. c.lines) callers.items }
         ensures fits { TranscriptFits result }
     {
+        // `lines` promises of each caller that its lines fit, which this type keeps.
         for caller in &callers {
             let _lines = caller.lines();
         }

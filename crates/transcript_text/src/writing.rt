@@ -134,7 +134,8 @@ fn put_lines<K: Sink>(sink: &mut K, piece: &mut Piece, lines: &CallerLines) -> R
     Ok(())
 }
 
-/// Writes the text of a transcript, and takes no memory for it. No put has bytes of two lines, or more than 4,096 bytes.
+/// Writes the text of a transcript, and takes no memory for it. No put has bytes of two lines, or more than 4,096 bytes
+/// (tested).
 ///
 /// # Errors
 ///

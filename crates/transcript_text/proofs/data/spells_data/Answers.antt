@@ -17,5 +17,5 @@ pub returns : goal.returns
 returns c =
     subst (λ (b : Bool). MatchBool b (SpellsData c.args.word c.args.text.now) (SpellsNoData c.args.word c.args.text.now))
     (sym c.is_some.ensures)
-    (spells_count c.args.word c.args.text.now c.number_below.result (c.is_bits.ensures.0 c.if-not-is_bits.false)
-    (λ e. both_ways _ c.if-is_dash.false (c.is_dash.ensures.1 e)) c.number_below.ensures)
+    (spells_count c.args.word c.args.text.now c.number_u32.result (c.is_bits.ensures.0 c.if-not-is_bits.false)
+    (λ e. both_ways _ c.if-is_dash.false (c.is_dash.ensures.1 e)) c.number_u32.ensures)
