@@ -1,5 +1,7 @@
 -- What stands in proofs/.
 mod UsesMore
+mod FillsMore
+mod UsesSeen
 pub mod BaseKeys
 mod Beginnings
 mod HeldUnused

@@ -1,6 +1,8 @@
 -- The last fills of a CPU's batches, as the code keeps them.
-use Rattle.std.specs.Prelude.{ℕ, ◌<◌, ◌≡◌, ◌==◌, Bool, false, Option, Some, None, List, slice_get, unwrap_or}
+use Rattle.std.specs.Prelude.{ℕ, ◌+◌, ◌^◌, ◌<◌, ◌≤◌, ◌≡◌, ◌==◌, Bool, true, false, Option, Some, None, List, slice_get, unwrap_or}
 use Rattle.std.specs.Prelude.{if◌then◌else◌}
+use Rattle.key_names.specs.declared.entries.CpuEntry.{CpuEntry}
+use Rattle.key_names.specs.declared.entries.CpuEntry.TheVariants.{Read, Int, Irq, Dump, Prepare, Online}
 use Rattle.key_names.specs.Batches.{Fill as BookFill, one_more_served}
 use Rattle.key_names.specs.CpuList.{CpuState}
 use Rattle.key_uses.specs.declared.cpu_uses.Fill.{Fill}
@@ -10,6 +12,24 @@ use Rattle.key_uses.specs.declared.cpu_uses.CpuKeys.{CpuKeys}
 abbrev pub fill_of : Option BookFill → Option Fill
 fill_of None = None
 fill_of (Some fill) = Some (record { key = fill.key; count = fill.count })
+
+-- how many integers it served
+abbrev pub count_of : Option Fill → ℕ
+count_of None = 0
+count_of (Some fill) = fill.count
+
+abbrev pub count_at : List (Option Fill) → ℕ → ℕ
+count_at kept w = count_of (unwrap_or (slice_get kept w) None)
+
+-- one more has no number of 64 bits
+abbrev pub IsCountedOut : List (Option Fill) → CpuEntry → Type 0
+IsCountedOut kept (Int look refill width false) = (width < 256) × (2 ^ 64 ≤ count_at kept width + 1)
+IsCountedOut kept (Int look refill width true) = ⊥
+IsCountedOut kept (Read look refill taken) = ⊥
+IsCountedOut kept (Irq v1 v2 now) = ⊥
+IsCountedOut kept (Dump now) = ⊥
+IsCountedOut kept Prepare = ⊥
+IsCountedOut kept Online = ⊥
 
 -- of each width that a byte can tell, what is kept of its last fill
 abbrev pub AreFills : (ℕ → Option BookFill) → List (Option Fill) → Type 0

@@ -1,4 +1,6 @@
 -- What stands in specs/.
+pub mod ToldFrom
+pub mod UsedAt
 pub mod UsesSeen
 pub mod KeptEntries
 pub mod Fills

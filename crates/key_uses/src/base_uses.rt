@@ -1,9 +1,9 @@
 //! What the entries of the base put to use.
 ghost use Rattle.std.specs.Prelude.{◌≡◌, ◌++◌, IfOk, OnOk};
 ghost use Rattle.key_names.specs.BaseList.{BaseState, base_start, base_step, base_key_in_use, base_key_after};
-ghost use Rattle.key_names.specs.Uses.{base_uses_at, uses_from};
 ghost use Rattle.key_uses.specs.KeptEntries.{base_entries};
-ghost use Rattle.key_uses.specs.UsesSeen.{uses_seen};
+ghost use Rattle.key_uses.specs.ToldFrom.{told_from};
+ghost use Rattle.key_uses.specs.UsedAt.{base_used_at};
 
 use crate::read_uses::{InUse, push_read};
 use crate::used::{Origin, Used};
@@ -38,8 +38,8 @@ fn push_uses(
     place: u64,
     entry: BaseEntry,
 ) -> Result<(), AllocError>
-    ensures { (s : BaseState) → s.place ≡ place → s.key ≡ key → OnOk result (uses_seen uses.new.items
-        ≡ uses_seen uses.old.items ++ base_uses_at s entry) }
+    ensures { (s : BaseState) → s.place ≡ place → s.key ≡ key → OnOk result (uses.new.items
+        ≡ uses.old.items ++ base_used_at s entry) }
 {
     let Some(key) = key_in_use(entry, key) else {
         return Ok(());
@@ -67,7 +67,7 @@ fn push_uses(
 /// `AllocError` where there is no memory for them.
 pub fn base_uses(alloc: Global, base: &[KeptBase]) -> Result<Vec<Used>, AllocError>
     ensures { IfOk result (λ uses.
-        uses_seen uses.items ≡ uses_from base_uses_at base_step base_start (base_entries base.now)) }
+        uses.items ≡ told_from base_used_at base_step base_start (base_entries base.now)) }
 {
     let mut uses = Vec::new(alloc);
     let mut key = None;

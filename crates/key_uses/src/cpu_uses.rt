@@ -1,12 +1,12 @@
 //! What the entries of a CPU put to use.
-ghost use Rattle.std.specs.Prelude.{ℕ, Bool, List, ◌≡◌, ◌+◌, ◌*◌, ◌++◌, Option, None, IfOk, OnOk};
+ghost use Rattle.std.specs.Prelude.{ℕ, Bool, List, ◌≡◌, ◌≤◌, ◌+◌, ◌*◌, ◌^◌, ◌++◌, Option, None, IfOk, OnOk, OnErr};
 ghost use Rattle.key_names.specs.declared.entries.BaseEntry.{BaseEntry as BookBase};
 ghost use Rattle.key_names.specs.CpuList.{CpuState, cpu_start, cpu_step, cpu_key_in_use, cpu_key_after};
 ghost use Rattle.key_names.specs.Batches.{Fill as BookFill, one_more_served};
-ghost use Rattle.key_names.specs.Uses.{batch_uses, cpu_uses_at, uses_from};
-ghost use Rattle.key_uses.specs.Fills.{fill_of, served_more, AreFills, CpuStands, rekeys_of};
+ghost use Rattle.key_uses.specs.Fills.{fill_of, count_of, count_at, served_more, AreFills, CpuStands, IsCountedOut, rekeys_of};
 ghost use Rattle.key_uses.specs.KeptEntries.{cpu_entries};
-ghost use Rattle.key_uses.specs.UsesSeen.{uses_seen};
+ghost use Rattle.key_uses.specs.ToldFrom.{told_from};
+ghost use Rattle.key_uses.specs.UsedAt.{batch_used, cpu_used_at};
 
 use crate::read_uses::{InUse, push_read};
 use crate::used::{Origin, Used};
@@ -15,7 +15,7 @@ use list_replay::{KeptCpu, base_refill_of};
 use std::alloc::{AllocError, Global};
 
 /// The widths of batches that a byte can tell.
-const WIDTHS: usize = 256;
+pub const WIDTHS: usize = 256;
 
 /// The last fill of a batch: the key in use at it, and how many integers were served since, the first one included.
 #[derive(Clone, Copy, Debug, PartialEq, Eq)]
@@ -53,12 +53,17 @@ pub fn key_after(cpu: u32, place: u64, entry: CpuEntry, key: Option<KeyName>) ->
     }
 }
 
-// The byte of a fill's keystream from which its next integer comes. No memory has room for so many integers that it
-// has no number.
-fn next_byte(width: u8, count: u64) -> Result<u64, AllocError>
-    ensures { IfOk result (λ from. from ≡ 32 + width * count) }
+/// The byte of a fill's keystream from which the next integer comes, behind these many of its width. No memory has room for
+/// so many integers that it has no number.
+///
+/// # Errors
+///
+/// `AllocError` where it has none.
+pub fn next_byte(width: u64, count: u64) -> Result<u64, AllocError>
+    ensures byte { IfOk result (λ from. from ≡ 32 + width * count) }
+    ensures none { OnErr result (2 ^ 64 ≤ 32 + width * count) }
 {
-    let served = u64::from(width).checked_mul(count).ok_or(AllocError)?;
+    let served = width.checked_mul(count).ok_or(AllocError)?;
     served.checked_add(32).ok_or(AllocError)
 }
 
@@ -70,7 +75,7 @@ fn push_batched(
     fill: Option<Fill>,
 ) -> Result<(), AllocError>
     ensures { (book : Option BookFill) → fill ≡ fill_of book →
-        OnOk result (uses_seen uses.new.items ≡ uses_seen uses.old.items ++ batch_uses width book) }
+        OnOk result (uses.new.items ≡ uses.old.items ++ batch_used by width book) }
 {
     let Some(
         Fill {
@@ -81,15 +86,17 @@ fn push_batched(
     else {
         return Ok(());
     };
+    let width = u64::from(width);
     let from = next_byte(width, count)?;
-    uses.push(InUse { key, by }.served(from, u64::from(width)))?;
+    uses.push(InUse { key, by }.served(from, width))?;
     Ok(())
 }
 
 // One integer more was served.
 fn one_more(fill: Option<Fill>) -> Result<Option<Fill>, AllocError>
-    ensures { (book : Option BookFill) → fill ≡ fill_of book →
+    ensures more { (book : Option BookFill) → fill ≡ fill_of book →
         IfOk result (λ more. more ≡ fill_of (one_more_served book)) }
+    ensures none { OnErr result (2 ^ 64 ≤ count_of fill + 1) }
 {
     let Some(Fill { key, count }) = fill else {
         return Ok(None);
@@ -107,8 +114,9 @@ fn no_fills() -> [Option<Fill>; WIDTHS]
 
 // One integer more of this width was served.
 fn serve_more(fills: &mut [Option<Fill>; WIDTHS], width: u8) -> Result<(), AllocError>
-    ensures { (book : ℕ → Option BookFill) → AreFills book fills.old →
+    ensures more { (book : ℕ → Option BookFill) → AreFills book fills.old →
         OnOk result (AreFills (served_more width book) fills.new) }
+    ensures none { OnErr result (2 ^ 64 ≤ count_at fills.old width + 1) }
 {
     fills[width as usize] = one_more(fills[width as usize])?;
     Ok(())
@@ -136,8 +144,7 @@ impl CpuKeys {
         rekeys: bool,
     ) -> Result<(), AllocError>
         ensures { (s : CpuState) (rekeyed : ℕ → Bool) → CpuStands s place self.now → rekeyed place ≡ rekeys →
-            OnOk result (uses_seen uses.new.items
-            ≡ uses_seen uses.old.items ++ cpu_uses_at cpu rekeyed s entry) }
+            OnOk result (uses.new.items ≡ uses.old.items ++ cpu_used_at cpu rekeyed s entry) }
     {
         let by = Origin::Lane(LaneId::Cpu(cpu), place);
         if let CpuEntry::Int {
@@ -171,8 +178,9 @@ impl CpuKeys {
     ///
     /// `AllocError` where there are more integers than any memory has room for.
     pub fn step(&mut self, cpu: u32, place: u64, entry: CpuEntry) -> Result<(), AllocError>
-        ensures { (s : CpuState) (base : List BookBase) → CpuStands s place self.old →
+        ensures after { (s : CpuState) (base : List BookBase) → CpuStands s place self.old →
             OnOk result (CpuStands (cpu_step base cpu s entry) (place + 1) self.new) }
+        ensures none { OnErr result (IsCountedOut self.old.fills entry) }
     {
         let used = key_in_use(entry, self.key);
         self.key = key_after(cpu, place, entry, self.key);
@@ -220,8 +228,8 @@ pub fn cpu_uses(
     lane: &[KeptCpu],
     rekeyed: &[bool],
 ) -> Result<Vec<Used>, AllocError>
-    ensures { (base : List BookBase) → IfOk result (λ uses. uses_seen uses.items
-        ≡ uses_from (cpu_uses_at cpu (rekeys_of rekeyed.now)) (cpu_step base cpu) cpu_start (cpu_entries lane.now)) }
+    ensures { (base : List BookBase) → IfOk result (λ uses. uses.items
+        ≡ told_from (cpu_used_at cpu (rekeys_of rekeyed.now)) (cpu_step base cpu) cpu_start (cpu_entries lane.now)) }
 {
     let mut uses = Vec::new(alloc);
     let mut keys = CpuKeys::start();

@@ -1,6 +1,14 @@
-//! The laws of what is held, each as the contract of a function without code.
+//! The laws of uses and of what is held, each as the contract of a function without code.
 ghost use Rattle.key_uses.specs.HeldUnused.{BooksHoldUnused, TranscriptsHoldUnused};
 ghost use Rattle.key_uses.specs.Moments.{BeginningsHoldUnused, MomentsHoldUnused};
+ghost use Rattle.key_uses.specs.UsesSeen.{AreSeenAsUses};
+
+/// What [`base_uses`](crate::base_uses), [`cpu_uses`](crate::cpu_uses) and [`state_uses`](crate::state_uses) give are the
+/// uses of a book, with the key that kept bytes became and the entry beside each.
+#[tactic(auto, using(crate::proofs::UsesSeen::are_seen_as_uses))]
+pub fn are_seen_as_uses()
+    ensures { AreSeenAsUses }
+{}
 
 /// What is held in a book was put to no use, also while visits are half finished.
 #[tactic(auto, using(crate::proofs::HeldUnused::books_hold_unused))]

@@ -1,14 +1,10 @@
 //! What a read puts to use.
-ghost use Rattle.std.specs.Prelude.{◌≡◌, ◌++◌, ◌∷◌, [], OnOk};
-ghost use Rattle.key_names.specs.Uses.{use_of, taken_uses, read_uses, kept, served};
-ghost use Rattle.key_uses.specs.UsesSeen.{uses_seen};
+ghost use Rattle.std.specs.Prelude.{◌≡◌, ◌++◌, OnOk};
+ghost use Rattle.key_uses.specs.UsedAt.{kept_as, served_by, taken_used, read_used};
 
-use crate::used::{Origin, Purpose, Used};
+use crate::used::{KEY_BYTES, Origin, Purpose, Used};
 use key_names::{KeyName, Span, Taken};
 use std::alloc::AllocError;
-
-/// The bytes of a key that an erasure keeps, of which the next key is made.
-const KEY_BYTES: u32 = 32;
 
 /// A key with the entry that it is in use at.
 #[derive(Clone, Copy)]
@@ -20,7 +16,7 @@ pub(crate) struct InUse {
 impl InUse {
     /// These bytes of the key became a key.
     pub(crate) fn kept(self, from: u64, name: KeyName) -> Used
-        ensures { uses_seen (result ∷ []) ≡ use_of kept self.key from 32 ∷ [] }
+        ensures { result ≡ kept_as self.by self.key from name }
     {
         Used {
             span: Span {
@@ -35,7 +31,7 @@ impl InUse {
 
     /// These bytes of the key were served.
     pub(crate) fn served(self, from: u64, len: u64) -> Used
-        ensures { uses_seen (result ∷ []) ≡ use_of served self.key from len ∷ [] }
+        ensures { result ≡ served_by self.by self.key from len }
     {
         Used {
             span: Span {
@@ -57,8 +53,7 @@ fn push_taken(
     rekeys: bool,
     taken: Taken,
 ) -> Result<(), AllocError>
-    ensures { OnOk result (uses_seen uses.new.items
-        ≡ uses_seen uses.old.items ++ taken_uses rekeys used.key call taken) }
+    ensures { OnOk result (uses.new.items ≡ uses.old.items ++ taken_used rekeys used.by used.key call taken) }
 {
     match taken {
         Taken::User(len) if len > KEY_BYTES => {
@@ -86,8 +81,7 @@ pub(crate) fn push_read(
     rekeys: bool,
     taken: Taken,
 ) -> Result<(), AllocError>
-    ensures { OnOk result (uses_seen uses.new.items
-        ≡ uses_seen uses.old.items ++ read_uses rekeys used.key call taken) }
+    ensures { OnOk result (uses.new.items ≡ uses.old.items ++ read_used rekeys used.by used.key next call taken) }
 {
     uses.push(used.kept(0, next))?;
     push_taken(uses, used, call, rekeys, taken)

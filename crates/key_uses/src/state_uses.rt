@@ -1,9 +1,9 @@
 //! What the entries of a vgetrandom state put to use.
-ghost use Rattle.std.specs.Prelude.{ℕ, ◌≡◌, ◌+◌, ◌*◌, ◌++◌, IfOk, OnOk};
+ghost use Rattle.std.specs.Prelude.{ℕ, ◌≡◌, ◌≤◌, ◌+◌, ◌*◌, ◌^◌, ◌++◌, IfOk, OnOk, OnErr};
 ghost use Rattle.key_names.specs.StateList.{NamedState, state_start, state_step};
-ghost use Rattle.key_names.specs.Uses.{state_uses_at, uses_from};
 ghost use Rattle.key_uses.specs.StateKeys.{StateStands};
-ghost use Rattle.key_uses.specs.UsesSeen.{uses_seen};
+ghost use Rattle.key_uses.specs.ToldFrom.{told_from};
+ghost use Rattle.key_uses.specs.UsedAt.{state_used_at};
 
 use crate::read_uses::InUse;
 use crate::used::{Origin, Used};
@@ -14,7 +14,7 @@ use std::alloc::{AllocError, Global};
 const BLOCK_BYTES: u64 = 64;
 
 /// The bytes of a batch, behind which a refill keeps the next key.
-const BATCH_BYTES: u64 = 96;
+pub const BATCH_BYTES: u64 = 96;
 
 /// A vgetrandom state of a caller.
 #[derive(Clone, Copy, Debug, PartialEq, Eq)]
@@ -41,7 +41,8 @@ pub struct StateKeys {
 ///
 /// `AllocError` where it has none.
 pub fn byte_of(block: u64, more: u64) -> Result<u64, AllocError>
-    ensures { IfOk result (λ byte. byte ≡ 64 * block + more) }
+    ensures byte { IfOk result (λ byte. byte ≡ 64 * block + more) }
+    ensures none { OnErr result (2 ^ 64 ≤ 64 * block + more) }
 {
     let byte = BLOCK_BYTES.checked_mul(block).ok_or(AllocError)?;
     byte.checked_add(more).ok_or(AllocError)
@@ -68,8 +69,8 @@ impl StateKeys {
         place: u64,
         entry: VEntry,
     ) -> Result<(), AllocError>
-        ensures { (s : NamedState) → StateStands s place self.now → OnOk result (uses_seen uses.new.items
-            ≡ uses_seen uses.old.items ++ state_uses_at s entry) }
+        ensures { (s : NamedState) → StateStands s place self.now → OnOk result (uses.new.items
+            ≡ uses.old.items ++ state_used_at of s entry) }
     {
         let by = Origin::State {
             caller: of.caller,
@@ -102,8 +103,9 @@ impl StateKeys {
     ///
     /// `AllocError` where there are more refills than any memory has room for.
     pub fn step(&mut self, of: StateOf, entry: VEntry) -> Result<(), AllocError>
-        ensures { (s : NamedState) (place : ℕ) → StateStands s place self.old →
+        ensures after { (s : NamedState) (place : ℕ) → StateStands s place self.old →
             OnOk result (StateStands (state_step of.caller of.state s entry) (place + 1) self.new) }
+        ensures none { OnErr result (2 ^ 64 ≤ self.old.refills + 1) }
     {
         match entry {
             VEntry::Rekey { cpu, cpu_place } => {
@@ -133,8 +135,8 @@ impl StateKeys {
 ///
 /// `AllocError` where there is no memory for them, or where a byte of a key would have no number below 2^64.
 pub fn state_uses(alloc: Global, of: StateOf, entries: &[VEntry]) -> Result<Vec<Used>, AllocError>
-    ensures { IfOk result (λ uses. uses_seen uses.items
-        ≡ uses_from state_uses_at (state_step of.caller of.state) state_start entries.now) }
+    ensures { IfOk result (λ uses. uses.items
+        ≡ told_from (state_used_at of) (state_step of.caller of.state) state_start entries.now) }
 {
     let mut uses = Vec::new(alloc);
     let mut keys = StateKeys::start();

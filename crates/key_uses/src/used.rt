@@ -1,6 +1,9 @@
 //! A use of bytes of a key, and the entry that it is of.
 use key_names::{KeyName, LaneId, Span};
 
+/// The bytes of a key, and the most that a read takes without a call key.
+pub const KEY_BYTES: u32 = 32;
+
 /// An entry that makes, uses or erases a key: at a place of a lane, or of the list of a caller's vgetrandom state. Lanes
 /// stand before states.
 #[derive(Clone, Copy, Debug, PartialEq, Eq, PartialOrd, Ord)]

@@ -1,6 +1,6 @@
 use Rattle.std.proofs.Common.{ℕ, refl}
 use Rattle.key_names.specs.BaseList.{base_start, base_step}
-use Rattle.key_names.specs.Uses.{base_uses_at}
+use Rattle.key_uses.specs.UsedAt.{base_used_at}
 use Rattle.key_names.proofs.Lists.ListFacts.{image_at}
 use Rattle.list_replay.proofs.Loops.{found}
 use Rattle.list_replay.specs.declared.kept.KeptBase.{KeptBase}
@@ -14,11 +14,11 @@ loop-place-preserved c =
     let es = base_entries c.args.base.now in
     let place : ℕ = c.loop-place.place in
     let stands = c.loop-place.invariant.stands in
-    so_far_more base_uses_at base_step base_start BaseStands es place _ c.loop-place.key c.key_after-key.result
+    so_far_more base_used_at base_step base_start BaseStands es place _ c.loop-place.key c.key_after-key.result
     c.loop-place.uses.items c.push_uses.new.uses.items
     (image_at (λ (k : KeptBase). k.entry) c.args.base.now place _
     (found c.args.base.now c.args.base.now place _ refl c.loop-place-test.true))
     c.loop-place.invariant
-    (c.in_ok-push_uses.ensures (before base_uses_at base_step base_start BaseStands es place) stands.place_is stands.key_is)
-    (base_after_entry (before base_uses_at base_step base_start BaseStands es place) _ place c.loop-place.key
+    (c.in_ok-push_uses.ensures (before base_used_at base_step base_start BaseStands es place) stands.place_is stands.key_is)
+    (base_after_entry (before base_used_at base_step base_start BaseStands es place) _ place c.loop-place.key
     c.key_after-key.result stands c.key_after-key.ensures)

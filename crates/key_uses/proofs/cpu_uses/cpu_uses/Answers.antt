@@ -1,6 +1,6 @@
 use Rattle.std.proofs.Common.{ℕ, refl, sym}
 use Rattle.key_names.specs.CpuList.{CpuState, cpu_start, cpu_step}
-use Rattle.key_names.specs.Uses.{cpu_uses_at}
+use Rattle.key_uses.specs.UsedAt.{cpu_used_at}
 use Rattle.key_names.proofs.Lists.ListFacts.{image_at}
 use Rattle.list_replay.proofs.Loops.{found}
 use Rattle.list_replay.specs.declared.kept.KeptCpu.{KeptCpu}
@@ -14,7 +14,7 @@ loop-place-preserved c = λ base.
     let es = cpu_entries c.args.lane.now in
     let place : ℕ = c.loop-place.place in
     let step = cpu_step base c.args.cpu in
-    let at = cpu_uses_at c.args.cpu (rekeys_of c.args.rekeyed.now) in
+    let at = cpu_used_at c.args.cpu (rekeys_of c.args.rekeyed.now) in
     let h = c.loop-place.invariant base in
     let s : CpuState = before at step cpu_start CpuStands es place in
     so_far_more at step cpu_start CpuStands es place _ c.loop-place.keys c.step.new.self
@@ -23,4 +23,4 @@ loop-place-preserved c = λ base.
     (found c.args.lane.now c.args.lane.now place _ refl c.loop-place-test.true))
     h
     (c.in_ok-push_uses.ensures s (rekeys_of c.args.rekeyed.now) h.stands (sym c.rekeys_at-rekeys.ensures))
-    (c.in_ok-step.ensures s base h.stands)
+    (c.in_ok-step.ensures.after s base h.stands)

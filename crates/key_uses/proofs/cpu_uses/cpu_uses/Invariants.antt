@@ -1,7 +1,7 @@
 use Rattle.std.specs.Prelude.{List}
 use Rattle.key_names.specs.declared.entries.BaseEntry.{BaseEntry}
 use Rattle.key_names.specs.CpuList.{cpu_start, cpu_step}
-use Rattle.key_names.specs.Uses.{cpu_uses_at}
+use Rattle.key_uses.specs.UsedAt.{cpu_used_at}
 use Rattle.key_uses.specs.Fills.{CpuStands, rekeys_of}
 use Rattle.key_uses.specs.KeptEntries.{cpu_entries}
 use Rattle.key_uses.proofs.UsesMore.{SoFar}
@@ -9,5 +9,5 @@ use Rattle.key_uses.proofs.cpu_uses.cpu_uses.Given as goal
 
 abbrev pub invariant-loop-place : goal.invariant-loop-place
 invariant-loop-place l = (base : List BaseEntry) →
-    SoFar (cpu_uses_at l.cpu (rekeys_of l.rekeyed)) (cpu_step base l.cpu) cpu_start CpuStands (cpu_entries l.lane)
+    SoFar (cpu_used_at l.cpu (rekeys_of l.rekeyed)) (cpu_step base l.cpu) cpu_start CpuStands (cpu_entries l.lane)
     l.place l.keys l.uses.items

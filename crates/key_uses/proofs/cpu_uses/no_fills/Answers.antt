@@ -1,5 +1,5 @@
 use Rattle.std.proofs.Common.{None}
-use Rattle.key_uses.proofs.UsesMore.{at_replicate}
+use Rattle.key_uses.proofs.FillsMore.{at_replicate}
 use Rattle.key_uses.proofs.cpu_uses.no_fills.Goals as goal
 
 pub returns : goal.returns

@@ -1,6 +1,6 @@
 use Rattle.std.proofs.Common.{ℕ, refl}
 use Rattle.key_names.specs.StateList.{NamedState, state_start, state_step}
-use Rattle.key_names.specs.Uses.{state_uses_at}
+use Rattle.key_uses.specs.UsedAt.{state_used_at}
 use Rattle.list_replay.proofs.Loops.{found}
 use Rattle.key_uses.specs.StateKeys.{StateStands}
 use Rattle.key_uses.proofs.UsesMore.{so_far_more, before}
@@ -11,10 +11,10 @@ loop-place-preserved c =
     let es = c.args.entries.now in
     let place : ℕ = c.loop-place.place in
     let step = state_step c.args.of.caller c.args.of.state in
-    let s : NamedState = before state_uses_at step state_start StateStands es place in
-    so_far_more state_uses_at step state_start StateStands es place _ c.loop-place.keys c.step.new.self
+    let s : NamedState = before (state_used_at c.args.of) step state_start StateStands es place in
+    so_far_more (state_used_at c.args.of) step state_start StateStands es place _ c.loop-place.keys c.step.new.self
     c.loop-place.uses.items c.push_uses.new.uses.items
     (found es es place _ refl c.loop-place-test.true)
     c.loop-place.invariant
     (c.in_ok-push_uses.ensures s c.loop-place.invariant.stands)
-    (c.in_ok-step.ensures s place c.loop-place.invariant.stands)
+    (c.in_ok-step.ensures.after s place c.loop-place.invariant.stands)
