@@ -20,7 +20,7 @@ use Rattle.irq_feed.specs.Passes.{known, took, IsPassOf}
 abbrev pub mixed_in : Mixed → List Sample
 mixed_in m = m.samples.items
 
--- the feeder's closure was handed back, and the worker mixed its samples itself
+-- the worker mixed the feeder's samples itself, behind all others
 abbrev pub is_direct : Mixed → ℕ → Bool
 is_direct m feeder = slice_index_or m.direct feeder false
 

@@ -47,7 +47,8 @@ impl Mixed {
         (sample.feeder, sample.index)
     }
 
-    /// Whether the feeder got no thread, so that the worker mixed its samples itself.
+    /// Whether the worker mixed the feeder's samples itself, behind all others. `feeder` is below 16. That it does so only
+    /// for one that got no thread is tested.
     pub fn direct(&self, feeder: u32) -> bool
         requires { feeder < 16 }
         ensures { result ≡ is_direct self.now feeder }

@@ -27,9 +27,10 @@ use std::thread::{Scope, Threads};
 /// Each feeder is a thread of its own: it calls the gate before each sample and pushes it, and waits while the queue is
 /// full. The caller takes the samples out and makes one `irq` of each, at the setting's moment, on its CPU; the events are
 /// numbered from 0. The samples of a feeder that got no thread it mixes itself, behind all others, with the gate before
-/// each. Samples of one feeder keep their order; of different feeders any order may come. No memory is taken once the
-/// first feeder has started, but for threads. The call waits for the lanes and for its feeders. The worker's pass comes
-/// back in every case, after a call that mixed with all that it took from the queue.
+/// each; that it does so only for one that got no thread is tested. Samples of one feeder keep their order; of different
+/// feeders any order may come. No memory is taken once the first feeder has started, but for threads. The call waits for
+/// the lanes and for its feeders. The worker's pass comes back in every case, after a call that mixed with all that it
+/// took from the queue.
 ///
 /// # Errors
 ///

@@ -29,8 +29,11 @@ fn counted(lanes: Lanes, mut pass: Pass, other: Pass) -> u128
     lanes.close(pass)
 }
 
-// Why caller 1 does not get the lane now, or its next place. A lane that is got is given back.
-fn place_of(lanes: &Lanes, pass: &mut Pass, lane: LaneId) -> Result<u64, TakeFault>
+// A lane that was got, its next place and its last stamp.
+type Found = (LaneId, u64, u64);
+
+// Why caller 1 does not get the lane now, or what it finds there. A lane that is got is given back.
+fn find(lanes: &Lanes, pass: &mut Pass, lane: LaneId) -> Result<Found, TakeFault>
     requires has { HoldsLanes lanes.now 1 [] pass.old }
     requires lane { index_of lane < count_of lanes.now }
     ensures has { HoldsLanes lanes.now 1 [] pass.new }
@@ -40,9 +43,9 @@ fn place_of(lanes: &Lanes, pass: &mut Pass, lane: LaneId) -> Result<u64, TakeFau
     match lanes.try_take(pass, lane) {
         Err(fault) => Err(fault),
         Ok(held) => {
-            let place = held.place();
+            let found = (held.lane(), held.place(), held.stamp());
             lanes.back(pass, held);
-            Ok(place)
+            Ok(found)
         }
     }
 }
@@ -53,7 +56,7 @@ fn beside<R: Wait>(
     lanes: &Lanes,
     pass: &mut Pass,
     other: &mut Pass,
-) -> (Result<u64, TakeFault>, Result<u64, TakeFault>)
+) -> (Result<Found, TakeFault>, Result<Found, TakeFault>)
     requires has { HoldsLanes lanes.now 0 [] pass.old }
     requires other { HoldsLanes lanes.now 1 [] other.old }
     requires cpus { lanes.now.cpus ≡ 2 }
@@ -65,8 +68,8 @@ fn beside<R: Wait>(
         × ((view other.new).halvings ≡ (view other.old).halvings) }
 {
     let held = lanes.take(rt, pass, LaneId::Cpu(0));
-    let same = place_of(lanes, other, LaneId::Cpu(0));
-    let another = place_of(lanes, other, LaneId::Cpu(1));
+    let same = find(lanes, other, LaneId::Cpu(0));
+    let another = find(lanes, other, LaneId::Cpu(1));
     lanes.back(pass, held);
     (same, another)
 }
@@ -194,8 +197,9 @@ fn held_cpu_is_busy_and_another_is_free(rt: HostRuntime) -> Result<(), Fail> {
             ticket: 1
         })
     );
-    assert_eq!(rt; another, Ok(0));
-    assert_eq!(rt; place_of(&lanes, &mut b, LaneId::Cpu(0)), Ok(0));
+    assert_eq!(rt; another, Ok((LaneId::Cpu(1), 0, 0)));
+    let behind = find(&lanes, &mut b, LaneId::Cpu(0));
+    assert_eq!(rt; behind, Ok((LaneId::Cpu(0), 0, 0)));
     assert_eq!(rt; counted(lanes, a, b), 0);
     Ok(())
 }
@@ -204,18 +208,9 @@ fn held_cpu_is_busy_and_another_is_free(rt: HostRuntime) -> Result<(), Fail> {
 fn every_lane_is_spent_at_the_end_of_the_stamps(rt: HostRuntime) -> Result<(), Fail> {
     let (lanes, mut a) = started(rt.alloc(), 1, NEVER)?;
     let mut b = split_off(&lanes, &mut a, 1);
-    assert_eq!(rt;
-        place_of(&lanes, &mut b, LaneId::Pool),
-        Err(TakeFault::Spent)
-    );
-    assert_eq!(rt;
-        place_of(&lanes, &mut b, LaneId::Base),
-        Err(TakeFault::Spent)
-    );
-    assert_eq!(rt;
-        place_of(&lanes, &mut b, LaneId::Cpu(0)),
-        Err(TakeFault::Spent)
-    );
+    assert_eq!(rt; find(&lanes, &mut b, LaneId::Pool), Err(TakeFault::Spent));
+    assert_eq!(rt; find(&lanes, &mut b, LaneId::Base), Err(TakeFault::Spent));
+    assert_eq!(rt; find(&lanes, &mut b, LaneId::Cpu(0)), Err(TakeFault::Spent));
     Ok(())
 }
 
