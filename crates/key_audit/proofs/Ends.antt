@@ -39,7 +39,7 @@ of_none ask input (FirstFault fault) is s o said =
 of_none ask input NoTranscript is s o said =
     subst (λ status. Calls ask input status o) (sym said.0) (inr (record { number = 1; fails = is; line = said.1 }))
 of_none ask input TooManyLines is s o said =
-    subst (λ status. Calls ask input status o) (sym said.0) (inr (record { number = 2; fails = is; line = said.1 }))
+    subst (λ status. Calls ask input status o) (sym said.0) (inr (record { number = 2; fails = is.0; line = said.1 }))
 of_none ask input Unread is s o said = absurd said
 
 pub is_limited : (ask : Ask) → IsLimited 100663296 (Calls ask)

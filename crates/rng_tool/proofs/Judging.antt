@@ -84,5 +84,5 @@ none_said judge input SourceFails is s o said = absurd is
 none_said judge input (FirstFault fault) is s o said = subst (λ status. JudgeCalls judge input status o) (sym said.0)
     (record { fault = fault; first = is; line = said.1 })
 none_said judge input NoTranscript is s o said = text_said judge input 1 is s o said
-none_said judge input TooManyLines is s o said = text_said judge input 2 is s o said
+none_said judge input TooManyLines is s o said = text_said judge input 2 is.0 s o said
 none_said judge input Unread is s o said = absurd said

@@ -75,12 +75,15 @@ no_pair input script short is NoTranscript not = record {
   is_script = is;
   clause = inl (refl, not);
 }
-no_pair input script short is TooManyLines not = record {
-  short = short;
-  script = script;
-  is_script = is;
-  clause = inr (refl, too_many script (behind input) is.well_formed not);
-}
+no_pair input script short is TooManyLines not = (
+  record {
+    short = short;
+    script = script;
+    is_script = is;
+    clause = inr (refl, too_many script (behind input) is.well_formed not);
+  },
+  not,
+)
 no_pair input script short is NoMemory not = tt
 
 -- ---- the lines that say so

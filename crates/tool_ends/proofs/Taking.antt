@@ -1,6 +1,6 @@
 -- An input that is taken piece by piece.
 use Rattle.std.proofs.Common.{◌≡◌, ℕ, ◌+◌, ◌≤◌, List, [], ◌++◌, Option, None, Some, length, sym, ap, subst, ◌∙◌, append-nil, arith}
-use Rattle.std.specs.Prelude.{Result, Ok, Err, IfErr, IfOk, IfSome, OnOk, drop, take}
+use Rattle.std.specs.Prelude.{Result, Ok, Err, IfErr, IfOk, IfSome, IsErrAnd, OnOk, drop, take}
 use Rattle.std.proofs.lemmas.List.{drop-append-le, length-append, take_all, take_at}
 use Rattle.std.proofs.KnownBytes.{Consumes-trans}
 use Rattle.key_names.specs.declared.faults.ScriptFault.{ScriptFault}
@@ -103,18 +103,24 @@ gives_pair left after input (Ok pair) read is = (input, read, is)
 gives_pair left after input (Err e) read is = tt
 
 no_input : (left after : Option (List ℕ)) (input : List ℕ) (why : NoPair) → WasRead left after input
-    → IsNoPair input why → GivesNoPair left after why
-no_input left after input ReadFault read is = absurd is
-no_input left after input (Refused fault) read is = (input, read, is)
-no_input left after input NoTranscript read is = (input, read, is)
-no_input left after input TooManyLines read is = (input, read, is)
-no_input left after input NoMemory read is = tt
+    → length input ≤ 100663297 → IsNoPair input why → GivesNoPair left after why
+no_input left after input ReadFault read few is = absurd is
+no_input left after input (Refused fault) read few is = (input, read, is)
+no_input left after input NoTranscript read few is = (input, read, is)
+no_input left after input TooManyLines read few is = (input, read, is)
+no_input left after input NoMemory read few is = (input, few, read.read)
 
 pub gives_no_pair : {T : Type 0} (left after : Option (List ℕ)) (input : List ℕ) (answer : Result T NoPair)
-    → WasRead left after input → IfErr answer (λ why. IsNoPair input why)
+    → WasRead left after input → length input ≤ 100663297 → IfErr answer (λ why. IsNoPair input why)
     → IfErr answer (λ why. GivesNoPair left after why)
-gives_no_pair left after input (Ok x) read is = tt
-gives_no_pair left after input (Err why) read is = no_input left after input why read is
+gives_no_pair left after input (Ok x) read few is = tt
+gives_no_pair left after input (Err why) read few is = no_input left after input why read few is
+
+-- what broke the reading off is told as what it is
+pub broken_off : {T : Type 0} (left after : Option (List ℕ)) (why : NoPair) (answer : Result T NoPair)
+    → IsErrAnd answer (λ e. e ≡ why) → GivesNoPair left after why → IfErr answer (λ e. GivesNoPair left after e)
+broken_off left after why (Ok x) is gives = absurd is
+broken_off left after why (Err e) is gives = subst (GivesNoPair left after) (sym is) gives
 
 -- an input that was read was not left unread
 pub no_read_fault : {T : Type 0} (Q : Type 0) (input : List ℕ) (answer : Result T NoPair)

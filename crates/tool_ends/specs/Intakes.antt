@@ -5,7 +5,7 @@ use Rattle.key_names.specs.Texts.ScriptGrammar.{Script, IsScript}
 use Rattle.memchr.specs.Find.{OccursAt}
 use Rattle.transcript_text.specs.Feeding.{HasFed, most_lines}
 use Rattle.transcript_text.specs.declared.reader.Reader.{Reader}
-use Rattle.tool_ends.specs.Pairs.{behind}
+use Rattle.tool_ends.specs.Pairs.{behind, most_script_lines}
 use Rattle.tool_ends.specs.declared.intake.Intake.{Intake}
 use Rattle.tool_ends.specs.declared.intake.Intake.TheVariants.{Front, Opened as IsOpen}
 use Rattle.tool_ends.specs.declared.intake.Opened.{Opened}
@@ -24,7 +24,7 @@ pub record IsFound (input : List ℕ) (script : Script) (reader : Reader) : Type
   pub is_script : IsScript script (front input)
   pub within : length (front input) ≤ length input
   pub fed : HasFed (behind input) reader
-  pub most : most_lines reader ≡ 65600
+  pub most : most_lines reader ≡ most_script_lines
 
 -- what was seen of the script in front
 abbrev pub IsOpened : List ℕ → Opened → Type 0

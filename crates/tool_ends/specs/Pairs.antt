@@ -3,6 +3,7 @@ use Rattle.std.specs.Prelude.{ℕ, ◌≡◌, ◌⊎◌, ◌+◌, ◌≤◌, ⊤
 use Rattle.std.specs.Prelude.{if◌then◌else◌}
 use Rattle.std.specs.Fmt.{decimal}
 use Rattle.std.specs.Io.KnownBytes.{Consumes, IsAtEnd, Keeps}
+use Rattle.io_edges.specs.Pieces.{ConsumesUpTo}
 use Rattle.key_names.specs.declared.faults.FaultKind.TheVariants.{TooLong}
 use Rattle.key_names.specs.declared.faults.ScriptFault.{ScriptFault}
 use Rattle.key_names.specs.IsTranscript.{HasLines}
@@ -21,6 +22,10 @@ use Rattle.tool_ends.specs.Reads.{WritesEnds}
 -- the most bytes of a script and a transcript
 abbrev pub most_input : ℕ
 most_input = 100663296
+
+-- the most lines of a script's transcript: one for each of its events, and the last one of each caller
+abbrev pub most_script_lines : ℕ
+most_script_lines = 65600
 
 -- the text behind the script
 abbrev pub behind : List ℕ → List ℕ
@@ -58,7 +63,7 @@ abbrev pub IsNoText : List ℕ → NoPair → Type 0
 IsNoText text ReadFault = ⊥
 IsNoText text (Refused fault) = ⊥
 IsNoText text NoTranscript = IsNoTranscript text
-IsNoText text TooManyLines = HasMoreLines 65600 text
+IsNoText text TooManyLines = HasMoreLines most_script_lines text
 IsNoText text NoMemory = ⊤
 
 -- why an input is not read
@@ -66,7 +71,7 @@ abbrev pub IsNoPair : List ℕ → NoPair → Type 0
 IsNoPair input ReadFault = ⊥
 IsNoPair input (Refused fault) = pair_fault input ≡ Some fault
 IsNoPair input NoTranscript = FailsAsText input 1
-IsNoPair input TooManyLines = FailsAsText input 2
+IsNoPair input TooManyLines = FailsAsText input 2 × HasMoreLines most_script_lines (behind input)
 IsNoPair input NoMemory = ⊤
 
 -- ---- from a source
@@ -81,14 +86,17 @@ pub record WasRead (left left_after : Option (List ℕ)) (input : List ℕ) : Ty
 abbrev pub GivesPair : Option (List ℕ) → Option (List ℕ) → Script → List (List SeenLine) → Type 0
 GivesPair left left_after script t = (input : List ℕ) × WasRead left left_after input × IsPair input script t
 
--- an input was read that is none, unless the source failed or memory ran out
+-- an input was read that is none for this reason
+abbrev pub ReadsNoPair : Option (List ℕ) → Option (List ℕ) → NoPair → Type 0
+ReadsNoPair left left_after why = (input : List ℕ) × WasRead left left_after input × IsNoPair input why
+
+-- the same, unless the source failed or memory ran out, when no more was taken than of an input that is too long
 abbrev pub GivesNoPair : Option (List ℕ) → Option (List ℕ) → NoPair → Type 0
-GivesNoPair left left_after ReadFault = ⊤
-GivesNoPair left left_after (Refused fault) =
-    (input : List ℕ) × WasRead left left_after input × (pair_fault input ≡ Some fault)
-GivesNoPair left left_after NoTranscript = (input : List ℕ) × WasRead left left_after input × FailsAsText input 1
-GivesNoPair left left_after TooManyLines = (input : List ℕ) × WasRead left left_after input × FailsAsText input 2
-GivesNoPair left left_after NoMemory = ⊤
+GivesNoPair left left_after ReadFault = ConsumesUpTo (most_input + 1) left left_after
+GivesNoPair left left_after (Refused fault) = ReadsNoPair left left_after (Refused fault)
+GivesNoPair left left_after NoTranscript = ReadsNoPair left left_after NoTranscript
+GivesNoPair left left_after TooManyLines = ReadsNoPair left left_after TooManyLines
+GivesNoPair left left_after NoMemory = ConsumesUpTo (most_input + 1) left left_after
 
 -- ---- the answers
 

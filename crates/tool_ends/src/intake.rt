@@ -3,7 +3,7 @@ ghost use Rattle.std.specs.Prelude.{◌≡◌, ◌+◌, ◌≤◌, ◌^◌, ◌+
 ghost use Rattle.key_names.specs.Texts.TranscriptGrammar.{IsTranscriptText};
 ghost use Rattle.transcript_text.specs.Feeding.{HasFed, most_lines};
 ghost use Rattle.tool_ends.specs.Intakes.{HasEndLine, HasTaken, IsOpened};
-ghost use Rattle.tool_ends.specs.Pairs.{IsNoPair, IsNoText, IsPair};
+ghost use Rattle.tool_ends.specs.Pairs.{IsNoPair, IsNoText, IsPair, most_input, most_script_lines};
 
 use crate::pair::NoPair;
 use crate::script_end::has_end_line;
@@ -49,7 +49,7 @@ fn open(alloc: Global, input: &[u8]) -> Result<Opened, AllocError>
 // The transcript that a reader was fed.
 fn transcript_of(reader: Reader) -> Result<Transcript, NoPair>
     requires short { (text : List ℕ) × HasFed text reader × (length text ≤ 2 ^ 31) }
-    requires most { most_lines reader ≡ 65600 }
+    requires most { most_lines reader ≡ most_script_lines }
     ensures read { (text : List ℕ) → HasFed text reader → IfOk result (λ t. IsTranscriptText text t) }
     ensures not_read { (text : List ℕ) → HasFed text reader → IfErr result (λ why. IsNoText text why) }
 {
@@ -77,9 +77,9 @@ impl Opened {
 
     fn finish(self) -> Result<(Script, Transcript), NoPair>
         requires short { (input : List ℕ) × IsOpened input self × (length input ≤ 2 ^ 31) }
-        ensures read { (input : List ℕ) → IsOpened input self → length input ≤ 100663296
+        ensures read { (input : List ℕ) → IsOpened input self → length input ≤ most_input
             → IfOk result (λ pair. IsPair input pair.0 pair.1) }
-        ensures not_read { (input : List ℕ) → IsOpened input self → length input ≤ 100663296
+        ensures not_read { (input : List ℕ) → IsOpened input self → length input ≤ most_input
             → IfErr result (λ why. IsNoPair input why) }
     {
         match self {
@@ -90,7 +90,8 @@ impl Opened {
 }
 
 impl Intake {
-    /// One more piece. Behind the end of the script no more is kept than the transcript, and a line that is not whole yet.
+    /// One more piece. Behind that in which the script's last line came no more is kept than the transcript, and a line
+    /// that is not whole yet.
     pub(crate) fn take(&mut self, alloc: Global, piece: &[u8]) -> Result<(), AllocError>
         requires short { (input : List ℕ) × HasTaken input self.old × (length input + length piece.now ≤ 2 ^ 31) }
         ensures { OnOk result ((input : List ℕ) → HasTaken input self.old → HasTaken (input ++ piece.now) self.new) }
@@ -111,9 +112,9 @@ impl Intake {
     /// The script that was taken, and the transcript behind it.
     pub(crate) fn finish(self, alloc: Global) -> Result<(Script, Transcript), NoPair>
         requires short { (input : List ℕ) × HasTaken input self × (length input ≤ 2 ^ 31) }
-        ensures read { (input : List ℕ) → HasTaken input self → length input ≤ 100663296
+        ensures read { (input : List ℕ) → HasTaken input self → length input ≤ most_input
             → IfOk result (λ pair. IsPair input pair.0 pair.1) }
-        ensures not_read { (input : List ℕ) → HasTaken input self → length input ≤ 100663296
+        ensures not_read { (input : List ℕ) → HasTaken input self → length input ≤ most_input
             → IfErr result (λ why. IsNoPair input why) }
     {
         match self {

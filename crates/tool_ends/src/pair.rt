@@ -12,7 +12,7 @@ use std::alloc::{AllocError, Global};
 use transcript_text::Transcript;
 
 /// The most bytes of a script and a transcript: 96 MiB.
-pub const MOST_INPUT: usize = 100_663_296;
+const MOST_PAIR_BYTES: usize = 100_663_296;
 
 /// So many bytes are asked for at a time.
 const PIECE: usize = 64 * 1024;
@@ -49,11 +49,13 @@ impl From<AllocError> for NoPair {
 }
 
 /// The script that a source gives, and the transcript that is all that follows. The source is read to its end, or to one
-/// byte behind the most that there may be; of the transcript's text no more is kept at a time than a line.
+/// byte behind the most that there may be. Behind the piece in which the script's last line came, of the transcript's
+/// text no more is kept than a line that is not whole yet.
 ///
 /// # Errors
 ///
-/// [`NoPair`] says why the input was not read.
+/// [`NoPair`] says why the input was not read. Where the source failed, or memory ran out, the bytes that were taken are
+/// lost.
 pub fn read_pair<S: Source>(alloc: Global, source: &mut S) -> Result<(Script, Transcript), NoPair>
     ensures read { IfOk result (λ pair. GivesPair (S.left source.old) (S.left source.new) pair.0 pair.1) }
     ensures not_read { IfErr result (λ why. GivesNoPair (S.left source.old) (S.left source.new) why) }
@@ -64,8 +66,8 @@ pub fn read_pair<S: Source>(alloc: Global, source: &mut S) -> Result<(Script, Tr
     let mut intake = Intake::Front(Vec::new(alloc));
     let mut piece = [0; PIECE];
     let mut taken = 0;
-    while taken <= MOST_INPUT {
-        let most = PIECE.min(MOST_INPUT + 1 - taken);
+    while taken <= MOST_PAIR_BYTES {
+        let most = PIECE.min(MOST_PAIR_BYTES + 1 - taken);
         let count = source.take(&mut piece[..most])?;
         if count == 0 {
             return intake.finish(alloc);

@@ -12,7 +12,7 @@ pub const MOST_BYTES: usize = 128;
 /// A line of at most 128 bytes.
 pub type ShortLine = ArrayString<MOST_BYTES>;
 
-/// Adds a text to a line, and a number in decimal behind it.
+/// Adds a text to a line, and a number in decimal behind it. The line must have room for the text and 20 digits.
 pub fn add_number(line: &mut ShortLine, before: &str, number: u64)
     requires { length line.old.bytes + length before.now + 20 ≤ 128 }
     ensures text { line.new.bytes ≡ line.old.bytes ++ before.now ++ decimal number }
