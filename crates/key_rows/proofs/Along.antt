@@ -4,7 +4,7 @@ use Rattle.std.specs.Prelude.{map, slice_get}
 use Rattle.std.specs.List.{fold}
 use Rattle.std.proofs.lemmas.List.{map-append, take_all, take_more}
 use Rattle.list_replay.proofs.Loops.{take_at}
-use Rattle.key_rows.specs.Lives.{told_from}
+use Rattle.key_uses.specs.ToldFrom.{told_from}
 
 -- what was added behind a list that had stayed
 pub after_same : {T : Type 0} (old mid new add : List T) → mid ≡ old → new ≡ mid ++ add → new ≡ old ++ add

@@ -6,4 +6,5 @@ mod Tells
 mod Cuts
 mod Marks
 mod Groups
+mod Counts
 mod HeldIsLive

@@ -10,8 +10,10 @@ use Rattle.key_names.specs.declared.entries.CpuEntry.{CpuEntry}
 use Rattle.key_names.specs.declared.entries.CpuEntry.TheVariants.{Read, Int, Irq, Dump, Prepare, Online}
 use Rattle.key_names.specs.declared.entries.VEntry.{VEntry}
 use Rattle.key_names.specs.CpuList.{CpuState, cpu_step}
-use Rattle.key_names.specs.Uses.{rekeys_place, cpu_uses_at, uses_from}
+use Rattle.key_names.specs.Uses.{rekeys_place}
 use Rattle.key_uses.specs.Fills.{rekeys_of}
+use Rattle.key_uses.specs.ToldFrom.{told_from}
+use Rattle.key_uses.specs.UsedAt.{cpu_used_at}
 use Rattle.key_rows.specs.Told.{takes_read, caller_lists}
 
 or_assoc : (a b c : Bool) → ((a || b) || c) ≡ (a || (b || c))
@@ -68,7 +70,7 @@ takes_read_is c callers k =
 
 -- uses hang on whether reads are taken at the list's own places alone
 module _ (base : List BaseEntry) (c : ℕ) (f g : ℕ → Bool) where
-  same_at : (s : CpuState) (e : CpuEntry) → f s.place ≡ g s.place → cpu_uses_at c f s e ≡ cpu_uses_at c g s e
+  same_at : (s : CpuState) (e : CpuEntry) → f s.place ≡ g s.place → cpu_used_at c f s e ≡ cpu_used_at c g s e
   same_at s (Read look refill taken) is = rw is refl
   same_at s (Int look refill width true) is = refl
   same_at s (Int look refill width false) is = refl
@@ -77,12 +79,12 @@ module _ (base : List BaseEntry) (c : ℕ) (f g : ℕ → Bool) where
   same_at s Prepare is = refl
   same_at s Online is = refl
 
-  pub same_uses : (s : CpuState) (es : List CpuEntry) →
+  pub same_used : (s : CpuState) (es : List CpuEntry) →
       ((k : ℕ) → s.place ≤ k → k < s.place + length es → f k ≡ g k) →
-      uses_from (cpu_uses_at c f) (cpu_step base c) s es ≡ uses_from (cpu_uses_at c g) (cpu_step base c) s es
-  same_uses s [] same = refl
-  same_uses s (e ∷ es) same =
-      ap (λ us. us ++ uses_from (cpu_uses_at c f) (cpu_step base c) (cpu_step base c s e) es)
+      told_from (cpu_used_at c f) (cpu_step base c) s es ≡ told_from (cpu_used_at c g) (cpu_step base c) s es
+  same_used s [] same = refl
+  same_used s (e ∷ es) same =
+      ap (λ us. us ++ told_from (cpu_used_at c f) (cpu_step base c) (cpu_step base c s e) es)
       (same_at s e (same s.place (omega arith) (omega arith)))
-      ∙ ap (λ us. cpu_uses_at c g s e ++ us)
-      (same_uses (cpu_step base c s e) es (λ k low high. same k (omega (arith, low)) (omega (arith, high))))
+      ∙ ap (λ us. cpu_used_at c g s e ++ us)
+      (same_used (cpu_step base c s e) es (λ k low high. same k (omega (arith, low)) (omega (arith, high))))

@@ -15,7 +15,7 @@ abbrev pub HasByteWidth : BatchHolder → Type 0
 HasByteWidth (Cpu cpu width) = width < 256
 HasByteWidth (State of) = ⊤
 
-pub record TellsLive (lists : Lists) : Type 0 where
+pub record HeldIsLive (lists : Lists) : Type 0 where
   pub keys_live : All (λ held. live_key lists (key_holder held.holder) ≡ Some held.key) (book_tells lists).keys
   pub all_keys : (holder : KeyHolder) (key : KeyName) → live_key lists (key_holder holder) ≡ Some key →
       Contains (book_tells lists).keys (record { holder = holder; key = key })
@@ -27,4 +27,4 @@ pub record TellsLive (lists : Lists) : Type 0 where
 
 -- so it is in all lists
 abbrev pub BooksTellLive : Type 0
-BooksTellLive = (lists : Lists) → TellsLive lists
+BooksTellLive = (lists : Lists) → HeldIsLive lists

@@ -19,17 +19,13 @@ use Rattle.key_names.specs.CpuList.{CpuState, call_or}
 use Rattle.key_names.specs.StateList.{NamedState}
 use Rattle.key_uses.specs.declared.state_uses.StateOf.{StateOf}
 use Rattle.key_uses.specs.declared.used.Origin.{Origin}
-use Rattle.key_uses.specs.declared.used.Origin.TheVariants.{Lane, State}
+use Rattle.key_uses.specs.declared.used.Origin.TheVariants.{Lane}
+use Rattle.key_uses.specs.UsedAt.{state_origin}
 use Rattle.key_rows.specs.declared.lives.Holder.{Holder}
 use Rattle.key_rows.specs.declared.lives.Holder.TheVariants.{Base as InBase, Cpu as InCpu, State as InState}
 use Rattle.key_rows.specs.declared.lives.Holder.TheVariants.{Read as InRead}
 use Rattle.key_rows.specs.declared.lives.Birth.{Birth}
 use Rattle.key_rows.specs.declared.lives.Ending.{Ending}
-
--- what entries tell, each in the state in which it stands
-abbrev pub told_from : {S E T : Type 0} → (S → E → List T) → (S → E → S) → S → List E → List T
-told_from tells step s [] = []
-told_from tells step s (e ∷ es) = tells s e ++ told_from tells step (step s e) es
 
 abbrev pub born : KeyName → Holder → Origin → Birth
 born key holder by = record { key = key; holder = holder; by = by }
@@ -110,10 +106,6 @@ cpu_endings_at c s (Irq v1 v2 now) = []
 cpu_endings_at c s (Dump now) = []
 cpu_endings_at c s Prepare = []
 cpu_endings_at c s Online = []
-
--- the entry of a vgetrandom state at a place
-abbrev pub state_origin : StateOf → ℕ → Origin
-state_origin of place = State of.caller of.state place
 
 -- a refill keeps a key, where the state had one
 abbrev pub refill_births : StateOf → NamedState → Option KeyName → List Birth

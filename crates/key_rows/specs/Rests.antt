@@ -15,9 +15,9 @@ use Rattle.key_uses.specs.declared.state_uses.StateOf.{StateOf}
 use Rattle.key_uses.specs.declared.used.Origin.{Origin}
 use Rattle.key_uses.specs.declared.used.Origin.TheVariants.{Lane}
 use Rattle.key_uses.specs.StateKeys.{StateStands}
+use Rattle.key_uses.specs.UsedAt.{state_origin}
 use Rattle.key_rows.specs.declared.lives.GivenUp.{GivenUp}
 use Rattle.key_rows.specs.declared.batches.StateBatch.{StateBatch}
-use Rattle.key_rows.specs.Lives.{state_origin}
 
 -- keys and batch are those of the state before the entry at a place
 pub record BatchStands (s : NamedState) (place : ℕ) (batch : StateBatch) : Type 0 where

@@ -9,12 +9,14 @@ use Rattle.key_names.specs.CpuList.{cpu_start, cpu_step}
 use Rattle.key_names.specs.StateList.{state_start, state_step}
 use Rattle.key_names.specs.Book.{Lists, list_at, cpu_list, state_list}
 use Rattle.key_names.specs.LiveMaterial.{cpu_end, state_end, state_rest, live_key, base_key, cpu_key, state_key}
-use Rattle.key_names.specs.Uses.{Use, rekeys_place, base_uses, cpu_uses, state_uses}
+use Rattle.key_names.specs.Uses.{is_rekeyed, rekeys_place}
 use Rattle.list_replay.specs.declared.kept.KeptCpu.{KeptCpu}
 use Rattle.list_replay.specs.declared.kept.Lists.{Lists as KeptLists}
 use Rattle.key_uses.specs.declared.state_uses.StateOf.{StateOf}
+use Rattle.key_uses.specs.declared.used.Used.{Used}
 use Rattle.key_uses.specs.KeptEntries.{base_entries, cpu_entries}
-use Rattle.key_uses.specs.UsesSeen.{uses_seen}
+use Rattle.key_uses.specs.ToldFrom.{told_from}
+use Rattle.key_uses.specs.UsedAt.{base_used_at, cpu_used_at, state_used_at}
 use Rattle.key_rows.specs.declared.lives.Birth.{Birth}
 use Rattle.key_rows.specs.declared.lives.Ending.{Ending}
 use Rattle.key_rows.specs.declared.lives.GivenUp.{GivenUp}
@@ -23,7 +25,7 @@ use Rattle.key_rows.specs.declared.held.BatchHolder.TheVariants.{State as StateB
 use Rattle.key_rows.specs.declared.held.HeldKey.{HeldKey}
 use Rattle.key_rows.specs.declared.held.HeldRest.{HeldRest}
 use Rattle.key_rows.specs.declared.told.Told.{Told}
-use Rattle.key_rows.specs.Lives.{told_from, base_births_at, base_endings_at, cpu_births_at, cpu_endings_at}
+use Rattle.key_rows.specs.Lives.{base_births_at, base_endings_at, cpu_births_at, cpu_endings_at}
 use Rattle.key_rows.specs.Lives.{state_births_at, state_endings_at}
 use Rattle.key_rows.specs.Rests.{cpu_given_up_at, state_given_up_at}
 use Rattle.key_rows.specs.Held.{held_key, held_rest, held_fills}
@@ -46,15 +48,15 @@ pub record HasEntries (lists : Lists) (kept : KeptLists) (callers : List (Vec (V
   pub cpus : cpu_lists kept.cpus.items ≡ lists.cpus
   pub states : caller_lists callers ≡ lists.callers
 
--- what entries tell: the keys that they make and erase, the rests that they give up, what is held behind them, and
--- what they put to use
+-- what entries tell: the keys that they make and erase, the rests that they give up, what is held behind them, and what
+-- they put to use, with the key that it became
 pub record Tells : Type 0 where
   pub births : List Birth
   pub endings : List Ending
   pub given_up : List GivenUp
   pub keys : List HeldKey
   pub rests : List HeldRest
-  pub uses : List Use
+  pub uses : List Used
 
 abbrev pub tells_of : Told → Tells
 tells_of told = record {
@@ -63,7 +65,7 @@ tells_of told = record {
   given_up = told.lives.given_up.items;
   keys = told.held.keys.items;
   rests = told.held.rests.items;
-  uses = uses_seen told.uses.items;
+  uses = told.uses.items;
 }
 
 -- nothing is told
@@ -101,7 +103,7 @@ base_tells lists = record {
   given_up = [];
   keys = held_key Base (live_key lists base_key);
   rests = [];
-  uses = base_uses lists;
+  uses = told_from base_used_at base_step base_start lists.base;
 }
 
 abbrev pub cpu_tells : Lists → ℕ → Tells
@@ -111,7 +113,7 @@ cpu_tells lists c = record {
   given_up = told_from (cpu_given_up_at c) (cpu_step lists.base c) cpu_start (cpu_list lists c);
   keys = held_key (Cpu c) (live_key lists (cpu_key c));
   rests = held_fills c (cpu_end lists c).fills;
-  uses = cpu_uses lists c;
+  uses = told_from (cpu_used_at c (is_rekeyed lists c)) (cpu_step lists.base c) cpu_start (cpu_list lists c);
 }
 
 abbrev pub state_tells : Lists → ℕ → ℕ → Tells
@@ -125,7 +127,7 @@ state_tells lists caller state =
       given_up = told_from (state_given_up_at of) step state_start es;
       keys = held_key (State of) (live_key lists (state_key caller state));
       rests = held_rest (StateBatch of) (state_rest (state_end lists caller state));
-      uses = state_uses lists caller state;
+      uses = told_from (state_used_at of) step state_start es;
     }
 
 abbrev pub cpus_tell : Lists → Tells

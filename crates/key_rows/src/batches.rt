@@ -1,27 +1,24 @@
 //! What is left of batches.
-ghost use Rattle.std.specs.Prelude.{ℕ, List, ◌≡◌, ◌+◌, ◌*◌, Option, IfOk, OnOk};
+ghost use Rattle.std.specs.Prelude.{ℕ, List, ◌≡◌, ◌≤◌, ◌+◌, ◌*◌, ◌^◌, Option, length, IfOk, OnOk, OnErr};
 ghost use Rattle.key_names.specs.declared.entries.BaseEntry.{BaseEntry as BookBase};
 ghost use Rattle.key_names.specs.Batches.{Fill as BookFill};
 ghost use Rattle.key_names.specs.BaseList.{base_after};
 ghost use Rattle.key_names.specs.CpuList.{cpu_after};
 ghost use Rattle.key_names.specs.StateList.{NamedState, state_start, state_step, state_after};
 ghost use Rattle.key_names.specs.LiveMaterial.{fill_rest, named_span, state_rest};
-ghost use Rattle.key_uses.specs.Fills.{fill_of, CpuStands};
+ghost use Rattle.key_uses.specs.Fills.{fill_of, count_of, CpuStands};
 ghost use Rattle.key_uses.specs.KeptEntries.{base_entries, cpu_entries};
 ghost use Rattle.key_rows.specs.Rests.{BatchStands};
 
 use key_names::{KeyName, Span, VEntry};
 use key_uses::base_uses;
-use key_uses::cpu_uses::{CpuKeys, Fill};
-use key_uses::state_uses::{StateKeys, StateOf, byte_of};
+use key_uses::cpu_uses::{CpuKeys, Fill, next_byte};
+use key_uses::state_uses::{BATCH_BYTES, StateKeys, StateOf, byte_of};
 use list_replay::{KeptBase, KeptCpu};
 use std::alloc::AllocError;
 
-/// The bytes of a batch.
-const BATCH_BYTES: u64 = 96;
-
-/// The first byte of a CPU's batch in the keystream of its key.
-const BATCH_START: u64 = 32;
+/// Where a CPU's batch ends in the keystream of its key: behind the 32 bytes that became the next key, and the batch.
+const BATCH_END: u64 = 128;
 
 /// The keys of a vgetrandom state, and the first byte of its batch that was not served.
 #[derive(Clone, Copy)]
@@ -42,15 +39,15 @@ fn named_span(key: Option<KeyName>, from: u64, len: u64) -> Option<Span>
 ///
 /// `AllocError` where they have none.
 pub(crate) fn fill_rest(width: u64, fill: Option<Fill>) -> Result<Option<Span>, AllocError>
-    ensures { (book : Option BookFill) → fill ≡ fill_of book →
+    ensures rest { (book : Option BookFill) → fill ≡ fill_of book →
         IfOk result (λ span. span ≡ fill_rest width book) }
+    ensures none { OnErr result (2 ^ 64 ≤ 32 + width * count_of fill) }
 {
     let Some(Fill { key, count }) = fill else {
         return Ok(None);
     };
-    let served = width.checked_mul(count).ok_or(AllocError)?;
-    let from = served.checked_add(BATCH_START).ok_or(AllocError)?;
-    Ok(named_span(key, from, BATCH_BYTES.saturating_sub(served)))
+    let from = next_byte(width, count)?;
+    Ok(named_span(key, from, BATCH_END.saturating_sub(from)))
 }
 
 impl StateBatch {
@@ -70,8 +67,9 @@ impl StateBatch {
     ///
     /// `AllocError` where there are more refills than any memory has room for.
     pub(crate) fn step(&mut self, of: StateOf, entry: VEntry) -> Result<(), AllocError>
-        ensures { (s : NamedState) (place : ℕ) → BatchStands s place self.old →
+        ensures after { (s : NamedState) (place : ℕ) → BatchStands s place self.old →
             OnOk result (BatchStands (state_step of.caller of.state s entry) (place + 1) self.new) }
+        ensures none { OnErr result (2 ^ 64 ≤ self.old.keys.refills + 1) }
     {
         self.keys.step(of, entry)?;
         match entry {
@@ -89,8 +87,9 @@ impl StateBatch {
     ///
     /// `AllocError` where its first byte has no number.
     pub(crate) fn rest(&self) -> Result<Option<Span>, AllocError>
-        ensures { (s : NamedState) (place : ℕ) → BatchStands s place self.now →
+        ensures rest { (s : NamedState) (place : ℕ) → BatchStands s place self.now →
             IfOk result (λ span. span ≡ state_rest s) }
+        ensures none { OnErr result (2 ^ 64 ≤ 64 * self.now.keys.batch_from + self.now.pos) }
     {
         let from = byte_of(self.keys.batch_from, self.pos)?;
         Ok(named_span(
@@ -118,8 +117,9 @@ pub(crate) fn base_end(base: &[KeptBase]) -> Option<KeyName>
 ///
 /// `AllocError` where there are more integers than any memory has room for.
 pub(crate) fn cpu_end(cpu: u32, lane: &[KeptCpu]) -> Result<CpuKeys, AllocError>
-    ensures { (base : List BookBase) → let s = cpu_after base cpu (cpu_entries lane.now) in
+    ensures end { (base : List BookBase) → let s = cpu_after base cpu (cpu_entries lane.now) in
         IfOk result (λ keys. CpuStands s s.place keys) }
+    ensures none { OnErr result (2 ^ 64 ≤ length lane.now) }
 {
     let mut keys = CpuKeys::start();
     for (place, kept) in lane.iter().enumerate() {
@@ -134,8 +134,9 @@ pub(crate) fn cpu_end(cpu: u32, lane: &[KeptCpu]) -> Result<CpuKeys, AllocError>
 ///
 /// `AllocError` where there are more refills than any memory has room for.
 pub(crate) fn state_end(of: StateOf, entries: &[VEntry]) -> Result<StateBatch, AllocError>
-    ensures { let s = state_after of.caller of.state entries.now in
+    ensures end { let s = state_after of.caller of.state entries.now in
         IfOk result (λ batch. BatchStands s s.place batch) }
+    ensures none { OnErr result (2 ^ 64 ≤ length entries.now) }
 {
     let mut batch = StateBatch::start();
     for entry in entries {

@@ -1,5 +1,5 @@
 //! The lists of a book up to a stamp.
-ghost use Rattle.std.specs.Prelude.{◌≡◌, IfOk, map, slice_get};
+ghost use Rattle.std.specs.Prelude.{◌≡◌, [], IfOk, map, slice_get};
 ghost use Rattle.key_names.specs.Book.{Book, entries_of};
 ghost use Rattle.key_uses.specs.KeptEntries.{base_entries};
 ghost use Rattle.key_uses.specs.Moments.{visits_to};
@@ -66,6 +66,8 @@ pub fn kept_to(
     kept: &Lists,
     moments: &Moments,
 ) -> Result<Lists, AllocError>
+    // no entry of the pool is kept
+    ensures pool { IfOk result (λ cut. cut.pool.items ≡ []) }
     ensures base { (book : Book) → KeepsVisits book kept.now moments.now →
         IfOk result (λ cut. base_entries cut.base.items ≡ entries_of (visits_to stamp book.base)) }
     ensures cpus { (book : Book) → KeepsVisits book kept.now moments.now →

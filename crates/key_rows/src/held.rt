@@ -14,13 +14,10 @@ ghost use Rattle.key_rows.specs.Held.{held_key, held_rest, held_fills};
 
 use crate::batches::{base_end, cpu_end, fill_rest, state_end};
 use key_names::{KeyName, Span, VEntry};
-use key_uses::cpu_uses::Fill;
+use key_uses::cpu_uses::{Fill, WIDTHS};
 use key_uses::state_uses::StateOf;
 use list_replay::{KeptBase, KeptCpu};
 use std::alloc::{AllocError, Global};
-
-/// The widths of batches that a byte can tell.
-const WIDTHS: usize = 256;
 
 /// What holds a key from one entry to the next.
 #[derive(Clone, Copy, Debug, PartialEq, Eq)]

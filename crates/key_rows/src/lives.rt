@@ -7,25 +7,20 @@ ghost use Rattle.key_names.specs.CpuList.{CpuState, cpu_start, cpu_step};
 ghost use Rattle.key_names.specs.StateList.{NamedState, state_start, state_step};
 ghost use Rattle.key_uses.specs.Fills.{AreFills, CpuStands};
 ghost use Rattle.key_uses.specs.KeptEntries.{base_entries, cpu_entries};
-ghost use Rattle.key_rows.specs.Lives.{born, ended, long_births, long_endings, told_from};
+ghost use Rattle.key_uses.specs.ToldFrom.{told_from};
+ghost use Rattle.key_rows.specs.Lives.{born, ended, long_births, long_endings};
 ghost use Rattle.key_rows.specs.Lives.{base_births_at, base_endings_at, cpu_births_at, cpu_endings_at};
 ghost use Rattle.key_rows.specs.Lives.{state_births_at, state_endings_at};
 ghost use Rattle.key_rows.specs.Rests.{BatchStands, given_up, fills_given_up, cpu_given_up_at, state_given_up_at};
 
 use crate::batches::{StateBatch, fill_rest};
 use key_names::{BaseEntry, CpuEntry, KeyName, LaneId, Span, Taken, VEntry};
-use key_uses::cpu_uses::{CpuKeys, Fill};
+use key_uses::cpu_uses::{CpuKeys, Fill, WIDTHS};
 use key_uses::state_uses::StateOf;
-use key_uses::used::Origin;
+use key_uses::used::{KEY_BYTES, Origin};
 use key_uses::{base_uses, cpu_uses};
 use list_replay::{KeptBase, KeptCpu, base_refill_of, root_of};
 use std::alloc::{AllocError, Global};
-
-/// The bytes of a key, and the most that a read takes without a call key.
-const KEY_BYTES: u32 = 32;
-
-/// The widths of batches that a byte can tell.
-const WIDTHS: usize = 256;
 
 /// What holds a key.
 #[derive(Clone, Copy, Debug, PartialEq, Eq)]

@@ -1,5 +1,5 @@
 //! What the lists of a book tell of its keys.
-ghost use Rattle.std.specs.Prelude.{ℕ, ◌≡◌, ◌<◌, [], ◌||◌, IfOk, OnOk, length, map};
+ghost use Rattle.std.specs.Prelude.{ℕ, ◌≡◌, ◌<◌, ◌≤◌, ◌^◌, [], ◌||◌, IfOk, OnOk, OnErr, length, map};
 ghost use Rattle.std.specs.List.{list_any};
 ghost use Rattle.key_names.specs.Book.{Lists as BookLists, cpu_list, list_at, state_list};
 ghost use Rattle.key_names.specs.Uses.{rekeys_place};
@@ -91,7 +91,8 @@ fn rekeyed_places(
 
 // The number of a CPU, of a caller or of a state. No book has so many that one has none.
 fn number_of(index: usize) -> Result<u32, AllocError>
-    ensures { IfOk result (λ number. number ≡ index) }
+    ensures number { IfOk result (λ number. number ≡ index) }
+    ensures none { OnErr result (2 ^ 32 ≤ index) }
 {
     u32::try_from(index).map_err(|_| AllocError)
 }

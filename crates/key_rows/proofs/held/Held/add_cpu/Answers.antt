@@ -7,4 +7,4 @@ use Rattle.key_rows.proofs.held.Held.add_cpu.Goals as goal
 pub returns-clause-rests : goal.returns-clause-rests
 returns-clause-rests c = λ base.
     let s : CpuState = cpu_after base c.args.cpu (cpu_entries c.args.lane.now) in
-    after_same _ _ _ (held_fills c.args.cpu s.fills) c.key.ensures.rests (c.in_ok-fills.ensures.rests s.fills (c.in_ok-keys.ensures base).fills)
+    after_same _ _ _ (held_fills c.args.cpu s.fills) c.key.ensures.rests (c.in_ok-fills.ensures.rests s.fills (c.in_ok-keys.ensures.end base).fills)

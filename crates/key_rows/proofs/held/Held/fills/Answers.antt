@@ -18,7 +18,7 @@ loop-width-preserved c =
       rests = λ book are. added_more (λ w. held_rest (Cpu c.args.cpu w) (fill_rest w (book w))) width _ _ _ (h.rests book are)
           (c.in_ok-rest.ensures.rests
           ∙ ap (λ span. c.loop-width.self.rests.items ++ held_rest (Cpu c.args.cpu width) span)
-          (c.in_ok-span.ensures (book width)
+          (c.in_ok-span.ensures.rest (book width)
           (let low : width < 256 = omega arith in
           get_or_from_slice_get c.args.fills.now width _ _ (are width low))));
     }

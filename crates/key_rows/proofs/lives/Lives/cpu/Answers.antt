@@ -38,7 +38,7 @@ loop-place-preserved c = λ base.
           (c.cpu_gives_up.ensures.endings ∙ c.in_ok-cpu_entry.ensures.endings s h.stands.place_is (sym h.stands.key));
       given_up = told_after (cpu_given_up_at c.args.cpu) step cpu_start es place _ _ _ _ _ is h.given_up
           c.cpu_entry.ensures.given_up (c.in_ok-cpu_gives_up.ensures.given_up s h.stands);
-      stands = stands_more step cpu_start CpuStands es place _ c.step.new.self is (c.in_ok-step.ensures s base h.stands);
+      stands = stands_more step cpu_start CpuStands es place _ c.step.new.self is (c.in_ok-step.ensures.after s base h.stands);
     }
 
 pub returns-clause-births : goal.returns-clause-births

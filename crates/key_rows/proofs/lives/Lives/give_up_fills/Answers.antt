@@ -18,7 +18,7 @@ loop-width-preserved c =
       given_up = λ book are. added_more (λ w. given_up c.args.by (fill_rest w (book w))) width _ _ _ (h.given_up book are)
           (c.in_ok-give_up.ensures.given_up
           ∙ ap (λ span. c.loop-width.self.given_up.items ++ given_up c.args.by span)
-          (c.in_ok-fill_rest.ensures (book width)
+          (c.in_ok-fill_rest.ensures.rest (book width)
           (let low : width < 256 = omega arith in
           get_or_from_slice_get c.args.fills.now width _ _ (are width low))));
     }

@@ -34,7 +34,7 @@ loop-place-preserved c =
       given_up = told_more (state_given_up_at of) step state_start es place _ _ _ _ is h.given_up
           (c.in_ok-state_entry.ensures.given_up s h.stands);
       stands = stands_more step state_start BatchStands es place _ c.step.new.self is
-          (c.in_ok-step.ensures s place h.stands);
+          (c.in_ok-step.ensures.after s place h.stands);
     }
 
 pub returns-clause-births : goal.returns-clause-births

@@ -1,11 +1,10 @@
 use Rattle.std.proofs.Common.{sym, ap, ◌∙◌, append-nil, ◌++◌}
-use Rattle.std.proofs.lemmas.List.{map-append}
 use Rattle.key_names.specs.BaseList.{base_start, base_step, base_after}
-use Rattle.key_names.specs.Uses.{base_uses_at, uses_from}
-use Rattle.key_uses.specs.UsesSeen.{use_seen, uses_seen}
+use Rattle.key_uses.specs.ToldFrom.{told_from}
+use Rattle.key_uses.specs.UsedAt.{base_used_at}
 use Rattle.key_rows.specs.declared.held.KeyHolder.TheVariants.{Base}
 use Rattle.key_rows.specs.Held.{held_key}
-use Rattle.key_rows.specs.Lives.{told_from, base_births_at, base_endings_at}
+use Rattle.key_rows.specs.Lives.{base_births_at, base_endings_at}
 use Rattle.key_rows.specs.Told.{tells_of, joined, base_tells}
 use Rattle.key_rows.proofs.Tells.{tells_same}
 use Rattle.key_rows.proofs.told.Told.base.Goals as goal
@@ -21,9 +20,8 @@ returns c = λ lists e.
       given_up = c.base.ensures.given_up ∙ sym (append-nil old.given_up);
       keys = c.in_ok-add_base.ensures.keys ∙ ap (λ es. old.keys ++ held_key Base (base_after es).key) e;
       rests = c.add_base.ensures.rests ∙ sym (append-nil old.rests);
-      uses = ap uses_seen c.in_ok-extend_from_slice.ensures.items
-          ∙ map-append use_seen c.args.self.now.uses.items _
-          ∙ ap (λ us. old.uses ++ us) (ap uses_seen c.deref.ensures.value
+      uses = c.in_ok-extend_from_slice.ensures.items
+          ∙ ap (λ us. old.uses ++ us) (c.deref.ensures.value
           ∙ c.in_ok-base_uses.ensures
-          ∙ ap (uses_from base_uses_at base_step base_start) e);
+          ∙ ap (told_from base_used_at base_step base_start) e);
     })

@@ -16,7 +16,7 @@ loop-index-init c = λ lists callers. sym (joined_nothing _)
 pub loop-index-preserved : goal.loop-index-preserved
 loop-index-preserved c = λ lists callers.
     let index : ℕ = c.loop-index.index in
-    let same : c.in_ok-number.number ≡ index = c.in_ok-number.ensures in
+    let same : c.in_ok-number.number ≡ index = c.in_ok-number.ensures.number in
     let at = list_at_map (λ (states : Vec (Vec VEntry)). map (λ (es : Vec VEntry). es.items) states.items)
     c.args.callers.now index c.index-callers-index.result
     (found c.args.callers.now c.args.callers.now index c.index-callers-index.result refl c.loop-index-test.true

@@ -1,18 +1,19 @@
 use Rattle.std.proofs.Common.{ℕ, ap, ◌∙◌, ◌++◌, arith}
 use Rattle.std.specs.List.{list_any}
-use Rattle.std.proofs.lemmas.List.{map-append, length-map}
+use Rattle.std.proofs.lemmas.List.{length-map}
 use Rattle.key_names.specs.CpuList.{cpu_start, cpu_step, cpu_after}
-use Rattle.key_names.specs.Uses.{cpu_uses_at, uses_from, is_rekeyed}
+use Rattle.key_names.specs.Uses.{is_rekeyed}
 use Rattle.key_uses.specs.Fills.{rekeys_of}
 use Rattle.key_uses.specs.KeptEntries.{cpu_entries}
-use Rattle.key_uses.specs.UsesSeen.{use_seen, uses_seen}
+use Rattle.key_uses.specs.ToldFrom.{told_from}
+use Rattle.key_uses.specs.UsedAt.{cpu_used_at}
 use Rattle.list_replay.specs.declared.kept.KeptCpu.{KeptCpu}
 use Rattle.key_rows.specs.declared.held.KeyHolder.TheVariants.{Cpu}
 use Rattle.key_rows.specs.Held.{held_key, held_fills}
-use Rattle.key_rows.specs.Lives.{told_from, cpu_births_at, cpu_endings_at}
+use Rattle.key_rows.specs.Lives.{cpu_births_at, cpu_endings_at}
 use Rattle.key_rows.specs.Rests.{cpu_given_up_at}
 use Rattle.key_rows.specs.Told.{tells_of, joined, cpu_tells}
-use Rattle.key_rows.proofs.Marks.{takes_read_is, same_uses, lists_take}
+use Rattle.key_rows.proofs.Marks.{takes_read_is, same_used, lists_take}
 use Rattle.key_rows.proofs.Tells.{tells_same}
 use Rattle.key_rows.proofs.told.Told.cpu.Goals as goal
 
@@ -34,15 +35,14 @@ returns c = λ lists e callers.
           ∙ ap (λ es. old.keys ++ held_key (Cpu cpu) (cpu_after lists.base cpu es).key) e;
       rests = c.in_ok-add_cpu.ensures.rests lists.base
           ∙ ap (λ es. old.rests ++ held_fills cpu (cpu_after lists.base cpu es).fills) e;
-      uses = ap uses_seen c.in_ok-extend_from_slice.ensures.items
-          ∙ map-append use_seen c.args.self.now.uses.items _
-          ∙ ap (λ us. old.uses ++ us) (ap uses_seen c.deref-2.ensures.value
+      uses = c.in_ok-extend_from_slice.ensures.items
+          ∙ ap (λ us. old.uses ++ us) (c.deref-2.ensures.value
           ∙ c.in_ok-cpu_uses.ensures lists.base
-          ∙ same_uses lists.base cpu rekeyed (is_rekeyed lists cpu) cpu_start es
+          ∙ same_used lists.base cpu rekeyed (is_rekeyed lists cpu) cpu_start es
           (λ k low high. ap (λ bs. rekeys_of bs k) c.deref.ensures.value
           ∙ c.in_ok-rekeyed.ensures k
           (let len = length-map c.args.lane.now (λ (k : KeptCpu). k.entry) in omega (arith, len, high))
           ∙ takes_read_is cpu c.args.callers.now k
           ∙ ap (λ ess. list_any (λ ls. lists_take cpu k ls) ess) callers)
-          ∙ ap (uses_from (cpu_uses_at cpu (is_rekeyed lists cpu)) step cpu_start) e);
+          ∙ ap (told_from (cpu_used_at cpu (is_rekeyed lists cpu)) step cpu_start) e);
     })

@@ -17,7 +17,7 @@ pub loop-index-preserved : goal.loop-index-preserved
 loop-index-preserved c = λ lists cpus callers.
     let index : ℕ = c.loop-index.index in
     let number : ℕ = c.in_ok-number.number in
-    let same : number ≡ index = c.in_ok-number.ensures in
+    let same : number ≡ index = c.in_ok-number.ensures.number in
     let at = list_at_map (λ (lane : Vec KeptCpu). cpu_entries lane.items) c.args.cpus.now index c.index-cpus-index.result
     (found c.args.cpus.now c.args.cpus.now index c.index-cpus-index.result refl c.loop-index-test.true
     ∙ ap Some (sym c.index-cpus-index.is)) in

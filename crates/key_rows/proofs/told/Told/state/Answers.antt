@@ -1,13 +1,12 @@
 use Rattle.std.proofs.Common.{ap, ◌∙◌, ◌++◌}
-use Rattle.std.proofs.lemmas.List.{map-append}
 use Rattle.key_names.specs.StateList.{state_start, state_step, state_after}
 use Rattle.key_names.specs.LiveMaterial.{state_rest}
-use Rattle.key_names.specs.Uses.{state_uses_at, uses_from}
-use Rattle.key_uses.specs.UsesSeen.{use_seen, uses_seen}
+use Rattle.key_uses.specs.ToldFrom.{told_from}
+use Rattle.key_uses.specs.UsedAt.{state_used_at}
 use Rattle.key_rows.specs.declared.held.KeyHolder.TheVariants.{State}
 use Rattle.key_rows.specs.declared.held.BatchHolder.TheVariants.{State as StateBatch}
 use Rattle.key_rows.specs.Held.{held_key, held_rest}
-use Rattle.key_rows.specs.Lives.{told_from, state_births_at, state_endings_at}
+use Rattle.key_rows.specs.Lives.{state_births_at, state_endings_at}
 use Rattle.key_rows.specs.Rests.{state_given_up_at}
 use Rattle.key_rows.specs.Told.{tells_of, joined, state_tells}
 use Rattle.key_rows.proofs.Tells.{tells_same}
@@ -29,9 +28,8 @@ returns c = λ lists e.
           ∙ ap (λ es. old.keys ++ held_key (State of) (state_after of.caller of.state es).key) e;
       rests = c.in_ok-add_state.ensures.rests
           ∙ ap (λ es. old.rests ++ held_rest (StateBatch of) (state_rest (state_after of.caller of.state es))) e;
-      uses = ap uses_seen c.in_ok-extend_from_slice.ensures.items
-          ∙ map-append use_seen c.args.self.now.uses.items _
-          ∙ ap (λ us. old.uses ++ us) (ap uses_seen c.deref.ensures.value
+      uses = c.in_ok-extend_from_slice.ensures.items
+          ∙ ap (λ us. old.uses ++ us) (c.deref.ensures.value
           ∙ c.in_ok-state_uses.ensures
-          ∙ ap (uses_from state_uses_at step state_start) e);
+          ∙ ap (told_from (state_used_at of) step state_start) e);
     })

@@ -16,7 +16,7 @@ pub loop-index-preserved : goal.loop-index-preserved
 loop-index-preserved c = λ lists states.
     let index : ℕ = c.loop-index.index in
     let caller : ℕ = c.args.caller in
-    let same : c.in_ok-number.number ≡ index = c.in_ok-number.ensures in
+    let same : c.in_ok-number.number ≡ index = c.in_ok-number.ensures.number in
     let at = list_at_map (λ (es : Vec VEntry). es.items) c.args.states.now index c.index-states-index.result
     (found c.args.states.now c.args.states.now index c.index-states-index.result refl c.loop-index-test.true
     ∙ ap Some (sym c.index-states-index.is)) in
