@@ -121,16 +121,12 @@ impl Model for Leaving {
 }
 
 impl Leaving {
-    ghost use Rattle.std.specs.Prelude.{◌≡◌, ◌+◌, ◌^◌, ◌<◌, ◌≤◌, ℕ, IfOk, OnOk, map};
+    ghost use Rattle.std.specs.Prelude.{◌≡◌, ◌+◌, ◌^◌, ◌<◌, ◌≤◌, IfOk, OnOk, map};
     ghost use Rattle.key_names.specs.BatchCopy.{serve_entry, blocks_entry, block_after_copy};
-    ghost use Rattle.key_names.specs.Book.{Lists};
-    ghost use Rattle.key_names.specs.Deeds.{deeds_of};
-    ghost use Rattle.key_names.specs.Meaning.{CallMeaning, current_state, VreadMeans};
     ghost use Rattle.key_names.specs.VreadSteps.{is_wiped};
     ghost use Rattle.line_orders.specs.Called.{seen_act};
     ghost use Rattle.state_entries.specs.Entries.{call_entries};
-    ghost use Rattle.state_entries.specs.Laws.{Leaves};
-    ghost use Rattle.state_entries.specs.Outline.{IsBetweenCalls, outlined};
+    ghost use Rattle.state_entries.specs.Outline.{outlined};
     ghost use Rattle.state_entries.specs.Left.{Left, nothing_left, left_more, pushed, wiped, met, refilled};
     ghost use Rattle.state_entries.specs.Left.{copied, keyed, from_serve, from_written, attempted, tried_twice};
     ghost use Rattle.state_entries.specs.Left.{from_look, vread_left};
@@ -371,8 +367,12 @@ impl Leaving {
         self.try_twice(acts, len, steps)
     }
 
-    // The cases of a `vread`.
-    fn follow(
+    /// Goes through a `vread` of `len` bytes with these flags and acts, by the steps of its line.
+    ///
+    /// # Errors
+    ///
+    /// `AllocError` where there is no memory for its entries.
+    pub(crate) fn vread(
         &mut self,
         len: u32,
         flags: u32,
@@ -388,27 +388,5 @@ impl Leaving {
             [Step::Look(found), rest @ ..] => self.look(acts, len, *found, rest),
             _ => Ok(()),
         }
-    }
-
-    /// Goes through a `vread` of `len` bytes with these flags and acts, by the steps of its line. Where these are not
-    /// the steps of one, what then stands in the list is not said.
-    ///
-    /// # Errors
-    ///
-    /// `AllocError` where there is no memory for its entries.
-    pub(crate) fn vread(
-        &mut self,
-        len: u32,
-        flags: u32,
-        acts: &[ActLine<'_>],
-        steps: &[Step],
-    ) -> Result<(), AllocError>
-        ensures cases { OnOk result (self.new ≡ vread_left len flags (map seen_act acts.now) self.old steps.now) }
-        ensures meant { (lists : Lists) (m : CallMeaning) → VreadMeans len flags (map seen_act acts.now) m →
-            deeds_of lists steps.now ≡ m.own.deeds → IsBetweenCalls self.old.outline (current_state m.before) →
-            OnOk result (Leaves m self.old self.new) }
-    {
-        self.follow(len, flags, acts, steps)?;
-        Ok(())
     }
 }
