@@ -21,5 +21,5 @@ pub use draws::{DrawSpent, below, between};
 pub use lane_words::LaneWords;
 pub use rejected::Rejected;
 pub use shuffles::shuffle;
-pub use table_draws::{Drawn, draw_each, draw_on_new_table};
+pub use table_draws::{Drawn, MOST_DRAWS, draw_each, draw_on_new_table};
 pub use words::{ListWords, Words};

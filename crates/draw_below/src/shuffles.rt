@@ -8,7 +8,7 @@ use crate::rejected::Rejected;
 use crate::words::Words;
 use std::sync::Wait;
 
-/// Puts a list of at most 65,536 items into an order in which each is as likely as every other, where every word is.
+/// Puts a list of at most 65,536 items into an order, each order as likely as every other, where every word is.
 ///
 /// From the last place down to the second, a number up to the place is drawn, and the place's item is exchanged with
 /// the item at that number. `rejected` is empty then, since the last of these draws, which is below 2, rejects no word.

@@ -26,7 +26,8 @@ pub struct Drawn {
     pub spent: bool,
 }
 
-/// Draws so many numbers below `c`, at most 1,000. It stops at a draw that is spent.
+/// Draws so many numbers below `c`, at most 1,000; for `c` 0 the words themselves are the numbers. It stops at a draw that
+/// is spent.
 pub fn draw_each<W: Words, R: Wait>(rt: &R, words: &mut W, c: u32, count: u32) -> Drawn
     requires { count ≤ 1000 }
     ensures { (taken : List ℕ) × Takes W.gives words.old taken words.new
@@ -82,8 +83,9 @@ fn draw_by_pass<R: Wait>(
 }
 
 /// Makes a core with one CPU ready by a first sample, 32 bytes that count up from 0 and are credited with 256 bits.
-/// Then it draws so many numbers below `c`, at most 1,000, out of the integers of 4 bytes that caller 0 reads. All
-/// calls have CPU 0, the moment 0 and hardware words 0.
+/// Then it draws so many numbers below `c`, at most 1,000, out of the integers of 4 bytes that caller 0 reads; for `c` 0
+/// these themselves are the numbers. It stops at a draw that is spent. All calls have CPU 0, the moment 0 and hardware
+/// words 0.
 ///
 /// # Errors
 ///
