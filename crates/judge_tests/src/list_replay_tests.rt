@@ -190,7 +190,11 @@ fn dumped<'a>(alloc: Global, dumps: bool, place: u64) -> Result<Told<'a>, AllocE
     ]
     .to_vec(alloc)?)?;
     Ok(Told {
-        pool: [ToldPool::Dumped { cpu: 0, place }, ToldPool::Is(PoolNote::Bits)].to_vec(alloc)?,
+        pool: [
+            ToldPool::Dumped { cpu: 0, place },
+            ToldPool::Is(PoolNote::Bits),
+        ]
+        .to_vec(alloc)?,
         base: Vec::new(alloc),
         cpus,
     })

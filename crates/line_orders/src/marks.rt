@@ -115,7 +115,10 @@ fn lane_rank(lane: LaneId) -> u64
 /// # Errors
 ///
 /// `AllocError` where there is no memory for them.
-pub(crate) fn sorted_marks(alloc: Global, callers: &[Vec<BareLine<'_>>]) -> Result<Vec<MarkOf>, AllocError>
+pub(crate) fn sorted_marks(
+    alloc: Global,
+    callers: &[Vec<BareLine<'_>>],
+) -> Result<Vec<MarkOf>, AllocError>
     ensures all { IfOk result (λ marks. IsPermutation (all_marks (seen_callers callers.now)) (map seen_mark marks.items)) }
     ensures sorted { IfOk result (λ marks. IsSortedByLane marks.items) }
 {
