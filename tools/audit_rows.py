@@ -480,7 +480,7 @@ def line(text, wanted):
                 roots.append(key)
     bits = bits_before(events, run)
     samples = [one for one in run if not isinstance(one, Moment) and one.lane == 'p' and one.role[0] == 'mix'
-               and event_of(events, one)[0] != 'bits']
+               and event_of(events, one)[0] not in ('bits', 'credit')]
     for key in roots:
         fed = sum(one.stamp < key.made.stamp for one in samples)
         yield 'extraction %s %s %s samples %d bits %d' % (key.name, key.made, key.made.line, fed, bits[key.made])

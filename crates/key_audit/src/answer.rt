@@ -7,7 +7,7 @@ ghost use Rattle.key_audit.specs.Outcome.{Tells};
 use crate::ask::Ask;
 use crate::book::book_of;
 use crate::keys::keys_text;
-use crate::line::line_text;
+use crate::line::sources_text;
 use crate::live::live_text;
 use event_script::Script;
 use key_uses::laws::moments_hold_unused;
@@ -35,6 +35,6 @@ pub(crate) fn answer_text(
     match ask {
         Ask::Keys => keys_text(alloc, &book),
         Ask::Live(stamp) => live_text(alloc, stamp, &book),
-        Ask::Line(line) => line_text(alloc, line, script, &book),
+        Ask::Line(line) => sources_text(alloc, line, script, &book),
     }
 }

@@ -65,7 +65,8 @@ fn audit_input<S: Source, K: Sink>(alloc: Global, ask: Ask, source: &mut S, sink
 /// - `No`: the transcript is not lawful for the script, and the line that names the first clause that fails was written.
 /// - `WriteFault`: the sink failed at a put, or at the flush behind the last. What it got in this call is a prefix of
 ///   the output.
-/// - `NoMemory`: there was no memory. Nothing is written.
+/// - `NoMemory`: there was no memory. Nothing is written. No clause says that each key which is held has a row; where one
+///   had none, `live` would end so too.
 /// - `Done`: the input was read to its end, the transcript is lawful, and what was asked of it was written whole.
 ///
 /// Where the output was written whole, the sink keeps nothing of it back.

@@ -19,7 +19,7 @@ fn serves(moments: &Moments, line: Line, row: &Row) -> bool {
     })
 }
 
-// Whether what a visit of the pool was made for is a sample.
+// Whether a visit of the pool was made for a sample. Bits are asked for and credited without one.
 fn is_sample(script: &Script, moment: &Moment) -> bool {
     if moment.line.caller >= script.callers() {
         return false;
@@ -28,7 +28,7 @@ fn is_sample(script: &Script, moment: &Moment) -> bool {
         .events(moment.line.caller)
         .get(moment.line.event as usize)
     {
-        Some(Event::Bits) | None => false,
+        Some(Event::Bits | Event::Credit { .. }) | None => false,
         Some(_) => true,
     }
 }
@@ -74,7 +74,7 @@ fn put_extraction(
 /// # Errors
 ///
 /// `AllocError` where there is no memory for it.
-pub(crate) fn line_text(
+pub(crate) fn sources_text(
     alloc: Global,
     line: Line,
     script: &Script,

@@ -66,7 +66,7 @@ fn no_visits(alloc: Global, cpus: usize) -> Result<Moments, AllocError>
 }
 
 // The moments of the visits that marks are of.
-fn visit_moments(alloc: Global, cpus: usize, marks: &[MarkOf]) -> Result<Moments, AllocError>
+fn moments_of_marks(alloc: Global, cpus: usize, marks: &[MarkOf]) -> Result<Moments, AllocError>
     ensures { IfOk result (λ moments. HasMarks cpus (map seen_mark marks.now) moments) }
 {
     let mut moments = no_visits(alloc, cpus)?;
@@ -127,7 +127,7 @@ pub(crate) fn moments_of(alloc: Global, book: &KeptBook) -> Result<Moments, Allo
     ensures { IfOk result (λ moments.
         HasMarks (length book.now.lanes.cpus.items) (map seen_mark book.now.marks.items) moments) }
 {
-    let mut moments = visit_moments(alloc, book.lanes.cpus.len(), &book.marks)?;
+    let mut moments = moments_of_marks(alloc, book.lanes.cpus.len(), &book.marks)?;
     moments.callers = state_moments(alloc, &book.states)?;
     Ok(moments)
 }

@@ -23,4 +23,4 @@ returns-in-Live c sound =
     (c.live_text.ensures c.args.t.now callers sound.book sound.meanings keeps))
 
 pub returns : goal.returns
-returns c sound = rw c.in-Line.is (any_ok c.line_text.result)
+returns c sound = rw c.in-Line.is (any_ok c.sources_text.result)
