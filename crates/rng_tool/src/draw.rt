@@ -5,16 +5,13 @@ ghost use Rattle.draw_below.specs.TableDraws.{ends_of};
 ghost use Rattle.rng_tool.specs.DrawOutcome.{AskDraw, DrawEnds, DrawOf, IsDraw, IsSmallDraw, draw_line, draw_text};
 
 use arrayvec::ArrayString;
-use draw_below::{Drawn, draw_on_new_table};
+use draw_below::{Drawn, MOST_DRAWS, draw_on_new_table};
 use io_edges::{NoMemory, Sink};
 use itoa::Buffer;
 use std::alloc::Global;
 use std::sync::Wait;
 use tool_ends::numbers::number_in;
 use tool_ends::{Status, put_answer};
-
-/// The most draws of one run.
-const MOST_DRAWS: u32 = 1000;
 
 /// The most bytes of the lines of a run: 11 for each answer, and 6 for the line `spent`.
 const MOST_BYTES: usize = 11_006;
@@ -40,7 +37,7 @@ fn draw_by(command: &str, bound: &str, count: &str) -> Option<Draw>
         return None;
     }
     let bound = number_in(0, u32::MAX, bound)?;
-    let count = number_in(1, MOST_DRAWS, count)?;
+    let count = number_in(1, MOST_DRAWS as u32, count)?;
     Some(Draw { bound, count })
 }
 
