@@ -9,8 +9,9 @@ half second is lost; the system's own sum stands behind the table. The table has
 first. The command's status is the answer.
 
 `--page` puts the table into a page, as of CONTRIBUTING.md, between its two lines `gate times`. A crate's budget there is
-kept; a crate that has none gets what it took and a fifth more. What is over its budget is told. Where a crate of the page
-did not work, since an earlier run's results were kept, the page stays as it is and the status is 1.
+kept; a crate that has none gets what it took and a fifth more. What is over its budget is told. Where nothing was done for
+a crate of the page, since an earlier run's results were kept, the page stays as it is and the status is 1. A crate of which
+a part was kept shows too little, and that is not seen.
 """
 import os
 import re
@@ -132,7 +133,9 @@ def into_page(path, rows, ending):
     if not last:
         sys.exit('%s has no lines %s and %s' % (path, *map(str.strip, MARKS)))
     granted = budgets_of(old)
-    kept = sorted(set(granted) - set(rows))
+    with open('crates.txt', encoding='utf-8') as file:
+        listed = {line.split(':')[0].split()[0] for line in file if re.match(r'\w+[^:]*:', line)}
+    kept = sorted((set(granted) & listed) - set(rows))
     if kept:
         sys.exit('%s is left as it is, since nothing was done for %s' % (path, ', '.join(kept)))
     budgets = {name: granted.get(name, int(whole(row) * 1.2) + 1) for name, row in rows.items()}

@@ -94,7 +94,7 @@ pub record AreForkedBytes (turn : Turn) (point : Point) (n : ℕ) (parent child 
   -- the child's is one that was wiped at the point, with the parent's steps before it
   pub child_call : IsCall n 0 wiped_state (stop.before ++ at_point point true ∷ child_end.steps)
       (outcome_behind stop.entries (outcome_behind (Wipe ∷ []) child_end.outcome))
-  -- bytes of the child's state are those of a key that it read behind the fork, in the attempt that gave them
+  -- a child that gives out bytes of its state read a key behind the fork, in the attempt that gave them
   pub child_keyed : (bytes : List ℕ) → child_end.outcome.ending ≡ by_batch bytes →
       takes_key false child_end.steps ≡ true
   pub visits : VisitsAre book (marks_of 0 (added ∷ calls ++ forked ∷ []) ++ marks_of 0 (parent_end.own ∷ [])

@@ -12,6 +12,7 @@ use Rattle.key_names.specs.CpuList.{CpuState, cpu_step, cpu_key_in_use}
 use Rattle.key_names.specs.StateList.{NamedState, state_step}
 use Rattle.key_uses.specs.declared.cpu_uses.CpuKeys.{CpuKeys}
 use Rattle.key_uses.specs.Fills.{fill_of, count_of, CpuStands, IsCountedOut}
+use Rattle.key_uses.specs.StateKeys.{IsRefilledOut}
 
 pub refills_below : (caller state : ℕ) (s : NamedState) (es : List VEntry) → s.refills ≤ s.place →
     (fold (state_step caller state) s es).refills ≤ (fold (state_step caller state) s es).place
@@ -26,6 +27,13 @@ refills_below caller state s (Serve pos len ∷ es) h =
     refills_below caller state (state_step caller state s (Serve pos len)) es (omega (arith, h))
 refills_below caller state s (Wipe ∷ es) h =
     refills_below caller state (state_step caller state s Wipe) es (omega (arith, h))
+
+pub refilled_out : (refills : ℕ) (e : VEntry) → IsRefilledOut refills e → 2 ^ 64 ≤ refills + 1
+refilled_out refills (Refill from) out = out
+refilled_out refills (Rekey cpu cpu_place) out = absurd out
+refilled_out refills (Blocks from count) out = absurd out
+refilled_out refills (Serve pos len) out = absurd out
+refilled_out refills Wipe out = absurd out
 
 abbrev pub AreCounted : ℕ → (ℕ → Option Fill) → Type 0
 AreCounted place fills = (w : ℕ) → count_of (fill_of (fills w)) ≤ place

@@ -8,6 +8,7 @@ ghost use Rattle.key_names.specs.StateList.{NamedState, state_start, state_step,
 ghost use Rattle.key_names.specs.LiveMaterial.{fill_rest, named_span, state_rest};
 ghost use Rattle.key_uses.specs.Fills.{fill_of, count_of, CpuStands};
 ghost use Rattle.key_uses.specs.KeptEntries.{base_entries, cpu_entries};
+ghost use Rattle.key_uses.specs.StateKeys.{IsRefilledOut};
 ghost use Rattle.key_rows.specs.Rests.{BatchStands};
 
 use key_names::{KeyName, Span, VEntry};
@@ -18,7 +19,7 @@ use list_replay::{KeptBase, KeptCpu};
 use std::alloc::AllocError;
 
 /// Where a CPU's batch ends in the keystream of its key: behind the 32 bytes that became the next key, and the batch.
-const BATCH_END: u64 = 128;
+const BATCH_END: u64 = 32 + BATCH_BYTES;
 
 /// The keys of a vgetrandom state, and the first byte of its batch that was not served.
 #[derive(Clone, Copy)]
@@ -69,7 +70,7 @@ impl StateBatch {
     pub(crate) fn step(&mut self, of: StateOf, entry: VEntry) -> Result<(), AllocError>
         ensures after { (s : NamedState) (place : ℕ) → BatchStands s place self.old →
             OnOk result (BatchStands (state_step of.caller of.state s entry) (place + 1) self.new) }
-        ensures none { OnErr result (2 ^ 64 ≤ self.old.keys.refills + 1) }
+        ensures none { OnErr result (IsRefilledOut self.old.keys.refills entry) }
     {
         self.keys.step(of, entry)?;
         match entry {

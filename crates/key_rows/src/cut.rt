@@ -66,7 +66,6 @@ pub fn kept_to(
     kept: &Lists,
     moments: &Moments,
 ) -> Result<Lists, AllocError>
-    // no entry of the pool is kept
     ensures pool { IfOk result (λ cut. cut.pool.items ≡ []) }
     ensures base { (book : Book) → KeepsVisits book kept.now moments.now →
         IfOk result (λ cut. base_entries cut.base.items ≡ entries_of (visits_to stamp book.base)) }

@@ -1,5 +1,7 @@
 -- The keys of a vgetrandom state, as the code keeps them.
-use Rattle.std.specs.Prelude.{ℕ, ◌≡◌}
+use Rattle.std.specs.Prelude.{ℕ, ◌+◌, ◌^◌, ◌≤◌, ◌≡◌}
+use Rattle.key_names.specs.declared.entries.VEntry.{VEntry}
+use Rattle.key_names.specs.declared.entries.VEntry.TheVariants.{Rekey, Blocks, Refill, Serve, Wipe}
 use Rattle.key_names.specs.StateList.{NamedState}
 use Rattle.key_uses.specs.declared.state_uses.StateKeys.{StateKeys}
 
@@ -10,3 +12,11 @@ pub record StateStands (s : NamedState) (place : ℕ) (keys : StateKeys) : Type 
   pub refills : keys.refills ≡ s.refills
   pub batch_key : keys.batch_key ≡ s.batch_key
   pub batch_from : keys.batch_from ≡ s.batch_from
+
+-- one refill more has no number of 64 bits
+abbrev pub IsRefilledOut : ℕ → VEntry → Type 0
+IsRefilledOut refills (Refill from) = 2 ^ 64 ≤ refills + 1
+IsRefilledOut refills (Rekey cpu cpu_place) = ⊥
+IsRefilledOut refills (Blocks from count) = ⊥
+IsRefilledOut refills (Serve pos len) = ⊥
+IsRefilledOut refills Wipe = ⊥

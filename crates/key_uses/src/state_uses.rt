@@ -105,7 +105,7 @@ impl StateKeys {
     pub fn step(&mut self, of: StateOf, entry: VEntry) -> Result<(), AllocError>
         ensures after { (s : NamedState) (place : ℕ) → StateStands s place self.old →
             OnOk result (StateStands (state_step of.caller of.state s entry) (place + 1) self.new) }
-        ensures none { OnErr result (2 ^ 64 ≤ self.old.refills + 1) }
+        ensures none { OnErr result (IsRefilledOut self.old.refills entry) }
     {
         match entry {
             VEntry::Rekey { cpu, cpu_place } => {

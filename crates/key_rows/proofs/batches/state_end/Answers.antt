@@ -4,7 +4,7 @@ use Rattle.std.specs.Prelude.{take}
 use Rattle.key_names.specs.StateList.{NamedState, state_start, state_step}
 use Rattle.list_replay.proofs.Loops.{found}
 use Rattle.key_rows.specs.Rests.{BatchStands}
-use Rattle.key_rows.proofs.Counts.{refills_below, on_err}
+use Rattle.key_rows.proofs.Counts.{refills_below, refilled_out, on_err}
 use Rattle.key_rows.proofs.Stands.{stands_more, stands_all}
 use Rattle.key_rows.proofs.batches.state_end.Goals as goal
 
@@ -37,5 +37,6 @@ returns-in_err-step-clause-none c =
     refills_below of.caller of.state state_start (take place c.args.entries.now) (omega arith) in
     let are : c.loop-entry.batch.keys.refills ≡ s.refills = h.keys.refills in
     let at : s.place ≡ place = h.keys.place_is in
-    let high : 2 ^ 64 ≤ c.loop-entry.batch.keys.refills + 1 = c.in_err-step.ensures.none in
+    let high : 2 ^ 64 ≤ c.loop-entry.batch.keys.refills + 1 =
+    refilled_out c.loop-entry.batch.keys.refills _ c.in_err-step.ensures.none in
     on_err c.from_residual.result _ (omega (arith, low, are, at, high))
