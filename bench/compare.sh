@@ -169,6 +169,8 @@ beside_plain() {
 
 # beside_duties NAME SCRIPT: beside plain_core with two of a run's duties.
 beside_duties() {
+    "$program" run <"$2" >"$room/ours"
+    "$room/duties" <"$2" | cmp - "$room/ours" >&2
     beside "$1" "$2" "$room/duties"
 }
 
@@ -183,6 +185,16 @@ for name in plain_core interleaved; do
     "${CC:-cc}" -O2 -o "$room/$name" "bench/$name.c"
 done
 "${CC:-cc}" -O2 -DDUTIES -o "$room/duties" bench/plain_core.c
+
+# What the measured scripts leave out: the worked cases, as far as plain_core knows their events, and reads of whole blocks.
+printf 'rngscript 1\ncpus 1\ncaller 0\nadd 00 256\ndevice 5 10\nvread 64 0\nvread 64 0\nvread 8 0\nend\n' >"$room/blocks.script"
+"$program" run <"$room/blocks.script" >"$room/blocks.transcript"
+for script in "$room/blocks.script" examples/worked/*.script; do
+    if ! grep -q '^fork \|^inside ' "$script"; then
+        "$room/plain_core" <"$script" | cmp - "${script%.script}.transcript" >&2
+        "$room/duties" <"$script" | cmp - "${script%.script}.transcript" >&2
+    fi
+done
 
 keystream=$(beyond_start keystream "$bytes")
 plain=$(beyond_start plain "$bytes")

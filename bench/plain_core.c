@@ -212,7 +212,6 @@ struct cpu {
     uint64_t generation;
     uint64_t pool[4], last;
     uint32_t count;
-    int is_due;
     struct batch batches[4];
 };
 
@@ -356,7 +355,7 @@ static void interrupt(uint64_t first, uint64_t second)
     }
     cpu->count++;
     visit((int)cpu_at);
-    if (cpu->is_due || (cpu->count < 1024 && cpu->last + 1000 >= now))
+    if (cpu->count < 1024 && cpu->last + 1000 >= now)
         return;
     memcpy(text, cpu->pool, sizeof(text));
     bits = (cpu->count & 0xffff) / 64;
@@ -506,10 +505,10 @@ static void take(struct state *state, uint8_t *out, size_t bytes)
     copy(state, out, front);
     out += front;
     bytes -= front;
-    for (; bytes >= BLOCK; out += BLOCK, bytes -= BLOCK)
-        chacha_block(state->key, number++, out);
     if (!bytes)
         return;
+    for (; bytes >= BLOCK; out += BLOCK, bytes -= BLOCK)
+        chacha_block(state->key, number++, out);
     chacha_block(state->key, number, fresh);
     chacha_block(state->key, number + 1, fresh + BLOCK);
     memcpy(state->batch, fresh, BATCH);
@@ -869,7 +868,8 @@ static void read_script(void)
 }
 
 #ifdef DUTIES
-/* An event, and its numbers where they are at most two and all of its fields; of others the fields are read again. */
+/* An event, and its numbers where they are at most two and all of its fields; of others the fields are read again. Bytes
+   beside a number may be spelt as one. */
 struct event {
     enum word word;
     int has_numbers;
@@ -886,7 +886,7 @@ static void read_event(struct event *event)
     event->at = at;
     for (int i = 0; i < 2 && *at == ' '; i++)
         event->numbers[i] = read_number();
-    event->has_numbers = *at == '\n';
+    event->has_numbers = *at == '\n' && event->word != ADD && event->word != DEVICE && event->word != VMFORK;
     while (*at != '\n')
         at++;
 }

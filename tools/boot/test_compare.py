@@ -12,7 +12,7 @@ class Compared(unittest.TestCase):
         self.assertEqual(compare.values_of("1 01020304\n7 aa\n"), [(1, "01020304"), (7, "aa")])
 
     def test_equal_and_other(self):
-        self.assertEqual(compare.compare([(1, "01020304"), (1, "0102"), (1, "0103")], TRANSCRIPT), ([0, 1], [2]))
+        self.assertEqual(compare.compare([(1, "01020304"), (1, "0102"), (1, "0103")], TRANSCRIPT), ([0], [1, 2]))
 
     def test_call_that_failed_is_not_equal(self):
         self.assertEqual(compare.compare([(2, "")], TRANSCRIPT), ([], [0]))

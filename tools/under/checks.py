@@ -93,6 +93,19 @@ def problem_of_record(path):
     return "" if status == 2 or out == "yes\n" else "rng check says " + out + err
 
 
+def mixed_of(path):
+    """What the caller's way `mixed` prints, where it was given the bytes of the record."""
+    script, transcript = record_of(path)
+    lines, total = [], 0
+    for event, its in zip(script.split("\n")[3:], [line.split(" ") for line in transcript.split("\n")[1:]]):
+        if event.startswith("read "):
+            got = b"" if its[4] == "-" else bytes.fromhex(its[4])
+            for one in got:
+                total = (total * 31 + one) % 2**32
+            lines.append(f"{len(got) if its[2] == 'ok' else -1} {total}\n")
+    return "".join(lines)
+
+
 def drawn(path):
     """Of each request of a record its answer and its bytes, but for the eight bytes that malloc asks for itself."""
     script, transcript = record_of(path)
@@ -214,7 +227,7 @@ def check_prologue():
     problem = problem_of_record(path) if ran[0] == 0 and lengths[-4:-1] != [] and 5 in lengths and 7 in lengths else str(ran)
     tell("short reads of a file, a reseed and another CPU between", problem)
     for lines, where in ((["add 00 256", "", "nonsense"], "line 3"), (["wait"], "line 1"), (["fork 1"], "as a whole"),
-                         (["credit 07"], "line 1")):
+                         (["credit 07"], "line 1"), (["short 0"], "line 1")):
         status, out, err = under("--prologue", prologue(*lines), "true")
         tell(f"a prologue is refused: {lines[-1]}", "" if (status, out) == (125, "") and where in err else err)
     status, out, err = under("--prologue", "/nowhere", "true")
@@ -259,7 +272,10 @@ def check_windows():
     made = prologue(*[line for pair in zip(steps, acts) for line in pair])
     for name, words in (("preloaded", []), ("static", [STATIC] if os.path.exists(STATIC) else [])):
         ran = under("--prologue", made, "--record", path, *(words or [CALLER]), "mixed")
-        tell(f"{name}: reads of all lengths over a long prologue", problem_of_record(path) if ran[0] == 0 else str(ran[2]))
+        problem = problem_of_record(path) if ran[0] == 0 else str(ran[2])
+        if not problem and name == "preloaded" and ran[1] != mixed_of(path):
+            problem = "the program got other bytes than the record has"
+        tell(f"{name}: reads of all lengths over a long prologue", problem)
 
 
 def check_unserved():

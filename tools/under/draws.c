@@ -109,9 +109,12 @@ static long take_locked(struct draws *draws, struct request wish, const unsigned
 }
 
 long draws_take(struct draws *draws, struct request wish, const unsigned char **data) {
-    // One who was killed while it held the lock had not changed the list, or had changed it wholly.
-    if (pthread_mutex_lock(&draws->lock) == EOWNERDEAD)
+    if (pthread_mutex_lock(&draws->lock) == EOWNERDEAD) {
+        // One who was killed while it held the lock may have taken a draw that no request in the list has, and the front
+        // may still be at work for it. The front's answer comes behind that, and sets right what was taken.
         pthread_mutex_consistent(&draws->lock);
+        ask_front(0);
+    }
     return take_locked(draws, wish, data);
 }
 

@@ -54,6 +54,8 @@ class Prologue:
                 continue
             if word in ("cpus", "wait", "short") and not rest.isdecimal():
                 raise Failed(f"{path}: line {number}: {word} wants one number")
+            if word == "short" and not 1 <= int(rest) <= LONGEST:
+                raise Failed(f"{path}: line {number}: short wants a number from 1 to {LONGEST}")
             if word == "cpus":
                 self.cpus = int(rest)
             elif word == "wait":
@@ -162,6 +164,7 @@ class Draws:
                 self.widest = max(self.widest, length)
             self.requests.append((len(self.events), fields, got))
             self.add(f"uread {length}" if WORDS[word] == "uread" else f"{WORDS[word]} {length} {flags}")
+        self.put(at=self.taken, room_left=max(0, BYTES - self.bytes))
 
     def add(self, event):
         self.events.append(event)

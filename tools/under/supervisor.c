@@ -63,11 +63,9 @@ static int install_filter(void) {
     struct sock_fprog filter = {.len = sizeof code / sizeof *code, .filter = code};
     if (prctl(PR_SET_NO_NEW_PRIVS, 1, 0, 0, 0))
         return -1;
+    // A request that was taken is not given up for a signal: else one might be served that was asked again.
     unsigned long flags = SECCOMP_FILTER_FLAG_NEW_LISTENER | SECCOMP_FILTER_FLAG_WAIT_KILLABLE_RECV;
-    long listener = syscall(SYS_seccomp, SECCOMP_SET_MODE_FILTER, flags, &filter);
-    if (listener < 0 && errno == EINVAL)
-        listener = syscall(SYS_seccomp, SECCOMP_SET_MODE_FILTER, SECCOMP_FILTER_FLAG_NEW_LISTENER, &filter);
-    return (int)listener;
+    return (int)syscall(SYS_seccomp, SECCOMP_SET_MODE_FILTER, flags, &filter);
 }
 
 // One file descriptor goes to the other end.
@@ -103,7 +101,7 @@ static void run_program(int over, char **words) {
     prctl(PR_SET_PDEATHSIG, SIGKILL, 0, 0, 0);
     int listener = install_filter();
     if (listener < 0 || pass(over, listener))
-        draws_fail("the kernel takes no filter that hands calls over: Linux 5.5 with seccomp is needed");
+        draws_fail("the kernel takes no filter that hands calls over: Linux 5.19 with seccomp is needed");
     close(listener);
     unsetenv("RNG_UNDER");
     execvp(*words, words);
@@ -224,6 +222,9 @@ static void answer(struct draws *draws, int listener, struct seccomp_notif *aske
     static struct call call;
     said->id = asked->id;
     if (read_call(asked, &call)) {
+        // Who asked may have been killed, and its number be another's by now.
+        if (ioctl(listener, SECCOMP_IOCTL_NOTIF_ID_VALID, &asked->id))
+            return;
         long got = serve(draws, &call);
         said->val = got < 0 ? 0 : got;
         said->error = got == OVER ? -EINTR : got < 0 ? (int)got : 0;
@@ -233,7 +234,19 @@ static void answer(struct draws *draws, int listener, struct seccomp_notif *aske
     ioctl(listener, SECCOMP_IOCTL_NOTIF_SEND, said); // fails where the one who asked was killed
 }
 
-// Serves until nobody is left that is under the filter.
+static pid_t program;
+static volatile sig_atomic_t is_over; // the program has ended, and a signal says not to wait for those that it left
+static void take(int number) {
+    int kept = errno;
+    siginfo_t ended = {0};
+    if (!waitid(P_PID, (id_t)program, &ended, WEXITED | WNOHANG | WNOWAIT) && ended.si_pid)
+        is_over = 1;
+    else if (number == SIGTERM || number == SIGHUP)
+        kill(program, number);
+    errno = kept;
+}
+
+// Serves until nobody is left that is under the filter, or who is left is not waited for.
 static void supervise(struct draws *draws, int listener) {
     struct seccomp_notif_sizes sizes;
     if (syscall(SYS_seccomp, SECCOMP_GET_NOTIF_SIZES, 0, &sizes))
@@ -243,7 +256,7 @@ static void supervise(struct draws *draws, int listener) {
     struct seccomp_notif_resp *said = malloc(out > sizeof *said ? out : sizeof *said);
     if (!asked || !said)
         draws_fail("there is not enough memory");
-    for (;;) {
+    while (!is_over) {
         struct pollfd wait = {.fd = listener, .events = POLLIN};
         if (poll(&wait, 1, -1) < 0 && errno != EINTR)
             draws_fail("the kernel hands nothing over any more");
@@ -258,12 +271,6 @@ static void supervise(struct draws *draws, int listener) {
     free(said);
 }
 
-static pid_t program;
-static void pass_on(int number) {
-    if (program > 0)
-        kill(program, number);
-}
-
 int main(int count, char **words) {
     struct draws *draws = draws_map();
     int ends[2], status;
@@ -275,10 +282,9 @@ int main(int count, char **words) {
     close(ends[1]);
     int listener = program < 0 ? -1 : receive(ends[0]);
     if (listener >= 0) {
-        (void)signal(SIGINT, SIG_IGN);
-        (void)signal(SIGQUIT, SIG_IGN);
-        (void)signal(SIGTERM, pass_on);
-        (void)signal(SIGHUP, pass_on);
+        static const int taken[] = {SIGINT, SIGQUIT, SIGTERM, SIGHUP};
+        for (size_t at = 0; at < sizeof taken / sizeof *taken; at++)
+            sigaction(taken[at], &(struct sigaction){.sa_handler = take}, NULL);
         supervise(draws, listener);
     }
     if (program < 0 || waitpid(program, &status, 0) != program)

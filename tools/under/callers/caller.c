@@ -71,6 +71,11 @@ static void files(void) {
     stream = fdopen(100, "rb");
     show("fdopen", (long)fread(bytes, 1, 40, stream), bytes);
     fclose(stream);
+    file = open("/dev/urandom", O_RDONLY);
+    stream = fdopen(file, "r");
+    dup2(open("/dev/null", O_RDONLY), file);
+    show("moved", (long)fread(bytes, 1, 8, stream), bytes);
+    fclose(stream);
     int pipe_ends[2];
     if (pipe(pipe_ends) || write(pipe_ends[1], "plain", 5) != 5)
         exit(1);
