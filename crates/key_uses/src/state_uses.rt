@@ -1,7 +1,7 @@
 //! What the entries of a vgetrandom state put to use.
 ghost use Rattle.std.specs.Prelude.{ℕ, ◌≡◌, ◌≤◌, ◌+◌, ◌*◌, ◌^◌, ◌++◌, IfOk, OnOk, OnErr};
 ghost use Rattle.key_names.specs.StateList.{NamedState, state_start, state_step};
-ghost use Rattle.key_uses.specs.StateKeys.{StateStands};
+ghost use Rattle.key_uses.specs.StateKeys.{StateStands, IsRefilledOut};
 ghost use Rattle.key_uses.specs.ToldFrom.{told_from};
 ghost use Rattle.key_uses.specs.UsedAt.{state_used_at};
 
