@@ -7,12 +7,10 @@ use Rattle.key_names.specs.Texts.ScriptGrammar.{Script, WellFormed}
 use Rattle.key_names.specs.SeenLine.{SeenLine}
 use Rattle.key_names.specs.Texts.TranscriptGrammar.{UnderOwnNumber}
 use Rattle.key_names.proofs.Samples.Lines.{AllFit}
-use Rattle.key_names.proofs.Uses.BookUses.{lawful_is_disjoint}
-use Rattle.key_names.proofs.Values.PrintedNamed.{transcript_prints_named}
-use Rattle.key_names.proofs.Transcripts.TranscriptLaws.{transcript_is_lawful}
 use Rattle.lane_table.specs.declared.view.View.{View}
 use Rattle.caller_run.specs.Laws.{LawfulRuns}
-use Rattle.rng_tool.specs.Outcome.{IsRunOf}
+use Rattle.transcript_check.specs.Judged.{IsSound}
+use Rattle.transcript_check.proofs.Sound.{lawful_is_sound}
 
 -- the lines of a caller have its number
 own_lines : (c n : ℕ) (events : List Event) (lines : List SeenLine) → LinesFit c n events lines
@@ -39,11 +37,5 @@ as_many c (events ∷ callers) [] fit = absurd fit
 as_many c (events ∷ callers) (lines ∷ t) fit = omega (arith, as_many (suc c) callers t fit.1)
 
 pub run_of : (script : Script) (t : List (List SeenLine)) → WellFormed script → (w : View) × LawfulRuns script t w →
-    IsRunOf script t
-run_of script t ok ran = record {
-  book = _;
-  meanings = _;
-  lawful = ran.1.transcript;
-  disjoint = lawful_is_disjoint _ (transcript_is_lawful _ _ _ _ ran.1.transcript);
-  printed = transcript_prints_named _ _ _ _ ok ran.1.transcript;
-}
+    IsSound script t
+run_of script t well ran = lawful_is_sound script t well _ _ ran.1.transcript

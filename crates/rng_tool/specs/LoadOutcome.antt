@@ -5,7 +5,7 @@ use Rattle.key_names.specs.declared.lines.Data.TheVariants.{Bytes}
 use Rattle.key_names.specs.SeenLine.{SeenLine, bytes_shown}
 use Rattle.key_names.specs.Texts.TranscriptGrammar.{all_lines}
 use Rattle.event_script.specs.LoadScript.{load_script}
-use Rattle.rng_tool.specs.Outcome.{IsRunOf}
+use Rattle.transcript_check.specs.Judged.{IsSound}
 use Rattle.rng_tool.specs.declared.load.Load.{Load}
 use Rattle.tool_ends.specs.Ends.{EndsWith}
 use Rattle.tool_ends.specs.declared.status.Status.{Status}
@@ -40,7 +40,7 @@ data_len _ = 0
 -- and says that it was checked
 pub record LoadOf (start callers events : ℕ) (output : List ℕ) : Type 0 where
   pub lines : List (List SeenLine)
-  pub run : IsRunOf (load_script start callers events) lines
+  pub run : IsSound (load_script start callers events) lines
   pub told : output ≡ load_line callers (sum_by length (load_script start callers events).callers)
       (length (bytes_shown (all_lines lines)))
 

@@ -1,10 +1,5 @@
 -- What a run of the program promises for each way to end.
 use Rattle.std.specs.Prelude.{ℕ, ◌≡◌, List, [], ◌∷◌, Option, Some, String, string_bytes, codes, map}
-use Rattle.key_names.specs.Book.{Book, lists_of}
-use Rattle.key_names.specs.IsTranscript.{IsTranscriptBy}
-use Rattle.key_names.specs.Uses.{IsDisjoint}
-use Rattle.key_names.specs.Meaning.{CallMeaning}
-use Rattle.key_names.specs.PrintedBytes.{PrintsNamed}
 use Rattle.key_names.specs.SeenLine.{SeenLine}
 use Rattle.key_names.specs.Texts.ScriptFaults.{first_fault}
 use Rattle.key_names.specs.Texts.ScriptGrammar.{Script, IsScript}
@@ -14,20 +9,12 @@ use Rattle.tool_ends.specs.Pairs.{refusal_line}
 use Rattle.tool_ends.specs.Reads.{ReadsEnds}
 use Rattle.tool_ends.specs.declared.status.Status.{Status}
 use Rattle.tool_ends.specs.declared.status.Status.TheVariants.{Done, No, Usage, ReadFault, WriteFault, Refused, NoMemory}
+use Rattle.transcript_check.specs.Judged.{IsSound}
 
--- the lines are a lawful transcript for a script; its book puts no byte of a key to use twice, and what they show are
--- bytes of named keys, none of them twice
-pub record IsRunOf (script : Script) (lines : List (List SeenLine)) : Type 0 where
-  pub book : Book
-  pub meanings : List (List CallMeaning)
-  pub lawful : IsTranscriptBy script lines book meanings
-  pub disjoint : IsDisjoint (lists_of book)
-  pub printed : PrintsNamed script lines book meanings
-
--- the output is the text of such a transcript
+-- the output is the text of a transcript that is sound for the script
 pub record RunOf (script : Script) (output : List ℕ) : Type 0 where
   pub lines : List (List SeenLine)
-  pub run : IsRunOf script lines
+  pub run : IsSound script lines
   pub written : IsTranscriptText output lines
 
 -- the input has a first fault, and the output is its line

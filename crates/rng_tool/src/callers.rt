@@ -2,7 +2,7 @@
 ghost use Rattle.std.specs.Prelude.{IfOk};
 ghost use Rattle.key_names.specs.Texts.ScriptGrammar.{WellFormed};
 ghost use Rattle.key_names.specs.Texts.TranscriptGrammar.{IsTranscriptText, transcript_text};
-ghost use Rattle.rng_tool.specs.Outcome.{IsRunOf};
+ghost use Rattle.transcript_check.specs.Judged.{IsSound};
 
 use caller_run::run_on_new_table;
 use event_script::Script;
@@ -24,7 +24,7 @@ pub(crate) fn transcript_of<R: Threads + Wait + Sync, G: Gate>(
     gate: &G,
 ) -> Result<Transcript, NoMemory>
     requires { WellFormed script.now }
-    ensures run { IfOk result (λ t. IsRunOf script.now t) }
+    ensures run { IfOk result (λ t. IsSound script.now t) }
     ensures text { IfOk result (λ t. IsTranscriptText (transcript_text t) t) }
 {
     let transcript = run_on_new_table(rt, alloc, script, gate)?;

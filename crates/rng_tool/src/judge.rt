@@ -1,15 +1,19 @@
 //! The commands `check` and `replay`: a script with a transcript behind it in, what is said of it out.
-ghost use Rattle.std.specs.Prelude.{◌≡◌, ◌⊎◌, IfSome, Some};
+ghost use Rattle.std.specs.Prelude.{◌≡◌, ◌⊎◌, IfOk, IfSome, Some};
 ghost use Rattle.io_edges.specs.Faults.{Rose};
 ghost use Rattle.key_names.specs.Texts.ScriptGrammar.{WellFormed};
 ghost use Rattle.rng_tool.specs.JudgeOutcome.{IsJudge, JudgeEnds, SaidOf, word_of, yes_line};
 ghost use Rattle.tool_ends.specs.Reads.{WritesEnds};
+ghost use Rattle.transcript_check.specs.Judged.{IsJudged};
 
+use crate::rerun::is_rerun;
 use arrayvec::ArrayString;
 use event_script::Script;
-use io_edges::{Failed, Sink, Source};
+use io_edges::{Failed, NoMemory, Sink, Source};
 use serial_replay::replay::{Replayed, replay};
 use std::alloc::Global;
+use std::sync::Wait;
+use std::thread::Threads;
 use tool_ends::pair::read_pair;
 use tool_ends::short_lines::{ShortLine, no_line};
 use tool_ends::{Status, put_line, put_refusal};
@@ -58,15 +62,37 @@ fn yes_line() -> ShortLine
     line
 }
 
-// Whether the transcript is lawful.
-fn say_checked<K: Sink>(alloc: Global, script: &Script, t: &Transcript, sink: &mut K) -> Status
+// Whether a transcript is lawful. Where another run makes it, it is, and no clause has to be looked at.
+fn verdict_on<R: Threads + Wait + Sync>(
+    rt: &R,
+    alloc: Global,
+    script: &Script,
+    t: &Transcript,
+) -> Result<Verdict, NoMemory>
+    requires { WellFormed script.now }
+    ensures { IfOk result (λ verdict. IsJudged script.now t.now verdict) }
+{
+    if is_rerun(rt, alloc, script, t)? {
+        return Ok(Verdict::Yes);
+    }
+    Ok(check(alloc, script, t)?)
+}
+
+// Says whether a transcript is lawful.
+fn say_checked<R: Threads + Wait + Sync, K: Sink>(
+    rt: &R,
+    alloc: Global,
+    script: &Script,
+    t: &Transcript,
+    sink: &mut K,
+) -> Status
     requires { WellFormed script.now }
     ensures ends { WritesEnds (SaidOf Judge.Check script.now t.now) result (K.held sink.old) (K.held sink.new) }
     ensures cut { result ≡ Status.WriteFault → Rose (K.faults sink.old) (K.faults sink.new) }
     ensures silent { result ≡ Status.NoMemory → sink.new ≡ sink.old }
     ensures not_counted { (result ≡ Status.WriteFault → ⊥) → K.faults sink.new ≡ K.faults sink.old }
 {
-    match check(alloc, script, t) {
+    match verdict_on(rt, alloc, script, t) {
         Ok(Verdict::Yes) => put_line(Status::Done, &yes_line(), sink),
         Ok(Verdict::No(clause)) => put_line(Status::No, &no_line(clause.number()), sink),
         Err(_) => Status::NoMemory,
@@ -92,7 +118,8 @@ fn say_replayed<K: Sink>(alloc: Global, script: &Script, t: &Transcript, sink: &
 }
 
 // What is asked of a transcript.
-fn say<K: Sink>(
+fn say<R: Threads + Wait + Sync, K: Sink>(
+    rt: &R,
     alloc: Global,
     judge: Judge,
     script: &Script,
@@ -106,13 +133,14 @@ fn say<K: Sink>(
     ensures not_counted { (result ≡ Status.WriteFault → ⊥) → K.faults sink.new ≡ K.faults sink.old }
 {
     match judge {
-        Judge::Check => say_checked(alloc, script, t, sink),
+        Judge::Check => say_checked(rt, alloc, script, t, sink),
         Judge::Replay => say_replayed(alloc, script, t, sink),
     }
 }
 
 /// Says what is asked of the script and the transcript that the source gives, or refuses the script.
-pub(crate) fn judge_input<S: Source, K: Sink>(
+pub(crate) fn judge_input<R: Threads + Wait + Sync, S: Source, K: Sink>(
+    rt: &R,
     alloc: Global,
     judge: Judge,
     source: &mut S,
@@ -127,7 +155,7 @@ pub(crate) fn judge_input<S: Source, K: Sink>(
     ensures not_counted { (result ≡ Status.WriteFault → ⊥) → K.faults sink.new ≡ K.faults sink.old }
 {
     match read_pair(alloc, source) {
-        Ok((script, t)) => say(alloc, judge, &script, &t, sink),
+        Ok((script, t)) => say(rt, alloc, judge, &script, &t, sink),
         Err(why) => put_refusal(why, sink),
     }
 }

@@ -21,6 +21,7 @@ mod feed;
 mod judge;
 mod kept;
 mod load;
+mod rerun;
 mod run;
 mod run_script;
 #[cfg(test)]

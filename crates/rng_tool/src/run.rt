@@ -37,7 +37,7 @@ use tool_ends::{Status, end_output};
 ///   script.
 /// - `check`: the input is a script, which its first line `end` ends, and then a transcript. The output is `yes` where
 ///   the transcript is lawful for the script, and `no K` where clause K is the first that fails. Faults of the script
-///   are told as in a run; no caller is started.
+///   are told as in a run; no thread is started.
 /// - `replay`: the input is the same. The output is the one lawful transcript with these lines, words and steps,
 ///   whatever answers and data were read; or `no K`, where the text is no transcript's (clause 1), or lines, marks,
 ///   forms or looks fail.
@@ -56,7 +56,7 @@ use tool_ends::{Status, end_output};
 /// The last three begin with a new table of one CPU; before draws and forks a sample of 32 bytes makes it ready.
 ///
 /// The gate is called before each event of each caller, and not before a script is accepted; of `feed`, before each
-/// sample of each feeder.
+/// sample of each feeder; of `check`, not at all.
 ///
 /// - `Usage`: the words are no command, and nothing is read or written.
 /// - `ReadFault`: the source failed. Nothing is written.
@@ -119,7 +119,7 @@ pub fn run<R: Threads + Wait + Sync, S: Source, K: Sink, G: Gate>(
     match Command::of(words) {
         None => Status::Usage,
         Some(Command::Run) => end_output(run_input(rt, alloc, source, sink, gate), sink),
-        Some(Command::Judge(judge)) => end_output(judge_input(alloc, judge, source, sink), sink),
+        Some(Command::Judge(judge)) => end_output(judge_input(rt, alloc, judge, source, sink), sink),
         Some(Command::Load(load)) => end_output(run_load(rt, alloc, load, sink, gate), sink),
         Some(Command::Draw(draw)) => end_output(run_draw(rt, alloc, draw, sink), sink),
         Some(Command::Vfork(vfork)) => end_output(run_vfork(rt, alloc, vfork, sink), sink),

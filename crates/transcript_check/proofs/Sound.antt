@@ -1,14 +1,15 @@
 -- What a check tells, from what was made of the lines.
-use Rattle.std.proofs.Common.{◌≡◌, ℕ, ◌≤◌, List, [], ◌∷◌, max, refl, subst, ap, ◌∙◌, arith}
+use Rattle.std.proofs.Common.{◌≡◌, ℕ, ◌≤◌, List, [], ◌∷◌, max, refl, subst, ap, arith}
 use Rattle.std.specs.Prelude.{◌↔◌, IsTrue}
 use Rattle.key_names.specs.BaseList.{base_after}
-use Rattle.key_names.specs.Book.{lists_of}
+use Rattle.key_names.specs.Book.{Book, lists_of}
 use Rattle.key_names.specs.Deeds.{Deed, looked, at_pool, at_base, at_cpu, nothing_there, deeds_of}
 use Rattle.key_names.specs.History.{LooksStand, caller_orders}
 use Rattle.key_names.specs.CallerOrders.{LooksFrom}
-use Rattle.key_names.specs.IsTranscript.{IsTranscript, IsTranscriptBy, MadeBook, SeenStands, FirstFails}
+use Rattle.key_names.specs.IsTranscript.{IsTranscript, IsTranscriptBy, FirstFails}
 use Rattle.key_names.specs.IsTranscript.{answers_clause, data_clause, looks_clause}
 use Rattle.key_names.specs.IsTranscript.{AnswersStand, DataStand, script_calls}
+use Rattle.key_names.specs.Meaning.{CallMeaning}
 use Rattle.key_names.specs.Texts.ScriptGrammar.{Script, WellFormed}
 use Rattle.key_names.specs.SeenLine.{SeenLine}
 use Rattle.key_names.specs.VreadSteps.{NeverFall, looks_of}
@@ -62,29 +63,21 @@ looks_rise reseeds deeds h = behind_first 0 (looks_of deeds)
 
 module _ (script : Script) (t : List (List SeenLine)) (well : WellFormed script) where
   -- a lawful transcript is sound
-  sound : (made : MadeBook script t) → AnswersStand script t made.meanings → DataStand script t made.meanings →
-      SeenStands script t (lists_of made.book) → IsSound script t
-  sound made answers shown looks =
-      let lawful : IsTranscriptBy script t made.book made.meanings = record {
-        lines = made.lines;
-        marks = made.marks;
-        forms = made.forms;
-        answers = answers;
-        shown = shown;
-        looks = looks;
-      } in record {
-        book = made.book;
-        meanings = made.meanings;
-        lawful = lawful;
-        disjoint = lawful_is_disjoint (lists_of made.book) (transcript_is_lawful script t made.book made.meanings lawful);
-        printed = transcript_prints_named script t made.book made.meanings well lawful;
-        rising = each_weaker
-            (λ order. LooksStand (base_after (lists_of made.book).base).generation [] (deeds_of (lists_of made.book) order))
-            (λ order. NeverFall (looks_of (deeds_of (lists_of made.book) order)))
-            (caller_orders (script_calls script t))
-            (λ order h. looks_rise (base_after (lists_of made.book).base).generation (deeds_of (lists_of made.book) order) h)
-            looks;
-      }
+  pub lawful_is_sound : (book : Book) (meanings : List (List CallMeaning)) → IsTranscriptBy script t book meanings →
+      IsSound script t
+  lawful_is_sound book meanings lawful = record {
+    book = book;
+    meanings = meanings;
+    lawful = lawful;
+    disjoint = lawful_is_disjoint (lists_of book) (transcript_is_lawful script t book meanings lawful);
+    printed = transcript_prints_named script t book meanings well lawful;
+    rising = each_weaker
+        (λ order. LooksStand (base_after (lists_of book).base).generation [] (deeds_of (lists_of book) order))
+        (λ order. NeverFall (looks_of (deeds_of (lists_of book) order)))
+        (caller_orders (script_calls script t))
+        (λ order h. looks_rise (base_after (lists_of book).base).generation (deeds_of (lists_of book) order) h)
+        lawful.looks;
+  }
 
   module _ (m : Made Same) (a : AllMade (IsCompared t) script t m) where
     abbrev Answers : Type 0
@@ -109,7 +102,14 @@ module _ (script : Script) (t : List (List SeenLine)) (well : WellFormed script)
     other_looks same same' fall = (a.made, answers.1 same, shown.1 same', (λ stand. fall (a.looks.1 stand)))
 
     pub all_same : Answers → Data → IsTrue m.looks_stand → IsSound script t
-    all_same same same' stand = sound a.made (answers.1 same) (shown.1 same') (a.looks.0 stand)
+    all_same same same' stand = lawful_is_sound a.made.book a.made.meanings (record {
+      lines = a.made.lines;
+      marks = a.made.marks;
+      forms = a.made.forms;
+      answers = answers.1 same;
+      shown = shown.1 same';
+      looks = a.looks.0 stand;
+    })
 
 -- the verdict is the only one
 
