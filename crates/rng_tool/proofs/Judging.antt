@@ -1,18 +1,24 @@
 -- What is said of a script and of the transcript behind it, as what their text calls for.
-use Rattle.std.proofs.Common.{◌≡◌, ℕ, List, sym, subst, refl, inl, inr}
+use Rattle.std.proofs.Common.{◌≡◌, ℕ, Bool, List, Option, sym, subst, refl, inl, inr}
+use Rattle.std.specs.Prelude.{Result, Ok, Err, IfOk, IsTrue}
 use Rattle.key_names.specs.IsTranscript.{HasLines, clause_number, lines_clause}
 use Rattle.key_names.specs.Texts.ScriptGrammar.{Script}
 use Rattle.key_names.specs.SeenLine.{SeenLine}
 use Rattle.key_names.specs.Texts.TranscriptGrammar.{TranscriptFits, transcript_text}
 use Rattle.serial_replay.specs.Replayed.{IsTheTranscript}
-use Rattle.tool_ends.specs.Pairs.{FailsAsText, IsNoPair, IsPair, RefusalOf, behind, no_line}
+use Rattle.tool_ends.specs.Behind.{HoldsText, IsApart}
+use Rattle.tool_ends.specs.Pairs.{FailsAsText, IsNoPair, IsPair, RefusalEnds, RefusalOf, behind, no_line}
+use Rattle.tool_ends.specs.Reads.{WritesEnds}
+use Rattle.tool_ends.specs.declared.behind.Behind.{Behind}
 use Rattle.tool_ends.specs.declared.pair.NoPair.{NoPair}
 use Rattle.tool_ends.specs.declared.pair.NoPair.TheVariants.{ReadFault as SourceFails, Refused as FirstFault, NoTranscript, TooManyLines, NoMemory as Unread}
 use Rattle.tool_ends.specs.declared.status.Status.{Status}
 use Rattle.tool_ends.specs.declared.status.Status.TheVariants.{Done, No, Usage, ReadFault, WriteFault, Refused, NoMemory}
-use Rattle.rng_tool.specs.JudgeOutcome.{Fails, GivesBack, IsClause, JudgeCalls, SaidOf}
+use Rattle.rng_tool.specs.JudgeOutcome.{Fails, GivesBack, IsClause, JudgeCalls, SaidOf, yes_line}
+use Rattle.rng_tool.specs.Outcome.{RunOf}
 use Rattle.rng_tool.specs.declared.judge.Judge.{Judge}
 use Rattle.rng_tool.specs.declared.judge.Judge.TheVariants.{Check, Replay}
+use Rattle.tool_ends.proofs.Inputs.{wider}
 use Rattle.rng_tool.proofs.Runs.{under_own_number}
 
 -- what was made is the text of the transcript that it is
@@ -86,3 +92,36 @@ none_said judge input (FirstFault fault) is s o said = subst (λ status. JudgeCa
 none_said judge input NoTranscript is s o said = text_said judge input 1 is s o said
 none_said judge input TooManyLines is s o said = text_said judge input 2 is.0 s o said
 none_said judge input Unread is s o said = absurd said
+
+-- what is said of the kept text is said of the text that it is
+pub known_by : {E : Type 0} (judge : Judge) (script : Script) (behind : Behind) (kept : List ℕ) (answer : Result Bool E) →
+    judge ≡ Check → ((text : List ℕ) → HoldsText text behind → text ≡ kept) →
+    IfOk answer (λ is. IsTrue is → RunOf script kept) →
+    IfOk answer (λ is. IsTrue is → (judge ≡ Check) × ((text : List ℕ) → HoldsText text behind → RunOf script text))
+known_by judge script behind kept (Ok is) asked only run =
+    λ yes. (asked, λ text holds. subst (RunOf script) (sym (only text holds)) (run yes))
+known_by judge script behind kept (Err e) asked only run = tt
+
+-- a text that another run writes is that of a lawful transcript
+pub rerun_said : (judge : Judge) (input : List ℕ) (script : Script) (text : Behind) → IsApart input script text →
+    judge ≡ Check → RunOf script (behind input) → JudgeCalls judge input Done yes_line
+rerun_said judge input script text apart is run = subst (λ j. JudgeCalls j input Done yes_line) (sym is) (record {
+  script = script;
+  lines = run.lines;
+  pair = record { short = apart.short; is_script = apart.is_script; text = run.written };
+  says = record { sound = run.run; line = refl };
+})
+
+-- what was written of a text that is not read is said of the input
+pub refusal_said : (judge : Judge) (input : List ℕ) (why : NoPair) → IsNoPair input why → (status : Status)
+    (held held_after : Option (List ℕ)) → RefusalEnds why status held held_after →
+    WritesEnds (JudgeCalls judge input) status held held_after
+refusal_said judge input SourceFails none status held held_after e = absurd none
+refusal_said judge input (FirstFault fault) none status held held_after e =
+    wider _ (JudgeCalls judge input) (none_said judge input (FirstFault fault) none) status held held_after e
+refusal_said judge input NoTranscript none status held held_after e =
+    wider _ (JudgeCalls judge input) (none_said judge input NoTranscript none) status held held_after e
+refusal_said judge input TooManyLines none status held held_after e =
+    wider _ (JudgeCalls judge input) (none_said judge input TooManyLines none) status held held_after e
+refusal_said judge input Unread none status held held_after e =
+    wider _ (JudgeCalls judge input) (none_said judge input Unread none) status held held_after e

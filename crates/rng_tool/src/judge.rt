@@ -1,10 +1,11 @@
 //! The commands `check` and `replay`: a script with a transcript behind it in, what is said of it out.
-ghost use Rattle.std.specs.Prelude.{◌≡◌, ◌⊎◌, IfOk, IfSome, Some};
+ghost use Rattle.std.specs.Prelude.{◌≡◌, ◌⊎◌, ◌≤◌, ◌^◌, List, ℕ, length, IfOk, IfSome, IsTrue, Some};
 ghost use Rattle.io_edges.specs.Faults.{Rose};
 ghost use Rattle.key_names.specs.Texts.ScriptGrammar.{WellFormed};
-ghost use Rattle.rng_tool.specs.JudgeOutcome.{IsJudge, JudgeEnds, SaidOf, word_of, yes_line};
+ghost use Rattle.rng_tool.specs.JudgeOutcome.{IsJudge, JudgeCalls, JudgeEnds, SaidOf, word_of, yes_line};
+ghost use Rattle.rng_tool.specs.Outcome.{RunOf};
+ghost use Rattle.tool_ends.specs.Behind.{HoldsText, IsApart};
 ghost use Rattle.tool_ends.specs.Reads.{WritesEnds};
-ghost use Rattle.transcript_check.specs.Judged.{IsJudged};
 
 use crate::rerun::is_rerun;
 use arrayvec::ArrayString;
@@ -14,7 +15,8 @@ use serial_replay::replay::{Replayed, replay};
 use std::alloc::Global;
 use std::sync::Wait;
 use std::thread::Threads;
-use tool_ends::pair::read_pair;
+use tool_ends::behind::Behind;
+use tool_ends::pair::read_apart;
 use tool_ends::short_lines::{ShortLine, no_line};
 use tool_ends::{Status, put_line, put_refusal};
 use transcript_check::check::{Verdict, check};
@@ -62,37 +64,15 @@ fn yes_line() -> ShortLine
     line
 }
 
-// Whether a transcript is lawful. Where another run makes it, it is, and no clause has to be looked at.
-fn verdict_on<R: Threads + Wait + Sync>(
-    rt: &R,
-    alloc: Global,
-    script: &Script,
-    t: &Transcript,
-) -> Result<Verdict, NoMemory>
-    requires { WellFormed script.now }
-    ensures { IfOk result (λ verdict. IsJudged script.now t.now verdict) }
-{
-    if is_rerun(rt, alloc, script, t)? {
-        return Ok(Verdict::Yes);
-    }
-    Ok(check(alloc, script, t)?)
-}
-
-// Says whether a transcript is lawful.
-fn say_checked<R: Threads + Wait + Sync, K: Sink>(
-    rt: &R,
-    alloc: Global,
-    script: &Script,
-    t: &Transcript,
-    sink: &mut K,
-) -> Status
+// Whether the transcript is lawful.
+fn say_checked<K: Sink>(alloc: Global, script: &Script, t: &Transcript, sink: &mut K) -> Status
     requires { WellFormed script.now }
     ensures ends { WritesEnds (SaidOf Judge.Check script.now t.now) result (K.held sink.old) (K.held sink.new) }
     ensures cut { result ≡ Status.WriteFault → Rose (K.faults sink.old) (K.faults sink.new) }
     ensures silent { result ≡ Status.NoMemory → sink.new ≡ sink.old }
     ensures not_counted { (result ≡ Status.WriteFault → ⊥) → K.faults sink.new ≡ K.faults sink.old }
 {
-    match verdict_on(rt, alloc, script, t) {
+    match check(alloc, script, t) {
         Ok(Verdict::Yes) => put_line(Status::Done, &yes_line(), sink),
         Ok(Verdict::No(clause)) => put_line(Status::No, &no_line(clause.number()), sink),
         Err(_) => Status::NoMemory,
@@ -118,8 +98,7 @@ fn say_replayed<K: Sink>(alloc: Global, script: &Script, t: &Transcript, sink: &
 }
 
 // What is asked of a transcript.
-fn say<R: Threads + Wait + Sync, K: Sink>(
-    rt: &R,
+fn say<K: Sink>(
     alloc: Global,
     judge: Judge,
     script: &Script,
@@ -133,8 +112,55 @@ fn say<R: Threads + Wait + Sync, K: Sink>(
     ensures not_counted { (result ≡ Status.WriteFault → ⊥) → K.faults sink.new ≡ K.faults sink.old }
 {
     match judge {
-        Judge::Check => say_checked(rt, alloc, script, t, sink),
+        Judge::Check => say_checked(alloc, script, t, sink),
         Judge::Replay => say_replayed(alloc, script, t, sink),
+    }
+}
+
+// Whether the text is what another run writes, so that nothing else has to be looked at.
+fn is_known<R: Threads + Wait + Sync>(
+    rt: &R,
+    alloc: Global,
+    judge: Judge,
+    script: &Script,
+    behind: &Behind,
+) -> Result<bool, NoMemory>
+    requires { WellFormed script.now }
+    ensures { IfOk result (λ is. IsTrue is
+        → (judge ≡ Judge.Check) × ((text : List ℕ) → HoldsText text behind.now → RunOf script.now text)) }
+{
+    match (judge, behind.text()) {
+        (Judge::Check, Some(text)) => is_rerun(rt, alloc, script, text),
+        _ => Ok(false),
+    }
+}
+
+// Says what is asked of a script and of the text behind it.
+fn say_of_text<R: Threads + Wait + Sync, K: Sink>(
+    rt: &R,
+    alloc: Global,
+    judge: Judge,
+    script: &Script,
+    behind: Behind,
+    sink: &mut K,
+) -> Status
+    requires well { WellFormed script.now }
+    requires short { (text : List ℕ) × HoldsText text behind × (length text ≤ 2 ^ 31) }
+    ensures ends { (input : List ℕ) → IsApart input script.now behind
+        → WritesEnds (JudgeCalls judge input) result (K.held sink.old) (K.held sink.new) }
+    ensures was_read { result ≡ Status.ReadFault → ⊥ }
+    ensures cut { result ≡ Status.WriteFault → Rose (K.faults sink.old) (K.faults sink.new) }
+    ensures silent { result ≡ Status.NoMemory → sink.new ≡ sink.old }
+    ensures not_counted { (result ≡ Status.WriteFault → ⊥) → K.faults sink.new ≡ K.faults sink.old }
+{
+    match is_known(rt, alloc, judge, script, &behind) {
+        Ok(true) => return put_line(Status::Done, &yes_line(), sink),
+        Ok(false) => {}
+        Err(NoMemory) => return Status::NoMemory,
+    }
+    match behind.transcript(alloc) {
+        Ok(t) => say(alloc, judge, script, &t, sink),
+        Err(why) => put_refusal(why, sink),
     }
 }
 
@@ -154,8 +180,8 @@ pub(crate) fn judge_input<R: Threads + Wait + Sync, S: Source, K: Sink>(
     ensures cut { result ≡ Status.WriteFault → Rose (K.faults sink.old) (K.faults sink.new) }
     ensures not_counted { (result ≡ Status.WriteFault → ⊥) → K.faults sink.new ≡ K.faults sink.old }
 {
-    match read_pair(alloc, source) {
-        Ok((script, t)) => say(rt, alloc, judge, &script, &t, sink),
+    match read_apart(alloc, source) {
+        Ok((script, behind)) => say_of_text(rt, alloc, judge, &script, behind, sink),
         Err(why) => put_refusal(why, sink),
     }
 }

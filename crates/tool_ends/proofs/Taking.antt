@@ -6,16 +6,16 @@ use Rattle.std.proofs.KnownBytes.{Consumes-trans}
 use Rattle.key_names.specs.declared.faults.ScriptFault.{ScriptFault}
 use Rattle.key_names.specs.Texts.ScriptFaults.{first_fault, front}
 use Rattle.key_names.specs.Texts.ScriptGrammar.{Script, IsScript}
-use Rattle.transcript_text.specs.Feeding.{HasFed, most_lines}
-use Rattle.transcript_text.specs.declared.reader.Reader.{Reader}
-use Rattle.transcript_text.specs.declared.transcript.Transcript.{Transcript}
 use Rattle.std.specs.Io.KnownBytes.{Consumes, IsAtEnd}
+use Rattle.tool_ends.specs.Behind.{GivesApart, HoldsText, IsApart}
 use Rattle.tool_ends.specs.Intakes.{HasEndLine, HasTaken, IsFound}
+use Rattle.tool_ends.specs.declared.behind.Behind.{Behind}
 use Rattle.tool_ends.specs.declared.intake.Intake.{Intake}
-use Rattle.tool_ends.specs.Pairs.{GivesNoPair, GivesPair, IsNoPair, IsPair, WasRead, behind}
+use Rattle.tool_ends.specs.Pairs.{GivesNoPair, IsNoPair, IsNoText, WasRead, behind, most_input}
 use Rattle.tool_ends.specs.declared.pair.NoPair.{NoPair}
 use Rattle.tool_ends.specs.declared.pair.NoPair.TheVariants.{ReadFault, Refused, NoTranscript, TooManyLines, NoMemory}
 use Rattle.tool_ends.proofs.FrontStays.{front_stays}
+use Rattle.tool_ends.proofs.Pairs.{no_pair}
 
 pub on_ok : {T E A B : Type 0} (answer : Result T E) → (A → B) → OnOk answer A → OnOk answer B
 on_ok (Ok x) f a = f a
@@ -26,18 +26,16 @@ both_ok A B (Ok x) a b = (a, b)
 both_ok A B (Err e) a b = tt
 
 -- more of what stands behind a script
-pub found_on : (input piece : List ℕ) (script : Script) (reader next : Reader) → HasEndLine input
-    → IsFound input script reader → HasFed (behind input ++ piece) next → most_lines next ≡ most_lines reader
-    → IsFound (input ++ piece) script next
-found_on input piece script reader next end f fed same =
+pub found_on : (input piece : List ℕ) (script : Script) (text next : Behind) → HasEndLine input
+    → IsFound input script text → HoldsText (behind input ++ piece) next → IsFound (input ++ piece) script next
+found_on input piece script text next end f holds =
     let stays = front_stays input piece end in
     let more : behind (input ++ piece) ≡ behind input ++ piece =
     ap (λ text. drop (length text) (input ++ piece)) stays ∙ drop-append-le (length (front input)) input piece f.within in
     record {
       is_script = subst (IsScript script) (sym stays) f.is_script;
       within = omega (arith, f.within, ap length stays, length-append input piece);
-      fed = subst (λ text. HasFed text next) (sym more) fed;
-      most = same ∙ f.most;
+      holds = subst (λ all. HoldsText all next) (sym more) holds;
     }
 
 pub fault_stays : (input piece : List ℕ) (fault : ScriptFault) → HasEndLine input
@@ -96,11 +94,11 @@ long_read left now input read len = record {
   front = front_read left now input read len;
 }
 
-pub gives_pair : {E : Type 0} (left after : Option (List ℕ)) (input : List ℕ) (answer : Result (Script × Transcript) E)
-    → WasRead left after input → IfOk answer (λ pair. IsPair input pair.0 pair.1)
-    → IfOk answer (λ pair. GivesPair left after pair.0 pair.1)
-gives_pair left after input (Ok pair) read is = (input, read, is)
-gives_pair left after input (Err e) read is = tt
+pub gives_apart : {E : Type 0} (left after : Option (List ℕ)) (input : List ℕ) (answer : Result (Script × Behind) E)
+    → WasRead left after input → IfOk answer (λ both. IsApart input both.0 both.1)
+    → IfOk answer (λ both. GivesApart left after both.0 both.1)
+gives_apart left after input (Ok both) read is = (input, read, is)
+gives_apart left after input (Err e) read is = tt
 
 no_input : (left after : Option (List ℕ)) (input : List ℕ) (why : NoPair) → WasRead left after input
     → length input ≤ 100663297 → IsNoPair input why → GivesNoPair left after why
@@ -115,6 +113,14 @@ pub gives_no_pair : {T : Type 0} (left after : Option (List ℕ)) (input : List 
     → IfErr answer (λ why. GivesNoPair left after why)
 gives_no_pair left after input (Ok x) read few is = tt
 gives_no_pair left after input (Err why) read few is = no_input left after input why read few is
+
+-- nor is one with a text behind its script that is not read
+pub no_pair_for : {T : Type 0} (input : List ℕ) (script : Script) (why : NoPair) (answer : Result T NoPair)
+    → length input ≤ most_input → IsScript script (front input) → IsNoText (behind input) why
+    → IsErrAnd answer (λ e. e ≡ why) → IfErr answer (λ e. IsNoPair input e)
+no_pair_for input script why (Ok x) short is not same = tt
+no_pair_for input script why (Err e) short is not same =
+    subst (IsNoPair input) (sym same) (no_pair input script short is why not)
 
 -- what broke the reading off is told as what it is
 pub broken_off : {T : Type 0} (left after : Option (List ℕ)) (why : NoPair) (answer : Result T NoPair)

@@ -3,9 +3,9 @@ use Rattle.std.specs.Prelude.{ℕ, ◌≡◌, ◌≤◌, ◌-◌, List, [], ◌�
 use Rattle.key_names.specs.Texts.ScriptFaults.{first_fault, front}
 use Rattle.key_names.specs.Texts.ScriptGrammar.{Script, IsScript}
 use Rattle.memchr.specs.Find.{OccursAt}
-use Rattle.transcript_text.specs.Feeding.{HasFed, most_lines}
-use Rattle.transcript_text.specs.declared.reader.Reader.{Reader}
-use Rattle.tool_ends.specs.Pairs.{behind, most_script_lines}
+use Rattle.tool_ends.specs.Behind.{HoldsText}
+use Rattle.tool_ends.specs.Pairs.{behind}
+use Rattle.tool_ends.specs.declared.behind.Behind.{Behind}
 use Rattle.tool_ends.specs.declared.intake.Intake.{Intake}
 use Rattle.tool_ends.specs.declared.intake.Intake.TheVariants.{Front, Opened as IsOpen}
 use Rattle.tool_ends.specs.declared.intake.Opened.{Opened}
@@ -19,16 +19,15 @@ HasEndLine bytes = (place : ℕ) × OccursAt bytes (10 ∷ 101 ∷ 110 ∷ 100 �
 abbrev pub last_part : ℕ → List ℕ → List ℕ
 last_part count bytes = drop (length bytes - count - 4) bytes
 
--- the input begins with the script, and the reader was fed what stands behind it
-pub record IsFound (input : List ℕ) (script : Script) (reader : Reader) : Type 0 where
+-- the input begins with the script, and this is the text behind it
+pub record IsFound (input : List ℕ) (script : Script) (text : Behind) : Type 0 where
   pub is_script : IsScript script (front input)
   pub within : length (front input) ≤ length input
-  pub fed : HasFed (behind input) reader
-  pub most : most_lines reader ≡ most_script_lines
+  pub holds : HoldsText (behind input) text
 
 -- what was seen of the script in front
 abbrev pub IsOpened : List ℕ → Opened → Type 0
-IsOpened input (Found script reader) = IsFound input script reader
+IsOpened input (Found script text) = IsFound input script text
 IsOpened input (Faulty fault) = first_fault (front input) ≡ Some fault
 
 -- the input that was taken: all of it is kept only while no line `end` is there

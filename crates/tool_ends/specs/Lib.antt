@@ -1,3 +1,4 @@
+pub mod Behind
 pub mod Ends
 pub mod Intakes
 pub mod Pairs

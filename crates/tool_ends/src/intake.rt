@@ -1,25 +1,24 @@
 //! An input that is taken piece by piece: a script, and the text of a transcript behind it.
-ghost use Rattle.std.specs.Prelude.{◌≡◌, ◌+◌, ◌≤◌, ◌^◌, ◌++◌, ℕ, List, length, IfErr, IfOk, OnOk};
-ghost use Rattle.key_names.specs.Texts.TranscriptGrammar.{IsTranscriptText};
-ghost use Rattle.transcript_text.specs.Feeding.{HasFed, most_lines};
+ghost use Rattle.std.specs.Prelude.{◌+◌, ◌≤◌, ◌^◌, ◌++◌, ℕ, List, length, IfErr, IfOk, OnOk};
+ghost use Rattle.tool_ends.specs.Behind.{IsApart};
 ghost use Rattle.tool_ends.specs.Intakes.{HasEndLine, HasTaken, IsOpened};
-ghost use Rattle.tool_ends.specs.Pairs.{IsNoPair, IsNoText, IsPair, most_input, most_script_lines};
+ghost use Rattle.tool_ends.specs.Pairs.{IsNoPair, most_input};
 
+use crate::behind::Behind;
 use crate::pair::NoPair;
 use crate::script_end::has_end_line;
 use event_script::{Script, ScriptError, read_front};
 use key_names::ScriptFault;
 use std::alloc::{AllocError, Global};
-use transcript_text::{Reader, TextError, Transcript};
 
-/// The most lines of a script's transcript: one for each of 65,536 events, and the last one of each of 64 callers.
-const MOST_LINES: u32 = 65_600;
+/// The most bytes of a kept text for each event of its script.
+const MOST_OF_EVENT: usize = 256;
 
 /// The front of an input, in which a script was looked for.
 #[derive(Drop)]
 pub(crate) enum Opened {
-    /// The script, and a reader that was fed what stands behind it.
-    Script(Script, Reader),
+    /// The script, and the text behind it.
+    Script(Script, Behind),
     /// The script's first fault.
     Faulty(ScriptFault),
 }
@@ -32,6 +31,16 @@ pub(crate) enum Intake {
     Opened(Opened),
 }
 
+// How long the text behind a script may grow to be kept: that of one caller whose lines are short, since it may be what a
+// run writes.
+fn most_kept(script: &Script) -> usize {
+    if script.callers() == 1 {
+        script.events(0).len().saturating_mul(MOST_OF_EVENT)
+    } else {
+        0
+    }
+}
+
 fn open(alloc: Global, input: &[u8]) -> Result<Opened, AllocError>
     requires { length input.now ≤ 2 ^ 31 }
     ensures { IfOk result (IsOpened input.now) }
@@ -41,24 +50,9 @@ fn open(alloc: Global, input: &[u8]) -> Result<Opened, AllocError>
         Err(ScriptError::Fault(fault)) => return Ok(Opened::Faulty(fault)),
         Err(ScriptError::NoMemory) => return Err(AllocError),
     };
-    let mut reader = Reader::new(alloc, MOST_LINES)?;
-    reader.feed(alloc, &input[len as usize..])?;
-    Ok(Opened::Script(script, reader))
-}
-
-// The transcript that a reader was fed.
-fn transcript_of(reader: Reader) -> Result<Transcript, NoPair>
-    requires short { (text : List ℕ) × HasFed text reader × (length text ≤ 2 ^ 31) }
-    requires most { most_lines reader ≡ most_script_lines }
-    ensures read { (text : List ℕ) → HasFed text reader → IfOk result (λ t. IsTranscriptText text t) }
-    ensures not_read { (text : List ℕ) → HasFed text reader → IfErr result (λ why. IsNoText text why) }
-{
-    match reader.finish() {
-        Ok(t) => Ok(t),
-        Err(TextError::Fault { .. }) => Err(NoPair::NoTranscript),
-        Err(TextError::TooManyLines) => Err(NoPair::TooManyLines),
-        Err(TextError::NoMemory) => Err(NoPair::NoMemory),
-    }
+    let mut text = Behind::nothing(alloc);
+    text.take(alloc, most_kept(&script), &input[len as usize..])?;
+    Ok(Opened::Script(script, text))
 }
 
 impl Opened {
@@ -70,28 +64,26 @@ impl Opened {
             → IsOpened (input ++ piece.now) self.new) }
     {
         match self {
-            Opened::Script(_, reader) => reader.feed(alloc, piece),
+            Opened::Script(script, text) => text.take(alloc, most_kept(script), piece),
             Opened::Faulty(_) => Ok(()),
         }
     }
 
-    fn finish(self) -> Result<(Script, Transcript), NoPair>
-        requires short { (input : List ℕ) × IsOpened input self × (length input ≤ 2 ^ 31) }
+    fn finish(self) -> Result<(Script, Behind), NoPair>
         ensures read { (input : List ℕ) → IsOpened input self → length input ≤ most_input
-            → IfOk result (λ pair. IsPair input pair.0 pair.1) }
+            → IfOk result (λ both. IsApart input both.0 both.1) }
         ensures not_read { (input : List ℕ) → IsOpened input self → length input ≤ most_input
             → IfErr result (λ why. IsNoPair input why) }
     {
         match self {
-            Opened::Script(script, reader) => Ok((script, transcript_of(reader)?)),
+            Opened::Script(script, text) => Ok((script, text)),
             Opened::Faulty(fault) => Err(NoPair::Refused(fault)),
         }
     }
 }
 
 impl Intake {
-    /// One more piece. Behind that in which the script's last line came no more is kept than the transcript, and a line
-    /// that is not whole yet.
+    /// One more piece.
     pub(crate) fn take(&mut self, alloc: Global, piece: &[u8]) -> Result<(), AllocError>
         requires short { (input : List ℕ) × HasTaken input self.old × (length input + length piece.now ≤ 2 ^ 31) }
         ensures { OnOk result ((input : List ℕ) → HasTaken input self.old → HasTaken (input ++ piece.now) self.new) }
@@ -109,11 +101,11 @@ impl Intake {
         }
     }
 
-    /// The script that was taken, and the transcript behind it.
-    pub(crate) fn finish(self, alloc: Global) -> Result<(Script, Transcript), NoPair>
+    /// The script that was taken, and the text behind it.
+    pub(crate) fn finish(self, alloc: Global) -> Result<(Script, Behind), NoPair>
         requires short { (input : List ℕ) × HasTaken input self × (length input ≤ 2 ^ 31) }
         ensures read { (input : List ℕ) → HasTaken input self → length input ≤ most_input
-            → IfOk result (λ pair. IsPair input pair.0 pair.1) }
+            → IfOk result (λ both. IsApart input both.0 both.1) }
         ensures not_read { (input : List ℕ) → HasTaken input self → length input ≤ most_input
             → IfErr result (λ why. IsNoPair input why) }
     {

@@ -1,9 +1,11 @@
 //! A script and a transcript behind it, read from one input.
 ghost use Rattle.std.specs.Prelude.{◌≡◌, ◌≤◌, IfErr, IfOk, OnOk};
 ghost use Rattle.io_edges.specs.Faults.{Rose};
+ghost use Rattle.tool_ends.specs.Behind.{GivesApart};
 ghost use Rattle.tool_ends.specs.Pairs.{GivesPair, GivesNoPair};
 ghost use Rattle.tool_ends.specs.declared.pair.NoPair.TheVariants.{NoMemory, ReadFault};
 
+use crate::behind::Behind;
 use crate::intake::Intake;
 use event_script::Script;
 use io_edges::{Failed, Source};
@@ -48,16 +50,16 @@ impl From<AllocError> for NoPair {
     }
 }
 
-/// The script that a source gives, and the transcript that is all that follows. The source is read to its end, or to one
-/// byte behind the most that there may be. Behind the piece in which the script's last line came, of the transcript's
-/// text no more is kept than a line that is not whole yet.
+/// The script that a source gives, and the text that is all that follows. The source is read to its end, or to one byte
+/// behind the most that there may be. The text of a script of one caller is kept while it has at most 256 bytes for each
+/// of the script's events. Of other texts, behind the piece in which the script's last line came, no more is kept than a
+/// line that is not whole yet, beside the lines that were read.
 ///
 /// # Errors
 ///
-/// [`NoPair`] says why the input was not read. Where the source failed, or memory ran out, the bytes that were taken are
-/// lost.
-pub fn read_pair<S: Source>(alloc: Global, source: &mut S) -> Result<(Script, Transcript), NoPair>
-    ensures read { IfOk result (λ pair. GivesPair (S.left source.old) (S.left source.new) pair.0 pair.1) }
+/// `ReadFault`, `Refused` and `NoMemory`. Where the source failed, or memory ran out, the bytes that were taken are lost.
+pub fn read_apart<S: Source>(alloc: Global, source: &mut S) -> Result<(Script, Behind), NoPair>
+    ensures read { IfOk result (λ both. GivesApart (S.left source.old) (S.left source.new) both.0 both.1) }
     ensures not_read { IfErr result (λ why. GivesNoPair (S.left source.old) (S.left source.new) why) }
     ensures read_fault { IfErr result (λ why. why ≡ NoPair.ReadFault → Rose (S.faults source.old) (S.faults source.new)) }
     ensures no_fault { IfErr result (λ why. (why ≡ NoPair.ReadFault → ⊥) → S.faults source.new ≡ S.faults source.old) }
@@ -79,4 +81,22 @@ pub fn read_pair<S: Source>(alloc: Global, source: &mut S) -> Result<(Script, Tr
         line: 0,
         kind: FaultKind::TooLong,
     }))
+}
+
+/// The script that a source gives, and the transcript that is all that follows, as [`read_apart`] reads them.
+///
+/// # Errors
+///
+/// [`NoPair`] says why the input was not read. Where the source failed, or memory ran out, the bytes that were taken are
+/// lost.
+pub fn read_pair<S: Source>(alloc: Global, source: &mut S) -> Result<(Script, Transcript), NoPair>
+    ensures read { IfOk result (λ pair. GivesPair (S.left source.old) (S.left source.new) pair.0 pair.1) }
+    ensures not_read { IfErr result (λ why. GivesNoPair (S.left source.old) (S.left source.new) why) }
+    ensures read_fault { IfErr result (λ why. why ≡ NoPair.ReadFault → Rose (S.faults source.old) (S.faults source.new)) }
+    ensures no_fault { IfErr result (λ why. (why ≡ NoPair.ReadFault → ⊥) → S.faults source.new ≡ S.faults source.old) }
+    ensures not_counted { OnOk result (S.faults source.new ≡ S.faults source.old) }
+{
+    let (script, text) = read_apart(alloc, source)?;
+    let t = text.transcript(alloc)?;
+    Ok((script, t))
 }

@@ -27,6 +27,7 @@ fn append_lane(piece: &mut Piece, lane: LaneId)
     }
 }
 
+#[inline(always)]
 #[tactic(auto, unfolding(key_names::specs::Texts::TranscriptGrammar::step_text))]
 fn append_step(piece: &mut Piece, step: &Step)
     requires { length piece.old + 63 ≤ 4096 }
@@ -48,6 +49,7 @@ fn append_step(piece: &mut Piece, step: &Step)
 }
 
 /// The steps, with commas between them.
+#[inline(always)]
 fn append_steps(piece: &mut Piece, steps: &[Step])
     requires room { length piece.old ≤ 1024 }
     requires few { length steps.now ≤ 20 }
@@ -84,6 +86,8 @@ fn append_answer(piece: &mut Piece, answer: Answer)
 }
 
 /// The line up to the space before its data.
+// A program that writes to two kinds of sinks would call it otherwise.
+#[inline(always)]
 #[tactic(auto, unfolding(crate::specs::Heads::head_text))]
 pub(crate) fn append_head(piece: &mut Piece, line: LineView<'_>)
     requires room { piece.old ≡ [] }

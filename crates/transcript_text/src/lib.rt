@@ -1,9 +1,9 @@
 //! The text of a transcript, written and read.
 //!
 //! What is read is a transcript exactly where the text is one, and otherwise the first faulty line is told. [`Reader`] is
-//! fed the text piece by piece; [`read`] reads one that is there as a whole. What is
-//! written of lines under their own callers' numbers is that text, or a prefix of it where the sink counted a fault; read
-//! again it is the same. [`CallerLines`] keeps what a caller tells, line by line, in memory that was taken before.
+//! fed the text piece by piece; [`read`] reads one that is there as a whole. What is written of lines is their text, or a
+//! prefix of it where the sink counted a fault; lines under their own callers' numbers are the same when they are read
+//! again. [`CallerLines`] keeps what a caller tells, line by line, in memory that was taken before.
 //!
 //! It stands on the grammar of `key_names` (`specs/Texts`), on how `event_script` reads words and numbers, and on the
 //! sinks of `io_edges`. Whether a transcript is lawful is not looked at.

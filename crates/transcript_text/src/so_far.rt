@@ -27,7 +27,7 @@ pub(crate) enum Stage {
     Faulty { line: u32 },
 }
 
-/// The lines of a text so far. Of more lines than `most` none is kept.
+/// The lines of a text so far. Of those past the first `most` none is kept.
 #[derive(Drop)]
 pub(crate) struct SoFar {
     pub(crate) stage: Stage,

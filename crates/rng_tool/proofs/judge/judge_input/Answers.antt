@@ -1,16 +1,27 @@
-use Rattle.tool_ends.proofs.Inputs.{wider}
+use Rattle.std.proofs.Common.{arith, length}
+use Rattle.std.proofs.lemmas.List.{length-drop}
+use Rattle.key_names.specs.Texts.ScriptFaults.{front}
+use Rattle.tool_ends.specs.Pairs.{behind}
 use Rattle.tool_ends.proofs.Refusing.{refused_of, said_of}
 use Rattle.rng_tool.specs.JudgeOutcome.{JudgeCalls}
 use Rattle.rng_tool.proofs.Inputs.{judge_is_limited}
-use Rattle.rng_tool.proofs.Judging.{none_said, pair_said}
+use Rattle.rng_tool.proofs.Judging.{none_said}
 use Rattle.rng_tool.proofs.judge.judge_input.Goals as goal
+
+pub say_of_text-requires-clause-short : goal.say_of_text-requires-clause-short
+say_of_text-requires-clause-short g c κs within =
+    let given = c.in-Ok.ensures.read in (
+      behind given.0,
+      given.2.holds,
+      omega (arith, length-drop (length (front given.0)) given.0, given.2.short),
+    )
 
 pub returns-in-Ok-clause-ends : goal.returns-in-Ok-clause-ends
 returns-in-Ok-clause-ends g c =
     let judge = c.args.judge in
     let given = c.in-Ok.ensures.read in
-    said_of (JudgeCalls judge) (judge_is_limited judge) _ _ _ _ given.0 given.1 c.say.result
-    (wider _ (JudgeCalls judge given.0) (pair_said judge given.0 _ _ given.2) _ _ _ c.say.ensures.ends)
+    said_of (JudgeCalls judge) (judge_is_limited judge) _ _ _ _ given.0 given.1 c.say_of_text.result
+    (c.say_of_text.ensures.ends given.0 given.2)
 
 pub returns-in-Err-clause-ends : goal.returns-in-Err-clause-ends
 returns-in-Err-clause-ends g c =

@@ -9,7 +9,7 @@ use Rattle.rng_tool.proofs.judge.say_checked.Goals as goal
 
 pub returns-in-Ok-No-clause-ends : goal.returns-in-Ok-No-clause-ends
 returns-in-Ok-No-clause-ends g c =
-    let fails = rw c.in-Ok-No.field-0-is at c.in-Ok-No.ensures in
+    let fails = rw c.in-Ok-No.field-0-is at c.in-Ok-No.ensures.judged in
     let Of = SaidOf Check c.args.script.now c.args.t.now in
     wider _ Of (the_answer Of No c.no_line.result.bytes
     (clause_of c.in-Ok-No.clause, fails, c.no_line.ensures ∙ ap no_line c.number.ensures)) _ _ _ c.put_line-in-Ok-No.ensures.ends

@@ -2,7 +2,7 @@ use Rattle.std.proofs.Common.{◌∙◌, ◌≡◌, [], ap, arith, length, subst
 use Rattle.std.specs.Prelude.{drop}
 use Rattle.std.proofs.lemmas.List.{length-drop, length-take, take_all}
 use Rattle.key_names.specs.Texts.ScriptFaults.{front}
-use Rattle.transcript_text.specs.Feeding.{HasFed}
+use Rattle.tool_ends.specs.Behind.{HoldsText}
 use Rattle.tool_ends.proofs.intake.open.Goals as goal
 
 pub returns : goal.returns
@@ -14,8 +14,7 @@ returns c =
     record {
       is_script = c.in-Ok.ensures.found;
       within = omega (arith, len, c.in-Ok.ensures.within);
-      fed = subst (λ text. HasFed text c.feed.new.self)
+      holds = subst (λ all. HoldsText all c.take.new.self)
           (take_all _ (drop at input) (omega (arith, length-drop at input)) ∙ ap (λ n. drop n input) (sym len))
-          (c.in_ok-feed.ensures.fed [] c.in_ok-reader.ensures.fed);
-      most = c.in_ok-feed.ensures.most ∙ c.in_ok-reader.ensures.most;
+          (c.in_ok-take.ensures [] c.nothing-text.ensures);
     }

@@ -1,13 +1,27 @@
-use Rattle.tool_ends.proofs.Taking.{both_ok, fault_stays, found_on, on_ok}
+use Rattle.std.proofs.Common.{arith, length}
+use Rattle.std.proofs.lemmas.List.{length-drop}
+use Rattle.key_names.specs.Texts.ScriptFaults.{front}
+use Rattle.tool_ends.specs.Pairs.{behind}
+use Rattle.tool_ends.proofs.Taking.{fault_stays, found_on, on_ok}
 use Rattle.tool_ends.proofs.intake.Opened.take.Goals as goal
+
+pub take-requires : goal.take-requires
+take-requires c =
+    let asked = c.requires.short in
+    let found = rw c.in-Script.is at asked.2 in record {
+      short = (
+        behind asked.0,
+        found.holds,
+        omega (arith, length-drop (length (front asked.0)) asked.0, asked.3),
+      );
+    }
 
 pub returns-in-Script : goal.returns-in-Script
 returns-in-Script c =
-    on_ok c.feed.result (λ e input end opened.
+    on_ok c.take.result (λ more input end opened.
     let found = rw c.in-Script.is at opened in
-    found_on input c.args.piece.now c.in-Script.field-0 c.in-Script.reader c.feed.new.self end found
-    (e.0 _ found.fed) e.1)
-    (both_ok _ _ c.feed.result c.feed.ensures.fed c.feed.ensures.most)
+    found_on input c.args.piece.now c.in-Script.script c.in-Script.text c.take.new.self end found
+    (more (behind input) found.holds)) c.take.ensures
 
 pub returns-in-Faulty : goal.returns-in-Faulty
 returns-in-Faulty c = λ input end opened.

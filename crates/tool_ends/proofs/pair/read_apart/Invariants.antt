@@ -1,6 +1,6 @@
 use Rattle.std.proofs.Common.{◌-◌, ◌≡◌, ◌≤◌}
 use Rattle.tool_ends.proofs.Taking.{TakenSoFar}
-use Rattle.tool_ends.proofs.pair.read_pair.Given as goal
+use Rattle.tool_ends.proofs.pair.read_apart.Given as goal
 
 abbrev pub invariant-loop-taken : goal.invariant-loop-taken
 invariant-loop-taken g l = record {
