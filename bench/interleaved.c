@@ -1,5 +1,6 @@
 /*
- * interleaved RUNS SCRIPT OUT FIRST.. -- SECOND..: how long two commands take on a script, each run RUNS times, in turn.
+ * interleaved RUNS SCRIPT OUT FIRST.. -- SECOND.. [-- INPUT]: how long two commands take on a script, each run RUNS times,
+ * in turn. Where there is an INPUT, the second command reads that file in place of the script.
  *
  * Their output goes to /dev/null, to a pipe that is read at once, or to a file, as OUT says: null, pipe or a file's name.
  * It prints the medians of the first command's wall seconds and of the second's, those of their processor seconds (user
@@ -23,7 +24,7 @@ struct measured {
     long resident;
 };
 
-static const char *script, *out;
+static const char *out;
 
 static void fail(const char *what)
 {
@@ -39,12 +40,12 @@ static double now(void)
     return (double)at.tv_sec + (double)at.tv_nsec / 1e9;
 }
 
-static void child(char **command, int into)
+static void child(char **command, const char *input, int into)
 {
-    int from = open(script, O_RDONLY);
+    int from = open(input, O_RDONLY);
 
     if (from < 0 || dup2(from, 0) < 0 || dup2(into, 1) < 0)
-        fail(script);
+        fail(input);
     execv(command[0], command);
     fail(command[0]);
 }
@@ -58,7 +59,7 @@ static void drain(int from)
         ;
 }
 
-static void run(char **command, struct measured *all, int number)
+static void run(char **command, const char *input, struct measured *all, int number)
 {
     int is_pipe = !strcmp(out, "pipe"), ends[2] = {-1, -1}, into, status;
     struct rusage usage;
@@ -75,7 +76,7 @@ static void run(char **command, struct measured *all, int number)
     if (pid < 0)
         fail("fork");
     if (!pid)
-        child(command, into);
+        child(command, input, into);
     close(into);
     if (is_pipe)
         drain(ends[0]);
@@ -105,24 +106,30 @@ static double median(double *times, int runs)
     return runs % 2 ? times[runs / 2] : (times[runs / 2 - 1] + times[runs / 2]) / 2;
 }
 
+/* The first word from `at` on that is `--`, or how many words there are. */
+static int behind(int at, int count, char **words)
+{
+    while (at < count && strcmp(words[at], "--"))
+        at++;
+    return at;
+}
+
 int main(int count, char **words)
 {
     static struct measured first, second;
-    int runs, at = 4;
+    int runs = count > 4 ? atoi(words[1]) : 0;
+    int at = behind(4, count, words), end = behind(at + 1, count, words);
 
-    while (at < count && strcmp(words[at], "--"))
-        at++;
-    runs = count > 4 ? atoi(words[1]) : 0;
-    if (at + 1 >= count || at == 4 || runs < 1 || runs > MOST_RUNS) {
-        fprintf(stderr, "usage: interleaved RUNS SCRIPT null|pipe|FILE FIRST.. -- SECOND..\n");
+    if (at == 4 || end <= at + 1 || (end < count && end != count - 2) || runs < 1 || runs > MOST_RUNS) {
+        fprintf(stderr, "usage: interleaved RUNS SCRIPT null|pipe|FILE FIRST.. -- SECOND.. [-- INPUT]\n");
         return 2;
     }
-    script = words[2];
     out = words[3];
     words[at] = NULL;
+    words[end] = NULL;
     for (int i = 0; i < runs; i++) {
-        run(words + 4, &first, i);
-        run(words + at + 1, &second, i);
+        run(words + 4, words[2], &first, i);
+        run(words + at + 1, end < count ? words[end + 1] : words[2], &second, i);
     }
     printf("%.4f %.4f %.4f %.4f %ld %ld\n", median(first.wall, runs), median(second.wall, runs),
            median(first.processor, runs), median(second.processor, runs), first.resident, second.resident);

@@ -6,7 +6,8 @@
 So many scripts are made, from the numbers FIRST, FIRST + 1 and so on, 0 if it is left out: a number always makes the same
 script and the same changes. The program is `rng` at the top of the repository, or the one that RNG names. Of each script:
 
-- what `rng run` wrote is lawful (`rng check` says yes);
+- what `rng run` wrote is lawful (`rng check` says yes), and so it is with later stamps, which of a single caller no run
+  writes;
 - with its answers and data blanked it is replayed as it was (`rng replay`);
 - with one field changed it is not lawful, and the check names one of the clauses that the change can break.
 
@@ -14,6 +15,7 @@ The status is 1 where one of them does not hold, and each is printed with the sc
 """
 import os
 import random
+import re
 import subprocess
 import sys
 
@@ -139,6 +141,8 @@ def judge(number):
     lines, found = transcript.split('\n')[1:-2], []
     if rng('check', script + transcript) != (0, 'yes\n'):
         found.append('its own transcript is not called lawful')
+    if rng('check', script + re.sub('@([0-9]+)', lambda stamp: '@%d' % (int(stamp[1]) + 3), transcript)) != (0, 'yes\n'):
+        found.append('with later stamps it is not called lawful')
     if rng('replay', script + text_of(map(blanked, lines))) != (0, transcript):
         found.append('its blanked transcript is not replayed as it was')
     draw = random.Random(number)
