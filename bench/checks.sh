@@ -1,7 +1,8 @@
 #!/bin/sh
 # What a check and a replay of a transcript take beside the run that wrote it: run by hand. Instructions are counted
 # (valgrind --tool=callgrind), and seconds are medians of runs in turn, for a machine that does nothing else: the run
-# writes to /dev/null, to a pipe and to a file, and the check reads the pair from a file. BENCH_RUNS says how many runs.
+# writes to /dev/null, to a pipe and to a file, and the check reads the pair from a file; its one line goes where the run's
+# output goes. BENCH_RUNS says how many runs, and BENCH_RNG names another build of the program.
 set -eu
 cd "$(dirname "$0")/.."
 . bench/built.sh

@@ -1,12 +1,11 @@
 -- What is said of a script and of the transcript behind it, as what their text calls for.
-use Rattle.std.proofs.Common.{◌≡◌, ℕ, Bool, List, Option, sym, subst, refl, inl, inr}
-use Rattle.std.specs.Prelude.{Result, Ok, Err, IfOk, IsTrue}
+use Rattle.std.proofs.Common.{◌≡◌, ℕ, List, Option, sym, subst, refl, inl, inr}
 use Rattle.key_names.specs.IsTranscript.{HasLines, clause_number, lines_clause}
 use Rattle.key_names.specs.Texts.ScriptGrammar.{Script}
 use Rattle.key_names.specs.SeenLine.{SeenLine}
 use Rattle.key_names.specs.Texts.TranscriptGrammar.{TranscriptFits, transcript_text}
 use Rattle.serial_replay.specs.Replayed.{IsTheTranscript}
-use Rattle.tool_ends.specs.Behind.{HoldsText, IsApart}
+use Rattle.tool_ends.specs.Behind.{IsApart}
 use Rattle.tool_ends.specs.Pairs.{FailsAsText, IsNoPair, IsPair, RefusalEnds, RefusalOf, behind, no_line}
 use Rattle.tool_ends.specs.Reads.{WritesEnds}
 use Rattle.tool_ends.specs.declared.behind.Behind.{Behind}
@@ -92,15 +91,6 @@ none_said judge input (FirstFault fault) is s o said = subst (λ status. JudgeCa
 none_said judge input NoTranscript is s o said = text_said judge input 1 is s o said
 none_said judge input TooManyLines is s o said = text_said judge input 2 is.0 s o said
 none_said judge input Unread is s o said = absurd said
-
--- what is said of the kept text is said of the text that it is
-pub known_by : {E : Type 0} (judge : Judge) (script : Script) (behind : Behind) (kept : List ℕ) (answer : Result Bool E) →
-    judge ≡ Check → ((text : List ℕ) → HoldsText text behind → text ≡ kept) →
-    IfOk answer (λ is. IsTrue is → RunOf script kept) →
-    IfOk answer (λ is. IsTrue is → (judge ≡ Check) × ((text : List ℕ) → HoldsText text behind → RunOf script text))
-known_by judge script behind kept (Ok is) asked only run =
-    λ yes. (asked, λ text holds. subst (RunOf script) (sym (only text holds)) (run yes))
-known_by judge script behind kept (Err e) asked only run = tt
 
 -- a text that another run writes is that of a lawful transcript
 pub rerun_said : (judge : Judge) (input : List ℕ) (script : Script) (text : Behind) → IsApart input script text →

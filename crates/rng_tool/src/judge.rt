@@ -1,5 +1,5 @@
 //! The commands `check` and `replay`: a script with a transcript behind it in, what is said of it out.
-ghost use Rattle.std.specs.Prelude.{◌≡◌, ◌⊎◌, ◌≤◌, ◌^◌, List, ℕ, length, IfOk, IfSome, IsTrue, Some};
+ghost use Rattle.std.specs.Prelude.{◌≡◌, ◌⊎◌, ◌≤◌, ◌^◌, List, ℕ, length, IfSome, IsTrue, Some};
 ghost use Rattle.io_edges.specs.Faults.{Rose};
 ghost use Rattle.key_names.specs.Texts.ScriptGrammar.{WellFormed};
 ghost use Rattle.rng_tool.specs.JudgeOutcome.{IsJudge, JudgeCalls, JudgeEnds, SaidOf, word_of, yes_line};
@@ -10,7 +10,7 @@ ghost use Rattle.tool_ends.specs.Reads.{WritesEnds};
 use crate::rerun::is_rerun;
 use arrayvec::ArrayString;
 use event_script::Script;
-use io_edges::{Failed, NoMemory, Sink, Source};
+use io_edges::{Failed, Sink, Source};
 use serial_replay::replay::{Replayed, replay};
 use std::alloc::Global;
 use std::sync::Wait;
@@ -117,21 +117,21 @@ fn say<K: Sink>(
     }
 }
 
-// Whether the text is what another run writes, so that nothing else has to be looked at.
-fn is_known<R: Threads + Wait + Sync>(
+// Whether a check is asked for, and the text is what another run of a single caller writes: then it is lawful.
+fn is_run_again<R: Threads + Wait + Sync>(
     rt: &R,
     alloc: Global,
     judge: Judge,
     script: &Script,
     behind: &Behind,
-) -> Result<bool, NoMemory>
+) -> bool
     requires { WellFormed script.now }
-    ensures { IfOk result (λ is. IsTrue is
-        → (judge ≡ Judge.Check) × ((text : List ℕ) → HoldsText text behind.now → RunOf script.now text)) }
+    ensures check { IsTrue result → judge ≡ Judge.Check }
+    ensures run { IsTrue result → (text : List ℕ) → HoldsText text behind.now → RunOf script.now text }
 {
     match (judge, behind.text()) {
-        (Judge::Check, Some(text)) => is_rerun(rt, alloc, script, text),
-        _ => Ok(false),
+        (Judge::Check, Some(text)) => script.callers() == 1 && is_rerun(rt, alloc, script, text),
+        _ => false,
     }
 }
 
@@ -153,10 +153,8 @@ fn say_of_text<R: Threads + Wait + Sync, K: Sink>(
     ensures silent { result ≡ Status.NoMemory → sink.new ≡ sink.old }
     ensures not_counted { (result ≡ Status.WriteFault → ⊥) → K.faults sink.new ≡ K.faults sink.old }
 {
-    match is_known(rt, alloc, judge, script, &behind) {
-        Ok(true) => return put_line(Status::Done, &yes_line(), sink),
-        Ok(false) => {}
-        Err(NoMemory) => return Status::NoMemory,
+    if is_run_again(rt, alloc, judge, script, &behind) {
+        return put_line(Status::Done, &yes_line(), sink);
     }
     match behind.transcript(alloc) {
         Ok(t) => say(alloc, judge, script, &t, sink),
@@ -180,7 +178,7 @@ pub(crate) fn judge_input<R: Threads + Wait + Sync, S: Source, K: Sink>(
     ensures cut { result ≡ Status.WriteFault → Rose (K.faults sink.old) (K.faults sink.new) }
     ensures not_counted { (result ≡ Status.WriteFault → ⊥) → K.faults sink.new ≡ K.faults sink.old }
 {
-    match read_apart(alloc, source) {
+    match read_apart(alloc, source, judge == Judge::Check) {
         Ok((script, behind)) => say_of_text(rt, alloc, judge, &script, behind, sink),
         Err(why) => put_refusal(why, sink),
     }

@@ -1,5 +1,5 @@
 -- The text behind a script, as it is kept or was fed to a reader.
-use Rattle.std.specs.Prelude.{ℕ, ◌≡◌, ◌≤◌, List, Option, length}
+use Rattle.std.specs.Prelude.{ℕ, ◌≡◌, ◌≤◌, List, Option, None, Some, length}
 use Rattle.key_names.specs.Texts.ScriptFaults.{front}
 use Rattle.key_names.specs.Texts.ScriptGrammar.{Script, IsScript}
 use Rattle.transcript_text.specs.Feeding.{HasFed, most_lines}
@@ -11,6 +11,11 @@ use Rattle.tool_ends.specs.declared.behind.Behind.TheVariants.{Kept, Fed}
 abbrev pub HoldsText : List ℕ → Behind → Type 0
 HoldsText text (Kept bytes) = text ≡ bytes.items
 HoldsText text (Fed reader) = HasFed text reader × (most_lines reader ≡ most_script_lines)
+
+-- the text, where it is kept
+abbrev pub kept_of : Behind → Option (List ℕ)
+kept_of (Kept bytes) = Some bytes.items
+kept_of (Fed reader) = None
 
 -- the input is a script, with this text behind it
 pub record IsApart (input : List ℕ) (script : Script) (text : Behind) : Type 0 where

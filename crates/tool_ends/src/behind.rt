@@ -2,7 +2,8 @@
 ghost use Rattle.std.specs.Prelude.{◌≡◌, ◌+◌, ◌≤◌, ◌^◌, ◌++◌, [], ℕ, List, length, IfErr, IfOk, IfSome, OnOk};
 ghost use Rattle.key_names.specs.Texts.TranscriptGrammar.{IsTranscriptText};
 ghost use Rattle.transcript_text.specs.Feeding.{HasFed, most_lines};
-ghost use Rattle.tool_ends.specs.Behind.{HoldsText};
+ghost use Rattle.std.specs.Option.{option_map};
+ghost use Rattle.tool_ends.specs.Behind.{HoldsText, kept_of};
 ghost use Rattle.tool_ends.specs.Pairs.{IsNoText, most_script_lines};
 
 use crate::pair::NoPair;
@@ -63,7 +64,9 @@ impl Behind {
         piece: &[u8],
     ) -> Result<(), AllocError>
         requires short { (text : List ℕ) × HoldsText text self.old × (length text + length piece.now ≤ 2 ^ 31) }
-        ensures { OnOk result ((text : List ℕ) → HoldsText text self.old → HoldsText (text ++ piece.now) self.new) }
+        ensures more { OnOk result ((text : List ℕ) → HoldsText text self.old
+            → HoldsText (text ++ piece.now) self.new) }
+        ensures few { OnOk result (IfSome (kept_of self.new) (λ text. length text ≤ most)) }
     {
         match self {
             Behind::Fed(reader) => reader.feed(alloc, piece),
@@ -80,7 +83,8 @@ impl Behind {
 
     /// The text, where it was kept.
     pub fn text(&self) -> Option<&[u8]>
-        ensures { IfSome result (λ kept. (text : List ℕ) → HoldsText text self.now → text ≡ kept.now) }
+        ensures kept { option_map (λ text. text.now) result ≡ kept_of self.now }
+        ensures only { IfSome result (λ kept. (text : List ℕ) → HoldsText text self.now → text ≡ kept.now) }
     {
         match self {
             Behind::Kept(text) => Some(text.as_slice()),

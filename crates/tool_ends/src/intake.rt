@@ -31,17 +31,17 @@ pub(crate) enum Intake {
     Opened(Opened),
 }
 
-// How long the text behind a script may grow to be kept: that of one caller whose lines are short, since it may be what a
-// run writes.
-fn most_kept(script: &Script) -> usize {
-    if script.callers() == 1 {
+// How long the text behind a script may grow to be kept, where that is asked: that of one caller whose lines are short,
+// since it may be what a run writes.
+fn most_kept(script: &Script, keeps: bool) -> usize {
+    if keeps && script.callers() == 1 {
         script.events(0).len().saturating_mul(MOST_OF_EVENT)
     } else {
         0
     }
 }
 
-fn open(alloc: Global, input: &[u8]) -> Result<Opened, AllocError>
+fn open(alloc: Global, keeps: bool, input: &[u8]) -> Result<Opened, AllocError>
     requires { length input.now ≤ 2 ^ 31 }
     ensures { IfOk result (IsOpened input.now) }
 {
@@ -51,20 +51,20 @@ fn open(alloc: Global, input: &[u8]) -> Result<Opened, AllocError>
         Err(ScriptError::NoMemory) => return Err(AllocError),
     };
     let mut text = Behind::nothing(alloc);
-    text.take(alloc, most_kept(&script), &input[len as usize..])?;
+    text.take(alloc, most_kept(&script, keeps), &input[len as usize..])?;
     Ok(Opened::Script(script, text))
 }
 
 impl Opened {
     // What stands behind the end of a script that was seen.
-    fn take(&mut self, alloc: Global, piece: &[u8]) -> Result<(), AllocError>
+    fn take(&mut self, alloc: Global, keeps: bool, piece: &[u8]) -> Result<(), AllocError>
         requires short { (input : List ℕ) × HasEndLine input × IsOpened input self.old
             × (length input + length piece.now ≤ 2 ^ 31) }
         ensures { OnOk result ((input : List ℕ) → HasEndLine input → IsOpened input self.old
             → IsOpened (input ++ piece.now) self.new) }
     {
         match self {
-            Opened::Script(script, text) => text.take(alloc, most_kept(script), piece),
+            Opened::Script(script, text) => text.take(alloc, most_kept(script, keeps), piece),
             Opened::Faulty(_) => Ok(()),
         }
     }
@@ -83,17 +83,22 @@ impl Opened {
 }
 
 impl Intake {
-    /// One more piece.
-    pub(crate) fn take(&mut self, alloc: Global, piece: &[u8]) -> Result<(), AllocError>
+    /// One more piece. The text behind the script is kept, where `keeps` asks for it and it is short.
+    pub(crate) fn take(
+        &mut self,
+        alloc: Global,
+        keeps: bool,
+        piece: &[u8],
+    ) -> Result<(), AllocError>
         requires short { (input : List ℕ) × HasTaken input self.old × (length input + length piece.now ≤ 2 ^ 31) }
         ensures { OnOk result ((input : List ℕ) → HasTaken input self.old → HasTaken (input ++ piece.now) self.new) }
     {
         match self {
-            Intake::Opened(opened) => opened.take(alloc, piece),
+            Intake::Opened(opened) => opened.take(alloc, keeps, piece),
             Intake::Front(input) => {
                 input.extend_from_slice(piece)?;
                 if has_end_line(input, piece.len()) {
-                    let opened = open(alloc, input)?;
+                    let opened = open(alloc, keeps, input)?;
                     *self = Intake::Opened(opened);
                 }
                 Ok(())
@@ -102,7 +107,7 @@ impl Intake {
     }
 
     /// The script that was taken, and the text behind it.
-    pub(crate) fn finish(self, alloc: Global) -> Result<(Script, Behind), NoPair>
+    pub(crate) fn finish(self, alloc: Global, keeps: bool) -> Result<(Script, Behind), NoPair>
         requires short { (input : List ℕ) × HasTaken input self × (length input ≤ 2 ^ 31) }
         ensures read { (input : List ℕ) → HasTaken input self → length input ≤ most_input
             → IfOk result (λ both. IsApart input both.0 both.1) }
@@ -111,7 +116,7 @@ impl Intake {
     {
         match self {
             Intake::Opened(opened) => opened.finish(),
-            Intake::Front(input) => open(alloc, &input)?.finish(),
+            Intake::Front(input) => open(alloc, keeps, &input)?.finish(),
         }
     }
 }

@@ -2,8 +2,9 @@
 //! answer an input of which no more is said.
 //!
 //! [`pair::read_pair`] reads a script with a transcript behind it, or says why there is none, and [`put_refusal`] answers
-//! so. [`pair::read_apart`] reads a script and leaves the text behind it as it is, where it is short. [`put_answer`], [`put_line`] and [`end_output`] write an answer and hand it on. `specs/Reads` says what a status
-//! promises of a source and a sink.
+//! so. [`pair::read_apart`] reads a script, and leaves the text behind it as it is where the script has one caller and the
+//! text is short. [`put_answer`], [`put_line`] and [`end_output`] write an answer and hand it on. `specs/Reads` says what a
+//! status promises of a source and a sink.
 //!
 //! It stands on `io_edges` for sources and sinks, and on `event_script` and `transcript_text` for what an input is.
 #![tactic(auto)]

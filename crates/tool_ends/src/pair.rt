@@ -51,14 +51,19 @@ impl From<AllocError> for NoPair {
 }
 
 /// The script that a source gives, and the text that is all that follows. The source is read to its end, or to one byte
-/// behind the most that there may be. The text of a script of one caller is kept while it has at most 256 bytes for each
-/// of the script's events. Of other texts, behind the piece in which the script's last line came, no more is kept than a
-/// line that is not whole yet, beside the lines that were read.
+/// behind the most that there may be. Where `keeps` asks for it, the text of a script of one caller is kept while it has at
+/// most 256 times as many bytes as the script has events. Of other texts, behind the piece in which the script's last line
+/// came, no more is kept than a line that is not whole yet, beside the lines that were read.
 ///
 /// # Errors
 ///
-/// `ReadFault`, `Refused` and `NoMemory`. Where the source failed, or memory ran out, the bytes that were taken are lost.
-pub fn read_apart<S: Source>(alloc: Global, source: &mut S) -> Result<(Script, Behind), NoPair>
+/// [`NoPair`] says why the input was not read; of the text behind the script nothing is told here. Where the source failed,
+/// or memory ran out, the bytes that were taken are lost.
+pub fn read_apart<S: Source>(
+    alloc: Global,
+    source: &mut S,
+    keeps: bool,
+) -> Result<(Script, Behind), NoPair>
     ensures read { IfOk result (λ both. GivesApart (S.left source.old) (S.left source.new) both.0 both.1) }
     ensures not_read { IfErr result (λ why. GivesNoPair (S.left source.old) (S.left source.new) why) }
     ensures read_fault { IfErr result (λ why. why ≡ NoPair.ReadFault → Rose (S.faults source.old) (S.faults source.new)) }
@@ -72,9 +77,9 @@ pub fn read_apart<S: Source>(alloc: Global, source: &mut S) -> Result<(Script, B
         let most = PIECE.min(MOST_PAIR_BYTES + 1 - taken);
         let count = source.take(&mut piece[..most])?;
         if count == 0 {
-            return intake.finish(alloc);
+            return intake.finish(alloc, keeps);
         }
-        intake.take(alloc, &piece[..count])?;
+        intake.take(alloc, keeps, &piece[..count])?;
         taken += count;
     }
     Err(NoPair::Refused(ScriptFault {
@@ -83,7 +88,8 @@ pub fn read_apart<S: Source>(alloc: Global, source: &mut S) -> Result<(Script, B
     }))
 }
 
-/// The script that a source gives, and the transcript that is all that follows, as [`read_apart`] reads them.
+/// The script that a source gives, and the transcript that is all that follows. The source is read as by [`read_apart`],
+/// and no text is kept.
 ///
 /// # Errors
 ///
@@ -96,7 +102,7 @@ pub fn read_pair<S: Source>(alloc: Global, source: &mut S) -> Result<(Script, Tr
     ensures no_fault { IfErr result (λ why. (why ≡ NoPair.ReadFault → ⊥) → S.faults source.new ≡ S.faults source.old) }
     ensures not_counted { OnOk result (S.faults source.new ≡ S.faults source.old) }
 {
-    let (script, text) = read_apart(alloc, source)?;
+    let (script, text) = read_apart(alloc, source, false)?;
     let t = text.transcript(alloc)?;
     Ok((script, t))
 }

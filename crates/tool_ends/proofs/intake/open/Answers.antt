@@ -16,5 +16,5 @@ returns c =
       within = omega (arith, len, c.in-Ok.ensures.within);
       holds = subst (λ all. HoldsText all c.take.new.self)
           (take_all _ (drop at input) (omega (arith, length-drop at input)) ∙ ap (λ n. drop n input) (sym len))
-          (c.in_ok-take.ensures [] c.nothing-text.ensures);
+          (c.in_ok-take.ensures.more [] c.nothing-text.ensures);
     }

@@ -21,7 +21,7 @@ returns-in-Script c =
     on_ok c.take.result (λ more input end opened.
     let found = rw c.in-Script.is at opened in
     found_on input c.args.piece.now c.in-Script.script c.in-Script.text c.take.new.self end found
-    (more (behind input) found.holds)) c.take.ensures
+    (more (behind input) found.holds)) c.take.ensures.more
 
 pub returns-in-Faulty : goal.returns-in-Faulty
 returns-in-Faulty c = λ input end opened.
