@@ -1,6 +1,6 @@
 //! Fields that spell bytes.
-ghost use Rattle.std.specs.Prelude.{◌≡◌, ◌*◌, ◌/◌, ◌%◌, ◌↔◌, [], true, IsTrue, IfOk, length, slice_index};
-ghost use Rattle.std.specs.Option.{option_map};
+ghost use Rattle.std.specs.Prelude.{◌≡◌, ◌*◌, ◌/◌, ◌%◌, ◌<◌, ◌↔◌, [], true, IsTrue, IfOk, Some, None, if◌then◌else◌, length, slice_index};
+ghost use Rattle.std.specs.Option.{is_some, option_map};
 ghost use Rattle.std.specs.Str.{bytes_eq};
 ghost use Rattle.hex.specs.Hex.{encode_lower, lower_digits};
 ghost use Rattle.key_names.specs.Texts.ScriptFaults.{bytes_of};
@@ -20,13 +20,14 @@ fn is_dash(field: &[u8]) -> bool
 fn is_lower_hex(field: &[u8]) -> bool
     ensures { IsTrue result ↔ AllLower field.now }
 {
-    let mut bad = false;
+    // Zero while each byte is a number or a letter. The compiler looks at many bytes at once.
+    let mut past = 0;
     for byte in field {
-        let number = byte.wrapping_sub(b'0') < 10;
-        let letter = byte.wrapping_sub(b'a') < 6;
-        bad |= !(number || letter);
+        let past_number = byte.wrapping_sub(b'0').saturating_sub(9);
+        let past_letter = byte.wrapping_sub(b'a').saturating_sub(5);
+        past = past.max(past_number.min(past_letter));
     }
-    !bad
+    past == 0
 }
 
 // A digit's low four bits are its value, and nine less for a letter, which alone has the bit of 64. The two digits are
@@ -40,7 +41,7 @@ fn byte_value(pair: [u8; 2]) -> u8
 {
     let digits = u16::from_le_bytes(pair);
     let values = (digits & 0x0f0f) + 9 * (digits / 64 & 0x0101);
-    (values % 256 * 16 + values / 256) as u8
+    ((16 * values + values / 256) % 256) as u8
 }
 
 fn write_bytes(out: &mut [u8], digits: &[u8])
@@ -52,6 +53,36 @@ fn write_bytes(out: &mut [u8], digits: &[u8])
     for i in 0..out.len() {
         out[i] = byte_value(pairs[i]);
     }
+}
+
+/// Whether a field spells bytes, two digits of lower-case hexadecimal each, or none by a dash.
+pub fn spells_bytes(field: &[u8]) -> bool
+    ensures { result ≡ is_some (bytes_of field.now) }
+{
+    if is_dash(field) {
+        return true;
+    }
+    if field.is_empty() {
+        return false;
+    }
+    if field.len() % 2 != 0 {
+        return false;
+    }
+    is_lower_hex(field)
+}
+
+/// Writes the bytes that a field spells over all of `out`, and answers whether it spells bytes. The field has two digits
+/// for each byte of `out`, and some.
+pub fn decode(field: &[u8], out: &mut [u8]) -> bool
+    requires some { 0 < length field.now }
+    requires twice { length field.now ≡ 2 * length out.old }
+    ensures { (if result then Some out.new else None) ≡ bytes_of field.now }
+{
+    if !is_lower_hex(field) {
+        return false;
+    }
+    write_bytes(out, field);
+    true
 }
 
 /// The bytes that a field spells, two digits of lower-case hexadecimal each, or none for a dash.
@@ -73,10 +104,9 @@ pub fn bytes_of(alloc: Global, field: &[u8]) -> Result<Option<Vec<u8>>, AllocErr
     if field.len() % 2 != 0 {
         return Ok(None);
     }
-    if !is_lower_hex(field) {
+    let mut bytes = vec![in alloc; 0; field.len() / 2]?;
+    if !decode(field, &mut bytes) {
         return Ok(None);
     }
-    let mut bytes = vec![in alloc; 0; field.len() / 2]?;
-    write_bytes(&mut bytes, field);
     Ok(Some(bytes))
 }

@@ -21,10 +21,6 @@ pub on_ok : {T E A B : Type 0} (answer : Result T E) → (A → B) → OnOk answ
 on_ok (Ok x) f a = f a
 on_ok (Err e) f a = tt
 
-pub both_ok : {T E : Type 0} (A B : Type 0) (answer : Result T E) → OnOk answer A → OnOk answer B → OnOk answer (A × B)
-both_ok A B (Ok x) a b = (a, b)
-both_ok A B (Err e) a b = tt
-
 -- more of what stands behind a script
 pub found_on : (input piece : List ℕ) (script : Script) (text next : Behind) → HasEndLine input
     → IsFound input script text → HoldsText (behind input ++ piece) next → IsFound (input ++ piece) script next

@@ -1,4 +1,4 @@
--- What a check answers.
+-- What a check answers, and what is promised of the lines of a run.
 use Rattle.std.specs.Prelude.{List}
 use Rattle.std.specs.List.{AllByRecursion}
 use Rattle.key_names.specs.Book.{Book, lists_of}

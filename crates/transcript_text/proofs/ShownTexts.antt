@@ -93,13 +93,11 @@ spells_as word text (Some shown) not is =
     let reads = reads_bytes word text shown not is in
     record { shown = bytes_or_none shown; fits = reads.0; spelt = reads.1 }
 
-pub spells_found : {E : Type 0} (word : Word) (text : List ℕ) (answer : Result Bool E) → (word ≡ Bits → ⊥)
-    → IfOk answer (λ spells. spells ≡ is_some (bytes_of text))
-    → IfOk answer (λ spells. MatchBool spells (SpellsData word text) (SpellsNoData word text))
-spells_found word text (Ok spells) not is =
+pub spells_found : (word : Word) (text : List ℕ) (spells : Bool) → (word ≡ Bits → ⊥) → spells ≡ is_some (bytes_of text)
+    → MatchBool spells (SpellsData word text) (SpellsNoData word text)
+spells_found word text spells not is =
     subst (λ (b : Bool). MatchBool b (SpellsData word text) (SpellsNoData word text)) (sym is)
     (spells_as word text (bytes_of text) not refl)
-spells_found word text (Err e) not k = tt
 
 pub spells_dash : (word : Word) (text : List ℕ) → text ≡ codes "-" → SpellsData word text
 spells_dash word text is =

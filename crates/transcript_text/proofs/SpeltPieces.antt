@@ -143,41 +143,6 @@ pub record AppendedSoFar (text old new rest : List ℕ) : Type 0 where
   pub whole : new ≡ old ++ bytes
   pub so_far : SpeltSoFar text bytes rest
 
--- the same, where they were not kept
-pub record PassedSoFar (text rest : List ℕ) : Type 0 where
-  pub bytes : List ℕ
-  pub so_far : SpeltSoFar text bytes rest
-
--- ---- whether some bytes are spelt
-
-pub found_as : {A : Type 0} (items : A → List ℕ) (found : Option A) (text : List ℕ)
-    → option_map items found ≡ bytes_of text → is_some found ≡ is_some (bytes_of text)
-found_as items None text e = ap is_some e
-found_as items (Some x) text e = ap is_some e
-
-none_found : (found : Option (List ℕ)) → is_some found ≡ false → None ≡ found
-none_found None e = refl
-none_found (Some x) e = absurd cc
-
-some_found : (found : Option (List ℕ)) → is_some found ≡ true → (bytes : List ℕ) × (Some bytes ≡ found)
-some_found None e = absurd cc
-some_found (Some x) e = (x, refl)
-
-pub passes_piece : (text rest front behind : List ℕ) (k : ℕ) → PassedSoFar text rest → rest ≡ front ++ behind
-    → length front ≡ 2 * k → 0 < k → is_some (bytes_of front) ≡ true → PassedSoFar text behind
-passes_piece text rest front behind k s parts long some is =
-    let piece = some_found (bytes_of front) is in
-    record {
-      bytes = s.bytes ++ piece.0;
-      so_far = spelt_more text s.bytes rest front behind k s.so_far parts long some piece.0 (s.bytes ++ piece.0)
-          piece.1 refl;
-    }
-
-pub stops_at_piece : (text rest front behind : List ℕ) (k : ℕ) → PassedSoFar text rest → rest ≡ front ++ behind
-    → length front ≡ 2 * k → 0 < k → is_some (bytes_of front) ≡ false → false ≡ is_some (bytes_of text)
-stops_at_piece text rest front behind k s parts long some is =
-    ap is_some (spelt_nowhere text s.bytes rest front behind k s.so_far parts long some (none_found (bytes_of front) is))
-
 -- ---- the data that name what was appended
 
 pub names_none : (text old new : List ℕ) → AppendsSpelt text old new → length new ≤ length old

@@ -1,6 +1,6 @@
 //! What a line shows, read.
 ghost use Rattle.std.specs.Prelude.{◌≡◌, ◌<◌, ◌^◌, ◌↔◌, length, take, IsTrue, IfOk, IfSome, MatchBool};
-ghost use Rattle.std.specs.Option.{is_some, option_map};
+ghost use Rattle.std.specs.Option.{option_map};
 ghost use Rattle.key_names.specs.SeenLine.{shown_in};
 ghost use Rattle.key_names.specs.declared.events.Word.TheVariants.{Bits};
 ghost use Rattle.key_names.specs.Texts.ScriptFaults.{bytes_of as bytes_spelt};
@@ -10,12 +10,12 @@ ghost use Rattle.transcript_text.specs.Reading.{Reads};
 ghost use Rattle.transcript_text.specs.Shows.{AppendsSpelt, KeepsSpelt, SpellsData, SpellsNoData};
 
 use crate::lexing::{is_dash, number_u32};
-use key_names::hexes::bytes_of;
+use key_names::hexes::{bytes_of, decode, spells_bytes};
 use key_names::{Data, Word};
 use std::alloc::{AllocError, Global};
 
-/// So many digits are decoded at a time.
-const PIECE_DIGITS: usize = 4096;
+/// So many bytes are decoded at a time.
+const PIECE_BYTES: usize = 2048;
 
 fn is_bits(word: Word) -> bool
     ensures { IsTrue result ↔ (word ≡ Bits) }
@@ -30,7 +30,7 @@ fn append_bytes(alloc: Global, kept: &mut Vec<u8>, text: &[u8]) -> Result<bool, 
         (bytes_spelt text.now ≡ None)) }
     ensures before { take (length kept.old.items) kept.new.items ≡ kept.old.items }
 {
-    if text.len() <= PIECE_DIGITS || text.len() % 2 != 0 {
+    if text.len() <= 2 * PIECE_BYTES || text.len() % 2 != 0 {
         let Some(bytes) = bytes_of(alloc, text)? else {
             return Ok(false);
         };
@@ -38,31 +38,15 @@ fn append_bytes(alloc: Global, kept: &mut Vec<u8>, text: &[u8]) -> Result<bool, 
         return Ok(true);
     }
     kept.reserve(text.len() / 2)?;
+    let mut piece = [0; PIECE_BYTES];
     let mut rest = text;
     while !rest.is_empty() {
-        let (front, behind) = rest.split_at(rest.len().min(PIECE_DIGITS));
-        let Some(piece) = bytes_of(alloc, front)? else {
-            return Ok(false);
-        };
-        kept.extend_from_slice(&piece)?;
-        rest = behind;
-    }
-    Ok(true)
-}
-
-/// Whether a text of digits spells bytes, of which none is kept.
-fn spells_bytes(alloc: Global, text: &[u8]) -> Result<bool, AllocError>
-    ensures { IfOk result (λ spells. spells ≡ is_some (bytes_spelt text.now)) }
-{
-    if text.len() <= PIECE_DIGITS || text.len() % 2 != 0 {
-        return Ok(bytes_of(alloc, text)?.is_some());
-    }
-    let mut rest = text;
-    while !rest.is_empty() {
-        let (front, behind) = rest.split_at(rest.len().min(PIECE_DIGITS));
-        if bytes_of(alloc, front)?.is_none() {
+        let (front, behind) = rest.split_at(rest.len().min(2 * PIECE_BYTES));
+        let bytes = &mut piece[..front.len() / 2];
+        if !decode(front, bytes) {
             return Ok(false);
         }
+        kept.extend_from_slice(bytes)?;
         rest = behind;
     }
     Ok(true)
@@ -113,15 +97,15 @@ pub(crate) fn keep_data(
     }
 }
 
-/// Whether a text spells data of a line with this word. None of them are kept.
-pub(crate) fn spells_data(alloc: Global, word: Word, text: &[u8]) -> Result<bool, AllocError>
-    ensures { IfOk result (λ spells. MatchBool spells (SpellsData word text.now) (SpellsNoData word text.now)) }
+/// Whether a text spells data of a line with this word.
+pub(crate) fn spells_data(word: Word, text: &[u8]) -> bool
+    ensures { MatchBool result (SpellsData word text.now) (SpellsNoData word text.now) }
 {
     if is_dash(text) {
-        return Ok(true);
+        return true;
     }
     if !is_bits(word) {
-        return spells_bytes(alloc, text);
+        return spells_bytes(text);
     }
-    Ok(number_u32(text).is_some())
+    number_u32(text).is_some()
 }

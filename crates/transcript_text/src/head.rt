@@ -86,7 +86,7 @@ fn append_answer(piece: &mut Piece, answer: Answer)
 }
 
 /// The line up to the space before its data.
-// A program that writes to two kinds of sinks would call it otherwise.
+// Without the hint a program that writes to two kinds of sinks makes a call of it, for each line.
 #[inline(always)]
 #[tactic(auto, unfolding(crate::specs::Heads::head_text))]
 pub(crate) fn append_head(piece: &mut Piece, line: LineView<'_>)

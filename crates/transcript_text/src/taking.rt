@@ -64,7 +64,7 @@ pub(crate) fn pass_line(
     let Some(read) = line_from(done.len(), text, trace) else {
         return Ok(false);
     };
-    if !spells_data(alloc, read.word, read.shown)? {
+    if !spells_data(read.word, read.shown) {
         return Ok(false);
     }
     go_on_to(alloc, done, current, read.caller)?;

@@ -1,16 +1,20 @@
 -- Bytes from their digits, one byte after the other.
-use Rattle.std.proofs.Common.{◌≡◌, ℕ, zero, suc, ◌+◌, ◌-◌, ◌*◌, ◌/◌, ◌%◌, ◌<◌, ◌≤◌, ◌==◌, leb, true, ◌&&◌, inl, inr, Some, List, [], ◌∷◌, ◌++◌, drop, get_or, length, take, refl, sym, subst, ap, ◌∙◌, append_assoc, arith}
-use Rattle.std.specs.Prelude.{slice_index}
+use Rattle.std.proofs.Common.{◌≡◌, ℕ, zero, suc, ◌+◌, ◌-◌, ◌*◌, ◌/◌, ◌%◌, ◌<◌, ◌≤◌, ◌==◌, leb, Bool, true, false, ◌&&◌, inl, inr, Some, List, [], ◌∷◌, ◌++◌, drop, get_or, length, take, refl, sym, subst, ap, ◌∙◌, append_assoc, arith}
+use Rattle.std.specs.Option.{is_some}
+use Rattle.std.specs.Prelude.{◌↔◌, slice_index}
+use Rattle.std.specs.Str.{bytes_eq}
 use Rattle.std.specs.Simd.{first_chunks}
 use Rattle.std.proofs.Math.ListN.{set}
-use Rattle.std.proofs.lemmas.Bool.{agree_below_at, and_parts, cases_lt, eqb-true, leb-true, or_cases}
+use Rattle.std.proofs.lemmas.Bool.{agree_below_at, and_parts, cases_lt, eqb-true, false_from_ne_true, false≢true, leb-true, or_cases}
+use Rattle.std.proofs.lemmas.Slice.Eq.{bytes_eq-Decides}
 use Rattle.std.specs.Int.Bits.{bit_and}
 use Rattle.std.proofs.lemmas.List.{get_or-drop, get_or-take, get_or_past, take_all, take_more, take_more_set, take-append-le}
+use Rattle.hex.proofs.HexLemmas.{length-encode_with}
 use Rattle.hex.specs.Hex.{IsBytes, encode_lower, encode_with, lower_digits}
 use Rattle.key_names.specs.Texts.ScriptFaults.{bytes_of}
-use Rattle.key_names.specs.Texts.Spelling.{AllLower, is_lower_digit}
+use Rattle.key_names.specs.Texts.Spelling.{AllLower, hex, is_lower_digit}
 use Rattle.key_names.proofs.Lists.Chunks.{get_or-first_chunks}
-use Rattle.key_names.proofs.Script.HexFields.{bytes_again, spells_letter, spells_number}
+use Rattle.key_names.proofs.Script.HexFields.{bytes_again, bytes_none, spells_letter, spells_number}
 
 pub lower_at : (digits : List ℕ) (i : ℕ) → AllLower digits → i < length digits →
     is_lower_digit (get_or digits i 0) ≡ true
@@ -37,28 +41,29 @@ abbrev values_of : ℕ → ℕ
 values_of digits = bit_and digits 0x0f0f + 9 * bit_and (digits / 64) 0x0101
 
 abbrev byte_of : ℕ → ℕ
-byte_of digits = values_of digits % 256 * 16 + values_of digits / 256
+byte_of digits = (16 * values_of digits + values_of digits / 256) % 256
 
 -- tried for each two digits of the table
-byte_of-digits : (high low h l : ℕ) → h < 16 → l < 16 → slice_index lower_digits h ≡ high →
-    slice_index lower_digits l ≡ low → byte_of (low * 256 + high) ≡ h * 16 + l
-byte_of-digits high low h l small_high small_low at_high at_low =
+values_of-digits : (high low h l : ℕ) → h < 16 → l < 16 → slice_index lower_digits h ≡ high →
+    slice_index lower_digits l ≡ low → values_of (low * 256 + high) ≡ l * 256 + h
+values_of-digits high low h l small_high small_low at_high at_low =
     let tens : (h * 16 + l) / 16 ≡ h = omega arith in
     let ones : (h * 16 + l) % 16 ≡ l = omega arith in
     let tried = eqb-true _ _ (agree_below_at
-    (λ k. byte_of (slice_index lower_digits (k % 16) * 256 + slice_index lower_digits (k / 16)) == k) (λ k. true) 256
-    (h * 16 + l) refl (omega arith)) in
+    (λ k. values_of (slice_index lower_digits (k % 16) * 256 + slice_index lower_digits (k / 16))
+    == k % 16 * 256 + k / 16) (λ k. true) 256 (h * 16 + l) refl (omega arith)) in
     rw (tens, ones, at_high, at_low) at tried
 
 pub byte_spelt : (digits high low : ℕ) → digits ≡ low * 256 + high → is_lower_digit high ≡ true →
-    is_lower_digit low ≡ true → (byte_of digits < 256) × (slice_index lower_digits (byte_of digits / 16) ≡ high)
+    is_lower_digit low ≡ true → (values_of digits ≤ 0x0f0f)
+    × (slice_index lower_digits (byte_of digits / 16) ≡ high)
     × (slice_index lower_digits (byte_of digits % 16) ≡ low)
 byte_spelt digits high low word is_high is_low =
     let h = place_of high is_high in
     let l = place_of low is_low in
-    let is : byte_of digits ≡ h.0 * 16 + l.0 = ap byte_of word ∙ byte_of-digits high low h.0 l.0 h.1 l.1 h.2 l.2 in
-    let tens : byte_of digits / 16 ≡ h.0 = omega (arith, is, l.1) in
-    let ones : byte_of digits % 16 ≡ l.0 = omega (arith, is, l.1) in
+    let is : values_of digits ≡ l.0 * 256 + h.0 = ap values_of word ∙ values_of-digits high low h.0 l.0 h.1 l.1 h.2 l.2 in
+    let tens : byte_of digits / 16 ≡ h.0 = omega (arith, is, h.1, l.1) in
+    let ones : byte_of digits % 16 ≡ l.0 = omega (arith, is, h.1, l.1) in
     (omega (arith, is, h.1, l.1), rw tens h.2, rw ones l.2)
 
 -- a digit of a pair
@@ -103,6 +108,22 @@ byte_read out digits i byte here twice before at_high at_low =
     ∙ sym (take_more digits (2 * i + 1) 0 (omega arith))
     ∙ ap (λ n. take n digits) (sym place)
 
+-- digits, two for each byte, are those of some bytes
+pub digits_of_bytes : (n : ℕ) (digits : List ℕ) → length digits ≡ 2 * n → AllLower digits →
+    (bytes : List ℕ) × (encode_lower bytes ≡ digits)
+unfolding encode_with
+digits_of_bytes zero [] even lower = ([], refl)
+digits_of_bytes zero (h ∷ digits) even lower = absurd (omega arith)
+digits_of_bytes (suc n) [] even lower = absurd (omega arith)
+digits_of_bytes (suc n) (h ∷ []) even lower = absurd (omega arith)
+digits_of_bytes (suc n) (h ∷ l ∷ digits) even lower =
+    let high = place_of h lower.0 in
+    let low = place_of l lower.1.0 in
+    let rest = digits_of_bytes n digits (omega arith) lower.1.1 in
+    let tens : (high.0 * 16 + low.0) / 16 ≡ high.0 = omega (arith, low.1) in
+    let ones : (high.0 * 16 + low.0) % 16 ≡ low.0 = omega (arith, low.1) in
+    ((high.0 * 16 + low.0) ∷ rest.0, rw (tens, ones, high.2, low.2, rest.1) refl)
+
 lower_place : (n : ℕ) → is_lower_digit (slice_index lower_digits n) ≡ true → n < 16
 lower_place n lower = elim (cases_lt n 16) [
   | inl small ↦ small
@@ -125,6 +146,22 @@ pub bytes_spelt : (field bytes : List ℕ) → 0 < length bytes → AllLower fie
 bytes_spelt field [] some lower is = absurd (omega arith)
 bytes_spelt field (b ∷ bytes) some lower is =
     sym (bytes_again (b ∷ bytes) (spelt_bytes (b ∷ bytes) (subst AllLower (sym is) lower))) ∙ ap bytes_of is
+
+-- a dash is one byte
+pub no_dash : (field : List ℕ) (n : ℕ) → length field ≡ 2 * n → bytes_eq field (hex []) ≡ false
+no_dash field n even = false_from_ne_true _ (λ e.
+    omega (arith, even, ap length ((bytes_eq-Decides field (hex [])).0 e)))
+
+-- whether a field that is no dash spells bytes
+pub is_spelt : (field : List ℕ) (lower : Bool) → bytes_eq field (hex []) ≡ false → 0 < length field →
+    length field % 2 ≡ 0 → (lower ≡ true ↔ AllLower field) → lower ≡ is_some (bytes_of field)
+is_spelt field true dash some even is =
+    let all = is.0 refl in
+    let spelt = digits_of_bytes (length field / 2) field (omega (arith, even)) all in
+    let long = length-encode_with lower_digits spelt.0 in
+    ap is_some (bytes_spelt field spelt.0 (omega (arith, long, ap length spelt.1, some)) all spelt.1)
+is_spelt field false dash some even is =
+    ap is_some (sym (bytes_none field dash (λ found n lower e. absurd (false≢true (is.1 lower)))))
 
 -- what is written over all of a list is all that it holds
 pub written : (out items : List ℕ) (n : ℕ) → length out ≡ length items → n ≡ length items →

@@ -9,11 +9,11 @@ pub loop-rest-init : goal.loop-rest-init
 loop-rest-init c = record {
   bytes = [];
   whole = c.in_ok-reserve.ensures.items ∙ sym (append-nil c.args.kept.now.items);
-  so_far = spelt_begins c.args.text.now [] refl (omega (arith, c.if-text-le-PIECE_DIGITS.false)) c.if-text-ne0.false;
+  so_far = spelt_begins c.args.text.now [] refl (omega (arith, c.if-text.false)) c.if-text-ne0.false;
 }
 
-pub returns-in_default-2-clause-spelt : goal.returns-in_default-2-clause-spelt
-returns-in_default-2-clause-spelt c =
+pub returns-then-not-decode-clause-spelt : goal.returns-then-not-decode-clause-spelt
+returns-then-not-decode-clause-spelt c =
     let rest = c.loop-rest.rest.now in
     let front = c.split_at.result.0.now in
     let behind = c.split_at.result.1.now in
@@ -23,29 +23,26 @@ returns-in_default-2-clause-spelt c =
     omega (arith, c.min.ensures, c.split_at.ensures.front_len, s.so_far.even) in
     sym (spelt_nowhere c.args.text.now s.bytes rest front behind (c.min.result / 2) s.so_far
     (parts_of c.min.result rest front behind c.split_at.ensures.front c.split_at.ensures.back) long
-    (omega (arith, c.min.ensures, s.so_far.even, some))
-    (ap (option_map (λ v. v.items)) (sym c.in_default-2.is) ∙ c.in_ok-piece.ensures))
+    (omega (arith, c.min.ensures, s.so_far.even, some)) (rw c.if-not-decode.true at c.decode.ensures))
 
 pub loop-rest-preserved : goal.loop-rest-preserved
 loop-rest-preserved c =
     let rest = c.loop-rest.rest.now in
     let front = c.split_at.result.0.now in
     let behind = c.split_at.result.1.now in
+    let piece = c.decode.new.out in
     let s = c.loop-rest.invariant in
     let some : 0 < length rest = grind arith in
     let long : length front ≡ 2 * (c.min.result / 2) =
     omega (arith, c.min.ensures, c.split_at.ensures.front_len, s.so_far.even) in
     record {
-      bytes = s.bytes ++ c.in-Some-2.piece.items;
-      whole = c.in_ok-extend_from_slice-2.ensures.items
-          ∙ ap (λ l. c.loop-rest.kept.items ++ l) c.deref-in-loop-rest.ensures.value
-          ∙ ap (λ l. l ++ c.in-Some-2.piece.items) s.whole
-          ∙ append_assoc c.args.kept.now.items s.bytes c.in-Some-2.piece.items;
+      bytes = s.bytes ++ piece;
+      whole = c.in_ok-extend_from_slice-2.ensures.items ∙ ap (λ l. l ++ piece) s.whole
+          ∙ append_assoc c.args.kept.now.items s.bytes piece;
       so_far = spelt_more c.args.text.now s.bytes rest front behind (c.min.result / 2) s.so_far
           (parts_of c.min.result rest front behind c.split_at.ensures.front c.split_at.ensures.back) long
-          (omega (arith, c.min.ensures, s.so_far.even, some))
-          c.in-Some-2.piece.items (s.bytes ++ c.in-Some-2.piece.items)
-          (ap (option_map (λ v. v.items)) (sym c.in-Some-2.is) ∙ c.in_ok-piece.ensures) refl;
+          (omega (arith, c.min.ensures, s.so_far.even, some)) piece (s.bytes ++ piece)
+          (rw c.if-not-decode.false at c.decode.ensures) refl;
     }
 
 pub returns-clause-spelt : goal.returns-clause-spelt
@@ -55,6 +52,6 @@ returns-clause-spelt c =
       bytes = s.bytes;
       spelt = sym (spelt_whole c.args.text.now s.bytes c.loop-rest.rest.now s.so_far
           (nil_from_length c.loop-rest.rest.now (eqb-true _ _ (sym c.loop-rest-test.ensures)))
-          (omega (arith, c.if-text-le-PIECE_DIGITS.false)));
+          (omega (arith, c.if-text.false)));
       whole = s.whole;
     }
