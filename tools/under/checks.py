@@ -3,9 +3,11 @@ non-zero where one fails. What this machine does not have or does not allow is s
 
 import os
 import shutil
+import signal
 import subprocess
 import sys
 import tempfile
+import time
 
 HERE = os.path.dirname(os.path.realpath(__file__))
 TOP = os.path.dirname(os.path.dirname(HERE))
@@ -248,6 +250,23 @@ def check_statuses(name, words):
         tell(f"{name}: status of {' '.join(its)[:20]}", "" if status == wanted else f"{status}")
 
 
+def check_left_behind(name, words):
+    """What a program left is waited for, until a signal says not to: one is enough."""
+    left = "sleep 1234.5 </dev/null >/dev/null 2>&1 & echo $!; exit 3"
+    began = subprocess.Popen([UNDER, *words, "sh", "-c", left], stdout=subprocess.PIPE, stderr=subprocess.PIPE)
+    number = int(began.stdout.readline())
+    time.sleep(1)
+    waits = began.poll() is None
+    began.terminate()
+    try:
+        status = began.wait(timeout=20)
+    except subprocess.TimeoutExpired:
+        status = "no end"
+        began.kill()
+    os.kill(number, signal.SIGKILL)
+    tell(f"{name}: one signal, and what was left is not waited for", "" if waits and status == 3 else f"{waits} {status}")
+
+
 def check_limits(name, words, caller):
     status, _, err = under(*words, "--prologue", "empty", "--most", "50", caller, "retry")
     tell(f"{name}: ended behind 50 requests", "" if status == 125 and "behind 50 requests" in err else f"{status} {err}")
@@ -325,6 +344,7 @@ def main():
     for name, words, _ in all_ways[:2]:
         check_programs(name, words)
         check_statuses(name, words)
+        check_left_behind(name, words)
     check_python()
     check_prologue()
     check_faulty()
