@@ -4,8 +4,9 @@ ghost use Rattle.key_names.specs.Texts.ScriptGrammar.{WellFormed};
 ghost use Rattle.rng_tool.specs.Outcome.{RunOf};
 
 use crate::callers::transcript_of;
+use crate::same_text::SameText;
 use event_script::Script;
-use io_edges::{Failed, MemSink, OpenGate};
+use io_edges::{Failed, OpenGate};
 use std::alloc::Global;
 use std::sync::Wait;
 use std::thread::Threads;
@@ -25,11 +26,9 @@ pub(crate) fn is_rerun<R: Threads + Wait + Sync>(
     let Ok(made) = transcript_of(rt, alloc, script, &OpenGate) else {
         return false;
     };
-    let Ok(mut sink) = MemSink::of(alloc, usize::MAX, Vec::new(alloc), text.len()) else {
-        return false;
-    };
+    let mut sink = SameText::of(text);
     match write_all(&mut sink, &made) {
-        Ok(()) => sink.held() == text,
+        Ok(()) => sink.is_whole(text.len()),
         Err(Failed) => false,
     }
 }

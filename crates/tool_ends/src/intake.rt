@@ -12,7 +12,7 @@ use key_names::ScriptFault;
 use std::alloc::{AllocError, Global};
 
 /// The most bytes of a kept text for each event of its script.
-const MOST_OF_EVENT: usize = 256;
+const MOST_OF_EVENT: usize = 1024;
 
 /// The front of an input, in which a script was looked for.
 #[derive(Drop)]

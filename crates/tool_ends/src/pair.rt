@@ -52,7 +52,7 @@ impl From<AllocError> for NoPair {
 
 /// The script that a source gives, and the text that is all that follows. The source is read to its end, or to one byte
 /// behind the most that there may be. Where `keeps` asks for it, the text of a script of one caller is kept while it has at
-/// most 256 times as many bytes as the script has events. Of other texts, behind the piece in which the script's last line
+/// most 1,024 times as many bytes as the script has events. Of other texts, behind the piece in which the script's last line
 /// came, no more is kept than a line that is not whole yet, beside the lines that were read.
 ///
 /// # Errors

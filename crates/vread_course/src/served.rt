@@ -11,8 +11,8 @@ use vdso_state::state::Passed;
 /// Bytes that are made at a time.
 const PIECE_BYTES: usize = 4096;
 
-/// Bytes that are made at once: two blocks.
-const SHORT_BYTES: usize = 128;
+/// The most bytes that are made at once.
+const SHORT_BYTES: usize = 512;
 
 /// The bytes that a read serves, as a recipe: at most 96 that are there, and then a piece of a key's stream, of which
 /// nothing is made before it is asked for. There are fewer than 2^32.
