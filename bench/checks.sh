@@ -60,7 +60,16 @@ of_eight() {
     }'
 }
 
-alone 'function events(  j) { for (j = 0; j < 16; j++) print "read 1048576 0" }' >"$room/bulk"
+# reads COUNT EVENT: so many events of one caller, all alike.
+reads() {
+    alone 'function events(  j) { for (j = 0; j < '"$1"'; j++) print "'"$2"'" }'
+}
+
+reads 16 'read 1048576 0' >"$room/bulk"
+reads 16 'kread 1048576' >"$room/kernel_bulk"
+reads 256 'read 65536 0' >"$room/long"
+reads 4096 'read 4096 0' >"$room/page"
+reads 65000 'read 200 0' >"$room/middle"
 alone "$small"'function events(  j) { for (j = 0; j < 65535; j++) small(j) }' >"$room/mix"
 alone "$short"'function events(  j) { for (j = 0; j < 65000; j++) short(j) }' >"$room/short"
 of_eight "$small"'function events(  j) { for (j = 0; j < 8189; j++) small(j) }' >"$room/mix_of_8"
@@ -94,6 +103,10 @@ timed() {
 # each_pair FUNCTION: the function on each script.
 each_pair() {
     "$1" '16 reads of 1 MiB' "$room/bulk"
+    "$1" 'the same for the kernel' "$room/kernel_bulk"
+    "$1" '256 reads of 64 KiB' "$room/long"
+    "$1" '4,096 reads of 4 KiB' "$room/page"
+    "$1" '65,000 reads of 200 bytes' "$room/middle"
     "$1" '65,535 events of the mix' "$room/mix"
     "$1" '65,000 short events' "$room/short"
     "$1" 'the mix by 8 callers' "$room/mix_of_8"
