@@ -1,14 +1,16 @@
 -- What is said of a script and of the transcript behind it, as what their text calls for.
-use Rattle.std.proofs.Common.{◌≡◌, ℕ, List, Option, sym, subst, refl, inl, inr}
+use Rattle.std.proofs.Common.{◌≡◌, ℕ, List, Option, sym, subst, refl, ◌∙◌, inl, inr}
+use Rattle.std.specs.Prelude.{IfSome}
 use Rattle.key_names.specs.IsTranscript.{HasLines, clause_number, lines_clause}
 use Rattle.key_names.specs.Texts.ScriptGrammar.{Script}
 use Rattle.key_names.specs.SeenLine.{SeenLine}
 use Rattle.key_names.specs.Texts.TranscriptGrammar.{TranscriptFits, transcript_text}
 use Rattle.serial_replay.specs.Replayed.{IsTheTranscript}
-use Rattle.tool_ends.specs.Behind.{IsApart}
+use Rattle.tool_ends.specs.Behind.{IsApart, IsWhole, compared_with}
 use Rattle.tool_ends.specs.Pairs.{FailsAsText, IsNoPair, IsPair, RefusalEnds, RefusalOf, behind, no_line}
 use Rattle.tool_ends.specs.Reads.{WritesEnds}
 use Rattle.tool_ends.specs.declared.behind.Behind.{Behind}
+use Rattle.tool_ends.specs.declared.behind.Behind.TheVariants.{Compared, Fed}
 use Rattle.tool_ends.specs.declared.pair.NoPair.{NoPair}
 use Rattle.tool_ends.specs.declared.pair.NoPair.TheVariants.{ReadFault as SourceFails, Refused as FirstFault, NoTranscript, TooManyLines, NoMemory as Unread}
 use Rattle.tool_ends.specs.declared.status.Status.{Status}
@@ -92,15 +94,19 @@ none_said judge input NoTranscript is s o said = text_said judge input 1 is s o 
 none_said judge input TooManyLines is s o said = text_said judge input 2 is.0 s o said
 none_said judge input Unread is s o said = absurd said
 
--- a text that another run writes is that of a lawful transcript
-pub rerun_said : (judge : Judge) (input : List ℕ) (script : Script) (text : Behind) → IsApart input script text →
-    judge ≡ Check → RunOf script (behind input) → JudgeCalls judge input Done yes_line
-rerun_said judge input script text apart is run = subst (λ j. JudgeCalls j input Done yes_line) (sym is) (record {
-  script = script;
-  lines = run.lines;
-  pair = record { short = apart.short; is_script = apart.is_script; text = run.written };
-  says = record { sound = run.run; line = refl };
-})
+-- a text that is all that a run writes is that of a lawful transcript
+pub run_said : (judge : Judge) (input : List ℕ) (script : Script) (text : Behind) → IsApart input script text →
+    IfSome (compared_with text) (λ t. (judge ≡ Check) × RunOf script (transcript_text t)) → IsWhole text →
+    JudgeCalls judge input Done yes_line
+run_said judge input script (Compared comparison) apart made whole =
+    let run = subst (RunOf script) (sym whole ∙ sym apart.holds) made.1 in
+    subst (λ j. JudgeCalls j input Done yes_line) (sym made.0) (record {
+      script = script;
+      lines = run.lines;
+      pair = record { short = apart.short; is_script = apart.is_script; text = run.written };
+      says = record { sound = run.run; line = refl };
+    })
+run_said judge input script (Fed reader) apart made whole = absurd whole
 
 -- what was written of a text that is not read is said of the input
 pub refusal_said : (judge : Judge) (input : List ℕ) (why : NoPair) → IsNoPair input why → (status : Status)

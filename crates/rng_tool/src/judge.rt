@@ -1,13 +1,14 @@
 //! The commands `check` and `replay`: a script with a transcript behind it in, what is said of it out.
-ghost use Rattle.std.specs.Prelude.{◌≡◌, ◌⊎◌, ◌≤◌, ◌^◌, List, ℕ, length, IfSome, IsTrue, Some};
+ghost use Rattle.std.specs.Prelude.{◌≡◌, ◌⊎◌, ◌≤◌, ◌^◌, List, ℕ, length, IfSome, Some};
 ghost use Rattle.io_edges.specs.Faults.{Rose};
 ghost use Rattle.key_names.specs.Texts.ScriptGrammar.{WellFormed};
+ghost use Rattle.key_names.specs.Texts.TranscriptGrammar.{transcript_text};
 ghost use Rattle.rng_tool.specs.JudgeOutcome.{IsJudge, JudgeCalls, JudgeEnds, SaidOf, word_of, yes_line};
 ghost use Rattle.rng_tool.specs.Outcome.{RunOf};
-ghost use Rattle.tool_ends.specs.Behind.{HoldsText, IsApart};
+ghost use Rattle.tool_ends.specs.Behind.{HoldsText, IsApart, compared_with};
 ghost use Rattle.tool_ends.specs.Reads.{WritesEnds};
 
-use crate::rerun::is_rerun;
+use crate::rerun::Rerun;
 use arrayvec::ArrayString;
 use event_script::Script;
 use io_edges::{Failed, Sink, Source};
@@ -117,27 +118,8 @@ fn say<K: Sink>(
     }
 }
 
-// Whether a check is asked for, and the text is what another run of a single caller writes: then it is lawful.
-fn is_run_again<R: Threads + Wait + Sync>(
-    rt: &R,
-    alloc: Global,
-    judge: Judge,
-    script: &Script,
-    behind: &Behind,
-) -> bool
-    requires { WellFormed script.now }
-    ensures check { IsTrue result → judge ≡ Judge.Check }
-    ensures run { IsTrue result → (text : List ℕ) → HoldsText text behind.now → RunOf script.now text }
-{
-    match (judge, behind.text()) {
-        (Judge::Check, Some(text)) => script.callers() == 1 && is_rerun(rt, alloc, script, text),
-        _ => false,
-    }
-}
-
-// Says what is asked of a script and of the text behind it.
-fn say_of_text<R: Threads + Wait + Sync, K: Sink>(
-    rt: &R,
+// Says what is asked of a script and of the text behind it, which was compared with that of a run.
+fn say_of_text<K: Sink>(
     alloc: Global,
     judge: Judge,
     script: &Script,
@@ -146,6 +128,7 @@ fn say_of_text<R: Threads + Wait + Sync, K: Sink>(
 ) -> Status
     requires well { WellFormed script.now }
     requires short { (text : List ℕ) × HoldsText text behind × (length text ≤ 2 ^ 31) }
+    requires run { IfSome (compared_with behind) (λ t. (judge ≡ Judge.Check) × RunOf script.now (transcript_text t)) }
     ensures ends { (input : List ℕ) → IsApart input script.now behind
         → WritesEnds (JudgeCalls judge input) result (K.held sink.old) (K.held sink.new) }
     ensures was_read { result ≡ Status.ReadFault → ⊥ }
@@ -153,7 +136,8 @@ fn say_of_text<R: Threads + Wait + Sync, K: Sink>(
     ensures silent { result ≡ Status.NoMemory → sink.new ≡ sink.old }
     ensures not_counted { (result ≡ Status.WriteFault → ⊥) → K.faults sink.new ≡ K.faults sink.old }
 {
-    if is_run_again(rt, alloc, judge, script, &behind) {
+    // What a run writes is lawful.
+    if behind.is_whole() {
         return put_line(Status::Done, &yes_line(), sink);
     }
     match behind.transcript(alloc) {
@@ -178,8 +162,8 @@ pub(crate) fn judge_input<R: Threads + Wait + Sync, S: Source, K: Sink>(
     ensures cut { result ≡ Status.WriteFault → Rose (K.faults sink.old) (K.faults sink.new) }
     ensures not_counted { (result ≡ Status.WriteFault → ⊥) → K.faults sink.new ≡ K.faults sink.old }
 {
-    match read_apart(alloc, source, judge == Judge::Check) {
-        Ok((script, behind)) => say_of_text(rt, alloc, judge, &script, behind, sink),
+    match read_apart(alloc, source, &Rerun { rt, judge }) {
+        Ok((script, behind)) => say_of_text(alloc, judge, &script, behind, sink),
         Err(why) => put_refusal(why, sink),
     }
 }

@@ -24,7 +24,6 @@ mod load;
 mod rerun;
 mod run;
 mod run_script;
-mod same_text;
 #[cfg(test)]
 mod tests;
 mod told;

@@ -1,34 +1,38 @@
-//! The text of a transcript held against another run of its script.
-ghost use Rattle.std.specs.Prelude.{IsTrue};
-ghost use Rattle.key_names.specs.Texts.ScriptGrammar.{WellFormed};
+//! Another run of a script that is checked.
+ghost use Rattle.std.specs.Prelude.{◌≡◌};
+ghost use Rattle.key_names.specs.Texts.TranscriptGrammar.{transcript_text};
 ghost use Rattle.rng_tool.specs.Outcome.{RunOf};
+ghost use Rattle.rng_tool.specs.declared.judge.Judge.TheVariants.{Check};
 
 use crate::callers::transcript_of;
-use crate::same_text::SameText;
+use crate::judge::Judge;
 use event_script::Script;
-use io_edges::{Failed, OpenGate};
+use io_edges::OpenGate;
 use std::alloc::Global;
 use std::sync::Wait;
 use std::thread::Threads;
-use transcript_text::write_all;
+use tool_ends::maker::Maker;
+use transcript_text::Transcript;
 
-/// Whether another run of the script writes this text. Where it does, the text is that of a lawful transcript; where it does
-/// not, or there is no memory for the run, nothing is said. A script of one caller has the same text in each run.
-pub(crate) fn is_rerun<R: Threads + Wait + Sync>(
-    rt: &R,
-    alloc: Global,
-    script: &Script,
-    text: &[u8],
-) -> bool
-    requires { WellFormed script.now }
-    ensures { IsTrue result → RunOf script.now text.now }
-{
-    let Ok(made) = transcript_of(rt, alloc, script, &OpenGate) else {
-        return false;
-    };
-    let mut sink = SameText::of(text);
-    match write_all(&mut sink, &made) {
-        Ok(()) => sink.is_whole(text.len()),
-        Err(Failed) => false,
+/// Makes a run of the script where it is to be checked and has one caller, whose text is the same in each run. What a run
+/// writes is the text of a lawful transcript, and so need not be read. Where there is no memory for the run none is made.
+#[derive(Drop)]
+pub(crate) struct Rerun<'a, R: Threads + Wait + Sync> {
+    pub(crate) rt: &'a R,
+    pub(crate) judge: Judge,
+}
+
+impl<R: Threads + Wait + Sync> Maker for Rerun<'_, R> {
+    ghost use Rattle.std.specs.Thread.{IsSync};
+
+    ghost may_make = { λ _. IsSync R.row };
+
+    ghost made = { λ rerun script t. (rerun.judge ≡ Check) × RunOf script (transcript_text t) };
+
+    fn make(&self, alloc: Global, script: &Script) -> Option<Transcript> {
+        if self.judge != Judge::Check || script.callers() != 1 {
+            return None;
+        }
+        transcript_of(self.rt, alloc, script, &OpenGate).ok()
     }
 }

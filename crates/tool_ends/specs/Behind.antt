@@ -1,21 +1,28 @@
--- The text behind a script, as it is kept or was fed to a reader.
+-- The text behind a script, as it was compared or was fed to a reader.
 use Rattle.std.specs.Prelude.{ℕ, ◌≡◌, ◌≤◌, List, Option, None, Some, length}
 use Rattle.key_names.specs.Texts.ScriptFaults.{front}
 use Rattle.key_names.specs.Texts.ScriptGrammar.{Script, IsScript}
+use Rattle.key_names.specs.SeenLine.{SeenLine}
+use Rattle.key_names.specs.Texts.TranscriptGrammar.{transcript_text}
 use Rattle.transcript_text.specs.Feeding.{HasFed, most_lines}
 use Rattle.tool_ends.specs.Pairs.{WasRead, behind, most_input, most_script_lines}
 use Rattle.tool_ends.specs.declared.behind.Behind.{Behind}
-use Rattle.tool_ends.specs.declared.behind.Behind.TheVariants.{Kept, Fed}
+use Rattle.tool_ends.specs.declared.behind.Behind.TheVariants.{Compared, Fed}
 
 -- it is this text
 abbrev pub HoldsText : List ℕ → Behind → Type 0
-HoldsText text (Kept bytes) = text ≡ bytes.items
+HoldsText text (Compared comparison) = text ≡ comparison.text
 HoldsText text (Fed reader) = HasFed text reader × (most_lines reader ≡ most_script_lines)
 
--- the text, where it is kept
-abbrev pub kept_of : Behind → Option (List ℕ)
-kept_of (Kept bytes) = Some bytes.items
-kept_of (Fed reader) = None
+-- the transcript with whose text it is compared
+abbrev pub compared_with : Behind → Option (List (List SeenLine))
+compared_with (Compared comparison) = Some comparison.made
+compared_with (Fed reader) = None
+
+-- it is all of that text
+abbrev pub IsWhole : Behind → Type 0
+IsWhole (Compared comparison) = comparison.text ≡ transcript_text comparison.made
+IsWhole (Fed reader) = ⊥
 
 -- the input is a script, with this text behind it
 pub record IsApart (input : List ℕ) (script : Script) (text : Behind) : Type 0 where

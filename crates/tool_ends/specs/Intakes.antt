@@ -1,9 +1,11 @@
 -- An input that is taken piece by piece, and what was seen in it.
-use Rattle.std.specs.Prelude.{ℕ, ◌≡◌, ◌≤◌, ◌-◌, List, [], ◌∷◌, Some, drop, length}
+use Rattle.std.specs.Prelude.{ℕ, ◌≡◌, ◌≤◌, ◌-◌, List, [], ◌∷◌, Option, Some, None, drop, length}
+use Rattle.std.specs.Option.{option_map}
 use Rattle.key_names.specs.Texts.ScriptFaults.{first_fault, front}
 use Rattle.key_names.specs.Texts.ScriptGrammar.{Script, IsScript}
 use Rattle.memchr.specs.Find.{OccursAt}
-use Rattle.tool_ends.specs.Behind.{HoldsText}
+use Rattle.key_names.specs.SeenLine.{SeenLine}
+use Rattle.tool_ends.specs.Behind.{HoldsText, compared_with}
 use Rattle.tool_ends.specs.Pairs.{behind}
 use Rattle.tool_ends.specs.declared.behind.Behind.{Behind}
 use Rattle.tool_ends.specs.declared.intake.Intake.{Intake}
@@ -34,3 +36,12 @@ IsOpened input (Faulty fault) = first_fault (front input) ≡ Some fault
 abbrev pub HasTaken : List ℕ → Intake → Type 0
 HasTaken input (Front bytes) = (input ≡ bytes.items) × (HasEndLine input → ⊥)
 HasTaken input (IsOpen opened) = HasEndLine input × IsOpened input opened
+
+-- the script that was found, and the transcript with which the text behind it is compared
+abbrev pub made_of : Opened → Option (Script × List (List SeenLine))
+made_of (Found script text) = option_map (λ made. (script, made)) (compared_with text)
+made_of (Faulty fault) = None
+
+abbrev pub made_in : Intake → Option (Script × List (List SeenLine))
+made_in (Front bytes) = None
+made_in (IsOpen opened) = made_of opened

@@ -1,14 +1,13 @@
-//! The text behind a script: kept as it is, or read as it comes.
-ghost use Rattle.std.specs.Prelude.{◌≡◌, ◌+◌, ◌≤◌, ◌^◌, ◌++◌, [], ℕ, List, length, IfErr, IfOk, IfSome, OnOk};
+//! The text behind a script: compared with a transcript's text as it comes, or read.
+ghost use Rattle.std.specs.Prelude.{◌≡◌, ◌↔◌, ◌+◌, ◌≤◌, ◌^◌, ◌++◌, [], ℕ, List, Some, length, IfErr, IfOk, IfSome, IsTrue, OnOk};
 ghost use Rattle.key_names.specs.Texts.TranscriptGrammar.{IsTranscriptText};
 ghost use Rattle.transcript_text.specs.Feeding.{HasFed, most_lines};
-ghost use Rattle.std.specs.Option.{option_map};
-ghost use Rattle.tool_ends.specs.Behind.{HoldsText, kept_of};
+ghost use Rattle.tool_ends.specs.Behind.{HoldsText, IsWhole, compared_with};
 ghost use Rattle.tool_ends.specs.Pairs.{IsNoText, most_script_lines};
 
 use crate::pair::NoPair;
 use std::alloc::{AllocError, Global};
-use transcript_text::{Reader, TextError, Transcript};
+use transcript_text::{Comparison, Reader, TextError, Transcript};
 
 /// The most lines of a script's transcript: one for each of 65,536 events, and the last one of each of 64 callers.
 const MOST_LINES: u32 = 65_600;
@@ -16,21 +15,10 @@ const MOST_LINES: u32 = 65_600;
 /// The text behind a script.
 #[derive(Drop)]
 pub enum Behind {
-    /// As it is.
-    Kept(Vec<u8>),
+    /// The text of a transcript so far, or all of it.
+    Compared(Comparison),
     /// In a reader that was fed it.
     Fed(Reader),
-}
-
-// A reader that was fed a text.
-fn reader_of(alloc: Global, text: &[u8]) -> Result<Reader, AllocError>
-    requires { length text.now ≤ 2 ^ 31 }
-    ensures fed { IfOk result (HasFed text.now) }
-    ensures most { IfOk result (λ reader. most_lines reader ≡ most_script_lines) }
-{
-    let mut reader = Reader::new(alloc, MOST_LINES)?;
-    reader.feed(alloc, text)?;
-    Ok(reader)
 }
 
 // The transcript that a reader was fed.
@@ -49,46 +37,44 @@ fn transcript_of(reader: Reader) -> Result<Transcript, NoPair>
 }
 
 impl Behind {
-    // No text.
-    pub(crate) fn nothing(alloc: Global) -> Behind
-        ensures { HoldsText [] result }
+    // No text so far, of what is compared with the text of this transcript where there is one.
+    pub(crate) fn nothing(alloc: Global, made: Option<Transcript>) -> Result<Behind, AllocError>
+        ensures holds { IfOk result (HoldsText []) }
+        ensures made { IfOk result (λ text. compared_with text ≡ made) }
     {
-        Behind::Kept(Vec::new(alloc))
-    }
-
-    // One more piece of the text. It is kept while it has at most so many bytes.
-    pub(crate) fn take(
-        &mut self,
-        alloc: Global,
-        most: usize,
-        piece: &[u8],
-    ) -> Result<(), AllocError>
-        requires short { (text : List ℕ) × HoldsText text self.old × (length text + length piece.now ≤ 2 ^ 31) }
-        ensures more { OnOk result ((text : List ℕ) → HoldsText text self.old
-            → HoldsText (text ++ piece.now) self.new) }
-        ensures few { OnOk result (IfSome (kept_of self.new) (λ text. length text ≤ most)) }
-    {
-        match self {
-            Behind::Fed(reader) => reader.feed(alloc, piece),
-            Behind::Kept(text) => {
-                text.extend_from_slice(piece)?;
-                if text.len() > most {
-                    let reader = reader_of(alloc, text)?;
-                    *self = Behind::Fed(reader);
-                }
-                Ok(())
-            }
+        match made {
+            Some(made) => Ok(Behind::Compared(Comparison::with(made))),
+            None => Ok(Behind::Fed(Reader::new(alloc, MOST_LINES)?)),
         }
     }
 
-    /// The text, where it was kept.
-    pub fn text(&self) -> Option<&[u8]>
-        ensures kept { option_map (λ text. text.now) result ≡ kept_of self.now }
-        ensures only { IfSome result (λ kept. (text : List ℕ) → HoldsText text self.now → text ≡ kept.now) }
+    // One more piece of the text. From where it is no more that of the transcript it is read.
+    pub(crate) fn take(&mut self, alloc: Global, piece: &[u8]) -> Result<(), AllocError>
+        requires short { (text : List ℕ) × HoldsText text self.old × (length text + length piece.now ≤ 2 ^ 31) }
+        ensures more { OnOk result ((text : List ℕ) → HoldsText text self.old
+            → HoldsText (text ++ piece.now) self.new) }
+        ensures made { OnOk result (IfSome (compared_with self.new) (λ made. compared_with self.old ≡ Some made)) }
+    {
+        let comparison = match self {
+            Behind::Fed(reader) => return reader.feed(alloc, piece),
+            Behind::Compared(comparison) => comparison,
+        };
+        let count = comparison.compare(piece);
+        if count < piece.len() {
+            let mut reader = comparison.reader(alloc, MOST_LINES)?;
+            reader.feed(alloc, &piece[count..])?;
+            *self = Behind::Fed(reader);
+        }
+        Ok(())
+    }
+
+    /// Whether it was compared with the text of a transcript, and is all of that.
+    pub fn is_whole(&self) -> bool
+        ensures { IsTrue result ↔ IsWhole self.now }
     {
         match self {
-            Behind::Kept(text) => Some(text.as_slice()),
-            Behind::Fed(_) => None,
+            Behind::Compared(comparison) => comparison.is_whole(),
+            Behind::Fed(_) => false,
         }
     }
 
@@ -104,7 +90,7 @@ impl Behind {
         ensures not_read { (text : List ℕ) → HoldsText text self → IfErr result (λ why. IsNoText text why) }
     {
         match self {
-            Behind::Kept(text) => transcript_of(reader_of(alloc, &text)?),
+            Behind::Compared(comparison) => transcript_of(comparison.reader(alloc, MOST_LINES)?),
             Behind::Fed(reader) => transcript_of(reader),
         }
     }

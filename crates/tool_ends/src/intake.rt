@@ -1,18 +1,16 @@
 //! An input that is taken piece by piece: a script, and the text of a transcript behind it.
-ghost use Rattle.std.specs.Prelude.{◌+◌, ◌≤◌, ◌^◌, ◌++◌, ℕ, List, length, IfErr, IfOk, OnOk};
-ghost use Rattle.tool_ends.specs.Behind.{IsApart};
-ghost use Rattle.tool_ends.specs.Intakes.{HasEndLine, HasTaken, IsOpened};
+ghost use Rattle.std.specs.Prelude.{◌≡◌, ◌+◌, ◌≤◌, ◌^◌, ◌++◌, ℕ, List, Some, length, IfErr, IfOk, IfSome, OnOk};
+ghost use Rattle.tool_ends.specs.Behind.{IsApart, compared_with};
+ghost use Rattle.tool_ends.specs.Intakes.{HasEndLine, HasTaken, IsOpened, made_in, made_of};
 ghost use Rattle.tool_ends.specs.Pairs.{IsNoPair, most_input};
 
 use crate::behind::Behind;
+use crate::maker::Maker;
 use crate::pair::NoPair;
 use crate::script_end::has_end_line;
 use event_script::{Script, ScriptError, read_front};
 use key_names::ScriptFault;
 use std::alloc::{AllocError, Global};
-
-/// The most bytes of a kept text for each event of its script.
-const MOST_OF_EVENT: usize = 1024;
 
 /// The front of an input, in which a script was looked for.
 #[derive(Drop)]
@@ -31,40 +29,33 @@ pub(crate) enum Intake {
     Opened(Opened),
 }
 
-// How long the text behind a script may grow to be kept, where that is asked: that of one caller whose lines are short,
-// since it may be what a run writes.
-fn most_kept(script: &Script, keeps: bool) -> usize {
-    if keeps && script.callers() == 1 {
-        script.events(0).len().saturating_mul(MOST_OF_EVENT)
-    } else {
-        0
-    }
-}
-
-fn open(alloc: Global, keeps: bool, input: &[u8]) -> Result<Opened, AllocError>
-    requires { length input.now ≤ 2 ^ 31 }
-    ensures { IfOk result (IsOpened input.now) }
+fn open<M: Maker>(alloc: Global, maker: &M, input: &[u8]) -> Result<Opened, AllocError>
+    requires short { length input.now ≤ 2 ^ 31 }
+    requires may { M.may_make maker.now }
+    ensures opened { IfOk result (IsOpened input.now) }
+    ensures made { IfOk result (λ opened. IfSome (made_of opened) (λ both. M.made maker.now both.0 both.1)) }
 {
     let (script, len) = match read_front(alloc, input) {
         Ok(both) => both,
         Err(ScriptError::Fault(fault)) => return Ok(Opened::Faulty(fault)),
         Err(ScriptError::NoMemory) => return Err(AllocError),
     };
-    let mut text = Behind::nothing(alloc);
-    text.take(alloc, most_kept(&script, keeps), &input[len as usize..])?;
+    let mut text = Behind::nothing(alloc, maker.make(alloc, &script))?;
+    text.take(alloc, &input[len as usize..])?;
     Ok(Opened::Script(script, text))
 }
 
 impl Opened {
     // What stands behind the end of a script that was seen.
-    fn take(&mut self, alloc: Global, keeps: bool, piece: &[u8]) -> Result<(), AllocError>
+    fn take(&mut self, alloc: Global, piece: &[u8]) -> Result<(), AllocError>
         requires short { (input : List ℕ) × HasEndLine input × IsOpened input self.old
             × (length input + length piece.now ≤ 2 ^ 31) }
-        ensures { OnOk result ((input : List ℕ) → HasEndLine input → IsOpened input self.old
+        ensures opened { OnOk result ((input : List ℕ) → HasEndLine input → IsOpened input self.old
             → IsOpened (input ++ piece.now) self.new) }
+        ensures made { OnOk result (IfSome (made_of self.new) (λ both. made_of self.old ≡ Some both)) }
     {
         match self {
-            Opened::Script(script, text) => text.take(alloc, most_kept(script, keeps), piece),
+            Opened::Script(_, text) => text.take(alloc, piece),
             Opened::Faulty(_) => Ok(()),
         }
     }
@@ -74,6 +65,7 @@ impl Opened {
             → IfOk result (λ both. IsApart input both.0 both.1) }
         ensures not_read { (input : List ℕ) → IsOpened input self → length input ≤ most_input
             → IfErr result (λ why. IsNoPair input why) }
+        ensures made { IfOk result (λ both. IfSome (compared_with both.1) (λ t. made_of self ≡ Some (both.0, t))) }
     {
         match self {
             Opened::Script(script, text) => Ok((script, text)),
@@ -83,22 +75,26 @@ impl Opened {
 }
 
 impl Intake {
-    /// One more piece. The text behind the script is kept, where `keeps` asks for it and it is short.
-    pub(crate) fn take(
+    /// One more piece. Behind the script it is compared with what the maker makes.
+    pub(crate) fn take<M: Maker>(
         &mut self,
         alloc: Global,
-        keeps: bool,
+        maker: &M,
         piece: &[u8],
     ) -> Result<(), AllocError>
         requires short { (input : List ℕ) × HasTaken input self.old × (length input + length piece.now ≤ 2 ^ 31) }
-        ensures { OnOk result ((input : List ℕ) → HasTaken input self.old → HasTaken (input ++ piece.now) self.new) }
+        requires may { M.may_make maker.now }
+        ensures taken { OnOk result ((input : List ℕ) → HasTaken input self.old
+            → HasTaken (input ++ piece.now) self.new) }
+        ensures made { OnOk result (IfSome (made_in self.old) (λ both. M.made maker.now both.0 both.1)
+            → IfSome (made_in self.new) (λ both. M.made maker.now both.0 both.1)) }
     {
         match self {
-            Intake::Opened(opened) => opened.take(alloc, keeps, piece),
+            Intake::Opened(opened) => opened.take(alloc, piece),
             Intake::Front(input) => {
                 input.extend_from_slice(piece)?;
                 if has_end_line(input, piece.len()) {
-                    let opened = open(alloc, keeps, input)?;
+                    let opened = open(alloc, maker, input)?;
                     *self = Intake::Opened(opened);
                 }
                 Ok(())
@@ -107,16 +103,23 @@ impl Intake {
     }
 
     /// The script that was taken, and the text behind it.
-    pub(crate) fn finish(self, alloc: Global, keeps: bool) -> Result<(Script, Behind), NoPair>
+    pub(crate) fn finish<M: Maker>(
+        self,
+        alloc: Global,
+        maker: &M,
+    ) -> Result<(Script, Behind), NoPair>
         requires short { (input : List ℕ) × HasTaken input self × (length input ≤ 2 ^ 31) }
+        requires may { M.may_make maker.now }
         ensures read { (input : List ℕ) → HasTaken input self → length input ≤ most_input
             → IfOk result (λ both. IsApart input both.0 both.1) }
         ensures not_read { (input : List ℕ) → HasTaken input self → length input ≤ most_input
             → IfErr result (λ why. IsNoPair input why) }
+        ensures made { IfSome (made_in self) (λ both. M.made maker.now both.0 both.1)
+            → IfOk result (λ both. IfSome (compared_with both.1) (M.made maker.now both.0)) }
     {
         match self {
             Intake::Opened(opened) => opened.finish(),
-            Intake::Front(input) => open(alloc, keeps, &input)?.finish(),
+            Intake::Front(input) => open(alloc, maker, &input)?.finish(),
         }
     }
 }

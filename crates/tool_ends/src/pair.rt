@@ -1,12 +1,13 @@
 //! A script and a transcript behind it, read from one input.
-ghost use Rattle.std.specs.Prelude.{◌≡◌, ◌≤◌, IfErr, IfOk, OnOk};
+ghost use Rattle.std.specs.Prelude.{◌≡◌, ◌≤◌, IfErr, IfOk, IfSome, OnOk};
 ghost use Rattle.io_edges.specs.Faults.{Rose};
-ghost use Rattle.tool_ends.specs.Behind.{GivesApart};
+ghost use Rattle.tool_ends.specs.Behind.{GivesApart, compared_with};
 ghost use Rattle.tool_ends.specs.Pairs.{GivesPair, GivesNoPair};
 ghost use Rattle.tool_ends.specs.declared.pair.NoPair.TheVariants.{NoMemory, ReadFault};
 
 use crate::behind::Behind;
 use crate::intake::Intake;
+use crate::maker::{Maker, NoMaker};
 use event_script::Script;
 use io_edges::{Failed, Source};
 use key_names::{FaultKind, ScriptFault};
@@ -51,20 +52,22 @@ impl From<AllocError> for NoPair {
 }
 
 /// The script that a source gives, and the text that is all that follows. The source is read to its end, or to one byte
-/// behind the most that there may be. Where `keeps` asks for it, the text of a script of one caller is kept while it has at
-/// most 1,024 times as many bytes as the script has events. Of other texts, behind the piece in which the script's last line
-/// came, no more is kept than a line that is not whole yet, beside the lines that were read.
+/// behind the most that there may be. Where the maker makes a transcript of the script, the text is compared with that one's
+/// as it comes, and no byte of it is kept while it is the same. Of another text, behind the piece in which the script's last
+/// line came, no more is kept than a line that is not whole yet, beside the lines that were read.
 ///
 /// # Errors
 ///
 /// [`NoPair`] says why the input was not read; of the text behind the script nothing is told here. Where the source failed,
 /// or memory ran out, the bytes that were taken are lost.
-pub fn read_apart<S: Source>(
+pub fn read_apart<S: Source, M: Maker>(
     alloc: Global,
     source: &mut S,
-    keeps: bool,
+    maker: &M,
 ) -> Result<(Script, Behind), NoPair>
+    requires { M.may_make maker.now }
     ensures read { IfOk result (λ both. GivesApart (S.left source.old) (S.left source.new) both.0 both.1) }
+    ensures made { IfOk result (λ both. IfSome (compared_with both.1) (M.made maker.now both.0)) }
     ensures not_read { IfErr result (λ why. GivesNoPair (S.left source.old) (S.left source.new) why) }
     ensures read_fault { IfErr result (λ why. why ≡ NoPair.ReadFault → Rose (S.faults source.old) (S.faults source.new)) }
     ensures no_fault { IfErr result (λ why. (why ≡ NoPair.ReadFault → ⊥) → S.faults source.new ≡ S.faults source.old) }
@@ -77,9 +80,9 @@ pub fn read_apart<S: Source>(
         let most = PIECE.min(MOST_PAIR_BYTES + 1 - taken);
         let count = source.take(&mut piece[..most])?;
         if count == 0 {
-            return intake.finish(alloc, keeps);
+            return intake.finish(alloc, maker);
         }
-        intake.take(alloc, keeps, &piece[..count])?;
+        intake.take(alloc, maker, &piece[..count])?;
         taken += count;
     }
     Err(NoPair::Refused(ScriptFault {
@@ -89,7 +92,7 @@ pub fn read_apart<S: Source>(
 }
 
 /// The script that a source gives, and the transcript that is all that follows. The source is read as by [`read_apart`],
-/// and no text is kept.
+/// and the text is compared with none.
 ///
 /// # Errors
 ///
@@ -102,7 +105,7 @@ pub fn read_pair<S: Source>(alloc: Global, source: &mut S) -> Result<(Script, Tr
     ensures no_fault { IfErr result (λ why. (why ≡ NoPair.ReadFault → ⊥) → S.faults source.new ≡ S.faults source.old) }
     ensures not_counted { OnOk result (S.faults source.new ≡ S.faults source.old) }
 {
-    let (script, text) = read_apart(alloc, source, false)?;
+    let (script, text) = read_apart(alloc, source, &NoMaker)?;
     let t = text.transcript(alloc)?;
     Ok((script, t))
 }

@@ -10,8 +10,10 @@ pub mod Keeping
 pub mod LineTexts
 pub mod NameTexts
 pub mod NumberTexts
+pub mod Places
 pub mod PuttingOn
 pub mod ReadingOn
+pub mod Comparing
 pub mod CountingOn
 pub mod FeedingOn
 pub mod RisingLines

@@ -1,8 +1,10 @@
+pub mod Comparing
 pub mod Feeding
 pub mod Gathered
 pub mod Grouping
 pub mod Heads
 pub mod Lines
+pub mod Places
 pub mod Putting
 pub mod ReadLines
 pub mod ReadTexts

@@ -10,6 +10,7 @@
 #![tactic(auto)]
 
 mod caller_lines;
+mod comparison;
 mod data;
 mod error;
 mod grouping;
@@ -19,6 +20,7 @@ mod lexing;
 mod line;
 mod line_buffer;
 mod names;
+mod place;
 mod reader;
 mod reading;
 mod so_far;
@@ -29,6 +31,7 @@ mod view;
 mod writing;
 
 pub use caller_lines::CallerLines;
+pub use comparison::Comparison;
 pub use error::TextError;
 pub use reader::Reader;
 pub use reading::read;

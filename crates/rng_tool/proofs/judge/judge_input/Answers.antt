@@ -9,7 +9,7 @@ use Rattle.rng_tool.proofs.Judging.{none_said}
 use Rattle.rng_tool.proofs.judge.judge_input.Goals as goal
 
 pub say_of_text-requires-clause-short : goal.say_of_text-requires-clause-short
-say_of_text-requires-clause-short g c κs within =
+say_of_text-requires-clause-short g c =
     let given = c.in-Ok.ensures.read in (
       behind given.0,
       given.2.holds,

@@ -1,18 +1,17 @@
-use Rattle.std.proofs.Common.{refl, subst, sym}
+use Rattle.std.proofs.Common.{subst, sym}
 use Rattle.tool_ends.specs.Pairs.{IsNoText, behind}
 use Rattle.tool_ends.specs.declared.status.Status.TheVariants.{Done}
 use Rattle.tool_ends.proofs.Inputs.{the_answer, wider}
 use Rattle.tool_ends.proofs.Pairs.{no_pair}
 use Rattle.rng_tool.specs.JudgeOutcome.{JudgeCalls}
-use Rattle.rng_tool.proofs.Judging.{pair_said, refusal_said, rerun_said}
+use Rattle.rng_tool.proofs.Judging.{pair_said, refusal_said, run_said}
 use Rattle.rng_tool.proofs.judge.say_of_text.Goals as goal
 
-pub returns-then-is_run_again-clause-ends : goal.returns-then-is_run_again-clause-ends
-returns-then-is_run_again-clause-ends g c = λ input apart.
+pub returns-then-is_whole-clause-ends : goal.returns-then-is_whole-clause-ends
+returns-then-is_whole-clause-ends g c = λ input apart.
     let Of = JudgeCalls c.args.judge input in
-    let known = c.if-is_run_again.ensures in
-    let yes = rerun_said c.args.judge input c.args.script.now c.args.behind apart (known.check refl)
-    (known.run refl (behind input) apart.holds) in
+    let yes = run_said c.args.judge input c.args.script.now c.args.behind apart c.requires.run
+    (c.is_whole.ensures.0 c.if-is_whole.true) in
     wider _ Of (the_answer Of Done c.yes_line.result.bytes (subst (Of Done) (sym c.yes_line.ensures) yes)) _ _ _
     c.put_line.ensures.ends
 

@@ -67,8 +67,9 @@ loop-taken-preserved g c =
       so_far = piece_taken _ _ _ _ _ c.loop-taken.taken n _ s
           (subst (Consumes (g.S.Source.left c.loop-taken.source) (g.S.Source.left c.take.new.self))
           (sym (take-append-le n buf old few)) c.in_ok-count.ensures.taken)
-          (omega (arith, few, length-take n (buf ++ old), length-append buf old)) (c.in_ok-take.ensures s.input);
+          (omega (arith, few, length-take n (buf ++ old), length-append buf old)) (c.in_ok-take.ensures.taken s.input);
       counted = c.in_ok-count.ensures.not_counted ∙ c.loop-taken.invariant.counted;
+      made = c.in_ok-take.ensures.made c.loop-taken.invariant.made;
       within = search rules;
     }
 

@@ -16,13 +16,13 @@ take-requires c =
       );
     }
 
-pub returns-in-Script : goal.returns-in-Script
-returns-in-Script c =
+pub returns-in-Script-clause-opened : goal.returns-in-Script-clause-opened
+returns-in-Script-clause-opened c =
     on_ok c.take.result (λ more input end opened.
     let found = rw c.in-Script.is at opened in
-    found_on input c.args.piece.now c.in-Script.script c.in-Script.text c.take.new.self end found
+    found_on input c.args.piece.now c.in-Script.field-0 c.in-Script.text c.take.new.self end found
     (more (behind input) found.holds)) c.take.ensures.more
 
-pub returns-in-Faulty : goal.returns-in-Faulty
-returns-in-Faulty c = λ input end opened.
+pub returns-in-Faulty-clause-opened : goal.returns-in-Faulty-clause-opened
+returns-in-Faulty-clause-opened c = λ input end opened.
     rw c.in-Faulty.is (fault_stays input c.args.piece.now c.in-Faulty.field-0 end (rw c.in-Faulty.is at opened))

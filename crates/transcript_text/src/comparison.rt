@@ -1,0 +1,141 @@
+//! A text that comes piece by piece, compared with that of a transcript.
+ghost use Rattle.std.specs.Prelude.{◌≡◌, ◌↔◌, ◌+◌, ◌<◌, ◌≤◌, ◌^◌, ◌++◌, [], List, ℕ, drop, take, length, IsTrue, IfOk};
+ghost use Rattle.key_names.specs.Texts.TranscriptGrammar.{transcript_text};
+ghost use Rattle.transcript_text.specs.Comparing.{IsOther};
+ghost use Rattle.transcript_text.specs.Feeding.{HasFed, most_lines};
+
+use crate::line_buffer::Piece;
+use crate::place::Place;
+use crate::reader::Reader;
+use crate::transcript::Transcript;
+use std::alloc::{AllocError, Global};
+use std::marker::Model;
+
+/// A transcript, and how far a text that comes piece by piece is its text. Of that text no byte is kept.
+#[derive(Drop)]
+pub struct Comparison {
+    made: Transcript,
+    // How many bytes were found to be the same.
+    same: usize,
+    // The piece of the transcript's text in which the next byte stands, its place there, and the place behind the piece.
+    piece: Piece,
+    from: usize,
+    place: Place,
+}
+
+impl Model for Comparison {
+    ghost use Rattle.std.specs.Prelude.{take};
+    ghost use Rattle.key_names.specs.Texts.TranscriptGrammar.{transcript_text};
+    ghost use Rattle.transcript_text.specs.Comparing.{Compared, IsBefore};
+
+    ghost Value = { Compared };
+
+    ghost view = { λ c. record { made = c.made; text = take c.same (transcript_text c.made) } };
+
+    ghost invariant = { λ c. IsBefore c.made c.same c.piece c.from c.place };
+}
+
+// The bytes of a text from a place on, so many at most.
+fn bytes_from(text: &[u8], from: usize, most: usize) -> &[u8]
+    requires { from ≤ length text.now }
+    ensures bytes { result.now ≡ take most (drop from text.now) }
+    ensures some { from < length text.now → 0 < most → 0 < length result.now }
+{
+    let (_, rest) = text.split_at(from);
+    let (front, _) = rest.split_at(rest.len().min(most));
+    front
+}
+
+impl Comparison {
+    /// The comparison with the text of this transcript. Nothing was compared yet.
+    pub fn with(made: Transcript) -> Comparison
+        ensures made { result.made ≡ made }
+        ensures text { result.text ≡ [] }
+    {
+        Comparison {
+            made,
+            same: 0,
+            piece: Piece::empty(),
+            from: 0,
+            place: Place::start(),
+        }
+    }
+
+    // Compares the front of the bytes, as far as one piece of the transcript's text goes, and answers how many were found to
+    // be the same: 0 where they are others.
+    fn compare_front(&mut self, bytes: &[u8]) -> usize
+        requires some { 0 < length bytes.now }
+        requires short { length self.old.text + length bytes.now ≤ 2 ^ 31 }
+        ensures few { result ≤ length bytes.now }
+        ensures made { self.new.made ≡ self.old.made }
+        ensures text { self.new.text ≡ self.old.text ++ take result bytes.now }
+        ensures others { result ≡ 0 → IsOther self.old.made self.old.text bytes.now }
+    {
+        while self.from == self.piece.text().len() {
+            let goes_on = self.place.go_on(&self.made, &mut self.piece);
+            self.from = 0;
+            if !goes_on {
+                return 0;
+            }
+        }
+        let next = bytes_from(self.piece.text(), self.from, bytes.len());
+        let count = next.len();
+        let (front, _) = bytes.split_at(count);
+        if front == next {
+            self.from += count;
+            self.same += count;
+            return count;
+        }
+        0
+    }
+
+    /// Goes on with more bytes of the text, which has at most 2^31 in all. Answers how many of them are as in the
+    /// transcript's text, at least, and all of them where all are.
+    pub fn compare(&mut self, bytes: &[u8]) -> usize
+        requires short { length self.old.text + length bytes.now ≤ 2 ^ 31 }
+        ensures few { result ≤ length bytes.now }
+        ensures made { self.new.made ≡ self.old.made }
+        ensures text { self.new.text ≡ self.old.text ++ take result bytes.now }
+        ensures others { result < length bytes.now → IsOther self.old.made self.old.text bytes.now }
+    {
+        let mut rest = bytes;
+        while !rest.is_empty() {
+            let count = self.compare_front(rest);
+            if count == 0 {
+                break;
+            }
+            rest = &rest[count..];
+        }
+        bytes.len() - rest.len()
+    }
+
+    /// Whether all of the transcript's text was found.
+    pub fn is_whole(&self) -> bool
+        ensures { IsTrue result ↔ (self.now.text ≡ transcript_text self.now.made) }
+    {
+        self.place.is_end() && self.from == self.piece.text().len()
+    }
+
+    /// A reader that was fed the text so far, of at most 2^31 bytes, for a transcript of at most so many lines, without its
+    /// first and its last.
+    ///
+    /// # Errors
+    ///
+    /// `AllocError` where there is no memory for it.
+    pub fn reader(&self, alloc: Global, most: u32) -> Result<Reader, AllocError>
+        requires { length self.now.text ≤ 2 ^ 31 }
+        ensures fed { IfOk result (λ reader. HasFed self.now.text reader) }
+        ensures most { IfOk result (λ reader. most_lines reader ≡ most) }
+    {
+        let mut reader = Reader::new(alloc, most)?;
+        let mut place = Place::start();
+        let mut piece = Piece::empty();
+        let mut left = self.same;
+        while left > 0 && place.go_on(&self.made, &mut piece) {
+            let count = piece.text().len().min(left);
+            reader.feed(alloc, &piece.text()[..count])?;
+            left -= count;
+        }
+        Ok(reader)
+    }
+}
