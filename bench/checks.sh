@@ -45,6 +45,16 @@ alone() {
     }'
 }
 
+# of_second PROGRAM: one of two callers, of whom the second makes the events of events(): a check of it goes by the clauses.
+of_second() {
+    awk "$1"'
+    BEGIN {
+        print "rngscript 1\ncpus 1\ncaller 0\ncredit 256\nfork 1\ncaller 1"
+        events()
+        print "end"
+    }'
+}
+
 # of_eight PROGRAM: one of 8 callers, each on a CPU of its own, of whom each makes the events of events().
 of_eight() {
     awk "$1"'
@@ -72,6 +82,7 @@ reads 4096 'read 4096 0' >"$room/page"
 reads 65000 'read 200 0' >"$room/middle"
 alone "$small"'function events(  j) { for (j = 0; j < 65535; j++) small(j) }' >"$room/mix"
 alone "$short"'function events(  j) { for (j = 0; j < 65000; j++) short(j) }' >"$room/short"
+of_second 'function events(  j) { for (j = 0; j < 16; j++) print "read 1048576 0" }' >"$room/bulk_of_2"
 of_eight "$small"'function events(  j) { for (j = 0; j < 8189; j++) small(j) }' >"$room/mix_of_8"
 of_eight "$short"'function events(  j) { for (j = 0; j < 8125; j++) short(j) }' >"$room/short_of_8"
 
@@ -109,6 +120,7 @@ each_pair() {
     "$1" '65,000 reads of 200 bytes' "$room/middle"
     "$1" '65,535 events of the mix' "$room/mix"
     "$1" '65,000 short events' "$room/short"
+    "$1" '16 of 1 MiB by a second caller' "$room/bulk_of_2"
     "$1" 'the mix by 8 callers' "$room/mix_of_8"
     "$1" 'short events by 8 callers' "$room/short_of_8"
 }
