@@ -1,5 +1,5 @@
 //! Fields that spell bytes.
-ghost use Rattle.std.specs.Prelude.{◌≡◌, ◌*◌, ◌/◌, ◌%◌, ◌<◌, ◌↔◌, [], true, IsTrue, IfOk, Some, None, if◌then◌else◌, length, slice_index};
+ghost use Rattle.std.specs.Prelude.{◌≡◌, ◌*◌, ◌/◌, ◌%◌, ◌<◌, ◌↔◌, [], true, false, IsTrue, IfOk, Some, None, if◌then◌else◌, length, slice_index};
 ghost use Rattle.std.specs.Option.{is_some, option_map};
 ghost use Rattle.std.specs.Str.{bytes_eq};
 ghost use Rattle.hex.specs.Hex.{encode_lower, lower_digits};
@@ -71,12 +71,13 @@ pub fn spells_bytes(field: &[u8]) -> bool
     is_lower_hex(field)
 }
 
-/// Writes the bytes that a field spells over all of `out`, and answers whether it spells bytes. The field has two digits
-/// for each byte of `out`, and some.
+/// Writes the bytes that a field spells over all of `out`, and answers whether it spells bytes. Where it spells none,
+/// `out` is as it was. The field has two digits for each byte of `out`, and some.
 pub fn decode(field: &[u8], out: &mut [u8]) -> bool
     requires some { 0 < length field.now }
     requires twice { length field.now ≡ 2 * length out.old }
-    ensures { (if result then Some out.new else None) ≡ bytes_of field.now }
+    ensures bytes { (if result then Some out.new else None) ≡ bytes_of field.now }
+    ensures same { result ≡ false → out.new ≡ out.old }
 {
     if !is_lower_hex(field) {
         return false;

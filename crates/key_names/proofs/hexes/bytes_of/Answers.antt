@@ -13,4 +13,4 @@ returns c =
     let same : length out ≡ length c.in_ok-bytes.bytes.items =
     c.decode.auto.out ∙ ap length c.deref_mut.ensures.value in
     let whole = written out c.in_ok-bytes.bytes.items c.in_ok-bytes.bytes.len same c.in_ok-bytes.bytes.ok.0 in
-    ap Some whole ∙ (rw c.if-not-decode.false at c.decode.ensures)
+    ap Some whole ∙ (rw c.if-not-decode.false at c.decode.ensures.bytes)

@@ -22,7 +22,7 @@ returns-then-not-decode-clause-spelt c =
     omega (arith, c.min.ensures, c.split_at.ensures.front_len, s.so_far.even) in
     sym (spelt_nowhere c.args.text.now s.bytes rest front behind (c.min.result / 2) s.so_far
     (parts_of c.min.result rest front behind c.split_at.ensures.front c.split_at.ensures.back) long
-    (omega (arith, c.min.ensures, s.so_far.even, some)) (rw c.if-not-decode.true at c.decode.ensures))
+    (omega (arith, c.min.ensures, s.so_far.even, some)) (rw c.if-not-decode.true at c.decode.ensures.bytes))
 
 pub loop-rest-preserved : goal.loop-rest-preserved
 loop-rest-preserved c =
@@ -41,7 +41,7 @@ loop-rest-preserved c =
       so_far = spelt_more c.args.text.now s.bytes rest front behind (c.min.result / 2) s.so_far
           (parts_of c.min.result rest front behind c.split_at.ensures.front c.split_at.ensures.back) long
           (omega (arith, c.min.ensures, s.so_far.even, some)) piece (s.bytes ++ piece)
-          (rw c.if-not-decode.false at c.decode.ensures) refl;
+          (rw c.if-not-decode.false at c.decode.ensures.bytes) refl;
     }
 
 pub returns-clause-spelt : goal.returns-clause-spelt
