@@ -2,6 +2,7 @@ pub mod AddedMarks
 pub mod Books
 pub mod CutStates
 pub mod Ends
+pub mod Index
 pub mod KeptEntries
 pub mod KeptVisits
 pub mod VisitMarks

@@ -1,4 +1,5 @@
 pub mod Commands
+pub mod Index
 pub mod Kept
 pub mod Live
 pub mod Moments

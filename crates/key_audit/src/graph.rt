@@ -1,24 +1,20 @@
 //! Which keys' bytes became which keys.
-ghost use Rattle.std.specs.Prelude.{◌≡◌, IfOk, IfSome, Some};
+ghost use Rattle.std.specs.Prelude.{◌≡◌, ◌≢◌, ℕ, IfOk, IfSome, None, Some, length};
+ghost use Rattle.key_audit.specs.Index.{IsIndexTo};
 ghost use Rattle.key_audit.specs.Live.{name_at};
 
 use key_names::KeyName;
 use key_rows::rows::{Fate, Row};
 use std::alloc::{AllocError, Global};
+use std::collections::BTreeMap;
 
 /// The rows of a book by the names of their keys.
 #[derive(Drop)]
 pub(crate) struct Graph<'a> {
     rows: &'a [Row],
-    /// The numbers of the rows, by name.
-    by_name: Vec<usize>,
-}
-
-// The name of a row. No number behind the rows has one.
-fn name_at(rows: &[Row], number: usize) -> Option<KeyName>
-    ensures { result ≡ name_at rows.now number }
-{
-    rows.get(number).map(|row| row.key)
+    /// The number of the row of each key.
+    by_name: BTreeMap<KeyName, usize>,
+    ghost indexed: { IsIndexTo (length rows.now) rows.now by_name },
 }
 
 impl<'a> Graph<'a> {
@@ -30,11 +26,10 @@ impl<'a> Graph<'a> {
     pub(crate) fn of(alloc: Global, rows: &'a [Row]) -> Result<Graph<'a>, AllocError>
         ensures { IfOk result (λ graph. graph.rows.now ≡ rows.now) }
     {
-        let mut by_name = Vec::with_capacity(alloc, rows.len())?;
-        for number in 0..rows.len() {
-            by_name.push(number)?;
+        let mut by_name = BTreeMap::new(alloc);
+        for (number, row) in rows.iter().enumerate() {
+            by_name.insert(row.key, number)?;
         }
-        by_name.sort_by_key(|number| name_at(rows, *number))?;
         Ok(Graph { rows, by_name })
     }
 
@@ -42,19 +37,12 @@ impl<'a> Graph<'a> {
         self.rows
     }
 
-    /// The number of the row of a key.
+    /// The number of the row of a key, or `None` where no row is of this key.
     pub(crate) fn find(&self, key: KeyName) -> Option<usize>
-        ensures { IfSome result (λ n. name_at self.now.rows.now n ≡ Some key) }
+        ensures found { IfSome result (λ n. name_at self.now.rows.now n ≡ Some key) }
+        ensures none { result ≡ None → (n : ℕ) → name_at self.now.rows.now n ≢ Some key }
     {
-        let first = self
-            .by_name
-            .partition_point(|number| name_at(self.rows, *number) < Some(key));
-        let number = *self.by_name.get(first)?;
-        if name_at(self.rows, number) == Some(key) {
-            Some(number)
-        } else {
-            None
-        }
+        self.by_name.get(&key).copied()
     }
 
     // Marks the keys that the bytes of a row became.
