@@ -7,7 +7,9 @@ use key_names::{Answer, Data, LaneId, Mark, Step, Word};
 use std::alloc::{AllocError, Global};
 use std::process::Abort;
 use std::test::Fail;
-use transcript_text::{CallerLines, LineView, Shown, TextError, Transcript, read, write_all};
+use transcript_text::{
+    CallerLines, LineView, LineWriter, Shown, TextError, Transcript, read, write_all,
+};
 
 const BEFORE_READINESS: &[u8] = b"rngtranscript 1
 0.0 read EAGAIN ~0 -
@@ -49,6 +51,32 @@ fn sink(alloc: Global, step: usize, failing: u64) -> Result<MemSink, AllocError>
     MemSink::of(alloc, step, [failing].to_vec(alloc)?, 1 << 16)
 }
 
+/// How a transcript is written: as a whole, or line by line.
+#[derive(Clone, Copy, Debug)]
+enum Writing {
+    Whole,
+    ByLines,
+}
+
+const WRITINGS: [Writing; 2] = [Writing::Whole, Writing::ByLines];
+
+impl Writing {
+    fn write<K: Sink>(self, sink: &mut K, transcript: &Transcript) -> Result<(), Failed> {
+        if let Writing::Whole = self {
+            return write_all(sink, transcript);
+        }
+        let mut writer = LineWriter::new();
+        LineWriter::begin(sink)?;
+        for caller in 0..transcript.callers() {
+            let lines = transcript.caller(caller);
+            for number in 0..lines.len() {
+                writer.write(sink, lines.line(number))?;
+            }
+        }
+        LineWriter::end(sink)
+    }
+}
+
 #[test]
 fn each_line_is_one_put_and_a_failed_put_leaves_the_lines_before(
     rt: HostRuntime,
@@ -60,9 +88,16 @@ fn each_line_is_one_put_and_a_failed_put_leaves_the_lines_before(
     let mut whole = 0;
     for put in 1..12 {
         assert!(rt; whole <= BEFORE_READINESS.len());
-        let mut sink = sink(rt.alloc(), 4096, put)?;
-        assert_eq!(rt; write_all(&mut sink, &transcript), Err(Failed), "put {put}");
-        assert_eq!(rt; sink.held(), &BEFORE_READINESS[..whole], "put {put}");
+        for writing in WRITINGS {
+            let mut sink = sink(rt.alloc(), 4096, put)?;
+            let written = writing.write(&mut sink, &transcript);
+            assert_eq!(rt; written, Err(Failed), "put {put}, {writing:?}");
+            assert_eq!(rt;
+                sink.held(),
+                &BEFORE_READINESS[..whole],
+                "put {put}, {writing:?}"
+            );
+        }
         let rest = &BEFORE_READINESS[whole..];
         whole += rest.iter().position(|byte| *byte == b'\n').ok_or("a line")? + 1;
     }
@@ -138,16 +173,43 @@ fn a_long_line_is_put_in_pieces_of_at_most_4096_bytes(rt: HostRuntime) -> Result
         let bytes = Vec::from_elem(rt.alloc(), 171u8, len)?;
         assert!(rt; bytes.len() > 0 && bytes.len() < 1 << 21);
         let transcript = one_read(rt.alloc(), &bytes)?;
-        let mut pieces = Pieces {
-            puts: 0,
-            longest: 0,
-            bytes: 0,
-        };
-        assert_eq!(rt; write_all(&mut pieces, &transcript), Ok(()));
-        assert!(rt; pieces.longest <= 4096, "{len} bytes");
-        assert_eq!(rt; pieces.puts, puts + 2, "{len} bytes");
-        assert!(rt; len < 1 << 21);
-        assert_eq!(rt; pieces.bytes, 16 + 4 + 15 + 2 * len, "{len} bytes");
+        for writing in WRITINGS {
+            let mut pieces = Pieces {
+                puts: 0,
+                longest: 0,
+                bytes: 0,
+            };
+            assert_eq!(rt; writing.write(&mut pieces, &transcript), Ok(()));
+            assert!(rt; pieces.longest <= 4096, "{len} bytes, {writing:?}");
+            assert_eq!(rt; pieces.puts, puts + 2, "{len} bytes, {writing:?}");
+            assert!(rt; len < 1 << 21);
+            assert_eq!(rt;
+                pieces.bytes,
+                16 + 4 + 15 + 2 * len,
+                "{len} bytes, {writing:?}"
+            );
+        }
+    }
+    Ok(())
+}
+
+#[test]
+fn a_long_line_has_its_bytes_in_their_order(rt: HostRuntime) -> Result<(), Fail> {
+    for len in [2040, 2041, 4089, 1 << 20] {
+        let mut bytes = Vec::with_capacity(rt.alloc(), len)?;
+        for place in 0..len {
+            bytes.push((place % 251) as u8)?;
+        }
+        assert!(rt; bytes.len() > 0 && bytes.len() < 1 << 21);
+        let transcript = one_read(rt.alloc(), &bytes)?;
+        let mut text = b"rngtranscript 1\n0.0 read ok - ".to_vec(rt.alloc())?;
+        text.extend_from_slice(hex::encode(rt.alloc(), &bytes)?.as_bytes())?;
+        text.extend_from_slice(b"\nend\n")?;
+        for writing in WRITINGS {
+            let mut sink = MemSink::of(rt.alloc(), 1000, Vec::new(rt.alloc()), 1 << 22)?;
+            assert_eq!(rt; writing.write(&mut sink, &transcript), Ok(()));
+            assert!(rt; sink.held() == text.as_slice(), "{len} bytes, {writing:?}");
+        }
     }
     Ok(())
 }
@@ -190,20 +252,31 @@ fn a_line_is_filled_in_behind_a_later_one(rt: HostRuntime) -> Result<(), Fail> {
 }
 
 /// What is read of a text, written again.
-fn again(rt: &impl Abort, alloc: Global, text: &[u8]) -> Result<Vec<u8>, AllocError> {
+fn again(
+    rt: &impl Abort,
+    alloc: Global,
+    text: &[u8],
+    writing: Writing,
+) -> Result<Vec<u8>, AllocError> {
     assert!(rt; text.len() < 1 << 20);
     let Ok(transcript) = read(alloc, text) else {
         return Err(AllocError);
     };
     let mut sink = sink(alloc, 100, 0)?;
-    assert_eq!(rt; write_all(&mut sink, &transcript), Ok(()));
+    assert_eq!(rt; writing.write(&mut sink, &transcript), Ok(()));
     sink.held().to_vec(alloc)
 }
 
 #[test]
 fn published_texts_are_read_and_written_again(rt: HostRuntime) -> Result<(), Fail> {
     for text in [BEFORE_READINESS, FORK, NUMBERS, b"rngtranscript 1\nend\n"] {
-        assert_eq!(rt; again(&rt, rt.alloc(), text)?.as_slice(), text);
+        for writing in WRITINGS {
+            assert_eq!(rt;
+                again(&rt, rt.alloc(), text, writing)?.as_slice(),
+                text,
+                "{writing:?}"
+            );
+        }
     }
     Ok(())
 }

@@ -99,7 +99,7 @@ impl Place {
     // Puts what is left of a line's data, as much as there is room for, and answers whether that is all of it.
     #[tactic(auto, using(crate::proofs::Places::left_of_bytes, crate::proofs::Places::none_shown), unfolding(key_names::specs::Texts::TranscriptGrammar::shown_text))]
     #[inline(always)]
-    fn show(&mut self, shown: Shown<'_>, piece: &mut Piece) -> bool
+    pub(crate) fn show(&mut self, shown: Shown<'_>, piece: &mut Piece) -> bool
         requires room { length piece.old ≤ 2048 }
         requires within { self.old.shown ≤ length (bytes_in (seen_shown shown)) }
         ensures all { IsTrue result → piece.new ≡ piece.old ++ data_left self.old.shown (seen_shown shown.entry) }
