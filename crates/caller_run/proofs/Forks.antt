@@ -7,3 +7,4 @@ pub mod Joins
 pub mod Runs
 pub mod Gathers
 pub mod AllCallers
+pub mod Alone

@@ -16,3 +16,4 @@ pub mod Grove
 pub mod Plots
 pub mod Ways
 pub mod Plans
+pub mod Alone

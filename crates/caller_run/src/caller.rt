@@ -97,7 +97,7 @@ impl Caller {
     }
 
     // The caller's last visit.
-    fn leave<R: Wait>(&mut self, rt: &R, lanes: &Lanes, trace: &mut Trace)
+    pub(crate) fn leave<R: Wait>(&mut self, rt: &R, lanes: &Lanes, trace: &mut Trace)
         requires has { HoldsLanes lanes.now self.old.set.caller [] self.old.pass }
         requires new { trace.old ≡ [] }
         ensures { HasLeft lanes.now self.old self.new trace.new }

@@ -4,6 +4,8 @@
 //! in its parent's thread where none can be made ([`run_here`]), and forks children in turn. A parent joins its children
 //! behind its own last visit. All memory of a run is taken first, as a [`Plan`].
 //!
+//! A caller that is the only one of its script can also be run line by line ([`LoneRun`]), and then no line is kept.
+//!
 //! Whatever the callers' calls did to each other, the lines are a lawful transcript of the script, with the book of the
 //! lanes' lists ([`laws`]). That is promised of each run that ends. It is not promised that a run ends, nor that two
 //! callers ever ran at once.
@@ -13,6 +15,7 @@
 #![tactic(auto)]
 
 mod acts;
+mod alone;
 mod caller;
 mod calls;
 mod children;
@@ -31,6 +34,7 @@ mod states;
 mod vreads;
 mod ways;
 
+pub use alone::LoneRun;
 pub use children::Children;
 pub use here::run_here;
 pub use new_table::{run_new, run_on_new_table};

@@ -1,5 +1,6 @@
 //! Reads out of a caller's vgetrandom states.
-ghost use Rattle.std.specs.Prelude.{◌≡◌, ◌∷◌, ℕ, [], length};
+ghost use Rattle.std.specs.Prelude.{◌≡◌, ◌≤◌, ◌^◌, ◌∷◌, ℕ, [], length};
+ghost use Rattle.caller_run.specs.Calling.{IsReady, StateRead, StatesStand};
 ghost use Rattle.key_names.specs.declared.events.Event.TheVariants.{Vread};
 ghost use Rattle.caller_run.specs.StateReads.{CanRead, CurrentRead};
 ghost use Rattle.caller_run.specs.Standing.{CanAdvance, MadeEvent};
@@ -33,6 +34,32 @@ fn flags_of(event: &Event) -> u32
 }
 
 impl Caller {
+    /// A read out of the current state, of as many bytes as `served` has, with no act inside.
+    pub(crate) fn vread_alone<'x, R: Wait>(
+        &mut self,
+        rt: &'x R,
+        lanes: &'x Lanes,
+        trace: &mut Trace,
+        served: &mut [u8],
+        flags: u32,
+    ) -> Reply
+        requires ready { IsReady lanes.now self.old }
+        requires states { StatesStand self.old }
+        requires short { length served.old ≤ 2 ^ 20 }
+        requires new { trace.old ≡ [] }
+        ensures { StateRead lanes.now (length served.old) flags self.old self.new result served.new trace.new [] [] }
+    {
+        let state = &mut self.states.all[self.states.current as usize];
+        let site = Site {
+            lanes,
+            pass: &mut self.pass,
+            trace: &mut *trace,
+            set: self.set,
+        };
+        let mut host = LaneHost::over(rt, site, &mut [], &mut []);
+        Reply::read(vread(&mut host, state, served, flags))
+    }
+
     // A read out of the current state, of as many bytes as `into` has, with these acts inside.
     fn vread<'x, R: Wait>(
         &mut self,
@@ -46,7 +73,9 @@ impl Caller {
         requires new { trace.old ≡ [] }
         ensures { CurrentRead lanes.now self.old self.new result trace.new acts.old acts.new into.old into.new }
     {
-        let alone = acts.is_empty();
+        if acts.is_empty() {
+            return self.vread_alone(rt, lanes, trace, into.served, into.flags);
+        }
         let st = &mut self.states.all[self.states.current as usize];
         let site = Site {
             lanes,
@@ -55,9 +84,6 @@ impl Caller {
             set: self.set,
         };
         let mut host = LaneHost::over(rt, site, &mut *acts, &mut *into.inside);
-        if alone {
-            return Reply::read(vread(&mut host, st, into.served, into.flags));
-        }
         Reply::read(vread_inside(&mut host, st, into.served, into.flags))
     }
 

@@ -20,7 +20,6 @@ use Rattle.key_names.specs.Meaning.{CallerState}
 use Rattle.key_names.specs.VreadSteps.{published_by}
 use Rattle.std.proofs.lemmas.Option.{slice_get-get_or}
 use Rattle.rng_core.specs.Acts.{ActOutcome}
-use Rattle.rng_core.proofs.Hosting.{none_left}
 use Rattle.rng_core.proofs.InsideCalls.{fresh_undone, outcomes_long}
 use Rattle.caller_run.specs.Calling.{StateRead}
 use Rattle.caller_run.specs.Says.{IsNoCount}
@@ -42,10 +41,6 @@ use Rattle.caller_run.specs.declared.states.States.{States}
 use Rattle.rng_core.specs.declared.setting.Setting.{Setting}
 use Rattle.caller_run.proofs.Events.InsideDone.{inside_done}
 use Rattle.caller_run.proofs.Events.VreadDone.{vread_done}
-
--- where nothing is asked, nothing comes of it
-pub no_outcomes : (acts : List Bound) (out : List ℕ) → length acts ≡ 0 → outcomes_of acts out ≡ []
-no_outcomes acts out none = ap (λ (bs : List Bound). outcomes_of bs out) (none_left acts none)
 
 -- what was lent is what came back
 pub lent_read : {t : Lanes} {n flags : ℕ} {c : Caller} {set : Setting} {states : States} {said : Reply} {served : List ℕ}

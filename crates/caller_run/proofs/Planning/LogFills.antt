@@ -1,13 +1,15 @@
 -- How a caller's lines and the acts that wait go on by an event of each kind.
-use Rattle.std.proofs.Common.{◌≡◌, ℕ, false, Ok, ◌+◌, ◌*◌, ◌<◌, ◌≤◌, List, [], ◌∷◌, ◌++◌, length, refl, sym, ap, ◌∙◌, subst, arith, length-append}
+use Rattle.std.proofs.Common.{◌≡◌, ℕ, nat_cmp, false, Ok, ◌+◌, ◌*◌, ◌<◌, ◌≤◌, List, [], ◌∷◌, ◌++◌, length, take, drop, refl, sym, ap, ◌∙◌, subst, arith, length-append}
 use Rattle.std.specs.List.{AllByRecursion}
+use Rattle.std.specs.Ordering.{ord_max}
+use Rattle.std.proofs.Math.Seq.{take-append_seam}
+use Rattle.std.proofs.lemmas.Bool.Decides.{nat_tests}
 use Rattle.std.proofs.lemmas.List.{map-append}
 use Rattle.key_names.specs.declared.events.Event.{Event}
 use Rattle.key_names.specs.declared.events.Event.TheVariants.{Inside, Vread}
 use Rattle.key_names.specs.declared.events.InsideAct.{InsideAct}
 use Rattle.key_names.specs.declared.events.InsideAct.TheVariants.{Wipe, Vread as ReadAct, Reseed}
 use Rattle.key_names.specs.declared.point.Point.{Point}
-use Rattle.std.proofs.Common.{false, Ok}
 use Rattle.key_names.specs.Texts.ScriptGrammar.{ActInRange, acts_after}
 use Rattle.key_names.specs.SeenLine.{SeenLine}
 use Rattle.key_names.proofs.Lists.Each.{each_more}
@@ -19,6 +21,20 @@ use Rattle.caller_run.specs.Says.{most_shown}
 use Rattle.transcript_text.specs.Gathered.{Gathered}
 use Rattle.caller_run.specs.Standing.{read_inside}
 use Rattle.caller_run.proofs.Orders.ToldAnew.{AreTold, told_more}
+
+-- a list whose items were lent out, with those that came back
+pub put_back : {A : Type 0} (back items : List A) (n : ℕ) → length back ≡ n
+    → take n (back ++ drop (length back) items) ≡ back
+put_back back items n long =
+    ap (λ (k : ℕ). take k (back ++ drop (length back) items)) (sym long)
+    ∙ take-append_seam back (drop (length back) items)
+
+-- the larger of two
+pub above : (n most more max : ℕ) → max ≡ ord_max nat_cmp most more → n ≤ most → n ≤ max
+above n most more max is le = grind (arith, nat_tests)
+
+pub above_more : (most more max n : ℕ) → max ≡ ord_max nat_cmp most more → more ≡ n → n ≤ max
+above_more most more max n is at = grind (arith, nat_tests)
 
 -- how lines and the acts that wait go on by an event
 pub record Fills (event : Event) (before after : Gathered) (acts left : List Bound) : Type 0 where

@@ -1,6 +1,5 @@
 use Rattle.std.proofs.Common.{vec_capacity, ◌≤◌, ◌≡◌, ◌∷◌, ◌++◌, [], List, length, ℕ, take, drop, sym, subst, ap, ◌∙◌, arith, rules}
 use Rattle.std.proofs.lemmas.List.{length-map, length-take, length-take-le}
-use Rattle.std.proofs.Math.Seq.{take-append_seam}
 use Rattle.rng_core.specs.declared.vdso.acts.Bound.{Bound}
 use Rattle.rng_core.specs.Acts.{all_wanted, ask_of, asks_of, outcomes_of}
 use Rattle.caller_run.specs.Calling.{StateRead}
@@ -9,7 +8,7 @@ use Rattle.key_names.specs.declared.events.Word.TheVariants.{Vread as VreadWord}
 use Rattle.key_names.specs.SeenLine.{SeenLine}
 use Rattle.caller_run.specs.Waiting.{told_anew, act_lines}
 use Rattle.caller_run.specs.Says.{most_shown, line_of}
-use Rattle.caller_run.proofs.Planning.LogFills.{wanted_few}
+use Rattle.caller_run.proofs.Planning.LogFills.{put_back, wanted_few}
 use Rattle.caller_run.proofs.Events.VreadGoes.{HasRead, can_read, gone_read}
 use Rattle.caller_run.proofs.caller.Caller.read_state.Goals as goal
 use Rattle.caller_run.proofs.caller.Caller.read_state.Goals.{After-go_on}
@@ -49,12 +48,6 @@ tell-requires-clause-step_room g c =
 
 pub tell-requires-clause-steps : goal.tell-requires-clause-steps
 tell-requires-clause-steps g c = c.vread-said.ensures.read.steps_fit
-
--- a list whose items were lent out, with those that came back
-put_back : (back items : List Bound) (n : ℕ) → length back ≡ n → take n (back ++ drop (length back) items) ≡ back
-put_back back items n long =
-    ap (λ (k : ℕ). take k (back ++ drop (length back) items)) (sym long)
-    ∙ take-append_seam back (drop (length back) items)
 
 -- what the caller did for its event
 has_read : (g : _) (c : After-go_on g) → HasRead c.args.shared.now.lanes.now c.args.event.now c.args.self.now

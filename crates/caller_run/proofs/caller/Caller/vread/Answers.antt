@@ -1,38 +1,26 @@
-use Rattle.std.proofs.Common.{◌≡◌, List, [], rules, refl, length, ◌<◌, ◌∙◌, sym, ap, arith}
+use Rattle.std.proofs.Common.{◌≡◌, [], rules, refl, length, ◌<◌, ◌∙◌, sym, subst, ap, arith}
 use Rattle.std.proofs.lemmas.Bool.{eqb-true}
 use Rattle.lane_table.specs.Calls.{view}
-use Rattle.rng_core.specs.Acts.{all_wanted, asks_of}
-use Rattle.rng_core.specs.declared.vdso.acts.Bound.{Bound}
+use Rattle.rng_core.specs.Acts.{all_wanted, asks_of, outcomes_of}
 use Rattle.rng_core.proofs.Hosting.{none_left}
+use Rattle.caller_run.specs.Calling.{StateRead}
 use Rattle.caller_run.proofs.Events.OwnSites.{own_hands}
-use Rattle.caller_run.proofs.Events.StateReads.{lent_read, no_outcomes, read_alone, read_inside, current_is}
+use Rattle.caller_run.proofs.Events.StateReads.{lent_read, read_inside, current_is}
 use Rattle.caller_run.proofs.caller.Caller.vread.Goals as goal
 
-pub returns-then-alone : goal.returns-then-alone
-returns-then-alone g c =
-    let states = c.args.self.now.states in let stand = c.requires.can.states in let acts = c.args.acts.now in
-    let told = c.vread.ensures in let over = c.over-host.ensures in
-    let none : acts ≡ [] = none_left acts (eqb-true (length acts) 0 (sym c.is_empty-alone.ensures ∙ c.if-alone.true)) in
+pub returns-then-is_empty : goal.returns-then-is_empty
+returns-then-is_empty g c =
+    let acts = c.args.acts.now in
+    let none : acts ≡ [] = none_left acts (eqb-true (length acts) 0 (sym c.is_empty.ensures ∙ c.if-is_empty.true)) in
     record {
       served = refl;
       inside = refl;
       long = search rules;
-      fits = ap length (search rules) ∙ c.vread.new.host.fits
-          ∙ ap (λ (bs : List Bound). all_wanted (asks_of bs)) (none_left _ (search rules) ∙ sym none);
-      asks = ap asks_of (none_left _ (search rules) ∙ sym none);
-      read = lent_read (search rules) (search rules) (no_outcomes _ _ (search rules))
-          (read_alone (record {
-            has = rw over.site at (own_hands told.loans.site told.has);
-            set = refl;
-            stands = refl;
-            published = told.current;
-            new = c.requires.new;
-            current = current_is states.all states.current c.index-self-self.result
-                (let m = stand.many in let l = stand.current in omega arith);
-            answers = c.read.ensures.answer;
-            shows = c.read.ensures.shows c.vread.new.buf;
-            bytes = c.read.ensures.bytes;
-          }) acts none (rw over.site at told.did));
+      fits = c.requires.can.fits;
+      asks = refl;
+      read = subst (λ bs. StateRead c.args.lanes.now (length c.args.into.now.served.now) c.args.into.now.flags c.args.self.now
+          c.vread_alone.new.self c.vread_alone.result c.vread_alone.new.served c.vread_alone.new.trace (asks_of bs)
+          (outcomes_of bs c.args.into.now.inside.now)) (sym none) c.vread_alone.ensures;
     }
 
 pub returns : goal.returns
@@ -57,9 +45,9 @@ returns g c =
             new = c.requires.new;
             current = current_is states.all states.current c.index-self-self.result
                 (let m = stand.many in let l = stand.current in omega arith);
-            answers = c.read-2.ensures.answer;
-            shows = c.read-2.ensures.shows c.vread_inside.new.buf;
-            bytes = c.read-2.ensures.bytes;
+            answers = c.read.ensures.answer;
+            shows = c.read.ensures.shows c.vread_inside.new.buf;
+            bytes = c.read.ensures.bytes;
           }) acts next.acts.now c.args.into.now.inside.now next.out.now c.requires.can.fresh two asks
           (rw over.acts.1 at (rw over.site at told.did))
           (rw over.new.before at (rw over.out.1 at (rw over.acts.1 at (rw over.site at told.ran)))));

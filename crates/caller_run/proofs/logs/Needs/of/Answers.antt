@@ -1,17 +1,10 @@
-use Rattle.std.proofs.Common.{ℕ, nat_cmp, ◌≡◌, ◌≤◌, subst, take, arith}
+use Rattle.std.proofs.Common.{◌≤◌, subst, take, arith}
 use Rattle.std.specs.Prelude.{slice_index_or}
-use Rattle.std.specs.Ordering.{ord_max}
-use Rattle.std.proofs.lemmas.Bool.Decides.{nat_tests}
 use Rattle.std.proofs.lemmas.Grind.{common_steps}
 use Rattle.std.proofs.lemmas.List.Elements.{All-more}
 use Rattle.caller_run.specs.Says.{most_shown}
+use Rattle.caller_run.proofs.Planning.LogFills.{above, above_more}
 use Rattle.caller_run.proofs.logs.Needs.of.Goals as goal
-
-above : (n most more max : ℕ) → max ≡ ord_max nat_cmp most more → n ≤ most → n ≤ max
-above n most more max is le = grind (arith, nat_tests)
-
-above_more : (most more max n : ℕ) → max ≡ ord_max nat_cmp most more → more ≡ n → n ≤ max
-above_more most more max n is at = grind (arith, nat_tests)
 
 pub loop-event-preserved : goal.loop-event-preserved
 loop-event-preserved c = record {

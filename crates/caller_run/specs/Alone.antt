@@ -1,0 +1,109 @@
+-- The run of a caller that is the only one of its script, line by line, where no line is kept.
+use Rattle.std.specs.Prelude.{◌≡◌, ℕ, ◌+◌, ◌*◌, ◌≤◌, ◌^◌, Bool, true, false, ⊤, Some, List, [], ◌∷◌, length, take, slice_get, sum_by, vec_len}
+use Rattle.std.specs.List.{AllByRecursion}
+use Rattle.key_names.specs.declared.events.Event.{Event}
+use Rattle.key_names.specs.declared.events.Event.TheVariants.{Vread, Inside, Fork}
+use Rattle.key_names.specs.declared.names.Step.{Step}
+use Rattle.key_names.specs.SeenLine.{SeenLine}
+use Rattle.key_names.specs.Texts.ScriptGrammar.{Script, WellFormed}
+use Rattle.key_names.specs.Texts.TranscriptGrammar.{StepFits}
+use Rattle.lane_table.specs.declared.lanes.Lanes.{Lanes}
+use Rattle.lane_table.specs.declared.lanes.Pass.{Pass}
+use Rattle.lane_table.specs.declared.view.View.{View}
+use Rattle.lane_table.specs.Calls.{view}
+use Rattle.rng_core.specs.Makes.{setting_of}
+use Rattle.rng_core.specs.Settings.{first_setting}
+use Rattle.transcript_text.specs.Gathered.{Gathered}
+use Rattle.caller_run.specs.declared.alone.LoneRun.{LoneRun}
+use Rattle.caller_run.specs.declared.caller.Caller.{Caller}
+use Rattle.caller_run.specs.declared.reply.Reply.{Reply}
+use Rattle.caller_run.specs.Calling.{Called, StateRead}
+use Rattle.caller_run.specs.Laws.{LawfulRuns}
+use Rattle.caller_run.specs.Says.{most_shown, shown_by, ShowsFit}
+use Rattle.caller_run.specs.Standing.{CanAdvanceWith, HasAdvanced, Start}
+use Rattle.caller_run.specs.Ways.{IsFirst}
+
+-- the line of the event is told once: it is no act that waits for a vread, and forks nobody
+abbrev pub IsToldOnce : Event → Type 0
+IsToldOnce (Inside point act) = ⊥
+IsToldOnce (Fork child) = ⊥
+IsToldOnce _ = ⊤
+
+-- the caller, then c and now d, made the call of such an event, with this reply, these bytes and these steps
+abbrev pub CalledOnce : Lanes → Event → Caller → Caller → Reply → List ℕ → List Step → Type 0
+CalledOnce t (Vread len flags) c d said served steps = StateRead t len flags c d said served steps [] []
+CalledOnce t event c d said served steps = Called t event c d said served steps
+
+-- lines that are kept nowhere, as if there were room for those of these events and a last one
+abbrev pub as_kept : List SeenLine → List Event → Gathered
+as_kept lines rest = record {
+  lines = lines;
+  bytes = [];
+  steps = [];
+  line_room = length rest + 1;
+  byte_room = sum_by most_shown rest;
+  step_room = 20 * (length rest + 1);
+}
+
+-- the caller has told these lines of its events and can go on with the rest, where so many bytes can be served at once
+pub record GoesAlone (t : Lanes) (served : ℕ) (begun : Start) (events rest : List Event) (c : Caller)
+    (lines : List SeenLine) : Type 0 where
+  pub inside : ℕ
+  pub can : CanAdvanceWith t c (as_kept lines rest) [] served inside rest
+  pub once : AllByRecursion IsToldOnce rest
+  pub gone : HasAdvanced begun events rest c lines [] []
+
+-- caller 0 on a new table, where its pass is so
+abbrev pub first_start : Pass → Start
+first_start p = record { caller = 0; set = setting_of (first_setting 0); view = view p }
+
+-- a run of the script's only caller, which goes on
+pub record IsGoing (script : Script) (run : LoneRun) (lines : List SeenLine) : Type 0 where
+  pub well : WellFormed script
+  pub cpus : run.lanes.cpus ≡ script.cpus
+  pub alone : length script.callers ≡ 1
+  pub events : List Event
+  pub there : slice_get script.callers 0 ≡ Some events
+  pub once : AllByRecursion IsToldOnce events
+  -- how its pass began
+  pub pass : Pass
+  pub first : IsFirst (view pass)
+  pub whole : (view pass).share ≡ 2 ^ (view pass).halvings
+  pub goes : GoesAlone run.lanes (vec_len run.served) (first_start pass) events run.rest.now run.caller lines
+
+-- the lines are a lawful transcript of the script
+abbrev pub IsLawful : Script → List SeenLine → Type 0
+IsLawful script lines = (w : View) × LawfulRuns script (lines ∷ []) w
+
+abbrev pub Stands : Bool → Script → LoneRun → List SeenLine → Type 0
+Stands true script run lines = IsLawful script lines
+Stands false script run lines = IsGoing script run lines
+
+-- the run has told these lines so far, which are a lawful transcript once it is over
+abbrev pub HasTold : Script → LoneRun → List SeenLine → Type 0
+HasTold script run lines = Stands run.is_over script run lines
+
+-- the line that was made last
+abbrev pub last_line : LoneRun → SeenLine
+last_line run = record {
+  caller = run.caller.set.caller;
+  event = run.told.event;
+  word = run.told.word;
+  answer = run.told.said.answer;
+  steps = run.trace;
+  shown = shown_by (take run.told.shown run.served.items) run.told.said.shows;
+}
+
+-- a line was made, and fits a transcript
+pub record HasLine (run : LoneRun) : Type 0 where
+  pub steps_fit : AllByRecursion StepFits run.trace
+  pub shows : ShowsFit run.told.word run.told.said.shows
+  pub within : run.told.shown ≤ vec_len run.served
+
+-- how many lines are still to be made
+abbrev pub lines_left : LoneRun → ℕ
+lines_left run = left_of run.is_over
+  where
+    left_of : Bool → ℕ
+    left_of true = 0
+    left_of false = length run.rest.now + 1
