@@ -4,3 +4,4 @@ pub mod Runs
 pub mod ShownBytes
 pub mod Completes
 pub mod VforkWords
+pub mod WrittenLines

@@ -14,6 +14,7 @@ ghost use Rattle.rng_tool.specs.Commands.{IsNoForm, TakesInput};
 ghost use Rattle.rng_tool.specs.JudgeOutcome.{IsJudge, JudgeEnds};
 ghost use Rattle.rng_tool.specs.Outcome.{IsRun, RunEnds};
 
+mod alone;
 mod callers;
 mod command;
 mod draw;

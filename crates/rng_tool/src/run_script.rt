@@ -5,7 +5,9 @@ ghost use Rattle.key_names.specs.Texts.ScriptGrammar.{WellFormed};
 ghost use Rattle.rng_tool.specs.Outcome.{CallsFor, RunEnds, RunOf};
 ghost use Rattle.tool_ends.specs.Reads.{OnlyDone, WritesEnds};
 
+use crate::alone::write_alone;
 use crate::callers::transcript_of;
+use caller_run::LoneRun;
 use event_script::{Script, ScriptError, read};
 use io_edges::{Failed, Gate, ReadError, Sink, Source, read_to_limit};
 use std::alloc::Global;
@@ -18,8 +20,8 @@ use transcript_text::write_all;
 /// The most bytes of a script: 16 MiB.
 const MOST_INPUT: usize = 16_777_216;
 
-// The run of an accepted script.
-fn run_script<R: Threads + Wait + Sync, K: Sink, G: Gate>(
+// The run of an accepted script whose callers may be many: all lines are there before the first is written.
+fn run_together<R: Threads + Wait + Sync, K: Sink, G: Gate>(
     rt: &R,
     alloc: Global,
     script: &Script,
@@ -36,6 +38,31 @@ fn run_script<R: Threads + Wait + Sync, K: Sink, G: Gate>(
         return Status::NoMemory;
     };
     match write_all(sink, &transcript) {
+        Ok(()) => Status::Done,
+        Err(Failed) => Status::WriteFault,
+    }
+}
+
+// The run of an accepted script.
+fn run_script<R: Threads + Wait + Sync, K: Sink, G: Gate>(
+    rt: &R,
+    alloc: Global,
+    script: &Script,
+    sink: &mut K,
+    gate: &G,
+) -> Status
+    requires { WellFormed script.now }
+    ensures ends { WritesEnds (OnlyDone (RunOf script.now)) result (K.held sink.old) (K.held sink.new) }
+    ensures cut { result ≡ Status.WriteFault → Rose (K.faults sink.old) (K.faults sink.new) }
+    ensures silent { result ≡ Status.NoMemory → sink.new ≡ sink.old }
+    ensures not_counted { (result ≡ Status.WriteFault → ⊥) → K.faults sink.new ≡ K.faults sink.old }
+{
+    let run = match LoneRun::start(alloc, script) {
+        Ok(Some(run)) => run,
+        Ok(None) => return run_together(rt, alloc, script, sink, gate),
+        Err(_) => return Status::NoMemory,
+    };
+    match write_alone(rt, run, sink, gate) {
         Ok(()) => Status::Done,
         Err(Failed) => Status::WriteFault,
     }

@@ -1,17 +1,8 @@
+use Rattle.std.proofs.Common.{rules}
 use Rattle.tool_ends.specs.declared.status.Status.TheVariants.{Done}
 use Rattle.rng_tool.proofs.run_script.run_script.Goals as goal
 
-pub returns-clause-ends : goal.returns-clause-ends
-returns-clause-ends g c = (
-  _,
-  (
-    Done,
-    tt,
-    record {
-      lines = c.in-Ok.transcript;
-      run = c.in-Ok.ensures.run;
-      written = c.in-Ok.ensures.text;
-    },
-  ),
-  c.in-Err.ensures.prefix,
-)
+pub returns-in-Err-write_alone-clause-ends : goal.returns-in-Err-write_alone-clause-ends
+returns-in-Err-write_alone-clause-ends g c =
+    let cut = c.in-Err-write_alone.ensures.prefix c.args.script.now c.requires (search rules) in
+    (cut.0, (Done, tt, cut.1), cut.2)

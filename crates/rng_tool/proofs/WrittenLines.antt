@@ -1,0 +1,133 @@
+-- The transcript of a script's only caller, as far as it was written.
+use Rattle.std.proofs.Common.{◌≡◌, ℕ, ◌+◌, List, [], ◌∷◌, ◌++◌, length, refl, sym, ap, ◌∙◌, subst, append_assoc, append-nil, arith}
+use Rattle.std.specs.Prelude.{Option, Result, Ok, Err, OnOk, OnErr, is_ok, true, false, ◌<◌, codes}
+use Rattle.std.specs.Io.KnownBytes.{Appends}
+use Rattle.std.specs.List.{AllByRecursion}
+use Rattle.std.proofs.KnownBytes.{Appends-trans}
+use Rattle.std.proofs.lemmas.Grind.{flat_map-append}
+use Rattle.std.proofs.lemmas.List.{length-append, take-append-le}
+use Rattle.io_edges.specs.Faults.{Rose}
+use Rattle.io_edges.specs.Pieces.{AppendsPrefix}
+use Rattle.io_edges.specs.declared.edges.Failed.{Failed}
+use Rattle.key_names.specs.SeenLine.{SeenLine}
+use Rattle.key_names.specs.Texts.ScriptGrammar.{Script, WellFormed}
+use Rattle.key_names.specs.Texts.TranscriptGrammar.{LineFits, transcript_text}
+use Rattle.transcript_text.specs.Lines.{text_of, whole_line}
+use Rattle.transcript_text.proofs.PuttingOn.{breaks_off}
+use Rattle.transcript_text.proofs.WholeTexts.{transcript_text-parts}
+use Rattle.key_names.specs.declared.events.Event.{Event}
+use Rattle.key_names.proofs.Samples.Lines.{AllFit}
+use Rattle.caller_run.specs.Alone.{IsLawful}
+use Rattle.caller_run.proofs.Planning.Slots.{fit_long}
+use Rattle.rng_tool.specs.Outcome.{RunOf}
+use Rattle.tool_ends.specs.Reads.{WasWritten}
+use Rattle.rng_tool.proofs.Runs.{run_of, under_own_number}
+
+abbrev Known : Type 0
+Known = Option (List ℕ)
+
+-- the first line of a transcript, and these
+abbrev pub text_so_far : List SeenLine → List ℕ
+text_so_far lines = codes "rngtranscript 1\n" ++ text_of lines
+
+-- where no call failed the text was put, and a prefix of it in any case
+pub record Wrote (written : Result (Unit {0}) Failed) (held held_now : Known) (faults faults_now : ℕ) (text : List ℕ)
+    : Type 0 where
+  pub whole : OnOk written (Appends held held_now text)
+  pub prefix : AppendsPrefix held held_now text
+  pub cause : OnErr written (Rose faults faults_now)
+  pub not_counted : OnOk written (faults_now ≡ faults)
+
+-- ---- more of it
+
+-- a prefix of a text is one of a longer text
+prefix_longer : (a b : Known) (text more : List ℕ) → AppendsPrefix a b text → AppendsPrefix a b (text ++ more)
+prefix_longer a b text more p =
+    (p.0, omega (arith, p.1, length-append text more), subst (Appends a b) (sym (take-append-le p.0 text more p.1)) p.2)
+
+-- behind a text a prefix of more was put
+prefix_behind : (a b c : Known) (text more : List ℕ) → Appends a b text → AppendsPrefix b c more
+    → AppendsPrefix a c (text ++ more)
+prefix_behind a b c text more first rest =
+    breaks_off a b c (text ++ more) more more [] (record { front = text; whole = refl; appends = first })
+    (sym (append-nil more)) rest
+
+-- it went on, as each call that puts more tells
+pub wrote_more : (w v : Result (Unit {0}) Failed) (a b c : Known) (f g h : ℕ) (text more : List ℕ) → is_ok w ≡ true
+    → Wrote w a b f g text → OnOk v (Appends b c more) → AppendsPrefix b c more → OnErr v (Rose g h) → OnOk v (h ≡ g)
+    → Wrote v a c f h (text ++ more)
+wrote_more (Err e) v a b c f g h text more ok k whole prefix cause same = cc
+wrote_more (Ok u) (Ok v) a b c f g h text more ok k whole prefix cause same = record {
+  whole = Appends-trans a b c text more k.whole whole;
+  prefix = prefix_behind a b c text more k.whole prefix;
+  cause = tt;
+  not_counted = same ∙ k.not_counted;
+}
+wrote_more (Ok u) (Err e) a b c f g h text more ok k whole prefix cause same = record {
+  whole = tt;
+  prefix = prefix_behind a b c text more k.whole prefix;
+  cause = subst (λ (n : ℕ). Rose n h) k.not_counted cause;
+  not_counted = tt;
+}
+
+-- or it had failed, and nothing was put
+pub wrote_no_more : (w : Result (Unit {0}) Failed) (a b : Known) (f g : ℕ) (text more : List ℕ) → is_ok w ≡ false
+    → Wrote w a b f g text → Wrote w a b f g (text ++ more)
+wrote_no_more (Ok u) a b f g text more failed k = cc
+wrote_no_more (Err e) a b f g text more failed k = record {
+  whole = tt;
+  prefix = prefix_longer a b text more k.prefix;
+  cause = k.cause;
+  not_counted = tt;
+}
+
+-- ---- of a run
+
+module _ (script : Script) (a b : Known) (f g : ℕ) (text : List ℕ) (run : RunOf script text) where
+  pub was_whole : (w : Result (Unit {0}) Failed) → Wrote w a b f g text → OnOk w (WasWritten (RunOf script) a b)
+  was_whole (Ok u) k = (text, run, k.whole)
+  was_whole (Err e) k = tt
+
+  pub was_cut : (w : Result (Unit {0}) Failed) → Wrote w a b f g text
+      → OnErr w ((text : List ℕ) × RunOf script text × AppendsPrefix a b text)
+  was_cut (Ok u) k = tt
+  was_cut (Err e) k = (text, run, k.prefix)
+
+-- ---- the lines
+
+pub first_line : text_so_far [] ≡ codes "rngtranscript 1\n"
+first_line = append-nil (codes "rngtranscript 1\n")
+
+pub next_line : (lines : List SeenLine) (line : SeenLine) →
+    text_so_far (lines ++ line ∷ []) ≡ text_so_far lines ++ whole_line line
+next_line lines line =
+    ap (λ (t : List ℕ). codes "rngtranscript 1\n" ++ t)
+    (flat_map-append whole_line lines (line ∷ []) ∙ ap (λ (t : List ℕ). text_of lines ++ t) (append-nil (whole_line line)))
+    ∙ sym (append_assoc (codes "rngtranscript 1\n") (text_of lines) (whole_line line))
+
+last_line : (lines : List SeenLine) → text_so_far lines ++ codes "end\n" ≡ transcript_text (lines ∷ [])
+last_line lines =
+    append_assoc (codes "rngtranscript 1\n") (text_of lines) (codes "end\n")
+    ∙ ap (λ (t : List ℕ). codes "rngtranscript 1\n" ++ t ++ codes "end\n") (sym (append-nil (text_of lines)))
+    ∙ sym (transcript_text-parts (lines ∷ []))
+
+some_line : (callers : List (List Event)) (lines : List SeenLine) → AllFit 0 callers (lines ∷ []) → 0 < length lines
+some_line [] lines fit = absurd fit
+some_line (events ∷ callers) lines fit = fit_long 0 0 events lines fit.0
+
+-- all of it is the transcript of a run
+pub alone_run : (script : Script) → WellFormed script → (lines : List SeenLine) → AllByRecursion LineFits lines →
+    IsLawful script lines → RunOf script (text_so_far lines ++ codes "end\n")
+alone_run script well lines fits is = let fit = is.1.transcript.lines in record {
+  lines = lines ∷ [];
+  run = run_of script (lines ∷ []) well is;
+  written = record {
+    fits = record {
+      few_callers = omega arith;
+      last = some_line script.callers lines fit;
+      lines = (fits, tt);
+    };
+    own = under_own_number 0 script.callers (lines ∷ []) fit;
+    spelled = last_line lines;
+  };
+}
