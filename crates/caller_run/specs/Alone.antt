@@ -29,6 +29,11 @@ IsToldOnce (Inside point act) = ⊥
 IsToldOnce (Fork child) = ⊥
 IsToldOnce _ = ⊤
 
+-- a script with one caller, each of whose lines is told once
+pub record IsToldByOne (script : Script) : Type 0 where
+  pub one : length script.callers ≡ 1
+  pub once : AllByRecursion (AllByRecursion IsToldOnce) script.callers
+
 -- the caller, then c and now d, made the call of such an event, with this reply, these bytes and these steps
 abbrev pub CalledOnce : Lanes → Event → Caller → Caller → Reply → List ℕ → List Step → Type 0
 CalledOnce t (Vread len flags) c d said served steps = StateRead t len flags c d said served steps [] []

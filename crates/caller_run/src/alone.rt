@@ -1,11 +1,11 @@
 //! The run of a script with one caller, line by line.
-ghost use Rattle.std.specs.Prelude.{◌≡◌, ◌<◌, ◌≤◌, ◌++◌, ◌∷◌, [], ℕ, List, true, All, length, take, IfOk, IfSome, IsTrue, IsFalse};
+ghost use Rattle.std.specs.Prelude.{◌≡◌, ◌<◌, ◌≤◌, ◌++◌, ◌∷◌, [], ℕ, List, None, true, All, length, take, IfOk, IfSome, IsTrue, IsFalse};
 ghost use Rattle.std.specs.List.{AllByRecursion};
 ghost use Rattle.key_names.specs.SeenLine.{SeenLine};
 ghost use Rattle.key_names.specs.Texts.ScriptGrammar.{InRange, Script as SeenScript, WellFormed};
 ghost use Rattle.key_names.specs.Texts.TranscriptGrammar.{LineFits, StepFits};
 ghost use Rattle.transcript_text.specs.Views.{seen};
-ghost use Rattle.caller_run.specs.Alone.{CalledOnce, HasLine, HasTold, IsGoing, IsLawful, IsToldOnce, last_line, lines_left};
+ghost use Rattle.caller_run.specs.Alone.{CalledOnce, HasLine, HasTold, IsGoing, IsLawful, IsToldByOne, IsToldOnce, last_line, lines_left};
 ghost use Rattle.caller_run.specs.Calling.{IsReady, StatesStand};
 ghost use Rattle.caller_run.specs.Says.{most_shown, shown_by, ShowsFit};
 
@@ -76,8 +76,9 @@ pub struct LoneRun<'a> {
     pub(crate) told: Told,
 }
 
-// The most bytes that a line of these events shows, where each is told once.
+// The most bytes that a line of these events shows, or `None` where one of them is not told once.
 fn longest_line(events: &[Event]) -> Option<u32>
+    ensures none { result ≡ None → All IsToldOnce events.now → ⊥ }
     ensures once { IfSome result (λ _. All IsToldOnce events.now) }
     ensures longest { IfSome result (λ longest. All (λ event. most_shown event ≤ longest) events.now) }
 {
@@ -120,15 +121,16 @@ impl Caller {
 }
 
 impl<'a> LoneRun<'a> {
-    /// The run of a script on a new table, or `None` where the script has more callers, or acts inside vgetrandom calls.
-    /// All memory is taken here.
+    /// The run of a script on a new table, or `None` exactly where the script has more callers, or acts inside vgetrandom
+    /// calls. All memory is taken here.
     ///
     /// # Errors
     ///
     /// `AllocError` where there is no memory for the table, or for the bytes of one line.
     pub fn start(alloc: Global, script: &'a Script) -> Result<Option<LoneRun<'a>>, AllocError>
         requires { WellFormed script.now }
-        ensures { IfOk result (λ found. IfSome found (λ run. HasTold script.now run [])) }
+        ensures run { IfOk result (λ found. IfSome found (λ run. HasTold script.now run [])) }
+        ensures none { IfOk result (λ found. found ≡ None → IsToldByOne script.now → ⊥) }
     {
         if script.callers() > 1 {
             return Ok(None);

@@ -95,9 +95,6 @@ module _ (script : Script) (a b : Known) (f g : ℕ) (text : List ℕ) (run : Ru
 
 -- ---- the lines
 
-pub first_line : text_so_far [] ≡ codes "rngtranscript 1\n"
-first_line = append-nil (codes "rngtranscript 1\n")
-
 pub next_line : (lines : List SeenLine) (line : SeenLine) →
     text_so_far (lines ++ line ∷ []) ≡ text_so_far lines ++ whole_line line
 next_line lines line =

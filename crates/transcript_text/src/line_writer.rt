@@ -23,6 +23,7 @@ pub struct LineWriter {
 }
 
 impl LineWriter {
+    /// A writer of no line so far.
     pub fn new() -> LineWriter {
         LineWriter {
             piece: Piece::empty(),

@@ -46,13 +46,6 @@ use Rattle.caller_run.proofs.Planning.Slots.{put_all}
 
 -- ---- an event
 
--- what is no vread is a call of the core
-pub called_so : {t : Lanes} {c d : Caller} {said : Reply} {served : List ℕ} {steps : List Step} (event : Event) →
-    ((len flags : ℕ) → event ≡ Vread len flags → ⊥) → Called t event c d said served steps →
-    CalledOnce t event c d said served steps
-called_so (Vread len flags) other k = absurd (other len flags refl)
-called_so event other k = k
-
 module _ {t : Lanes} {m : ℕ} {begun : Start} {events rest : List Event} {c d e : Caller} {lines : List SeenLine}
     {said : Reply} {served : List ℕ} {steps : List Step} where
   -- a call of the core

@@ -10,8 +10,8 @@ use Rattle.caller_run.proofs.Forks.AllCallers.{starts_first, starts_whole}
 use Rattle.caller_run.proofs.Forks.Alone.{starts_alone}
 use Rattle.caller_run.proofs.alone.LoneRun.start.Goals as goal
 
-pub returns : goal.returns
-returns c =
+pub returns-clause-run : goal.returns-clause-run
+returns-clause-run c =
     let made = c.in_ok-lanes in let t = made.lanes in let p = made.pass in let events = c.events-events.result.now in
     let plan = plan_of (c.cpus.result + 2) 0 in let seat = made.ensures.seat in
     let served = vec_len c.in_ok-vec.field-0 in
