@@ -19,7 +19,7 @@ fn set_by(set: &mut Setting, event: &Event)
     match event {
         Event::At { moment } => set.now = *moment,
         Event::On { cpu } => set.cpu = *cpu,
-        Event::Hw { bytes } => set.hw = *bytes,
+        Event::Hw { bytes } => set.hw = bytes.bytes(),
         _ => {}
     }
 }

@@ -22,7 +22,7 @@ pub(crate) fn text(alloc: Global, field: &[u8]) -> Result<Text, LineError>
     ensures { Gives (λ text. text) result (bytes field.now) }
 {
     let bytes = bytes(alloc, field)?;
-    Ok(Text::of(bytes))
+    Ok(Text::of(alloc, bytes)?)
 }
 
 /// The number of bytes of a read.

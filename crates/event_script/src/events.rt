@@ -14,7 +14,7 @@ use crate::head::Head;
 use crate::hexes::hardware_words;
 use crate::numbers::{number, number_from, one_below, one_number, two_numbers};
 use crate::words::alone;
-use key_names::{Event, FaultKind, Word};
+use key_names::{Event, FaultKind, HardwareWords, Word};
 use std::alloc::Global;
 
 /// The last moment, in milliseconds.
@@ -45,7 +45,8 @@ fn on(head: Head, rest: Option<&[u8]>) -> Result<Event, FaultKind>
 fn hw(alloc: Global, rest: Option<&[u8]>) -> Result<Event, LineError>
     ensures { Gives (λ event. event) result (unary hardware_words Event.Hw (fields_of rest.entry)) }
 {
-    let bytes = hardware_words(alloc, one(rest)?)?;
+    let words = hardware_words(alloc, one(rest)?)?;
+    let bytes = HardwareWords::of(alloc, words)?;
     Ok(Event::Hw { bytes })
 }
 

@@ -36,7 +36,7 @@ fn number_text(alloc: Global, number: u32) -> Result<Text, AllocError>
     ensures { IfOk result (λ text. text ≡ to_le_bytes w64 number) }
 {
     let bytes = Vec::from_slice(alloc, &u64::from(number).to_le_bytes())?;
-    Ok(Text::of(bytes))
+    Text::of(alloc, bytes)
 }
 
 fn call(alloc: Global, start: u32, caller: u32, number: u32) -> Result<Event, AllocError>
@@ -68,7 +68,7 @@ fn opening(alloc: Global, callers: u32, caller: u32) -> Result<Vec<Event>, Alloc
     if caller != 0 {
         return Ok(events);
     }
-    let text = Text::of(Vec::from_slice(alloc, &SEED)?);
+    let text = Text::of(alloc, Vec::from_slice(alloc, &SEED)?)?;
     events.push(Event::Add {
         text,
         bits: SEED_BITS,

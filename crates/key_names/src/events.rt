@@ -3,6 +3,7 @@ ghost use Rattle.std.specs.Prelude.{◌≡◌, ◌≤◌, length};
 ghost use Rattle.key_names.specs.Texts.ScriptGrammar.{event_word};
 ghost use Rattle.key_names.specs.Texts.Spelling.{word_text};
 
+use crate::hardware::HardwareWords;
 use crate::point::Point;
 use crate::text::Text;
 
@@ -30,7 +31,7 @@ pub enum Event {
     },
     /// What the hardware gives to the caller's later extractions (`arch_get_random_seed_longs`).
     Hw {
-        bytes: [u8; 32],
+        bytes: HardwareWords,
     },
     /// The word, which stands for the cycle counter, and bytes are mixed (`add_device_randomness`).
     Device {

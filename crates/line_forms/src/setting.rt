@@ -53,7 +53,7 @@ impl Setting {
         match event {
             Event::At { moment } => self.moment = *moment,
             Event::On { cpu } => self.cpu = *cpu,
-            Event::Hw { bytes } => self.hw = *bytes,
+            Event::Hw { bytes } => self.hw = bytes.bytes(),
             _ => {}
         }
     }

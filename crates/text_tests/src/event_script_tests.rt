@@ -77,7 +77,7 @@ fn a_load_has_the_events_of_its_text(rt: HostRuntime) -> Result<(), Fail> {
 
 #[test]
 fn loads_at_their_limits(rt: HostRuntime) -> Result<(), Fail> {
-    let text = Text::of([0x8f, 1, 0, 0, 0, 0, 0, 0].to_vec(rt.alloc())?);
+    let text = Text::of(rt.alloc(), [0x8f, 1, 0, 0, 0, 0, 0, 0].to_vec(rt.alloc())?)?;
     // How many events there are, and the last one, worked out with another program.
     let rows = [
         (1, 8, 400, 3216, Event::Write { text }),

@@ -1,0 +1,42 @@
+//! What the hardware gives to extractions.
+ghost use Rattle.std.specs.Prelude.{◌≡◌, IfOk};
+
+use std::alloc::{AllocError, Global};
+use std::marker::Model;
+
+/// The 32 bytes that the hardware gives to an extraction (`arch_get_random_seed_longs`), behind a pointer as a text is.
+///
+/// Contracts see them as a list.
+#[derive(Drop)]
+pub struct HardwareWords {
+    bytes: Box<[u8; 32]>,
+}
+
+impl Model for HardwareWords {
+    ghost use Rattle.std.specs.Prelude.{ℕ, List};
+
+    ghost Value = { List ℕ };
+
+    ghost view = { λ words. words.bytes.value };
+}
+
+impl HardwareWords {
+    /// The words of these bytes.
+    ///
+    /// # Errors
+    ///
+    /// `AllocError` where there is no memory for them.
+    pub fn of(alloc: Global, bytes: [u8; 32]) -> Result<HardwareWords, AllocError>
+        ensures { IfOk result (λ words. words ≡ bytes) }
+    {
+        let bytes = Box::new(alloc, bytes)?;
+        Ok(HardwareWords { bytes })
+    }
+
+    /// Their bytes.
+    pub fn bytes(&self) -> [u8; 32]
+        ensures { result ≡ self.now }
+    {
+        *self.bytes
+    }
+}
