@@ -4,5 +4,4 @@ pub mod DrawOutcome
 pub mod FeedOutcome
 pub mod JudgeOutcome
 pub mod Commands
-pub mod Kept
 pub mod VforkOutcome

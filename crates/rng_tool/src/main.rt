@@ -20,7 +20,6 @@ mod command;
 mod draw;
 mod feed;
 mod judge;
-mod kept;
 mod load;
 mod rerun;
 mod run;
@@ -30,16 +29,16 @@ mod tests;
 mod told;
 mod vfork;
 
-use crate::judge::{Judge, judge_of};
-use crate::kept::KeptSource;
+use crate::judge::Judge;
 use crate::run::run;
-use crate::told::{Given, tell};
+use crate::told::tell;
 use io_edges::{OpenGate, Source, StdSink, StdSource};
 use std::alloc::Global;
 use std::io::{BufWriter, Write};
 use std::process::ExitCode;
 use std::sync::Wait;
 use std::thread::Threads;
+use tool_ends::refusal::Refusal;
 use tool_ends::{Status, words};
 
 /// How many bytes of output are gathered to one write.
@@ -52,6 +51,7 @@ fn run_gathered<R: Threads + Wait + Sync, S: Source, O: Write + Drop>(
     words: &[String],
     source: &mut S,
     output: O,
+    refusal: &mut Option<Refusal>,
 ) -> Status
     ensures usage { result ≡ Status.Usage → IsNoForm words.now }
     ensures no_form { IsNoForm words.now → (result ≡ Status.Usage) ⊎ (result ≡ Status.NoMemory) }
@@ -67,18 +67,19 @@ fn run_gathered<R: Threads + Wait + Sync, S: Source, O: Write + Drop>(
         return Status::NoMemory;
     };
     let mut sink = StdSink::of(output);
-    run(rt, alloc, words, source, &mut sink, &OpenGate)
+    run(rt, alloc, words, source, &mut sink, &OpenGate, refusal)
 }
 
 fn main(rt: HostRuntime) -> ExitCode {
-    let words = words(&rt);
-    let has_more = words.as_ref().is_ok_and(|words| judge_of(words).is_some());
-    let mut source = KeptSource::of(rt.alloc(), StdSource::of(rt.stdin()), has_more);
-    let status = match words {
-        Ok(words) => run_gathered(&rt, rt.alloc(), &words, &mut source, rt.stdout()),
+    let mut source = StdSource::of(rt.stdin());
+    let mut refusal = None;
+    let status = match words(&rt) {
+        Ok(words) => {
+            let (alloc, output) = (rt.alloc(), rt.stdout());
+            run_gathered(&rt, alloc, &words, &mut source, output, &mut refusal)
+        }
         Err(status) => status,
     };
-    let input = source.given();
-    tell(&rt, rt.alloc(), status, Given { input, has_more });
+    tell(&rt, status, refusal);
     ExitCode::from(status.code())
 }

@@ -2,7 +2,7 @@
 ghost use Rattle.std.specs.Prelude.{◌≡◌, ◌⊎◌};
 ghost use Rattle.io_edges.specs.Faults.{Rose};
 ghost use Rattle.key_names.specs.Texts.ScriptGrammar.{WellFormed};
-ghost use Rattle.rng_tool.specs.Outcome.{CallsFor, RunEnds, RunOf};
+ghost use Rattle.rng_tool.specs.Outcome.{CallsFor, HasRefusal, RunEnds, RunOf};
 ghost use Rattle.tool_ends.specs.Reads.{OnlyDone, WritesEnds};
 
 use crate::alone::write_alone;
@@ -13,6 +13,7 @@ use io_edges::{Failed, Gate, ReadError, Sink, Source, read_to_limit};
 use std::alloc::Global;
 use std::sync::Wait;
 use std::thread::Threads;
+use tool_ends::refusal::Refusal;
 use tool_ends::short_lines::refusal_line;
 use tool_ends::{Status, put_line};
 use transcript_text::write_all;
@@ -75,29 +76,36 @@ fn answer<R: Threads + Wait + Sync, K: Sink, G: Gate>(
     input: Vec<u8>,
     sink: &mut K,
     gate: &G,
+    refusal: &mut Option<Refusal>,
 ) -> Status
     ensures ends { WritesEnds (CallsFor input.items) result (K.held sink.old) (K.held sink.new) }
     ensures cut { result ≡ Status.WriteFault → Rose (K.faults sink.old) (K.faults sink.new) }
     ensures silent { result ≡ Status.NoMemory → sink.new ≡ sink.old }
     ensures not_counted { (result ≡ Status.WriteFault → ⊥) → K.faults sink.new ≡ K.faults sink.old }
+    ensures told { result ≡ Status.Refused → HasRefusal refusal.new (K.held sink.old) (K.held sink.new) }
 {
-    let found = read(alloc, &input);
-    // A run needs the script and no more of its text, which may be long.
-    drop(input);
-    match found {
-        Ok(script) => run_script(rt, alloc, &script, sink, gate),
-        Err(ScriptError::Fault(fault)) => put_line(Status::Refused, &refusal_line(fault), sink),
+    match read(alloc, &input) {
+        Ok(script) => {
+            // A run needs the script and no more of its text, which may be long.
+            drop(input);
+            run_script(rt, alloc, &script, sink, gate)
+        }
+        Err(ScriptError::Fault(fault)) => {
+            *refusal = Some(Refusal::of(fault, &input));
+            put_line(Status::Refused, &refusal_line(fault), sink)
+        }
         Err(ScriptError::NoMemory) => Status::NoMemory,
     }
 }
 
-/// Runs the script that the source gives, and writes its transcript or its refusal.
+/// Runs the script that the source gives, and writes its transcript or its refusal, which it also hands back.
 pub(crate) fn run_input<R: Threads + Wait + Sync, S: Source, K: Sink, G: Gate>(
     rt: &R,
     alloc: Global,
     source: &mut S,
     sink: &mut K,
     gate: &G,
+    refusal: &mut Option<Refusal>,
 ) -> Status
     ensures ends { RunEnds result (S.left source.old) (S.left source.new) (K.held sink.old) (K.held sink.new) }
     ensures silent { (result ≡ Status.ReadFault) ⊎ (result ≡ Status.NoMemory) → sink.new ≡ sink.old }
@@ -105,11 +113,12 @@ pub(crate) fn run_input<R: Threads + Wait + Sync, S: Source, K: Sink, G: Gate>(
     ensures no_read_fault { (result ≡ Status.ReadFault → ⊥) → S.faults source.new ≡ S.faults source.old }
     ensures cut { result ≡ Status.WriteFault → Rose (K.faults sink.old) (K.faults sink.new) }
     ensures not_counted { (result ≡ Status.WriteFault → ⊥) → K.faults sink.new ≡ K.faults sink.old }
+    ensures told { result ≡ Status.Refused → HasRefusal refusal.new (K.held sink.old) (K.held sink.new) }
 {
     let input = match read_to_limit(alloc, source, MOST_INPUT) {
         Ok(input) => input,
         Err(ReadError::Fault) => return Status::ReadFault,
         Err(ReadError::NoMemory) => return Status::NoMemory,
     };
-    answer(rt, alloc, input, sink, gate)
+    answer(rt, alloc, input, sink, gate, refusal)
 }

@@ -99,7 +99,7 @@ gives_apart left after input (Err e) read is = tt
 no_input : (left after : Option (List ℕ)) (input : List ℕ) (why : NoPair) → WasRead left after input
     → length input ≤ 100663297 → IsNoPair input why → GivesNoPair left after why
 no_input left after input ReadFault read few is = absurd is
-no_input left after input (Refused fault) read few is = (input, read, is)
+no_input left after input (Refused refusal) read few is = (input, read, is)
 no_input left after input NoTranscript read few is = (input, read, is)
 no_input left after input TooManyLines read few is = (input, read, is)
 no_input left after input NoMemory read few is = (input, few, read.read)

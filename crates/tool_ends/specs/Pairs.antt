@@ -61,7 +61,7 @@ pub record FailsAsText (input : List ℕ) (number : ℕ) : Type 0 where
 -- why a text is not read as a transcript
 abbrev pub IsNoText : List ℕ → NoPair → Type 0
 IsNoText text ReadFault = ⊥
-IsNoText text (Refused fault) = ⊥
+IsNoText text (Refused refusal) = ⊥
 IsNoText text NoTranscript = IsNoTranscript text
 IsNoText text TooManyLines = HasMoreLines most_script_lines text
 IsNoText text NoMemory = ⊤
@@ -69,7 +69,7 @@ IsNoText text NoMemory = ⊤
 -- why an input is not read
 abbrev pub IsNoPair : List ℕ → NoPair → Type 0
 IsNoPair input ReadFault = ⊥
-IsNoPair input (Refused fault) = pair_fault input ≡ Some fault
+IsNoPair input (Refused refusal) = pair_fault input ≡ Some refusal.fault
 IsNoPair input NoTranscript = FailsAsText input 1
 IsNoPair input TooManyLines = FailsAsText input 2 × HasMoreLines most_script_lines (behind input)
 IsNoPair input NoMemory = ⊤
@@ -93,7 +93,7 @@ ReadsNoPair left left_after why = (input : List ℕ) × WasRead left left_after 
 -- the same, unless the source failed or memory ran out, when no more was taken than of an input that is too long
 abbrev pub GivesNoPair : Option (List ℕ) → Option (List ℕ) → NoPair → Type 0
 GivesNoPair left left_after ReadFault = ConsumesUpTo (most_input + 1) left left_after
-GivesNoPair left left_after (Refused fault) = ReadsNoPair left left_after (Refused fault)
+GivesNoPair left left_after (Refused refusal) = ReadsNoPair left left_after (Refused refusal)
 GivesNoPair left left_after NoTranscript = ReadsNoPair left left_after NoTranscript
 GivesNoPair left left_after TooManyLines = ReadsNoPair left left_after TooManyLines
 GivesNoPair left left_after NoMemory = ConsumesUpTo (most_input + 1) left left_after
@@ -118,7 +118,7 @@ pub record TellsFault (input output : List ℕ) : Type 0 where
 -- what says why an input is not read, and the status that says so
 abbrev pub RefusalOf : NoPair → Status → List ℕ → Type 0
 RefusalOf ReadFault status output = ⊥
-RefusalOf (Refused fault) status output = (status ≡ IsRefused) × (output ≡ refusal_line fault)
+RefusalOf (Refused refusal) status output = (status ≡ IsRefused) × (output ≡ refusal_line refusal.fault)
 RefusalOf NoTranscript status output = (status ≡ IsNo) × (output ≡ no_line 1)
 RefusalOf TooManyLines status output = (status ≡ IsNo) × (output ≡ no_line 2)
 RefusalOf NoMemory status output = ⊥
@@ -126,7 +126,7 @@ RefusalOf NoMemory status output = ⊥
 -- how an answer ends that says why
 abbrev pub RefusalEnds : NoPair → Status → Option (List ℕ) → Option (List ℕ) → Type 0
 RefusalEnds ReadFault status held held_after = (status ≡ Unread) × Keeps held held_after
-RefusalEnds (Refused fault) status held held_after = WritesEnds (RefusalOf (Refused fault)) status held held_after
+RefusalEnds (Refused refusal) status held held_after = WritesEnds (RefusalOf (Refused refusal)) status held held_after
 RefusalEnds NoTranscript status held held_after = WritesEnds (RefusalOf NoTranscript) status held held_after
 RefusalEnds TooManyLines status held held_after = WritesEnds (RefusalOf TooManyLines) status held held_after
 RefusalEnds NoMemory status held held_after = WritesEnds (RefusalOf NoMemory) status held held_after

@@ -48,7 +48,7 @@ pub fn put_refusal<K: Sink>(why: NoPair, sink: &mut K) -> Status
 {
     match why {
         NoPair::ReadFault => Status::ReadFault,
-        NoPair::Refused(fault) => put_line(Status::Refused, &refusal_line(fault), sink),
+        NoPair::Refused(refusal) => put_line(Status::Refused, &refusal_line(refusal.fault), sink),
         NoPair::NoTranscript => put_line(Status::No, &no_line(1), sink),
         NoPair::TooManyLines => put_line(Status::No, &no_line(2), sink),
         NoPair::NoMemory => Status::NoMemory,

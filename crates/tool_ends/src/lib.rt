@@ -17,7 +17,8 @@ mod intake;
 pub mod maker;
 pub mod numbers;
 pub mod pair;
-pub mod script_end;
+pub mod refusal;
+mod script_end;
 pub mod short_lines;
 mod status;
 

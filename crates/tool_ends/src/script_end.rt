@@ -8,7 +8,7 @@ use memchr::memmem;
 const END_LINE: &[u8] = b"\nend\n";
 
 /// Whether a line `end` came with the last `count` bytes: it may begin in those before them.
-pub fn has_end_line(given: &[u8], count: usize) -> bool
+pub(crate) fn has_end_line(given: &[u8], count: usize) -> bool
     ensures came { IsTrue result ↔ HasEndLine (last_part count given.now) }
     ensures stands { IsTrue result → HasEndLine given.now }
 {

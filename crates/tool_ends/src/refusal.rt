@@ -1,0 +1,45 @@
+//! Why an input was refused, and the line at which it was.
+ghost use Rattle.std.specs.Prelude.{◌≡◌};
+
+use arrayvec::ArrayString;
+use key_names::ScriptFault;
+
+/// The longest line that is kept.
+const MOST_SHOWN: usize = 80;
+
+/// Why an input was refused: its first fault, and the faulty line, where that has 1 to 80 bytes and is printable.
+#[derive(Clone, Copy, Debug, PartialEq, Eq)]
+pub struct Refusal {
+    pub fault: ScriptFault,
+    line: Option<ArrayString<MOST_SHOWN>>,
+}
+
+// The line of this number, counted from 1, where it is short and printable.
+fn shown_line(input: &[u8], number: u32) -> Option<ArrayString<MOST_SHOWN>> {
+    let before = (number as usize).checked_sub(1)?;
+    let line = input.split(|byte| *byte == b'\n').nth(before)?;
+    if line.is_empty() || !line.iter().all(|byte| (b' '..=b'~').contains(byte)) {
+        return None;
+    }
+    ArrayString::try_from(str::from_utf8(line).ok()?).ok()
+}
+
+impl Refusal {
+    /// The refusal of an input in which this fault was found.
+    pub fn of(fault: ScriptFault, input: &[u8]) -> Refusal
+        ensures { result.fault ≡ fault }
+    {
+        Refusal {
+            fault,
+            line: shown_line(input, fault.line),
+        }
+    }
+
+    /// The faulty line, if it is kept (tested).
+    pub fn line(&self) -> Option<&str> {
+        match &self.line {
+            Some(line) => Some(line.as_str()),
+            None => None,
+        }
+    }
+}
