@@ -188,9 +188,8 @@ pub fn is_row(event: &Event, crossed: Crossing, kinds: &[Kind]) -> bool
         Event::Write { .. } | Event::Device { .. } | Event::Bits => matches!(kinds, [Kind::Pool]),
         Event::Add { .. } | Event::Credit { .. } | Event::Input { .. } => is_credit(crossed, kinds),
         Event::Kread { len } | Event::Uread { len } => is_plain_read(*len, kinds),
-        Event::Read { len, flags } | Event::Dread { len, flag: flags } => is_system_call(
-            *len, *flags, kinds,
-        ),
+        Event::Read { len, flags } => is_system_call(*len, *flags, kinds),
+        Event::Dread { len, flag } => is_system_call(*len, *flag, kinds),
         Event::Int8 | Event::Int16 | Event::Int32 | Event::Int64 => is_int(kinds),
         Event::Reseed => is_reseed(kinds),
         Event::Tick => is_tick(kinds),
