@@ -12,7 +12,7 @@ use Rattle.tool_ends.specs.Reads.{ReadsEnds, SomeAnswer, WasAnswered}
 use Rattle.tool_ends.specs.declared.status.Status.{Status}
 use Rattle.tool_ends.specs.declared.status.Status.TheVariants.{Done, No, Usage, ReadFault, WriteFault, Refused, NoMemory}
 
-appends_kept : (a b c : Option (List ℕ)) (xs : List ℕ) → Appends a b xs → Keeps b c → Appends a c xs
+pub appends_kept : (a b c : Option (List ℕ)) (xs : List ℕ) → Appends a b xs → Keeps b c → Appends a c xs
 appends_kept None b c xs h k = tt
 appends_kept (Some x) None c xs h k = absurd h
 appends_kept (Some x) (Some y) None xs h k = absurd k

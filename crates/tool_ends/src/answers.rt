@@ -4,6 +4,7 @@ ghost use Rattle.io_edges.specs.Faults.{Rose};
 ghost use Rattle.tool_ends.specs.Ends.{IsAnswered};
 ghost use Rattle.tool_ends.specs.Pairs.{RefusalEnds};
 ghost use Rattle.tool_ends.specs.Reads.{WritesEnds};
+ghost use Rattle.tool_ends.specs.declared.refusal.Refusal.{Refusal};
 
 use crate::pair::NoPair;
 use crate::short_lines::{ShortLine, no_line, refusal_line};
@@ -42,6 +43,7 @@ pub fn put_refusal<K: Sink>(why: NoPair, sink: &mut K) -> Status
     ensures ends { RefusalEnds why result (K.held sink.old) (K.held sink.new) }
     ensures memory { result ≡ Status.NoMemory → why ≡ NoPair.NoMemory }
     ensures unread { result ≡ Status.ReadFault → why ≡ NoPair.ReadFault }
+    ensures refused { result ≡ Status.Refused → (refusal : Refusal) × (why ≡ NoPair.Refused refusal) }
     ensures cut { result ≡ Status.WriteFault → Rose (K.faults sink.old) (K.faults sink.new) }
     ensures silent { (result ≡ Status.ReadFault) ⊎ (result ≡ Status.NoMemory) → sink.new ≡ sink.old }
     ensures not_counted { (result ≡ Status.WriteFault → ⊥) → K.faults sink.new ≡ K.faults sink.old }
