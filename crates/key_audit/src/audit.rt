@@ -44,7 +44,7 @@ fn audit_input<S: Source, K: Sink>(alloc: Global, ask: Ask, source: &mut S, sink
 {
     match read_pair(alloc, source) {
         Ok((script, t)) => tell(alloc, ask, &script, &t, sink),
-        Err(why) => put_refusal(why, sink),
+        Err(why) => put_refusal(&why, sink),
     }
 }
 

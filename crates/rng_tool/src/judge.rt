@@ -144,7 +144,7 @@ fn say_of_text<K: Sink>(
     }
     match behind.transcript(alloc) {
         Ok(t) => say(alloc, judge, script, &t, sink),
-        Err(why) => put_refusal(why, sink),
+        Err(why) => put_refusal(&why, sink),
     }
 }
 
@@ -170,7 +170,7 @@ pub(crate) fn judge_input<R: Threads + Wait + Sync, S: Source, K: Sink>(
         Ok((script, behind)) => say_of_text(alloc, judge, &script, behind, sink),
         Err(why) => {
             *refusal = why.refusal();
-            put_refusal(why, sink)
+            put_refusal(&why, sink)
         }
     }
 }

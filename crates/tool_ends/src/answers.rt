@@ -39,11 +39,11 @@ pub fn put_line<K: Sink>(status: Status, line: &ShortLine, sink: &mut K) -> Stat
 }
 
 /// Answers an input that was not read as a script with a transcript behind it.
-pub fn put_refusal<K: Sink>(why: NoPair, sink: &mut K) -> Status
-    ensures ends { RefusalEnds why result (K.held sink.old) (K.held sink.new) }
-    ensures memory { result ≡ Status.NoMemory → why ≡ NoPair.NoMemory }
-    ensures unread { result ≡ Status.ReadFault → why ≡ NoPair.ReadFault }
-    ensures refused { result ≡ Status.Refused → (refusal : Refusal) × (why ≡ NoPair.Refused refusal) }
+pub fn put_refusal<K: Sink>(why: &NoPair, sink: &mut K) -> Status
+    ensures ends { RefusalEnds why.now result (K.held sink.old) (K.held sink.new) }
+    ensures memory { result ≡ Status.NoMemory → why.now ≡ NoPair.NoMemory }
+    ensures unread { result ≡ Status.ReadFault → why.now ≡ NoPair.ReadFault }
+    ensures refused { result ≡ Status.Refused → (refusal : Refusal) × (why.now ≡ NoPair.Refused refusal) }
     ensures cut { result ≡ Status.WriteFault → Rose (K.faults sink.old) (K.faults sink.new) }
     ensures silent { (result ≡ Status.ReadFault) ⊎ (result ≡ Status.NoMemory) → sink.new ≡ sink.old }
     ensures not_counted { (result ≡ Status.WriteFault → ⊥) → K.faults sink.new ≡ K.faults sink.old }

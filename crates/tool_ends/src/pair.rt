@@ -38,12 +38,12 @@ pub enum NoPair {
 
 impl NoPair {
     /// The refusal that it is, if it is one.
-    pub fn refusal(self) -> Option<Refusal>
-        ensures found { IfSome result (λ refusal. self ≡ NoPair.Refused refusal) }
-        ensures only { (refusal : Refusal) → self ≡ NoPair.Refused refusal → result ≡ Some refusal }
+    pub fn refusal(&self) -> Option<Refusal>
+        ensures found { IfSome result (λ refusal. self.now ≡ NoPair.Refused refusal) }
+        ensures only { (refusal : Refusal) → self.now ≡ NoPair.Refused refusal → result ≡ Some refusal }
     {
         match self {
-            NoPair::Refused(refusal) => Some(refusal),
+            NoPair::Refused(refusal) => Some(*refusal),
             _ => None,
         }
     }
