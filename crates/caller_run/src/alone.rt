@@ -93,7 +93,8 @@ fn longest_line(events: &[Event]) -> Option<u32>
 }
 
 impl Caller {
-    // The call of an event that is told once. The front of `served` gets the bytes that its line shows.
+    // The call of an event that is told once: what it told, and how many bytes its line shows at most. These are the front
+    // of `served`.
     fn call_once<R: Wait>(
         &mut self,
         rt: &R,
@@ -101,22 +102,25 @@ impl Caller {
         trace: &mut Trace,
         served: &mut [u8],
         event: &Event,
-    ) -> Reply
+    ) -> (Reply, usize)
         requires ready { IsReady lanes.now self.old }
         requires states { StatesStand self.old }
         requires range { (version : ℕ) × InRange version lanes.now.cpus event.now }
         requires room { most_shown event.now ≤ length served.old }
         requires once { IsToldOnce event.now }
         requires new { trace.old ≡ [] }
-        ensures called { CalledOnce lanes.now event.now self.old self.new result (take (most_shown event.now) served.new)
+        ensures called { CalledOnce lanes.now event.now self.old self.new result.0 (take (most_shown event.now) served.new)
             trace.new }
+        ensures shown { result.1 ≡ most_shown event.now }
         ensures len { length served.new ≡ length served.old }
     {
-        let served = &mut served[..most_shown(event) as usize];
-        if let Event::Vread { flags, .. } = event {
-            return self.vread_alone(rt, lanes, trace, served, *flags);
-        }
-        self.call(rt, lanes, trace, served, event)
+        let shown = most_shown(event) as usize;
+        let served = &mut served[..shown];
+        let said = match event {
+            Event::Vread { flags, .. } => self.vread_alone(rt, lanes, trace, served, *flags),
+            _ => self.call(rt, lanes, trace, served, event),
+        };
+        (said, shown)
     }
 }
 
@@ -173,14 +177,14 @@ impl<'a> LoneRun<'a> {
     {
         let set = self.caller.set;
         gate.before(rt, set.caller, set.event);
-        let said = self
+        let (said, shown) = self
             .caller
             .call_once(rt, &self.lanes, &mut self.trace, &mut self.served, event);
         self.told = Told {
             event: set.event,
             word: event.word(),
             said,
-            shown: most_shown(event) as usize,
+            shown,
         };
         self.caller.go_on(event);
         self.rest = rest;

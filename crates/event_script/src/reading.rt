@@ -76,6 +76,19 @@ fn cpus_of(version: u32, line: &[u8]) -> Result<u32, FaultKind>
     }
 }
 
+/// What the first line of a text says by its fields, and what stands behind the line.
+// A function of its own, so that the loop over the lines keeps their text in registers.
+#[inline(never)]
+fn said_by_fields(alloc: Global, head: Head, text: &[u8]) -> Result<(Said, &[u8]), LineError>
+    ensures value { Gives (λ both. said_as both.0) result (said_first head.version head.cpus (parts 10 text.now)) }
+    ensures range { IfOk result (λ both. SaidInRange head.version head.cpus (said_as both.0)) }
+    ensures rest { IfOk result (λ both. parts 10 both.1.now ≡ behind (parts 10 text.now)) }
+    ensures shorter { IfOk result (λ both. length both.1.now < length text.now) }
+{
+    let (line, rest) = first_line(text)?;
+    Ok((line_says(alloc, head, line)?, rest))
+}
+
 /// What the first line of a text says, and what stands behind the line.
 fn next_said(alloc: Global, head: Head, text: &[u8]) -> Result<(Said, &[u8]), LineError>
     ensures value { Gives (λ both. said_as both.0) result (said_first head.version head.cpus (parts 10 text.now)) }
@@ -86,8 +99,7 @@ fn next_said(alloc: Global, head: Head, text: &[u8]) -> Result<(Said, &[u8]), Li
     if let Some((word, numbers, rest)) = short_line(text) {
         return Ok((Said::Event(short_event(word, numbers)), rest));
     }
-    let (line, rest) = first_line(text)?;
-    Ok((line_says(alloc, head, line)?, rest))
+    said_by_fields(alloc, head, text)
 }
 
 /// What is said in a line is added to a script. Answers whether more lines may follow.
@@ -197,6 +209,7 @@ fn check_end(text: &[u8]) -> Result<(), FaultKind>
 }
 
 /// The script that goes on with a text of its fourth line and all behind it.
+#[inline(never)]
 fn read_rest(alloc: Global, mut draft: Draft, text: &[u8]) -> Result<Draft, ScriptError>
     requires { length text.now ≤ 16777216 }
     ensures { GivesScript (λ d. script_of_draft (draft_as d)) result

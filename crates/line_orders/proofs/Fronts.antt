@@ -1,6 +1,6 @@
 -- Lists that are gone through from the front.
 use Rattle.std.specs.Prelude.{slice_get}
-use Rattle.std.proofs.Common.{Some, zero, suc, ◌≡◌, ℕ, ◌+◌, ◌<◌, ◌≤◌, List, [], ◌∷◌, ◌++◌, length, get_or, take, drop, map, refl, sym, ap, ◌∙◌, append_assoc}
+use Rattle.std.proofs.Common.{Some, zero, suc, ◌≡◌, ℕ, ◌+◌, ◌<◌, ◌≤◌, List, [], ◌∷◌, ◌++◌, length, get_or, take, drop, map, sym, ap, ◌∙◌, append_assoc}
 use Rattle.std.proofs.lemmas.List.{map-append, take_more, drop_more, at_drop_all, append-nil}
 use Rattle.std.proofs.lemmas.Option.{same_Some}
 

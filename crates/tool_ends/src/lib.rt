@@ -2,8 +2,9 @@
 //! answer an input of which no more is said.
 //!
 //! [`pair::read_pair`] reads a script with a transcript behind it, or says why there is none, and [`put_refusal`] answers
-//! so. [`pair::read_apart`] compares the text behind the script with that of a transcript which a [`maker::Maker`] makes,
-//! and reads it from where it is another. [`put_answer`], [`put_line`] and [`end_output`] write an answer and hand it on.
+//! so; a [`refusal::Refusal`] keeps the fault and the faulty line for who tells more. [`pair::read_apart`] compares the
+//! text behind the script with that of a transcript which a [`maker::Maker`] makes, and reads it from where it is another.
+//! [`put_answer`], [`put_line`] and [`end_output`] write an answer and hand it on.
 //! `specs/Reads` says what a status promises of a source and a sink.
 //!
 //! It stands on `io_edges` for sources and sinks, and on `event_script` and `transcript_text` for what an input is.

@@ -10,6 +10,7 @@ const MOST_SHOWN: usize = 80;
 /// Why an input was refused: its first fault, and the faulty line, where that has 1 to 80 bytes and is printable.
 #[derive(Clone, Copy, Debug, PartialEq, Eq)]
 pub struct Refusal {
+    /// The first fault, which is what `refused` tells.
     pub fault: ScriptFault,
     line: Option<ArrayString<MOST_SHOWN>>,
 }

@@ -37,7 +37,7 @@ fn append_step(piece: &mut Piece, step: &Step)
     match *step {
         Step::Look(generation) => {
             piece.push(b'~');
-            piece.append_small(generation);
+            piece.append_number(generation);
         }
         Step::Visit(mark) => {
             append_lane(piece, mark.lane);

@@ -65,8 +65,10 @@ impl Piece {
         requires { length self.old < 4096 }
         ensures { self.new ≡ self.old ++ byte ∷ [] }
     {
-        self.bytes[self.len] = byte;
-        self.len += 1;
+        // The old length is kept: behind the store of a byte it would have to be loaded anew.
+        let len = self.len;
+        self.bytes[len] = byte;
+        self.len = len + 1;
     }
 
     #[inline(always)]
@@ -119,6 +121,20 @@ impl Piece {
         self.append_pair(number % 100);
     }
 
+    // A number of any length.
+    #[inline(never)]
+    fn append_long(&mut self, number: u64)
+        requires { length self.old + 20 ≤ 4096 }
+        ensures text { self.new ≡ self.old ++ decimal number }
+        ensures short { length (decimal number) ≤ 20 }
+    {
+        let mut digits = Buffer::new();
+        self.append(digits.format(number).as_bytes());
+    }
+
+    /// A number.
+    // It stands within its caller by the hint, so that the length of the piece stays in a register.
+    #[inline(always)]
     pub(crate) fn append_number(&mut self, number: u64)
         requires { length self.old + 20 ≤ 4096 }
         ensures text { self.new ≡ self.old ++ decimal number }
@@ -135,22 +151,21 @@ impl Piece {
             self.append_pair(last_four % 100);
             return;
         }
-        let mut digits = Buffer::new();
-        self.append(digits.format(number).as_bytes());
+        self.append_long(number);
     }
 
-    /// A number that mostly has one digit.
+    /// A number that mostly has one or two digits.
     #[inline(always)]
     pub(crate) fn append_small(&mut self, number: u64)
         requires { length self.old + 20 ≤ 4096 }
         ensures text { self.new ≡ self.old ++ decimal number }
         ensures short { length (decimal number) ≤ 20 }
     {
-        if number < 10 {
-            self.push(b'0' + number as u8);
+        if number < 100 {
+            self.append_below_100(number as u32);
             return;
         }
-        self.append_number(number);
+        self.append_long(number);
     }
 
     /// A word of a few bytes, copied without a call.
