@@ -5,7 +5,7 @@ use Rattle.std.specs.List.{AllByRecursion}
 use Rattle.std.specs.Global.{Vec}
 use Rattle.std.proofs.lemmas.List.{length-map}
 use Rattle.key_names.specs.Book.{Book, Lists, LawfulLanes, lists_of, list_at}
-use Rattle.key_names.specs.Calls.{Setting, Call}
+use Rattle.key_names.specs.Calls.{Call}
 use Rattle.key_names.specs.History.{caller_orders}
 use Rattle.key_names.specs.Texts.ScriptGrammar.{Script, WellFormed}
 use Rattle.key_names.specs.SeenLine.{SeenLine}
@@ -19,7 +19,6 @@ use Rattle.line_orders.specs.declared.clause.Clause.{Clause}
 use Rattle.line_orders.specs.declared.clause.Clause.TheVariants.{Lines, Marks, Forms}
 use Rattle.line_orders.specs.Called.{seen_call, seen_calls}
 use Rattle.line_orders.specs.Orders.{all_forks}
-use Rattle.line_orders.specs.Settings.{AreSettings}
 use Rattle.line_orders.proofs.AllCalls.{calls_long}
 use Rattle.line_orders.proofs.ForksRise.{all_rise}
 use Rattle.line_orders.proofs.LineFits.{callers_long}
