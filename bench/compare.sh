@@ -174,6 +174,14 @@ beside_duties() {
     beside "$1" "$2" "$room/duties"
 }
 
+# duties_beside_none SCRIPT: what each duty costs plain_core itself, and both, to /dev/null.
+duties_beside_none() {
+    for duty in reads_first locks duties; do
+        "$room/interleaved" 15 "$1" null "$room/$duty" -- "$room/plain_core" |
+            awk -v duty="$duty" '{ printf "%-36s %4.2f %4.2f\n", duty, $1 / $2, $3 / $4 }'
+    done
+}
+
 # beside_kernel NAME SCRIPT: beside the kernel's own code, which writes the answers and bytes of the same transcript.
 beside_kernel() {
     "$kernel" <"$2" >"$room/plain"
@@ -184,7 +192,9 @@ beside_kernel() {
 for name in plain_core interleaved; do
     "${CC:-cc}" -O2 -o "$room/$name" "bench/$name.c"
 done
-"${CC:-cc}" -O2 -DDUTIES -o "$room/duties" bench/plain_core.c
+"${CC:-cc}" -O2 -DREADS_FIRST -DLOCKS -o "$room/duties" bench/plain_core.c
+"${CC:-cc}" -O2 -DREADS_FIRST -o "$room/reads_first" bench/plain_core.c
+"${CC:-cc}" -O2 -DLOCKS -o "$room/locks" bench/plain_core.c
 
 # What the measured scripts leave out: the worked cases, as far as plain_core knows their events, and reads of whole blocks.
 printf 'rngscript 1\ncpus 1\ncaller 0\nadd 00 256\ndevice 5 10\nvread 64 0\nvread 64 0\nvread 8 0\nend\n' >"$room/blocks.script"
@@ -274,6 +284,8 @@ echo "rng run to plain_core: $what"
 whole_runs | while IFS=: read -r name text; do beside_plain "$name" "$text"; done
 echo "rng run to plain_core with all events read first, and a lock for each visit: $what"
 whole_runs | while IFS=: read -r name text; do beside_duties "$name" "$text"; done
+echo "plain_core with one of these duties, or both, to plain_core: interrupts, wall and processor seconds to /dev/null"
+duties_beside_none "$room/interrupts"
 
 kernel=tools/kernel/out/harness
 if [ -x "$kernel" ]; then

@@ -6,8 +6,8 @@
  * at a time (RFC 8439), a key erased before its bytes are given away. No locks, no threads, no checks: it takes for
  * granted that its input is a script of one caller without `inside` lines.
  *
- * With -DDUTIES it does two things that a run does as well: it reads all events before it makes the first, since a script
- * with a fault is answered by its refusal alone; and each visit takes its lane's lock and its stamp by atomic operations.
+ * With -DREADS_FIRST it reads all events before it makes the first, as a run does, since a script with a fault is answered
+ * by its refusal alone. With -DLOCKS each visit takes its lane's lock and its stamp by atomic operations, as in a run.
  * It still checks nothing, and keeps no line.
  */
 #include <stdint.h>
@@ -247,7 +247,7 @@ static uint64_t look(void)
     return base_generation;
 }
 
-#ifdef DUTIES
+#ifdef LOCKS
 static uint64_t tickets[MOST_CPUS + 2], served_tickets[MOST_CPUS + 2];
 
 static void visit(int lane)
@@ -662,7 +662,7 @@ static uint64_t read_number(void)
     return number;
 }
 
-#ifdef DUTIES
+#ifdef READS_FIRST
 /* The numbers of the event that is made, where they were kept. */
 static const uint64_t *numbers;
 
@@ -867,14 +867,13 @@ static void read_script(void)
     at = text;
 }
 
-#ifdef DUTIES
-/* An event, and its numbers where they are at most two and all of its fields; of others the fields are read again. Bytes
-   beside a number may be spelt as one. */
+#ifdef READS_FIRST
+/* An event in 24 bytes: where its fields begin in the text, and its numbers where they are at most two and all of its
+   fields; of others the fields are read again. Bytes beside a number may be spelt as one. */
 struct event {
-    enum word word;
-    int has_numbers;
     uint64_t numbers[2];
-    const uint8_t *at;
+    uint32_t at;
+    uint8_t word, has_numbers;
 };
 
 static struct event *events;
@@ -882,8 +881,8 @@ static size_t event_count;
 
 static void read_event(struct event *event)
 {
-    event->word = word_at();
-    event->at = at;
+    event->word = (uint8_t)word_at();
+    event->at = (uint32_t)(at - text);
     for (int i = 0; i < 2 && *at == ' '; i++)
         event->numbers[i] = read_number();
     event->has_numbers = *at == '\n' && event->word != ADD && event->word != DEVICE && event->word != VMFORK;
@@ -907,9 +906,9 @@ static void read_events(void)
 
 static enum word next_event(size_t number)
 {
-    at = events[number].at;
+    at = text + events[number].at;
     numbers = events[number].has_numbers ? events[number].numbers : NULL;
-    return events[number].word;
+    return (enum word)events[number].word;
 }
 #endif
 
@@ -927,7 +926,7 @@ int main(void)
     for (int i = 0; i < 3; i++)
         at = (const uint8_t *)strchr((const char *)at, '\n') + 1;
     put("rngtranscript 1\n");
-#ifdef DUTIES
+#ifdef READS_FIRST
     read_events();
     while (number < event_count) {
         enum word word = next_event(number);
