@@ -133,6 +133,16 @@ speed() {
     awk -v eight="$eight" -v apart="$apart" -v one="$one" 'BEGIN {
         printf "%-60s %9.2f    %.2f with the CPUs apart (at least 2.5)\n", "one to eight", one / eight, one / apart
     }'
+    plain_threads
+}
+
+# What the machine gives to 8 threads that share nothing: with as much work as the reads are for one caller.
+plain_threads() {
+    "${CC:-cc}" -O2 -pthread -o "$room/plain_threads" bench/plain_threads.c
+    # shellcheck disable=SC2086
+    awk -v one="$(${BENCH_UNDER:-} "$room/plain_threads" 1 16000000)" \
+        -v eight="$(${BENCH_UNDER:-} "$room/plain_threads" 8 16000000)" \
+        'BEGIN { printf "%-60s %9.2f\n", "one to eight, of threads in C that only count", one / eight }'
 }
 
 thread() {
