@@ -2,7 +2,8 @@
 # Memory and speed of runs with callers in threads: run by hand, on a machine that does nothing else. The words say what
 # is measured, all of it without words:
 #   memory   the most memory that runs at the limits of a script have resident
-#   speed    8 callers on 8 CPUs beside one caller that makes the same reads, without any text
+#   speed    8 callers on 8 CPUs beside one caller that makes the same reads, without any text, and 8 threads in C that only
+#            count beside one (plain_threads.c)
 #   thread   a scope in which one thread is started and joined
 #   visit    an uncontended visit of a CPU, and a lock of a `Mutex`
 # Other builds of the programs are measured where BENCH_RNG, BENCH_CALLERS and BENCH_WORDS name them. What BENCH_UNDER
