@@ -174,8 +174,8 @@ beside_duties() {
     beside "$1" "$2" "$room/duties"
 }
 
-# duties_beside_none SCRIPT: what each duty costs plain_core itself, and both, to /dev/null.
-duties_beside_none() {
+# cost_of_duties SCRIPT: what each duty, and what both cost plain_core itself, to /dev/null.
+cost_of_duties() {
     for duty in reads_first locks duties; do
         "$room/interleaved" 15 "$1" null "$room/$duty" -- "$room/plain_core" |
             awk -v duty="$duty" '{ printf "%-36s %4.2f %4.2f\n", duty, $1 / $2, $3 / $4 }'
@@ -285,7 +285,7 @@ whole_runs | while IFS=: read -r name text; do beside_plain "$name" "$text"; don
 echo "rng run to plain_core with all events read first, and a lock for each visit: $what"
 whole_runs | while IFS=: read -r name text; do beside_duties "$name" "$text"; done
 echo "plain_core with one of these duties, or both, to plain_core: interrupts, wall and processor seconds to /dev/null"
-duties_beside_none "$room/interrupts"
+cost_of_duties "$room/interrupts"
 
 kernel=tools/kernel/out/harness
 if [ -x "$kernel" ]; then

@@ -1,8 +1,8 @@
 /*
  * plain_threads THREADS TURNS: how many milliseconds so many threads take for so many turns of a loop, the least of 15.
  *
- * The threads share nothing and take no memory, so this is what the machine gives: bench/threads.sh prints it beside what
- * callers in threads take.
+ * The threads share nothing, and take no memory but their stacks, so this is what the machine gives: bench/threads.sh
+ * prints it beside what callers in threads take.
  */
 #include <pthread.h>
 #include <stdint.h>
@@ -14,13 +14,13 @@ enum { TIMES = 15, MOST_THREADS = 64 };
 
 static uint64_t turns;
 
-static void *count(void *sum)
+static void *count(void *unused)
 {
     volatile uint64_t number = 1;
 
     for (uint64_t i = 0; i < turns; i++)
         number = number * 3 + i;
-    return sum;
+    return unused;
 }
 
 static double milliseconds(void)
