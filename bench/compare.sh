@@ -189,7 +189,7 @@ beside_kernel() {
     beside "$1" "$2" "$kernel"
 }
 
-for name in plain_core interleaved; do
+for name in plain_core plain_machine interleaved; do
     "${CC:-cc}" -O2 -o "$room/$name" "bench/$name.c"
 done
 "${CC:-cc}" -O2 -DREADS_FIRST -DLOCKS -o "$room/duties" bench/plain_core.c
@@ -286,6 +286,8 @@ echo "rng run to plain_core with all events read first, and a lock for each visi
 whole_runs | while IFS=: read -r name text; do beside_duties "$name" "$text"; done
 echo "plain_core with one of these duties, or both, to plain_core: interrupts, wall and processor seconds to /dev/null"
 cost_of_duties "$room/interrupts"
+"$room/plain_machine" |
+    awk '{ printf "%-52s %12s\n%-52s %12s\n", "nanoseconds of a new page", $1, "of a locked instruction", $2 }'
 
 kernel=tools/kernel/out/harness
 if [ -x "$kernel" ]; then
