@@ -2,8 +2,7 @@
  * plain_machine: how many nanoseconds a page takes that is new to a process, and how many a locked instruction, each the
  * least of 15 rounds.
  *
- * A run of small events does both often, and machines differ by ten times in the first: bench/compare.sh prints this
- * beside its ratios.
+ * A run of small events does both often, and machines differ in them: bench/compare.sh prints this beside its ratios.
  */
 #define _GNU_SOURCE
 #include <stdint.h>
