@@ -1,11 +1,10 @@
 -- The first steps of a call.
 use Rattle.std.proofs.Common.{◌≡◌, ◌≢◌, ℕ, ◌≤◌, true, false, List, [], ◌∷◌, refl, subst, Ok, arith}
-use Rattle.std.specs.Prelude.{◌==◌}
 use Rattle.std.proofs.lemmas.Bool.{eq-eqb}
 use Rattle.key_names.specs.declared.point.Point.TheVariants.{Start}
 use Rattle.key_names.specs.Flags.{is_bad}
 use Rattle.key_names.specs.VgetrandomState.{VgetrandomState}
-use Rattle.key_names.specs.Vgetrandom.{HostStep, publishes, Outcome, no_bytes, AtPoint, FromStart, IsAttempt, BySystem, ByNothing, FirstAttempt, FromPublished, IsCall}
+use Rattle.key_names.specs.Vgetrandom.{HostStep, publishes, Outcome, no_bytes, AtPoint, FromStart, IsAttempt, BySystem, FirstAttempt, FromPublished, IsCall}
 use Rattle.key_names.proofs.Vgetrandom.Attempts.{match_true, match_false}
 use Rattle.vdso_state.specs.declared.outcome.VEnd.TheVariants.{Zero}
 use Rattle.vdso_state.specs.declared.place.Turn.TheVariants.{First}
@@ -13,7 +12,7 @@ use Rattle.vdso_state.specs.declared.place.Came.{Came}
 use Rattle.vdso_state.specs.declared.place.Came.TheVariants.{At, Ended}
 use Rattle.vdso_state.specs.Host.{Doings}
 use Rattle.vdso_state.specs.Call.{Finish}
-use Rattle.vdso_state.specs.Places.{Ends, Leads, CameTo}
+use Rattle.vdso_state.specs.Places.{Ends, CameTo}
 use Rattle.vdso_state.proofs.Leading.{in_call, says, then_came}
 use Rattle.vdso_state.proofs.Stepping.{ne-eqb, asks_at_once}
 

@@ -1,7 +1,6 @@
 -- Parts of a call one behind the other.
 use Rattle.std.proofs.Common.{◌≡◌, ℕ, ◌≤◌, Bool, List, [], ◌∷◌, ◌++◌, refl, sym, ap, subst, ◌∙◌, append_assoc, arith}
 use Rattle.key_names.specs.declared.entries.VEntry.{VEntry}
-use Rattle.key_names.specs.declared.point.Point.{Point}
 use Rattle.key_names.specs.Vgetrandom.{HostStep, publishes, system_call, at_point, Attempt, AttemptEnd, holds, outdated, not_keyed, Outcome, outcome_behind, attempt_behind, wipe_entry, AtPoint, AfterAttempt}
 use Rattle.key_names.specs.VgetrandomState.{VgetrandomState, state_left}
 use Rattle.key_names.specs.VreadSteps.{PointReached, points_of}

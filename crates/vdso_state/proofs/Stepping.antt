@@ -1,5 +1,5 @@
 -- The steps of an attempt, from one of its points to the next one or to the end of the call.
-use Rattle.std.proofs.Common.{◌≡◌, ◌≢◌, ℕ, ◌≤◌, Bool, true, false, Option, List, [], ◌∷◌, ◌++◌, refl, sym, subst, ◌∙◌, ap, inl, inr, Ok, Err, arith}
+use Rattle.std.proofs.Common.{◌≡◌, ◌≢◌, ℕ, ◌≤◌, Bool, false, List, [], ◌∷◌, ◌++◌, refl, sym, subst, ◌∙◌, ap, inl, inr, Ok, Err, arith}
 use Rattle.std.specs.Prelude.{Result, ◌==◌, if◌then◌else◌}
 use Rattle.std.proofs.lemmas.Bool.{eq-eqb}
 use Rattle.std.proofs.lemmas.Bool.Decides.{eqb_tells}
@@ -8,7 +8,7 @@ use Rattle.key_names.specs.declared.point.Point.{Point}
 use Rattle.key_names.specs.declared.point.Point.TheVariants.{Start, Written, Serve, End}
 use Rattle.key_names.specs.VgetrandomState.{VgetrandomState}
 use Rattle.key_names.specs.BatchCopy.{copy_bytes, state_after_copy, block_after_copy, copy_entries}
-use Rattle.key_names.specs.Vgetrandom.{SystemAnswer, read, failed, HostStep, publishes, system_call, Attempt, holds, outdated, not_keyed, Outcome, outcome_behind, by_batch, by_system, rekey_entry, AtPoint, FromEnd, FromServe, FromWritten, FromStart, AfterAttempt, BySystem, ByBatch, state_after_call}
+use Rattle.key_names.specs.Vgetrandom.{SystemAnswer, read, failed, HostStep, publishes, system_call, Attempt, holds, outdated, not_keyed, outcome_behind, by_batch, by_system, rekey_entry, AtPoint, FromEnd, FromServe, FromWritten, FromStart, AfterAttempt, BySystem, state_after_call}
 use Rattle.key_names.specs.VreadSteps.{points_of}
 use Rattle.key_names.proofs.Vgetrandom.Attempts.{match_true, match_false}
 use Rattle.vdso_state.specs.declared.outcome.VEnd.{VEnd}
@@ -19,7 +19,7 @@ use Rattle.vdso_state.specs.declared.place.Place.{Place}
 use Rattle.vdso_state.specs.declared.place.Came.TheVariants.{At, Ended}
 use Rattle.vdso_state.specs.Host.{Doings, DoesAll, IsAnswer, KeyIsRead}
 use Rattle.vdso_state.specs.Call.{Finish, EndsAsAnswered}
-use Rattle.vdso_state.specs.Places.{IfOutdated, RestOf, FromPoint, BehindPlace, Climbs, Leads, Ends, CameTo}
+use Rattle.vdso_state.specs.Places.{IfOutdated, RestOf, FromPoint, BehindPlace, Climbs, Ends, CameTo}
 use Rattle.vdso_state.proofs.Leading.{does_append, climbs_append, points_append, in_call}
 
 pub ne-eqb : (a b : ℕ) → a ≢ b → (a == b) ≡ false

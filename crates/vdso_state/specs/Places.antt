@@ -1,13 +1,11 @@
 -- Where a call of vgetrandom stands, and what is left of it from there.
-use Rattle.std.specs.Prelude.{ℕ, ◌+◌, ◌*◌, ◌^◌, ◌≤◌, ◌≡◌, Result, List, [], ◌∷◌, ◌++◌}
+use Rattle.std.specs.Prelude.{ℕ, ◌+◌, ◌*◌, ◌^◌, ◌≤◌, ◌≡◌, List, [], ◌∷◌, ◌++◌}
 use Rattle.key_names.specs.declared.entries.VEntry.{VEntry}
-use Rattle.key_names.specs.declared.errno.Errno.{Errno}
 use Rattle.key_names.specs.declared.point.Point.{Point}
 use Rattle.key_names.specs.declared.point.Point.TheVariants.{Start, Written, Serve, End}
 use Rattle.key_names.specs.Vgetrandom.{HostStep, publishes, system_call, at_point, Attempt, Outcome, outcome_behind, AtPoint, FromEnd, FromServe, FromWritten, FromStart, AttemptAndRest, SecondAttempt, AfterBoth}
 use Rattle.key_names.specs.VgetrandomState.{VgetrandomState}
 use Rattle.key_names.specs.VreadSteps.{points_of}
-use Rattle.vdso_state.specs.declared.outcome.VEnd.{VEnd}
 use Rattle.vdso_state.specs.declared.place.Turn.{Turn}
 use Rattle.vdso_state.specs.declared.place.Turn.TheVariants.{First, Second}
 use Rattle.vdso_state.specs.declared.place.Place.{Place}
