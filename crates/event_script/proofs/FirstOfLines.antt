@@ -4,13 +4,8 @@ use Rattle.std.specs.List.{join_with_byte, list_any}
 use Rattle.std.proofs.lemmas.List.Splits.{join_with_byte-slice_split}
 use Rattle.key_names.specs.declared.faults.FaultKind.{FaultKind}
 use Rattle.key_names.specs.declared.faults.FaultKind.TheVariants.{BadByte, UnknownWord}
-use Rattle.key_names.specs.declared.faults.ScriptFault.{ScriptFault}
-use Rattle.key_names.specs.Texts.ScriptFaults.{◌>>=◌, Draft, GoesOn, Ends, at_line, behind, behind_first, behind_line, by_next, is_unprintable, line_of, nothing_behind, parts, script_from, script_of_draft}
+use Rattle.key_names.specs.Texts.ScriptFaults.{◌>>=◌, Draft, GoesOn, at_line, behind, behind_first, behind_line, by_next, is_unprintable, line_of, nothing_behind, parts, script_from, script_of_draft}
 use Rattle.key_names.proofs.Script.Parts.{HasFirst, first_part}
-use Rattle.event_script.specs.declared.error.LineError.{LineError}
-use Rattle.event_script.specs.declared.error.LineError.TheVariants.{Memory, Kind}
-use Rattle.event_script.specs.ScriptViews.{FailsAt, script_error}
-use Rattle.event_script.specs.Views.{Fails}
 
 pub whole_line : (text line rest : List ℕ) → parts 10 text ≡ line ∷ parts 10 rest → list_any is_unprintable line ≡ false
     → line_of (parts 10 text) ≡ Ok line
@@ -44,13 +39,12 @@ not_alone n ((b ∷ tail) ∷ []) not = refl
 not_alone n ([] ∷ next ∷ more) not = refl
 not_alone n ((b ∷ tail) ∷ next ∷ more) not = refl
 
--- a line that stands behind the end, or a part of one
-pub more_behind : (n : ℕ) (text : List ℕ) (kind : FaultKind) → 0 < length text → line_of (parts 10 text) ≡ Err kind
-    → nothing_behind n (parts 10 text) ≡ Err (record { line = n; kind = kind })
-more_behind n text kind some is =
-    let not : parts 10 text ≡ [] ∷ [] → ⊥ = λ e. omega
-    (arith, ap length (sym (join_with_byte-slice_split 10 text) ∙ ap (join_with_byte 10) e)) in
-    not_alone n (parts 10 text) not ∙ ap (λ r. at_line n (r >>= λ line. Err UnknownWord)) is
+-- some text behind the end is at fault
+pub more_behind : (n : ℕ) (text : List ℕ) → 0 < length text → nothing_behind n (parts 10 text) ≡
+    at_line n (line_of (parts 10 text) >>= λ line. Err UnknownWord)
+more_behind n text some =
+    not_alone n (parts 10 text) (λ e. omega
+    (arith, ap length (sym (join_with_byte-slice_split 10 text) ∙ ap (join_with_byte 10) e)))
 
 -- ---- what the first line makes of the whole
 
@@ -59,22 +53,6 @@ pub goes_on : (d later : Draft) (n : ℕ) (text rest : List ℕ) → behind_firs
     (parts 10 rest)
 goes_on d later n text rest is cut = step_of d n text ∙ rw (is, cut) refl
 
-pub ends : (d : Draft) (n : ℕ) (text rest : List ℕ) → behind_first d (parts 10 text) ≡ Ok Ends
-    → parts 10 rest ≡ behind (parts 10 text) → parts 10 rest ≡ [] ∷ [] →
-    script_from d n (parts 10 text) ≡ Ok (script_of_draft d)
-ends d n text rest is cut none = step_of d n text ∙ rw (is, ← cut, none) refl
-
-pub ends_early : (d : Draft) (n : ℕ) (text rest : List ℕ) (fault : ScriptFault) → behind_first d (parts 10 text) ≡
-    Ok Ends
-    → parts 10 rest ≡ behind (parts 10 text) → nothing_behind (n + 1) (parts 10 rest) ≡ Err fault →
-    script_from d n (parts 10 text) ≡ Err fault
-ends_early d n text rest fault is cut more = step_of d n text ∙ rw (is, ← cut, more) refl
-
 pub faults : (d : Draft) (n : ℕ) (text : List ℕ) (kind : FaultKind) → behind_first d (parts 10 text) ≡ Err kind
     → script_from d n (parts 10 text) ≡ Err (record { line = n; kind = kind })
 faults d n text kind is = step_of d n text ∙ rw is refl
-
-pub fails : (d : Draft) (n : ℕ) (text : List ℕ) (error : LineError) → Fails error (behind_first d (parts 10 text))
-    → FailsAt (script_error n error) (script_from d n (parts 10 text))
-fails d n text (Kind kind) is = faults d n text kind is
-fails d n text Memory is = tt

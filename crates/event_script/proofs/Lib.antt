@@ -3,6 +3,9 @@ pub mod LoneNumbers
 pub mod Spellings
 pub mod Tallies
 pub mod FirstOfLines
+pub mod WholeLines
+pub mod Stages
+pub mod Feeding
 pub mod Fronts
 pub mod LoadSteps
 pub mod LoadTexts

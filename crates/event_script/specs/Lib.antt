@@ -2,6 +2,7 @@ pub mod Views
 pub mod Says
 pub mod Tally
 pub mod Drafts
+pub mod Feeding
 pub mod ScriptViews
 pub mod LoadScript
 pub mod ByteWords

@@ -6,6 +6,7 @@ use Rattle.event_script.specs.declared.error.LineError.{LineError}
 use Rattle.event_script.specs.declared.error.LineError.TheVariants.{Memory, Kind}
 use Rattle.event_script.specs.declared.script_error.ScriptError.{ScriptError}
 use Rattle.event_script.specs.declared.script_error.ScriptError.TheVariants.{Fault, NoMemory}
+use Rattle.event_script.specs.declared.script_error.Unread.{Unread}
 
 -- what is wrong with a line, with its number
 abbrev pub script_error : ℕ → LineError → ScriptError
@@ -20,6 +21,11 @@ FailsAt NoMemory given = ⊤
 abbrev pub GivesScript : {X Y : Type 0} → (X → Y) → Result X ScriptError → Result Y ScriptFault → Type 0
 GivesScript view (Ok x) given = given ≡ Ok (view x)
 GivesScript view (Err e) given = FailsAt e given
+
+-- the same of an answer that tells the faulty line too
+abbrev pub GivesUnread : {X Y : Type 0} → (X → Y) → Result X Unread → Result Y ScriptFault → Type 0
+GivesUnread view (Ok x) given = given ≡ Ok (view x)
+GivesUnread view (Err unread) given = FailsAt unread.error given
 
 -- a draft goes on with more lines, or has ended
 abbrev pub next_as : Bool → Draft → Next

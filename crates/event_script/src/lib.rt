@@ -20,12 +20,15 @@ mod hexes;
 mod line;
 mod load;
 pub mod numbers;
+pub mod reader;
 mod reading;
 pub mod reads;
 pub mod script;
 pub mod script_error;
 mod short;
+mod stage;
 pub mod words;
 
+pub use reader::Reader;
 pub use script::{Script, read, read_front};
-pub use script_error::ScriptError;
+pub use script_error::{ScriptError, Unread};

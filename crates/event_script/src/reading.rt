@@ -1,12 +1,13 @@
 //! A script's text, line by line.
 
-ghost use Rattle.std.specs.Prelude.{◌≡◌, ℕ, ◌<◌, ◌≤◌, ◌+◌, ◌∷◌, [], IfOk, MatchResult, length};
+ghost use Rattle.std.specs.Prelude.{◌≡◌, ℕ, ◌<◌, ◌≤◌, ◌++◌, List, IfOk, length};
 ghost use Rattle.std.specs.Bool.{OnFalse};
-ghost use Rattle.key_names.specs.Texts.ScriptFaults.{SaidInRange, after, at_line, behind, behind_first, cpus_by, cpus_in, line_of, nothing_behind, parts, script_from, script_of, script_of_draft, start_in, version_in, version_of};
+ghost use Rattle.key_names.specs.Texts.ScriptFaults.{SaidInRange, after, behind, behind_first, cpus_by, cpus_in, line_of, nothing_behind, parts, start_in, version_in, version_of};
 ghost use Rattle.key_names.specs.Texts.ScriptGrammar.{most_cpus};
 ghost use Rattle.event_script.specs.Drafts.{draft_as};
+ghost use Rattle.event_script.specs.Feeding.{IsWhole};
 ghost use Rattle.event_script.specs.Says.{said_as, said_first};
-ghost use Rattle.event_script.specs.ScriptViews.{GivesScript, next_as, script_error};
+ghost use Rattle.event_script.specs.ScriptViews.{next_as, script_error};
 ghost use Rattle.event_script.specs.Views.{Gives, Tells};
 
 use crate::draft::Draft;
@@ -19,9 +20,6 @@ use crate::script_error::ScriptError;
 use crate::short::{short_event, short_line};
 use key_names::{FaultKind, ScriptFault};
 use std::alloc::Global;
-
-/// The most bytes of a script's text.
-const MOST_BYTES: usize = 16_777_216;
 
 /// The first line of a text, and what stands behind it.
 fn first_line(text: &[u8]) -> Result<(&[u8], &[u8]), FaultKind>
@@ -127,13 +125,13 @@ fn add_said(alloc: Global, draft: &mut Draft, said: Said) -> Result<bool, LineEr
     }
 }
 
-fn fault(line: u32, kind: FaultKind) -> ScriptFault
+pub(crate) fn fault(line: u32, kind: FaultKind) -> ScriptFault
     ensures { result ≡ record { line = line; kind = kind } }
 {
     ScriptFault { line, kind }
 }
 
-fn at_line(line: u32, error: LineError) -> ScriptError
+pub(crate) fn at_line(line: u32, error: LineError) -> ScriptError
     ensures { result ≡ script_error line error }
 {
     match error {
@@ -143,7 +141,7 @@ fn at_line(line: u32, error: LineError) -> ScriptError
 }
 
 /// The version of a text, and what stands behind its line.
-fn read_version(text: &[u8]) -> Result<(u32, &[u8]), FaultKind>
+pub(crate) fn read_version(text: &[u8]) -> Result<(u32, &[u8]), FaultKind>
     ensures version { Tells (λ both. both.0) result (version_in (parts 10 text.now)) }
     ensures rest { IfOk result (λ both. parts 10 both.1.now ≡ behind (parts 10 text.now)) }
     ensures shorter { IfOk result (λ both. length both.1.now < length text.now) }
@@ -154,7 +152,7 @@ fn read_version(text: &[u8]) -> Result<(u32, &[u8]), FaultKind>
 }
 
 /// The number of CPUs, and what stands behind its line.
-fn read_cpus(version: u32, text: &[u8]) -> Result<(u32, &[u8]), FaultKind>
+pub(crate) fn read_cpus(version: u32, text: &[u8]) -> Result<(u32, &[u8]), FaultKind>
     ensures cpus { Tells (λ both. both.0) result (cpus_in version (parts 10 text.now)) }
     ensures range { IfOk result (λ both. (0 < both.0) × (both.0 ≤ 256)) }
     ensures rest { IfOk result (λ both. parts 10 both.1.now ≡ behind (parts 10 text.now)) }
@@ -166,7 +164,11 @@ fn read_cpus(version: u32, text: &[u8]) -> Result<(u32, &[u8]), FaultKind>
 }
 
 /// The empty block of caller 0, and what stands behind its line.
-fn read_start(alloc: Global, head: Head, text: &[u8]) -> Result<(Draft, &[u8]), LineError>
+pub(crate) fn read_start(
+    alloc: Global,
+    head: Head,
+    text: &[u8],
+) -> Result<(Draft, &[u8]), LineError>
     ensures start { Gives (λ both. draft_as both.0) result (start_in head.version head.cpus (parts 10 text.now)) }
     ensures rest { IfOk result (λ both. parts 10 both.1.now ≡ behind (parts 10 text.now)) }
     ensures shorter { IfOk result (λ both. length both.1.now < length text.now) }
@@ -179,7 +181,7 @@ fn read_start(alloc: Global, head: Head, text: &[u8]) -> Result<(Draft, &[u8]), 
 }
 
 /// What the next line adds to a script, whether more lines may follow, and what stands behind the line.
-fn read_line<'a>(
+pub(crate) fn read_line<'a>(
     alloc: Global,
     draft: &mut Draft,
     text: &'a [u8],
@@ -196,62 +198,15 @@ fn read_line<'a>(
     Ok((more, rest))
 }
 
-/// That nothing stands behind the line `end`.
-fn check_end(text: &[u8]) -> Result<(), FaultKind>
-    ensures { MatchResult result (λ _. parts 10 text.now ≡ [] ∷ [])
-        (λ kind. (number : ℕ) → nothing_behind number (parts 10 text.now) ≡ Err (record { line = number; kind = kind })) }
+/// What is wrong with the first line behind the line `end`.
+pub(crate) fn kind_behind_end(text: &[u8]) -> FaultKind
+    requires whole { IsWhole text.now }
+    requires some { 0 < length text.now }
+    ensures { (number : ℕ) (later : List ℕ) → nothing_behind number (parts 10 (text.now ++ later))
+        ≡ Err (record { line = number; kind = result }) }
 {
-    if text.is_empty() {
-        return Ok(());
+    match first_line(text) {
+        Ok(_) => FaultKind::UnknownWord,
+        Err(kind) => kind,
     }
-    first_line(text)?;
-    Err(FaultKind::UnknownWord)
-}
-
-/// The script that goes on with a text of its fourth line and all behind it.
-#[inline(never)]
-fn read_rest(alloc: Global, mut draft: Draft, text: &[u8]) -> Result<Draft, ScriptError>
-    requires { length text.now ≤ 16777216 }
-    ensures { GivesScript (λ d. script_of_draft (draft_as d)) result
-        (script_from (draft_as draft) 4 (parts 10 text.now)) }
-{
-    let mut left = text;
-    let mut number = 4;
-    loop {
-        let (more, rest) = match read_line(alloc, &mut draft, left) {
-            Ok(both) => both,
-            Err(error) => return Err(at_line(number, error)),
-        };
-        number += 1;
-        if !more {
-            return match check_end(rest) {
-                Ok(()) => Ok(draft),
-                Err(kind) => Err(ScriptError::Fault(fault(number, kind))),
-            };
-        }
-        left = rest;
-    }
-}
-
-/// The script that a text is, its last block open.
-#[tactic(auto, unfolding(key_names::specs::Texts::ScriptFaults::script_of))]
-pub(crate) fn read_draft(alloc: Global, text: &[u8]) -> Result<Draft, ScriptError>
-    ensures { GivesScript (λ d. script_of_draft (draft_as d)) result (script_of text.now) }
-{
-    if text.len() > MOST_BYTES {
-        return Err(ScriptError::Fault(fault(0, FaultKind::TooLong)));
-    }
-    let (version, second) = match read_version(text) {
-        Ok(both) => both,
-        Err(kind) => return Err(ScriptError::Fault(fault(1, kind))),
-    };
-    let (cpus, third) = match read_cpus(version, second) {
-        Ok(both) => both,
-        Err(kind) => return Err(ScriptError::Fault(fault(2, kind))),
-    };
-    let (draft, rest) = match read_start(alloc, Head { version, cpus }, third) {
-        Ok(both) => both,
-        Err(error) => return Err(at_line(3, error)),
-    };
-    read_rest(alloc, draft, rest)
 }

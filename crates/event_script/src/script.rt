@@ -1,14 +1,15 @@
 //! Scripts.
-ghost use Rattle.std.specs.Prelude.{◌≡◌, ◌<◌, ◌≤◌, IfErr, IfOk, IsErr, length, take};
+ghost use Rattle.std.specs.Prelude.{◌≡◌, ◌<◌, ◌≤◌, ℕ, List, IfErr, IfOk, IsErr, length, take};
 ghost use Rattle.key_names.specs.declared.faults.ScriptFault.{ScriptFault};
 ghost use Rattle.key_names.specs.Texts.ScriptGrammar.{IsScript, Script as Spelt};
 ghost use Rattle.key_names.specs.Texts.ScriptFaults.{first_fault, front};
-ghost use Rattle.event_script.specs.ScriptViews.{GivesScript, IsFirstFault};
+ghost use Rattle.event_script.specs.Feeding.{HasFed};
+ghost use Rattle.event_script.specs.ScriptViews.{GivesScript, GivesUnread, IsFirstFault};
 
 use crate::front::front_len;
 use crate::load::load_blocks;
-use crate::reading::read_draft;
-use crate::script_error::ScriptError;
+use crate::reader::Reader;
+use crate::script_error::{ScriptError, Unread};
 use key_names::Event;
 use std::alloc::{AllocError, Global};
 use std::marker::Model;
@@ -96,6 +97,34 @@ impl Script {
     }
 }
 
+impl Reader {
+    /// The script whose text was fed.
+    ///
+    /// # Errors
+    ///
+    /// `Fault` with the text's first fault, where it is no script, and the faulty line. `NoMemory` where there is no memory
+    /// for the script.
+    pub fn finish(self) -> Result<Script, Unread>
+        requires { (text : List ℕ) × HasFed text self }
+        ensures found { (text : List ℕ) → HasFed text self → IfOk result (λ script. IsScript script text) }
+        ensures only { (text : List ℕ) → HasFed text self → (script : Spelt) → IsScript script text
+            → GivesUnread (λ read. read) result (Ok script) }
+        ensures fault { (text : List ℕ) → HasFed text self → IfErr result (λ unread. IsFirstFault unread.error text) }
+        ensures faulted { (text : List ℕ) → HasFed text self → (fault : ScriptFault)
+            → first_fault text ≡ Some fault → IsErr result }
+    {
+        let draft = self.into_draft()?;
+        let version = draft.head.version;
+        let cpus = draft.head.cpus;
+        let callers = draft.into_blocks()?;
+        Ok(Script {
+            version,
+            cpus,
+            callers,
+        })
+    }
+}
+
 /// Reads a script.
 ///
 /// # Errors
@@ -111,15 +140,12 @@ pub fn read(alloc: Global, text: &[u8]) -> Result<Script, ScriptError>
     // A text with a fault is no script, so it is not read.
     ensures faulted { (fault : ScriptFault) → first_fault text.now ≡ Some fault → IsErr result }
 {
-    let draft = read_draft(alloc, text)?;
-    let version = draft.head.version;
-    let cpus = draft.head.cpus;
-    let callers = draft.into_blocks()?;
-    Ok(Script {
-        version,
-        cpus,
-        callers,
-    })
+    let mut reader = Reader::new(alloc);
+    reader.feed(alloc, text)?;
+    match reader.finish() {
+        Ok(script) => Ok(script),
+        Err(unread) => Err(unread.error),
+    }
 }
 
 /// Reads the script in front of a text, which its first line `end` ends. Where no line is `end`, all of the text is

@@ -1,7 +1,7 @@
 //! Why a text is no script, or was not read.
 
 ghost use Rattle.std.specs.Prelude.{◌≡◌};
-ghost use Rattle.event_script.specs.declared.script_error.ScriptError.TheVariants.{NoMemory};
+ghost use Rattle.event_script.specs.declared.script_error.ScriptError.TheVariants.{Fault, NoMemory};
 
 use key_names::ScriptFault;
 use std::alloc::AllocError;
@@ -20,5 +20,35 @@ impl From<AllocError> for ScriptError {
 
     fn from(_e: AllocError) -> ScriptError {
         ScriptError::NoMemory
+    }
+}
+
+/// Why a text that came piece by piece was not read.
+#[derive(Drop)]
+pub struct Unread {
+    pub error: ScriptError,
+    /// The faulty line, or what there is of it, where there was memory to keep it (tested).
+    pub line: Option<Vec<u8>>,
+}
+
+impl Unread {
+    pub(crate) fn at(fault: ScriptFault, line: Option<Vec<u8>>) -> Unread
+        ensures { result.error ≡ Fault fault }
+    {
+        Unread {
+            error: ScriptError::Fault(fault),
+            line,
+        }
+    }
+}
+
+impl From<AllocError> for Unread {
+    ghost from_gives = { λ _ unread. unread.error ≡ NoMemory };
+
+    fn from(_e: AllocError) -> Unread {
+        Unread {
+            error: ScriptError::NoMemory,
+            line: None,
+        }
     }
 }

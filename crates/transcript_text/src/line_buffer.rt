@@ -121,7 +121,7 @@ impl Piece {
         self.append_pair(number % 100);
     }
 
-    // A number of any length.
+    // A number of any length, by `itoa`. It is a call, so that what is inlined where a line is made stays short.
     #[inline(never)]
     fn append_long(&mut self, number: u64)
         requires { length self.old + 20 ≤ 4096 }

@@ -1,0 +1,68 @@
+-- How far a script's text was read, and how the script goes on.
+use Rattle.std.specs.Prelude.{ℕ, ◌≡◌, ◌⊎◌, ◌+◌, ◌<◌, ◌≤◌, ⊤, List, [], ◌∷◌, ◌++◌, All, Result, Ok, Err, ◌==◌, false, length}
+use Rattle.std.specs.Borrow.{Bor}
+use Rattle.key_names.specs.declared.faults.ScriptFault.{ScriptFault}
+use Rattle.key_names.specs.Texts.ScriptFaults.{◌>>=◌, at_line, behind, cpus_in, nothing_behind, parts, script_from, script_of_draft, script_of_lines, start_in}
+use Rattle.key_names.specs.Texts.ScriptGrammar.{Script}
+use Rattle.event_script.specs.Drafts.{draft_as}
+use Rattle.event_script.specs.declared.reader.Reader.{Reader}
+use Rattle.event_script.specs.declared.script_error.ScriptError.{ScriptError}
+use Rattle.event_script.specs.declared.script_error.ScriptError.TheVariants.{Fault, NoMemory}
+use Rattle.event_script.specs.declared.stage.Stage.{Stage}
+use Rattle.event_script.specs.declared.stage.Stage.TheVariants.{Version, Cpus, Start, Lines, Ended, Faulty}
+
+-- a text of whole lines: behind the last one nothing stands
+abbrev pub IsWhole : List ℕ → Type 0
+IsWhole text = (text ≡ []) ⊎ ((front : List ℕ) × (text ≡ front ++ 10 ∷ []))
+
+-- the script that goes on with these lines at this stage
+abbrev pub goes : Stage → List (List ℕ) → Result Script ScriptFault
+goes Version lines = script_of_lines lines
+goes (Cpus version) lines = do
+  cpus ← at_line 2 (cpus_in version lines)
+  start ← at_line 3 (start_in version cpus (behind lines))
+  script_from start 4 (behind (behind lines))
+goes (Start head) lines = do
+  start ← at_line 3 (start_in head.version head.cpus lines)
+  script_from start 4 (behind lines)
+goes (Lines draft number) lines = script_from (draft_as draft) number lines
+goes (Ended draft number) lines = nothing_behind number lines >>= λ none. Ok (script_of_draft (draft_as draft))
+goes (Faulty fault line) lines = Err fault
+
+-- the number of the next line
+abbrev pub number_of : Stage → ℕ
+number_of Version = 1
+number_of (Cpus version) = 2
+number_of (Start head) = 3
+number_of (Lines draft number) = number
+number_of (Ended draft number) = number
+number_of (Faulty fault line) = 0
+
+-- from a text at one stage the script goes on as from the rest of it at the next, whatever follows
+pub record LeadsTo (stage : Stage) (text : List ℕ) (next : Stage) (rest : List ℕ) : Type 0 where
+  pub same : (later : List ℕ) → goes stage (parts 10 (text ++ later)) ≡ goes next (parts 10 (rest ++ later))
+  pub whole : IsWhole rest
+  pub number : number_of next + length rest ≤ number_of stage + length text
+
+-- the fault is the script's first, whatever follows
+abbrev pub FailsFrom : Stage → List ℕ → ScriptError → Type 0
+FailsFrom stage text (Fault fault) = (later : List ℕ) → goes stage (parts 10 (text ++ later)) ≡ Err fault
+FailsFrom stage text NoMemory = ⊤
+
+-- what the first lines of a text lead to
+abbrev pub Leads : Stage → List ℕ → Result (Stage × Bor (List ℕ)) ScriptError → Type 0
+Leads stage text (Ok both) = LeadsTo stage text both.0 both.1.now × (length both.1.now < length text)
+Leads stage text (Err error) = FailsFrom stage text error
+
+-- the text begins with the lines that were read, and goes on with the rest and with what is unread
+pub record IsBehind (text : List ℕ) (reader : Reader) (unread : List ℕ) : Type 0 where
+  pub same : (later : List ℕ) → script_of_lines (parts 10 (text ++ later))
+      ≡ goes reader.stage (parts 10 (reader.rest.items ++ (unread ++ later)))
+  pub clean : All (λ b. (b == 10) ≡ false) reader.rest.items
+  pub number : number_of reader.stage + length reader.rest.items + length unread ≤ length text + 1
+
+-- the reader was fed this text; of one that is too long no more is known
+pub record HasFed (text : List ℕ) (reader : Reader) : Type 0 where
+  pub len : length text ≤ 16777216 → reader.len ≡ length text
+  pub long : 16777216 < length text → 16777216 < reader.len
+  pub read : length text ≤ 16777216 → IsBehind text reader []

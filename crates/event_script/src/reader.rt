@@ -1,0 +1,108 @@
+//! A script whose text is read piece by piece.
+ghost use Rattle.std.specs.Prelude.{◌≡◌, ◌+◌, ◌<◌, ◌^◌, ◌++◌, ◌==◌, ℕ, [], All, List, false, length, OnOk};
+ghost use Rattle.key_names.specs.Texts.ScriptFaults.{script_of, script_of_draft};
+ghost use Rattle.event_script.specs.Drafts.{draft_as};
+ghost use Rattle.event_script.specs.Feeding.{HasFed, IsBehind, IsWhole, number_of};
+ghost use Rattle.event_script.specs.ScriptViews.{GivesUnread};
+
+use crate::draft::Draft;
+use crate::fields::cut;
+use crate::reading::fault;
+use crate::script_error::Unread;
+use crate::stage::Stage;
+use key_names::FaultKind;
+use memchr::memrchr;
+use std::alloc::{AllocError, Global};
+use std::mem;
+
+/// The most bytes of a script's text.
+const MOST_BYTES: usize = 16_777_216;
+
+/// A reader that is fed the text of a script, in pieces of any length. Of the text it keeps no more than a line that is
+/// not whole yet, or the one that is faulty.
+#[derive(Drop)]
+pub struct Reader {
+    stage: Stage,
+    // How many bytes were fed.
+    len: usize,
+    // The front of a line whose end is to come.
+    rest: Vec<u8>,
+}
+
+/// The whole lines of a text, and the front of a line behind them.
+fn whole_lines(text: &[u8]) -> (&[u8], &[u8])
+    ensures all { text.now ≡ result.0.now ++ result.1.now }
+    ensures whole { IsWhole result.0.now }
+    ensures clean { All (λ b. (b == 10) ≡ false) result.1.now }
+{
+    match memrchr(b'\n', text) {
+        Some(place) => text.split_at(place + 1),
+        None => (&[], text),
+    }
+}
+
+impl Reader {
+    /// A reader that was fed nothing.
+    pub fn new(alloc: Global) -> Reader
+        ensures { HasFed [] result }
+    {
+        Reader {
+            stage: Stage::Version,
+            len: 0,
+            rest: Vec::new(alloc),
+        }
+    }
+
+    // The end of the line of which the front was fed, and whole lines behind it.
+    fn read_lines(&mut self, alloc: Global, lines: &[u8]) -> Result<(), AllocError>
+        requires whole { IsWhole lines.now }
+        requires short { number_of self.old.stage + length self.old.rest.items + length lines.now < 2 ^ 32 }
+        ensures read { OnOk result ((text behind : List ℕ) → IsBehind text self.old (lines.now ++ behind)
+            → IsBehind text self.new behind) }
+        ensures len { self.new.len ≡ self.old.len }
+    {
+        let Some((end, behind)) = cut(b'\n', lines) else {
+            return Ok(());
+        };
+        self.rest.extend_from_slice(end)?;
+        self.rest.push(b'\n')?;
+        let stage = mem::replace(&mut self.stage, Stage::Version);
+        let stage = stage.read(alloc, &self.rest)?;
+        self.rest.clear();
+        self.stage = stage.read(alloc, behind)?;
+        Ok(())
+    }
+
+    /// One more piece of the text.
+    ///
+    /// # Errors
+    ///
+    /// `AllocError` where there is no memory for what it says, or for a line that is not whole yet. The reader is of no
+    /// use then.
+    pub fn feed(&mut self, alloc: Global, piece: &[u8]) -> Result<(), AllocError>
+        requires { (text : List ℕ) × HasFed text self.old }
+        ensures { OnOk result ((text : List ℕ) → HasFed text self.old → HasFed (text ++ piece.now) self.new) }
+    {
+        self.len = self.len.saturating_add(piece.len());
+        if self.len > MOST_BYTES {
+            return Ok(());
+        }
+        let (lines, front) = whole_lines(piece);
+        self.read_lines(alloc, lines)?;
+        self.rest.extend_from_slice(front)?;
+        Ok(())
+    }
+
+    /// The script that the text is, its last block open.
+    pub(crate) fn into_draft(self) -> Result<Draft, Unread>
+        requires { (text : List ℕ) × HasFed text self }
+        ensures { (text : List ℕ) → HasFed text self
+            → GivesUnread (λ d. script_of_draft (draft_as d)) result (script_of text) }
+    {
+        let Reader { stage, len, rest } = self;
+        if len > MOST_BYTES {
+            return Err(Unread::at(fault(0, FaultKind::TooLong), None));
+        }
+        stage.finish(rest)
+    }
+}
