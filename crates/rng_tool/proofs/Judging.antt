@@ -11,8 +11,8 @@ use Rattle.tool_ends.specs.Pairs.{FailsAsText, IsNoPair, IsPair, RefusalEnds, Re
 use Rattle.tool_ends.specs.Reads.{WritesEnds}
 use Rattle.tool_ends.specs.declared.behind.Behind.{Behind}
 use Rattle.tool_ends.specs.declared.behind.Behind.TheVariants.{Compared, Fed}
-use Rattle.tool_ends.specs.declared.pair.NoPair.{NoPair}
-use Rattle.tool_ends.specs.declared.pair.NoPair.TheVariants.{ReadFault as SourceFails, Refused as FirstFault, NoTranscript, TooManyLines, NoMemory as Unread}
+use Rattle.tool_ends.specs.declared.pair.NotRead.{NotRead}
+use Rattle.tool_ends.specs.declared.pair.NotRead.TheVariants.{ReadFault as SourceFails, Refused as FirstFault, NoTranscript, TooManyLines, NoMemory as Unread}
 use Rattle.tool_ends.specs.declared.status.Status.{Status}
 use Rattle.tool_ends.specs.declared.status.Status.TheVariants.{Done, No, Usage, ReadFault, WriteFault, Refused, NoMemory}
 use Rattle.rng_tool.specs.JudgeOutcome.{Fails, GivesBack, IsClause, JudgeCalls, SaidOf, yes_line}
@@ -85,7 +85,7 @@ text_said judge input number is s o said = subst (λ status. JudgeCalls judge in
 })
 
 -- what is said of an input that is not read is said of its text
-pub none_said : (judge : Judge) (input : List ℕ) (why : NoPair) → IsNoPair input why → (s : Status) (o : List ℕ) →
+pub none_said : (judge : Judge) (input : List ℕ) (why : NotRead) → IsNoPair input why → (s : Status) (o : List ℕ) →
     RefusalOf why s o → JudgeCalls judge input s o
 none_said judge input SourceFails is s o said = absurd is
 none_said judge input (FirstFault refusal) is s o said = subst (λ status. JudgeCalls judge input status o) (sym said.0)
@@ -109,7 +109,7 @@ run_said judge input script (Compared comparison) apart made whole =
 run_said judge input script (Fed reader) apart made whole = absurd whole
 
 -- what was written of a text that is not read is said of the input
-pub refusal_said : (judge : Judge) (input : List ℕ) (why : NoPair) → IsNoPair input why → (status : Status)
+pub refusal_said : (judge : Judge) (input : List ℕ) (why : NotRead) → IsNoPair input why → (status : Status)
     (held held_after : Option (List ℕ)) → RefusalEnds why status held held_after →
     WritesEnds (JudgeCalls judge input) status held held_after
 refusal_said judge input SourceFails none status held held_after e = absurd none

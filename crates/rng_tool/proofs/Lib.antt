@@ -6,3 +6,4 @@ pub mod ShownBytes
 pub mod Completes
 pub mod VforkWords
 pub mod WrittenLines
+pub mod Running

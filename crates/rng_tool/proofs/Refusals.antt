@@ -3,8 +3,8 @@ use Rattle.std.proofs.Common.{ℕ, ◌≡◌, List, Option, None, Some, refl, sy
 use Rattle.std.specs.Io.KnownBytes.{Keeps}
 use Rattle.tool_ends.specs.Ends.{AtOutputEnd}
 use Rattle.tool_ends.specs.Pairs.{RefusalEnds}
-use Rattle.tool_ends.specs.declared.pair.NoPair.{NoPair}
-use Rattle.tool_ends.specs.declared.pair.NoPair.TheVariants.{ReadFault as SourceFails, Refused as FirstFault, NoTranscript, TooManyLines, NoMemory as Unread}
+use Rattle.tool_ends.specs.declared.pair.NotRead.{NotRead}
+use Rattle.tool_ends.specs.declared.pair.NotRead.TheVariants.{ReadFault as SourceFails, Refused as FirstFault, NoTranscript, TooManyLines, NoMemory as Unread}
 use Rattle.tool_ends.specs.declared.refusal.Refusal.{Refusal}
 use Rattle.tool_ends.specs.declared.status.Status.{Status}
 use Rattle.tool_ends.specs.declared.status.Status.TheVariants.{No, ReadFault, WriteFault, Refused}
@@ -12,7 +12,7 @@ use Rattle.tool_ends.proofs.Endings.{appends_kept}
 use Rattle.rng_tool.specs.Outcome.{HasRefusal}
 
 -- of an input that was not read
-pub was_told : (a b : Option (List ℕ)) (why : NoPair) (found : Option Refusal)
+pub was_told : (a b : Option (List ℕ)) (why : NotRead) (found : Option Refusal)
     → ((refusal : Refusal) → why ≡ FirstFault refusal → found ≡ Some refusal) → RefusalEnds why Refused a b
     → HasRefusal found a b
 was_told a b SourceFails found only e = (let never : Refused ≡ ReadFault = e.0 in absurd cc)

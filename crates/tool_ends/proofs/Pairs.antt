@@ -14,8 +14,8 @@ use Rattle.key_names.specs.SeenLine.{SeenLine}
 use Rattle.key_names.proofs.Samples.Lines.{AllFit, fits_long}
 use Rattle.transcript_text.specs.ReadTexts.{HasMoreLines}
 use Rattle.tool_ends.specs.Pairs.{IsNoPair, IsNoText, LacksLines, RefusalOf, TellsFault, behind, no_line, pair_fault, refusal_line}
-use Rattle.tool_ends.specs.declared.pair.NoPair.{NoPair}
-use Rattle.tool_ends.specs.declared.pair.NoPair.TheVariants.{ReadFault, Refused, NoTranscript, TooManyLines, NoMemory}
+use Rattle.tool_ends.specs.declared.pair.NotRead.{NotRead}
+use Rattle.tool_ends.specs.declared.pair.NotRead.TheVariants.{ReadFault, Refused, NoTranscript, TooManyLines, NoMemory}
 use Rattle.tool_ends.specs.declared.refusal.Refusal.{Refusal}
 use Rattle.tool_ends.specs.declared.status.Status.{Status}
 use Rattle.tool_ends.specs.declared.status.Status.TheVariants.{Refused as IsRefused, No as IsNo}
@@ -66,7 +66,7 @@ too_long_alike input all output long too tells = record {
 
 -- what keeps the text behind a script from being read keeps the input from it
 pub no_pair : (input : List ℕ) (script : Script) → length input ≤ 100663296 → IsScript script (front input) →
-    (why : NoPair) → IsNoText (behind input) why → IsNoPair input why
+    (why : NotRead) → IsNoText (behind input) why → IsNoPair input why
 no_pair input script short is ReadFault not = absurd not
 no_pair input script short is (Refused refusal) not = absurd not
 no_pair input script short is NoTranscript not = record {

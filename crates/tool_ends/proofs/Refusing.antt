@@ -1,20 +1,20 @@
--- How a command ends that reads a script with a transcript behind it.
+-- How a command ends that reads a script, or a script with a transcript behind it.
 use Rattle.std.proofs.Common.{ℕ, List, Option, sym, subst}
-use Rattle.tool_ends.specs.Pairs.{GivesNoPair, IsNoPair, RefusalEnds, RefusalOf, WasRead}
+use Rattle.tool_ends.specs.Pairs.{GivesNone, RefusalEnds, RefusalOf, WasRead}
 use Rattle.tool_ends.specs.Reads.{ReadsEnds, WritesEnds}
-use Rattle.tool_ends.specs.declared.pair.NoPair.{NoPair}
-use Rattle.tool_ends.specs.declared.pair.NoPair.TheVariants.{ReadFault as SourceFails, Refused as FirstFault, NoTranscript, TooManyLines, NoMemory as Unread}
+use Rattle.tool_ends.specs.declared.pair.NotRead.{NotRead}
+use Rattle.tool_ends.specs.declared.pair.NotRead.TheVariants.{ReadFault as SourceFails, Refused as FirstFault, NoTranscript, TooManyLines, NoMemory as Unread}
 use Rattle.tool_ends.specs.declared.status.Status.{Status}
 use Rattle.tool_ends.specs.declared.status.Status.TheVariants.{Done, No, Usage, ReadFault, WriteFault, Refused, NoMemory}
 use Rattle.tool_ends.proofs.Inputs.{IsLimited, reads_end, wider}
 
-module _ (Of : List ℕ → Status → List ℕ → Type 0) (limited : IsLimited 100663296 Of)
+module _ (most : ℕ) (Of : List ℕ → Status → List ℕ → Type 0) (limited : IsLimited most Of)
     (left left_after held held_after : Option (List ℕ)) where
   -- what was written of an input ends the command that read it
-  pub said_of : (input : List ℕ) → WasRead left left_after input → (status : Status) →
+  pub said_of : (input : List ℕ) → WasRead most left left_after input → (status : Status) →
       WritesEnds (Of input) status held held_after → ReadsEnds Of status left left_after held held_after
   said_of input read status e =
-      reads_end 100663296 Of limited left left_after held held_after input read.read read.whole read.front status e
+      reads_end most Of limited left left_after held held_after input read.read read.whole read.front status e
 
   -- without memory nothing was written
   unread : (status : Status) → WritesEnds (RefusalOf Unread) status held held_after →
@@ -28,16 +28,16 @@ module _ (Of : List ℕ → Status → List ℕ → Type 0) (limited : IsLimited
   unread ReadFault e = absurd e
 
   -- and so does the refusal of one that was not read
-  pub refused_of : (why : NoPair) →
-      ((input : List ℕ) → IsNoPair input why → (s : Status) (o : List ℕ) → RefusalOf why s o → Of input s o) →
-      GivesNoPair left left_after why → (status : Status) → RefusalEnds why status held held_after →
+  pub refused_of : (Is : List ℕ → NotRead → Type 0) (why : NotRead) →
+      ((input : List ℕ) → Is input why → (s : Status) (o : List ℕ) → RefusalOf why s o → Of input s o) →
+      GivesNone most Is left left_after why → (status : Status) → RefusalEnds why status held held_after →
       ReadsEnds Of status left left_after held held_after
-  refused_of SourceFails says none status e =
+  refused_of Is SourceFails says none status e =
       subst (λ s. ReadsEnds Of s left left_after held held_after) (sym e.0) e.1
-  refused_of (FirstFault refusal) says none status e = said_of none.0 none.1 status
+  refused_of Is (FirstFault refusal) says none status e = said_of none.0 none.1 status
       (wider _ (Of none.0) (says none.0 none.2) status held held_after e)
-  refused_of NoTranscript says none status e = said_of none.0 none.1 status
+  refused_of Is NoTranscript says none status e = said_of none.0 none.1 status
       (wider _ (Of none.0) (says none.0 none.2) status held held_after e)
-  refused_of TooManyLines says none status e = said_of none.0 none.1 status
+  refused_of Is TooManyLines says none status e = said_of none.0 none.1 status
       (wider _ (Of none.0) (says none.0 none.2) status held held_after e)
-  refused_of Unread says none status e = unread status e
+  refused_of Is Unread says none status e = unread status e

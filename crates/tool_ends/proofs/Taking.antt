@@ -8,12 +8,11 @@ use Rattle.key_names.specs.Texts.ScriptFaults.{first_fault, front}
 use Rattle.key_names.specs.Texts.ScriptGrammar.{Script, IsScript}
 use Rattle.std.specs.Io.KnownBytes.{Consumes, IsAtEnd}
 use Rattle.tool_ends.specs.Behind.{GivesApart, HoldsText, IsApart}
-use Rattle.tool_ends.specs.Intakes.{HasEndLine, HasTaken, IsFound}
+use Rattle.tool_ends.specs.Intakes.{HasEndLine, IsFound}
 use Rattle.tool_ends.specs.declared.behind.Behind.{Behind}
-use Rattle.tool_ends.specs.declared.intake.Intake.{Intake}
-use Rattle.tool_ends.specs.Pairs.{GivesNoPair, IsNoPair, IsNoText, WasRead, behind, most_input}
-use Rattle.tool_ends.specs.declared.pair.NoPair.{NoPair}
-use Rattle.tool_ends.specs.declared.pair.NoPair.TheVariants.{ReadFault, Refused, NoTranscript, TooManyLines, NoMemory}
+use Rattle.tool_ends.specs.Pairs.{GivesNone, GivesScript, IsNoPair, IsNoText, WasRead, behind, most_input, most_script}
+use Rattle.tool_ends.specs.declared.pair.NotRead.{NotRead}
+use Rattle.tool_ends.specs.declared.pair.NotRead.TheVariants.{ReadFault, Refused, NoTranscript, TooManyLines, NoMemory}
 use Rattle.tool_ends.proofs.FrontStays.{front_stays}
 use Rattle.tool_ends.proofs.Pairs.{no_pair}
 
@@ -38,18 +37,18 @@ pub fault_stays : (input piece : List ℕ) (fault : ScriptFault) → HasEndLine 
     → first_fault (front input) ≡ Some fault → first_fault (front (input ++ piece)) ≡ Some fault
 fault_stays input piece fault end is = ap first_fault (front_stays input piece end) ∙ is
 
--- so many bytes were taken of what a source had left
-pub record TakenSoFar (left left_now : Option (List ℕ)) (intake : Intake) (count : ℕ) : Type 0 where
+-- so many bytes were taken of what a source had left, and Has is right of them
+pub record TakenSoFar (left left_now : Option (List ℕ)) (Has : List ℕ → Type 0) (count : ℕ) : Type 0 where
   pub input : List ℕ
   pub read : Consumes left left_now input
-  pub has : HasTaken input intake
+  pub has : Has input
   pub len : length input ≡ count
 
 -- one more piece was taken
-pub piece_taken : (left now after : Option (List ℕ)) (intake next : Intake) (count more : ℕ) (piece : List ℕ)
-    → (s : TakenSoFar left now intake count) → Consumes now after piece → length piece ≡ more
-    → (HasTaken s.input intake → HasTaken (s.input ++ piece) next) → TakenSoFar left after next (count + more)
-piece_taken left now after intake next count more piece s read len on = record {
+pub piece_taken : (left now after : Option (List ℕ)) (Has Next : List ℕ → Type 0) (count more : ℕ) (piece : List ℕ)
+    → (s : TakenSoFar left now Has count) → Consumes now after piece → length piece ≡ more
+    → (Has s.input → Next (s.input ++ piece)) → TakenSoFar left after Next (count + more)
+piece_taken left now after Has Next count more piece s read len on = record {
   input = s.input ++ piece;
   read = Consumes-trans left now after s.input piece s.read read;
   has = on s.has;
@@ -58,74 +57,82 @@ piece_taken left now after intake next count more piece s read len on = record {
 
 -- ---- what was read
 
-all_read : (left after : Option (List ℕ)) (input : List ℕ) → Consumes left after input → IsAtEnd after
-    → length input ≤ 100663297 → IfSome left (λ all. input ≡ take 100663297 all)
-all_read None after input read end short = tt
-all_read (Some all) None input read end short = absurd read
-all_read (Some all) (Some rest) input read end short =
-    let whole : all ≡ input = read ∙ ap (λ r. input ++ r) end ∙ append-nil input in
-    sym whole ∙ sym (take_all 100663297 all (omega (arith, ap length whole)))
+module _ (most : ℕ) where
+  all_read : (left after : Option (List ℕ)) (input : List ℕ) → Consumes left after input → IsAtEnd after
+      → length input ≤ most + 1 → IfSome left (λ all. input ≡ take (most + 1) all)
+  all_read None after input read end short = tt
+  all_read (Some all) None input read end short = absurd read
+  all_read (Some all) (Some rest) input read end short =
+      let whole : all ≡ input = read ∙ ap (λ r. input ++ r) end ∙ append-nil input in
+      sym whole ∙ sym (take_all (most + 1) all (omega (arith, ap length whole)))
 
--- the source is at its end
-pub ends_read : (left now after : Option (List ℕ)) (input : List ℕ) → Consumes left now input
-    → Consumes now after [] → IsAtEnd after → length input ≤ 100663297 → WasRead left after input
-ends_read left now after input read none end short =
-    let all : Consumes left after input = subst (Consumes left after) (append-nil input)
-    (Consumes-trans left now after input [] read none) in
-    record { read = all; whole = λ _. end; front = all_read left after input all end short }
+  -- the source is at its end
+  pub ends_read : (left now after : Option (List ℕ)) (input : List ℕ) → Consumes left now input
+      → Consumes now after [] → IsAtEnd after → length input ≤ most + 1 → WasRead most left after input
+  ends_read left now after input read none end short =
+      let all : Consumes left after input = subst (Consumes left after) (append-nil input)
+      (Consumes-trans left now after input [] read none) in
+      record { read = all; whole = λ _. end; front = all_read left after input all end short }
 
-front_read : (left now : Option (List ℕ)) (input : List ℕ) → Consumes left now input → length input ≡ 100663297
-    → IfSome left (λ all. input ≡ take 100663297 all)
-front_read None now input read len = tt
-front_read (Some all) None input read len = absurd read
-front_read (Some all) (Some rest) input read len =
-    sym (ap (take 100663297) read ∙ take_at input rest 100663297 len)
+  front_read : (left now : Option (List ℕ)) (input : List ℕ) → Consumes left now input → length input ≡ most + 1
+      → IfSome left (λ all. input ≡ take (most + 1) all)
+  front_read None now input read len = tt
+  front_read (Some all) None input read len = absurd read
+  front_read (Some all) (Some rest) input read len =
+      sym (ap (take (most + 1)) read ∙ take_at input rest (most + 1) len)
 
--- more was read than there may be
-pub long_read : (left now : Option (List ℕ)) (input : List ℕ) → Consumes left now input → length input ≡ 100663297
-    → WasRead left now input
-long_read left now input read len = record {
-  read = read;
-  whole = λ short. absurd (omega (arith, len, short));
-  front = front_read left now input read len;
-}
+  -- more was read than there may be
+  pub long_read : (left now : Option (List ℕ)) (input : List ℕ) → Consumes left now input → length input ≡ most + 1
+      → WasRead most left now input
+  long_read left now input read len = record {
+    read = read;
+    whole = λ short. absurd (omega (arith, len, short));
+    front = front_read left now input read len;
+  }
+
+  module _ (Is : List ℕ → NotRead → Type 0) where
+    no_input : (left after : Option (List ℕ)) (input : List ℕ) (why : NotRead) → WasRead most left after input
+        → length input ≤ most + 1 → Is input why → (Is input ReadFault → ⊥) → GivesNone most Is left after why
+    no_input left after input ReadFault read few is not = absurd (not is)
+    no_input left after input (Refused refusal) read few is not = (input, read, is)
+    no_input left after input NoTranscript read few is not = (input, read, is)
+    no_input left after input TooManyLines read few is not = (input, read, is)
+    no_input left after input NoMemory read few is not = (input, few, read.read)
+
+    pub gives_none : {T : Type 0} (left after : Option (List ℕ)) (input : List ℕ) (answer : Result T NotRead)
+        → WasRead most left after input → length input ≤ most + 1 → (Is input ReadFault → ⊥) → IfErr answer (Is input)
+        → IfErr answer (GivesNone most Is left after)
+    gives_none left after input (Ok x) read few not is = tt
+    gives_none left after input (Err why) read few not is = no_input left after input why read few is not
+
+    -- what broke the reading off is told as what it is
+    pub broken_off : {T : Type 0} (left after : Option (List ℕ)) (why : NotRead) (answer : Result T NotRead)
+        → IsErrAnd answer (λ e. e ≡ why) → GivesNone most Is left after why → IfErr answer (GivesNone most Is left after)
+    broken_off left after why (Ok x) is gives = absurd is
+    broken_off left after why (Err e) is gives = subst (GivesNone most Is left after) (sym is) gives
+
+    -- an input that was read was not left unread
+    pub no_read_fault : {T : Type 0} (Q : Type 0) (input : List ℕ) (answer : Result T NotRead)
+        → (Is input ReadFault → ⊥) → IfErr answer (Is input) → IfErr answer (λ why. why ≡ ReadFault → Q)
+    no_read_fault Q input (Ok x) not is = tt
+    no_read_fault Q input (Err why) not is = λ e. absurd (not (subst (Is input) e is))
 
 pub gives_apart : {E : Type 0} (left after : Option (List ℕ)) (input : List ℕ) (answer : Result (Script × Behind) E)
-    → WasRead left after input → IfOk answer (λ both. IsApart input both.0 both.1)
+    → WasRead most_input left after input → IfOk answer (λ both. IsApart input both.0 both.1)
     → IfOk answer (λ both. GivesApart left after both.0 both.1)
 gives_apart left after input (Ok both) read is = (input, read, is)
 gives_apart left after input (Err e) read is = tt
 
-no_input : (left after : Option (List ℕ)) (input : List ℕ) (why : NoPair) → WasRead left after input
-    → length input ≤ 100663297 → IsNoPair input why → GivesNoPair left after why
-no_input left after input ReadFault read few is = absurd is
-no_input left after input (Refused refusal) read few is = (input, read, is)
-no_input left after input NoTranscript read few is = (input, read, is)
-no_input left after input TooManyLines read few is = (input, read, is)
-no_input left after input NoMemory read few is = (input, few, read.read)
-
-pub gives_no_pair : {T : Type 0} (left after : Option (List ℕ)) (input : List ℕ) (answer : Result T NoPair)
-    → WasRead left after input → length input ≤ 100663297 → IfErr answer (λ why. IsNoPair input why)
-    → IfErr answer (λ why. GivesNoPair left after why)
-gives_no_pair left after input (Ok x) read few is = tt
-gives_no_pair left after input (Err why) read few is = no_input left after input why read few is
+pub gives_script : {E : Type 0} (left after : Option (List ℕ)) (input : List ℕ) (answer : Result Script E)
+    → WasRead most_script left after input → IfOk answer (λ script. IsScript script input)
+    → IfOk answer (GivesScript left after)
+gives_script left after input (Ok script) read is = (input, read, is)
+gives_script left after input (Err e) read is = tt
 
 -- nor is one with a text behind its script that is not read
-pub no_pair_for : {T : Type 0} (input : List ℕ) (script : Script) (why : NoPair) (answer : Result T NoPair)
+pub no_pair_for : {T : Type 0} (input : List ℕ) (script : Script) (why : NotRead) (answer : Result T NotRead)
     → length input ≤ most_input → IsScript script (front input) → IsNoText (behind input) why
     → IsErrAnd answer (λ e. e ≡ why) → IfErr answer (λ e. IsNoPair input e)
 no_pair_for input script why (Ok x) short is not same = tt
 no_pair_for input script why (Err e) short is not same =
     subst (IsNoPair input) (sym same) (no_pair input script short is why not)
-
--- what broke the reading off is told as what it is
-pub broken_off : {T : Type 0} (left after : Option (List ℕ)) (why : NoPair) (answer : Result T NoPair)
-    → IsErrAnd answer (λ e. e ≡ why) → GivesNoPair left after why → IfErr answer (λ e. GivesNoPair left after e)
-broken_off left after why (Ok x) is gives = absurd is
-broken_off left after why (Err e) is gives = subst (GivesNoPair left after) (sym is) gives
-
--- an input that was read was not left unread
-pub no_read_fault : {T : Type 0} (Q : Type 0) (input : List ℕ) (answer : Result T NoPair)
-    → IfErr answer (λ why. IsNoPair input why) → IfErr answer (λ why. why ≡ ReadFault → Q)
-no_read_fault Q input (Ok x) is = tt
-no_read_fault Q input (Err why) is = λ e. absurd (subst (IsNoPair input) e is)

@@ -13,11 +13,15 @@ use Rattle.key_names.specs.Texts.ScriptGrammar.{Script, IsScript}
 use Rattle.key_names.specs.Texts.Spelling.{lined, spaced}
 use Rattle.key_names.specs.Texts.TranscriptGrammar.{IsTranscriptText}
 use Rattle.transcript_text.specs.ReadTexts.{HasMoreLines}
-use Rattle.tool_ends.specs.declared.pair.NoPair.{NoPair}
-use Rattle.tool_ends.specs.declared.pair.NoPair.TheVariants.{ReadFault, Refused, NoTranscript, TooManyLines, NoMemory}
+use Rattle.tool_ends.specs.declared.pair.NotRead.{NotRead}
+use Rattle.tool_ends.specs.declared.pair.NotRead.TheVariants.{ReadFault, Refused, NoTranscript, TooManyLines, NoMemory}
 use Rattle.tool_ends.specs.declared.status.Status.{Status}
 use Rattle.tool_ends.specs.declared.status.Status.TheVariants.{ReadFault as Unread, Refused as IsRefused, No as IsNo}
 use Rattle.tool_ends.specs.Reads.{WritesEnds}
+
+-- the most bytes of a script
+abbrev pub most_script : ℕ
+most_script = 16777216
 
 -- the most bytes of a script and a transcript
 abbrev pub most_input : ℕ
@@ -59,15 +63,23 @@ pub record FailsAsText (input : List ℕ) (number : ℕ) : Type 0 where
   pub clause : (number ≡ 1) × IsNoTranscript (behind input) ⊎ (number ≡ 2) × LacksLines script (behind input)
 
 -- why a text is not read as a transcript
-abbrev pub IsNoText : List ℕ → NoPair → Type 0
+abbrev pub IsNoText : List ℕ → NotRead → Type 0
 IsNoText text ReadFault = ⊥
 IsNoText text (Refused refusal) = ⊥
 IsNoText text NoTranscript = IsNoTranscript text
 IsNoText text TooManyLines = HasMoreLines most_script_lines text
 IsNoText text NoMemory = ⊤
 
--- why an input is not read
-abbrev pub IsNoPair : List ℕ → NoPair → Type 0
+-- why an input is not read as a script
+abbrev pub IsNoScript : List ℕ → NotRead → Type 0
+IsNoScript input ReadFault = ⊥
+IsNoScript input (Refused refusal) = first_fault input ≡ Some refusal.fault
+IsNoScript input NoTranscript = ⊥
+IsNoScript input TooManyLines = ⊥
+IsNoScript input NoMemory = ⊤
+
+-- why an input is not read as a script with a transcript behind it
+abbrev pub IsNoPair : List ℕ → NotRead → Type 0
 IsNoPair input ReadFault = ⊥
 IsNoPair input (Refused refusal) = pair_fault input ≡ Some refusal.fault
 IsNoPair input NoTranscript = FailsAsText input 1
@@ -77,26 +89,37 @@ IsNoPair input NoMemory = ⊤
 -- ---- from a source
 
 -- what was read of what a source had left: all of it, or one byte more than there may be
-pub record WasRead (left left_after : Option (List ℕ)) (input : List ℕ) : Type 0 where
+pub record WasRead (most : ℕ) (left left_after : Option (List ℕ)) (input : List ℕ) : Type 0 where
   pub read : Consumes left left_after input
-  pub whole : length input ≤ most_input → IsAtEnd left_after
-  pub front : IfSome left (λ all. input ≡ take (most_input + 1) all)
+  pub whole : length input ≤ most → IsAtEnd left_after
+  pub front : IfSome left (λ all. input ≡ take (most + 1) all)
+
+-- a script was read
+abbrev pub GivesScript : Option (List ℕ) → Option (List ℕ) → Script → Type 0
+GivesScript left left_after script =
+    (input : List ℕ) × WasRead most_script left left_after input × IsScript script input
 
 -- a script and a transcript were read
 abbrev pub GivesPair : Option (List ℕ) → Option (List ℕ) → Script → List (List SeenLine) → Type 0
-GivesPair left left_after script t = (input : List ℕ) × WasRead left left_after input × IsPair input script t
+GivesPair left left_after script t = (input : List ℕ) × WasRead most_input left left_after input × IsPair input script t
 
--- an input was read that is none for this reason
-abbrev pub ReadsNoPair : Option (List ℕ) → Option (List ℕ) → NoPair → Type 0
-ReadsNoPair left left_after why = (input : List ℕ) × WasRead left left_after input × IsNoPair input why
+-- an input was read that Is says this of; or the source failed or memory ran out, when no more was taken than of an input
+-- that is too long
+abbrev pub GivesNone : ℕ → (List ℕ → NotRead → Type 0) → Option (List ℕ) → Option (List ℕ) → NotRead → Type 0
+GivesNone most Is left left_after ReadFault = ConsumesUpTo (most + 1) left left_after
+GivesNone most Is left left_after (Refused refusal) =
+    (input : List ℕ) × WasRead most left left_after input × Is input (Refused refusal)
+GivesNone most Is left left_after NoTranscript =
+    (input : List ℕ) × WasRead most left left_after input × Is input NoTranscript
+GivesNone most Is left left_after TooManyLines =
+    (input : List ℕ) × WasRead most left left_after input × Is input TooManyLines
+GivesNone most Is left left_after NoMemory = ConsumesUpTo (most + 1) left left_after
 
--- the same, unless the source failed or memory ran out, when no more was taken than of an input that is too long
-abbrev pub GivesNoPair : Option (List ℕ) → Option (List ℕ) → NoPair → Type 0
-GivesNoPair left left_after ReadFault = ConsumesUpTo (most_input + 1) left left_after
-GivesNoPair left left_after (Refused refusal) = ReadsNoPair left left_after (Refused refusal)
-GivesNoPair left left_after NoTranscript = ReadsNoPair left left_after NoTranscript
-GivesNoPair left left_after TooManyLines = ReadsNoPair left left_after TooManyLines
-GivesNoPair left left_after NoMemory = ConsumesUpTo (most_input + 1) left left_after
+abbrev pub GivesNoScript : Option (List ℕ) → Option (List ℕ) → NotRead → Type 0
+GivesNoScript = GivesNone most_script IsNoScript
+
+abbrev pub GivesNoPair : Option (List ℕ) → Option (List ℕ) → NotRead → Type 0
+GivesNoPair = GivesNone most_input IsNoPair
 
 -- ---- the answers
 
@@ -116,7 +139,7 @@ pub record TellsFault (input output : List ℕ) : Type 0 where
   pub line : output ≡ refusal_line fault
 
 -- what says why an input is not read, and the status that says so
-abbrev pub RefusalOf : NoPair → Status → List ℕ → Type 0
+abbrev pub RefusalOf : NotRead → Status → List ℕ → Type 0
 RefusalOf ReadFault status output = ⊥
 RefusalOf (Refused refusal) status output = (status ≡ IsRefused) × (output ≡ refusal_line refusal.fault)
 RefusalOf NoTranscript status output = (status ≡ IsNo) × (output ≡ no_line 1)
@@ -124,7 +147,7 @@ RefusalOf TooManyLines status output = (status ≡ IsNo) × (output ≡ no_line 
 RefusalOf NoMemory status output = ⊥
 
 -- how an answer ends that says why
-abbrev pub RefusalEnds : NoPair → Status → Option (List ℕ) → Option (List ℕ) → Type 0
+abbrev pub RefusalEnds : NotRead → Status → Option (List ℕ) → Option (List ℕ) → Type 0
 RefusalEnds ReadFault status held held_after = (status ≡ Unread) × Keeps held held_after
 RefusalEnds (Refused refusal) status held held_after = WritesEnds (RefusalOf (Refused refusal)) status held held_after
 RefusalEnds NoTranscript status held held_after = WritesEnds (RefusalOf NoTranscript) status held held_after

@@ -6,7 +6,7 @@ ghost use Rattle.tool_ends.specs.Pairs.{RefusalEnds};
 ghost use Rattle.tool_ends.specs.Reads.{WritesEnds};
 ghost use Rattle.tool_ends.specs.declared.refusal.Refusal.{Refusal};
 
-use crate::pair::NoPair;
+use crate::pair::NotRead;
 use crate::short_lines::{ShortLine, no_line, refusal_line};
 use crate::status::Status;
 use io_edges::{Failed, Sink, put_all};
@@ -39,20 +39,20 @@ pub fn put_line<K: Sink>(status: Status, line: &ShortLine, sink: &mut K) -> Stat
 }
 
 /// Answers an input that was not read as a script with a transcript behind it.
-pub fn put_refusal<K: Sink>(why: &NoPair, sink: &mut K) -> Status
+pub fn put_refusal<K: Sink>(why: &NotRead, sink: &mut K) -> Status
     ensures ends { RefusalEnds why.now result (K.held sink.old) (K.held sink.new) }
-    ensures memory { result ≡ Status.NoMemory → why.now ≡ NoPair.NoMemory }
-    ensures unread { result ≡ Status.ReadFault → why.now ≡ NoPair.ReadFault }
-    ensures refused { result ≡ Status.Refused → (refusal : Refusal) × (why.now ≡ NoPair.Refused refusal) }
+    ensures memory { result ≡ Status.NoMemory → why.now ≡ NotRead.NoMemory }
+    ensures unread { result ≡ Status.ReadFault → why.now ≡ NotRead.ReadFault }
+    ensures refused { result ≡ Status.Refused → (refusal : Refusal) × (why.now ≡ NotRead.Refused refusal) }
     ensures cut { result ≡ Status.WriteFault → Rose (K.faults sink.old) (K.faults sink.new) }
     ensures silent { (result ≡ Status.ReadFault) ⊎ (result ≡ Status.NoMemory) → sink.new ≡ sink.old }
     ensures not_counted { (result ≡ Status.WriteFault → ⊥) → K.faults sink.new ≡ K.faults sink.old }
 {
     match why {
-        NoPair::ReadFault => Status::ReadFault,
-        NoPair::Refused(refusal) => put_line(Status::Refused, &refusal_line(refusal.fault), sink),
-        NoPair::NoTranscript => put_line(Status::No, &no_line(1), sink),
-        NoPair::TooManyLines => put_line(Status::No, &no_line(2), sink),
-        NoPair::NoMemory => Status::NoMemory,
+        NotRead::ReadFault => Status::ReadFault,
+        NotRead::Refused(refusal) => put_line(Status::Refused, &refusal_line(refusal.fault), sink),
+        NotRead::NoTranscript => put_line(Status::No, &no_line(1), sink),
+        NotRead::TooManyLines => put_line(Status::No, &no_line(2), sink),
+        NotRead::NoMemory => Status::NoMemory,
     }
 }

@@ -5,7 +5,7 @@ ghost use Rattle.transcript_text.specs.Feeding.{HasFed, most_lines};
 ghost use Rattle.tool_ends.specs.Behind.{HoldsText, IsWhole, compared_with};
 ghost use Rattle.tool_ends.specs.Pairs.{IsNoText, most_script_lines};
 
-use crate::pair::NoPair;
+use crate::pair::NotRead;
 use std::alloc::{AllocError, Global};
 use transcript_text::{Comparison, Reader, TextError, Transcript};
 
@@ -22,7 +22,7 @@ pub enum Behind {
 }
 
 // The transcript that a reader was fed.
-fn transcript_of(reader: Reader) -> Result<Transcript, NoPair>
+fn transcript_of(reader: Reader) -> Result<Transcript, NotRead>
     requires short { (text : List ℕ) × HasFed text reader × (length text ≤ 2 ^ 31) }
     requires most { most_lines reader ≡ most_script_lines }
     ensures read { (text : List ℕ) → HasFed text reader → IfOk result (λ t. IsTranscriptText text t) }
@@ -30,9 +30,9 @@ fn transcript_of(reader: Reader) -> Result<Transcript, NoPair>
 {
     match reader.finish() {
         Ok(t) => Ok(t),
-        Err(TextError::Fault { .. }) => Err(NoPair::NoTranscript),
-        Err(TextError::TooManyLines) => Err(NoPair::TooManyLines),
-        Err(TextError::NoMemory) => Err(NoPair::NoMemory),
+        Err(TextError::Fault { .. }) => Err(NotRead::NoTranscript),
+        Err(TextError::TooManyLines) => Err(NotRead::TooManyLines),
+        Err(TextError::NoMemory) => Err(NotRead::NoMemory),
     }
 }
 
@@ -84,7 +84,7 @@ impl Behind {
     ///
     /// `NoTranscript` where it is no transcript's text, `TooManyLines` where it is that of one with more lines than a
     /// script's transcript has, and `NoMemory` where there is no memory for the transcript.
-    pub fn transcript(self, alloc: Global) -> Result<Transcript, NoPair>
+    pub fn transcript(self, alloc: Global) -> Result<Transcript, NotRead>
         requires short { (text : List ℕ) × HoldsText text self × (length text ≤ 2 ^ 31) }
         ensures read { (text : List ℕ) → HoldsText text self → IfOk result (λ t. IsTranscriptText text t) }
         ensures not_read { (text : List ℕ) → HoldsText text self → IfErr result (λ why. IsNoText text why) }

@@ -6,7 +6,7 @@ ghost use Rattle.tool_ends.specs.Pairs.{IsNoPair, most_input};
 
 use crate::behind::Behind;
 use crate::maker::Maker;
-use crate::pair::NoPair;
+use crate::pair::NotRead;
 use crate::refusal::Refusal;
 use crate::script_end::has_end_line;
 use event_script::{Script, ScriptError, read_front};
@@ -60,7 +60,7 @@ impl Opened {
         }
     }
 
-    fn finish(self) -> Result<(Script, Behind), NoPair>
+    fn finish(self) -> Result<(Script, Behind), NotRead>
         ensures read { (input : List ℕ) → IsOpened input self → length input ≤ most_input
             → IfOk result (λ both. IsApart input both.0 both.1) }
         ensures not_read { (input : List ℕ) → IsOpened input self → length input ≤ most_input
@@ -69,7 +69,7 @@ impl Opened {
     {
         match self {
             Opened::Script(script, text) => Ok((script, text)),
-            Opened::Faulty(refusal) => Err(NoPair::Refused(refusal)),
+            Opened::Faulty(refusal) => Err(NotRead::Refused(refusal)),
         }
     }
 }
@@ -107,7 +107,7 @@ impl Intake {
         self,
         alloc: Global,
         maker: &M,
-    ) -> Result<(Script, Behind), NoPair>
+    ) -> Result<(Script, Behind), NotRead>
         requires short { (input : List ℕ) × HasTaken input self × (length input ≤ 2 ^ 31) }
         requires may { M.may_make maker.now }
         ensures read { (input : List ℕ) → HasTaken input self → length input ≤ most_input

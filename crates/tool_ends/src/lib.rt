@@ -1,10 +1,10 @@
 //! How a program of this repository ends: its statuses, what it has read and written at each, and the short lines that
 //! answer an input of which no more is said.
 //!
-//! [`pair::read_pair`] reads a script with a transcript behind it, or says why there is none, and [`put_refusal`] answers
-//! so; a [`refusal::Refusal`] keeps the fault and the faulty line for who tells more. [`pair::read_apart`] compares the
-//! text behind the script with that of a transcript which a [`maker::Maker`] makes, and reads it from where it is another.
-//! [`put_answer`], [`put_line`] and [`end_output`] write an answer and hand it on.
+//! [`read_script`] reads a script, and [`pair::read_pair`] one with a transcript behind it. Or they say why there is none,
+//! and [`put_refusal`] answers so; a [`refusal::Refusal`] keeps the fault and the faulty line for who tells more.
+//! [`pair::read_apart`] compares the text behind the script with that of a transcript which a [`maker::Maker`] makes, and
+//! reads it from where it is another. [`put_answer`], [`put_line`] and [`end_output`] write an answer and hand it on.
 //! `specs/Reads` says what a status promises of a source and a sink.
 //!
 //! It stands on `io_edges` for sources and sinks, and on `event_script` and `transcript_text` for what an input is.
@@ -19,6 +19,7 @@ pub mod maker;
 pub mod numbers;
 pub mod pair;
 pub mod refusal;
+mod script;
 mod script_end;
 pub mod short_lines;
 mod status;
@@ -26,4 +27,5 @@ mod status;
 pub use answers::{put_answer, put_line, put_refusal};
 pub use command_line::words;
 pub use ending::end_output;
+pub use script::read_script;
 pub use status::Status;

@@ -3,7 +3,7 @@ ghost use Rattle.std.specs.Prelude.{◌≡◌, ◌≤◌, IfErr, IfOk, IfSome, O
 ghost use Rattle.io_edges.specs.Faults.{Rose};
 ghost use Rattle.tool_ends.specs.Behind.{GivesApart, compared_with};
 ghost use Rattle.tool_ends.specs.Pairs.{GivesPair, GivesNoPair};
-ghost use Rattle.tool_ends.specs.declared.pair.NoPair.TheVariants.{NoMemory, ReadFault};
+ghost use Rattle.tool_ends.specs.declared.pair.NotRead.TheVariants.{NoMemory, ReadFault};
 
 use crate::behind::Behind;
 use crate::intake::Intake;
@@ -19,11 +19,11 @@ use transcript_text::Transcript;
 const MOST_PAIR_BYTES: usize = 100_663_296;
 
 /// So many bytes are asked for at a time.
-const PIECE: usize = 64 * 1024;
+pub(crate) const PIECE: usize = 64 * 1024;
 
-/// Why an input was not read as a script and a transcript.
+/// Why an input was not read as a script, or as a script and a transcript.
 #[derive(Clone, Copy, Debug, PartialEq, Eq)]
-pub enum NoPair {
+pub enum NotRead {
     /// The source failed.
     ReadFault,
     /// The input is too long, or its script has a fault: this is the first, with its line.
@@ -36,32 +36,32 @@ pub enum NoPair {
     NoMemory,
 }
 
-impl NoPair {
+impl NotRead {
     /// The refusal that it is, if it is one.
     pub fn refusal(&self) -> Option<Refusal>
-        ensures found { IfSome result (λ refusal. self.now ≡ NoPair.Refused refusal) }
-        ensures only { (refusal : Refusal) → self.now ≡ NoPair.Refused refusal → result ≡ Some refusal }
+        ensures found { IfSome result (λ refusal. self.now ≡ NotRead.Refused refusal) }
+        ensures only { (refusal : Refusal) → self.now ≡ NotRead.Refused refusal → result ≡ Some refusal }
     {
         match self {
-            NoPair::Refused(refusal) => Some(*refusal),
+            NotRead::Refused(refusal) => Some(*refusal),
             _ => None,
         }
     }
 }
 
-impl From<Failed> for NoPair {
+impl From<Failed> for NotRead {
     ghost from_gives = { λ _ why. why ≡ ReadFault };
 
-    fn from(_: Failed) -> NoPair {
-        NoPair::ReadFault
+    fn from(_: Failed) -> NotRead {
+        NotRead::ReadFault
     }
 }
 
-impl From<AllocError> for NoPair {
+impl From<AllocError> for NotRead {
     ghost from_gives = { λ _ why. why ≡ NoMemory };
 
-    fn from(_: AllocError) -> NoPair {
-        NoPair::NoMemory
+    fn from(_: AllocError) -> NotRead {
+        NotRead::NoMemory
     }
 }
 
@@ -72,19 +72,19 @@ impl From<AllocError> for NoPair {
 ///
 /// # Errors
 ///
-/// [`NoPair`] says why the input was not read; of the text behind the script nothing is told here. Where the source failed,
+/// [`NotRead`] says why the input was not read; of the text behind the script nothing is told here. Where the source failed,
 /// or memory ran out, the bytes that were taken are lost.
 pub fn read_apart<S: Source, M: Maker>(
     alloc: Global,
     source: &mut S,
     maker: &M,
-) -> Result<(Script, Behind), NoPair>
+) -> Result<(Script, Behind), NotRead>
     requires { M.may_make maker.now }
     ensures read { IfOk result (λ both. GivesApart (S.left source.old) (S.left source.new) both.0 both.1) }
     ensures made { IfOk result (λ both. IfSome (compared_with both.1) (M.made maker.now both.0)) }
     ensures not_read { IfErr result (λ why. GivesNoPair (S.left source.old) (S.left source.new) why) }
-    ensures read_fault { IfErr result (λ why. why ≡ NoPair.ReadFault → Rose (S.faults source.old) (S.faults source.new)) }
-    ensures no_fault { IfErr result (λ why. (why ≡ NoPair.ReadFault → ⊥) → S.faults source.new ≡ S.faults source.old) }
+    ensures read_fault { IfErr result (λ why. why ≡ NotRead.ReadFault → Rose (S.faults source.old) (S.faults source.new)) }
+    ensures no_fault { IfErr result (λ why. (why ≡ NotRead.ReadFault → ⊥) → S.faults source.new ≡ S.faults source.old) }
     ensures not_counted { OnOk result (S.faults source.new ≡ S.faults source.old) }
 {
     let mut intake = Intake::Front(Vec::new(alloc));
@@ -103,7 +103,7 @@ pub fn read_apart<S: Source, M: Maker>(
         line: 0,
         kind: FaultKind::TooLong,
     };
-    Err(NoPair::Refused(Refusal::of(fault, &[])))
+    Err(NotRead::Refused(Refusal::of(fault, &[])))
 }
 
 /// The script that a source gives, and the transcript that is all that follows. The source is read as by [`read_apart`],
@@ -111,13 +111,13 @@ pub fn read_apart<S: Source, M: Maker>(
 ///
 /// # Errors
 ///
-/// [`NoPair`] says why the input was not read. Where the source failed, or memory ran out, the bytes that were taken are
+/// [`NotRead`] says why the input was not read. Where the source failed, or memory ran out, the bytes that were taken are
 /// lost.
-pub fn read_pair<S: Source>(alloc: Global, source: &mut S) -> Result<(Script, Transcript), NoPair>
+pub fn read_pair<S: Source>(alloc: Global, source: &mut S) -> Result<(Script, Transcript), NotRead>
     ensures read { IfOk result (λ pair. GivesPair (S.left source.old) (S.left source.new) pair.0 pair.1) }
     ensures not_read { IfErr result (λ why. GivesNoPair (S.left source.old) (S.left source.new) why) }
-    ensures read_fault { IfErr result (λ why. why ≡ NoPair.ReadFault → Rose (S.faults source.old) (S.faults source.new)) }
-    ensures no_fault { IfErr result (λ why. (why ≡ NoPair.ReadFault → ⊥) → S.faults source.new ≡ S.faults source.old) }
+    ensures read_fault { IfErr result (λ why. why ≡ NotRead.ReadFault → Rose (S.faults source.old) (S.faults source.new)) }
+    ensures no_fault { IfErr result (λ why. (why ≡ NotRead.ReadFault → ⊥) → S.faults source.new ≡ S.faults source.old) }
     ensures not_counted { OnOk result (S.faults source.new ≡ S.faults source.old) }
 {
     let (script, text) = read_apart(alloc, source, &NoMaker)?;

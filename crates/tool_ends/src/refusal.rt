@@ -15,10 +15,14 @@ pub struct Refusal {
     line: Option<ArrayString<MOST_SHOWN>>,
 }
 
-// The line of this number, counted from 1, where it is short and printable.
-fn shown_line(input: &[u8], number: u32) -> Option<ArrayString<MOST_SHOWN>> {
+// The line of this number, counted from 1.
+fn line_of(input: &[u8], number: u32) -> Option<&[u8]> {
     let before = (number as usize).checked_sub(1)?;
-    let line = input.split(|byte| *byte == b'\n').nth(before)?;
+    input.split(|byte| *byte == b'\n').nth(before)
+}
+
+// The line, where it is short and printable.
+fn shown_line(line: &[u8]) -> Option<ArrayString<MOST_SHOWN>> {
     if line.is_empty() || !line.iter().all(|byte| (b' '..=b'~').contains(byte)) {
         return None;
     }
@@ -30,9 +34,16 @@ impl Refusal {
     pub fn of(fault: ScriptFault, input: &[u8]) -> Refusal
         ensures { result.fault ≡ fault }
     {
+        Refusal::at(fault, line_of(input, fault.line))
+    }
+
+    /// The refusal of an input in which this fault was found, in this line.
+    pub fn at(fault: ScriptFault, line: Option<&[u8]>) -> Refusal
+        ensures { result.fault ≡ fault }
+    {
         Refusal {
             fault,
-            line: shown_line(input, fault.line),
+            line: line.and_then(shown_line),
         }
     }
 

@@ -1,13 +1,28 @@
-use Rattle.std.proofs.Common.{◌≡◌, arith, length, rules}
-use Rattle.std.specs.Prelude.{vec_len}
+use Rattle.std.proofs.Common.{subst}
+use Rattle.tool_ends.specs.Pairs.{IsNoScript, RefusalEnds}
+use Rattle.tool_ends.proofs.Inputs.{wider}
+use Rattle.tool_ends.proofs.Refusing.{refused_of, said_of}
 use Rattle.rng_tool.specs.Outcome.{CallsFor}
-use Rattle.tool_ends.proofs.Inputs.{reads_end}
 use Rattle.rng_tool.proofs.Inputs.{run_is_limited}
+use Rattle.rng_tool.proofs.Refusals.{was_told}
+use Rattle.rng_tool.proofs.Running.{none_called, script_runs}
 use Rattle.rng_tool.proofs.run_script.run_input.Goals as goal
 
-pub returns-clause-ends : goal.returns-clause-ends
-returns-clause-ends g c =
-    let input = c.in-Ok.input in
-    let long : length input.items ≡ vec_len input = search rules in
-    reads_end 16777216 CallsFor run_is_limited _ _ _ _ input.items c.in-Ok.ensures.taken
-    (λ short. c.in-Ok.ensures.end (omega arith)) c.in-Ok.ensures.bytes c.answer.result c.answer.ensures.ends
+pub returns-in-Ok-clause-ends : goal.returns-in-Ok-clause-ends
+returns-in-Ok-clause-ends g c =
+    let given = c.in-Ok.ensures.read in
+    said_of 16777216 CallsFor run_is_limited _ _ _ _ given.0 given.1 c.run_script.result
+    (wider _ (CallsFor given.0) (script_runs given.0 c.in-Ok.script given.2) c.run_script.result _ _ c.run_script.ensures.ends)
+
+pub returns-in-Err-clause-ends : goal.returns-in-Err-clause-ends
+returns-in-Err-clause-ends g c =
+    refused_of 16777216 CallsFor run_is_limited _ _ _ _ IsNoScript c.in-Err.why
+    (λ input none. none_called input c.in-Err.why none) c.in-Err.ensures.not_read c.put_refusal.result
+    c.put_refusal.ensures.ends
+
+pub returns-in-Err-clause-told : goal.returns-in-Err-clause-told
+returns-in-Err-clause-told g c = λ is.
+    let why = c.in-Err.why in
+    was_told _ _ why _ c.refusal.ensures.only
+    (subst (λ status. RefusalEnds why status (g.K.Sink.held c.args.sink.now) (g.K.Sink.held c.put_refusal.new.sink)) is
+    c.put_refusal.ensures.ends)

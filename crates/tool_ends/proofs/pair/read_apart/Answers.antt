@@ -3,9 +3,10 @@ use Rattle.std.specs.Prelude.{drop}
 use Rattle.std.proofs.lemmas.List.{length-append, length-take, take-append-le}
 use Rattle.std.specs.Io.KnownBytes.{Consumes}
 use Rattle.io_edges.proofs.Pieces.{ConsumesUpTo_kept, ConsumesUpTo_more}
-use Rattle.tool_ends.specs.declared.pair.NoPair.TheVariants.{NoMemory, ReadFault}
+use Rattle.tool_ends.specs.Pairs.{IsNoPair}
+use Rattle.tool_ends.specs.declared.pair.NotRead.TheVariants.{NoMemory, ReadFault}
 use Rattle.tool_ends.proofs.Pairs.{too_long}
-use Rattle.tool_ends.proofs.Taking.{broken_off, ends_read, gives_no_pair, gives_apart, long_read, no_read_fault, piece_taken}
+use Rattle.tool_ends.proofs.Taking.{broken_off, ends_read, gives_apart, gives_none, long_read, no_read_fault, piece_taken}
 use Rattle.tool_ends.proofs.pair.read_apart.Goals as goal
 
 pub returns-then-count-eq0-clause-read : goal.returns-then-count-eq0-clause-read
@@ -13,7 +14,7 @@ returns-then-count-eq0-clause-read g c =
     let s = c.loop-taken.invariant.so_far in
     let short : length s.input ≤ 100663296 = omega (arith, s.len, c.loop-taken-test.true) in
     gives_apart _ _ s.input c.finish.result
-    (ends_read _ _ _ s.input s.read (rw c.if-count-eq0.true at c.in_ok-count.ensures.taken)
+    (ends_read 100663296 _ _ _ s.input s.read (rw c.if-count-eq0.true at c.in_ok-count.ensures.taken)
     (c.in_ok-count.ensures.end c.if-count-eq0.true (search rules)) (omega (arith, short)))
     (c.finish.ensures.read s.input s.has short)
 
@@ -21,21 +22,21 @@ pub returns-then-count-eq0-clause-not_read : goal.returns-then-count-eq0-clause-
 returns-then-count-eq0-clause-not_read g c =
     let s = c.loop-taken.invariant.so_far in
     let short : length s.input ≤ 100663296 = omega (arith, s.len, c.loop-taken-test.true) in
-    gives_no_pair _ _ s.input c.finish.result
-    (ends_read _ _ _ s.input s.read (rw c.if-count-eq0.true at c.in_ok-count.ensures.taken)
+    gives_none 100663296 IsNoPair _ _ s.input c.finish.result
+    (ends_read 100663296 _ _ _ s.input s.read (rw c.if-count-eq0.true at c.in_ok-count.ensures.taken)
     (c.in_ok-count.ensures.end c.if-count-eq0.true (search rules)) (omega (arith, short))) (omega (arith, short))
-    (c.finish.ensures.not_read s.input s.has short)
+    (λ none. none) (c.finish.ensures.not_read s.input s.has short)
 
 pub returns-then-count-eq0-clause-read_fault : goal.returns-then-count-eq0-clause-read_fault
 returns-then-count-eq0-clause-read_fault g c =
     let s = c.loop-taken.invariant.so_far in
-    no_read_fault _ s.input c.finish.result
+    no_read_fault 100663296 IsNoPair _ s.input c.finish.result (λ none. none)
     (c.finish.ensures.not_read s.input s.has (omega (arith, s.len, c.loop-taken-test.true)))
 
 pub returns-in_err-count-clause-not_read : goal.returns-in_err-count-clause-not_read
 returns-in_err-count-clause-not_read g c =
     let s = c.loop-taken.invariant.so_far in
-    broken_off _ _ ReadFault c.from_residual.result c.from_residual.ensures.1
+    broken_off 100663296 IsNoPair _ _ ReadFault c.from_residual.result c.from_residual.ensures.1
     (ConsumesUpTo_kept _ _ _ _ s.input s.read c.in_err-count.ensures.not_taken
     (omega (arith, s.len, c.loop-taken-test.true)))
 
@@ -43,7 +44,7 @@ pub returns-in_err-take-clause-not_read : goal.returns-in_err-take-clause-not_re
 returns-in_err-take-clause-not_read g c =
     let s = c.loop-taken.invariant.so_far in
     let count = c.in_ok-count.ensures.bound in
-    broken_off _ _ NoMemory c.from_residual-in_err-take.result c.from_residual-in_err-take.ensures.1
+    broken_off 100663296 IsNoPair _ _ NoMemory c.from_residual-in_err-take.result c.from_residual-in_err-take.ensures.1
     (ConsumesUpTo_more _ _ _ _ s.input _ s.read c.in_ok-count.ensures.taken
     (omega (
       arith,
@@ -78,4 +79,4 @@ returns-clause-not_read g c =
     let s = c.loop-taken.invariant.so_far in
     let many : length s.input ≡ 100663297 =
     omega (arith, s.len, c.loop-taken-test.false, c.loop-taken.invariant.within) in
-    (s.input, long_read _ _ s.input s.read many, too_long s.input (omega (arith, many)) ∙ ap Some (sym c.of.ensures))
+    (s.input, long_read 100663296 _ _ s.input s.read many, too_long s.input (omega (arith, many)) ∙ ap Some (sym c.of.ensures))

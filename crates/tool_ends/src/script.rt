@@ -1,0 +1,63 @@
+//! A script, read from an input that is nothing else.
+ghost use Rattle.std.specs.Prelude.{◌≡◌, ℕ, List, IfErr, IfOk, OnOk};
+ghost use Rattle.event_script.specs.Feeding.{HasFed};
+ghost use Rattle.io_edges.specs.Faults.{Rose};
+ghost use Rattle.key_names.specs.Texts.ScriptGrammar.{IsScript};
+ghost use Rattle.tool_ends.specs.Pairs.{GivesNoScript, GivesScript, IsNoScript};
+
+use crate::pair::{NotRead, PIECE};
+use crate::refusal::Refusal;
+use event_script::{Reader, Script, ScriptError};
+use io_edges::Source;
+use std::alloc::Global;
+
+/// The most bytes of a script: 16 MiB.
+const MOST_SCRIPT_BYTES: usize = 16_777_216;
+
+// The script whose text a reader was fed.
+fn script_of(reader: Reader) -> Result<Script, NotRead>
+    requires { (text : List ℕ) × HasFed text reader }
+    ensures read { (text : List ℕ) → HasFed text reader → IfOk result (λ script. IsScript script text) }
+    ensures not_read { (text : List ℕ) → HasFed text reader → IfErr result (IsNoScript text) }
+{
+    let unread = match reader.finish() {
+        Ok(script) => return Ok(script),
+        Err(unread) => unread,
+    };
+    match unread.error {
+        ScriptError::Fault(fault) => Err(NotRead::Refused(Refusal::at(
+            fault,
+            unread.line.as_deref(),
+        ))),
+        ScriptError::NoMemory => Err(NotRead::NoMemory),
+    }
+}
+
+/// The script that a source gives. The source is read to its end, or to one byte behind the most that there may be. Of the
+/// text no more is kept than a line that is not whole yet, or the one that is faulty.
+///
+/// # Errors
+///
+/// [`NotRead`] says why the input was not read: `ReadFault`, `Refused` or `NoMemory`. Where the source failed, or memory ran
+/// out, the bytes that were taken are lost.
+pub fn read_script<S: Source>(alloc: Global, source: &mut S) -> Result<Script, NotRead>
+    ensures read { IfOk result (GivesScript (S.left source.old) (S.left source.new)) }
+    ensures not_read { IfErr result (GivesNoScript (S.left source.old) (S.left source.new)) }
+    ensures read_fault { IfErr result (λ why. why ≡ NotRead.ReadFault → Rose (S.faults source.old) (S.faults source.new)) }
+    ensures no_fault { IfErr result (λ why. (why ≡ NotRead.ReadFault → ⊥) → S.faults source.new ≡ S.faults source.old) }
+    ensures not_counted { OnOk result (S.faults source.new ≡ S.faults source.old) }
+{
+    let mut reader = Reader::new(alloc);
+    let mut piece = [0; PIECE];
+    let mut taken = 0;
+    while taken <= MOST_SCRIPT_BYTES {
+        let most = PIECE.min(MOST_SCRIPT_BYTES + 1 - taken);
+        let count = source.take(&mut piece[..most])?;
+        if count == 0 {
+            return script_of(reader);
+        }
+        reader.feed(alloc, &piece[..count])?;
+        taken += count;
+    }
+    script_of(reader)
+}
