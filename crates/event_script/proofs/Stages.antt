@@ -22,7 +22,8 @@ use Rattle.event_script.proofs.WholeLines.{line_stays, rest_is_whole, rest_stays
 
 -- ---- one after another
 
-pub leads_on : (s t u : Stage) (text rest last : List ℕ) → LeadsTo s text t rest → LeadsTo t rest u last → LeadsTo s text u last
+pub leads_on : (s t u : Stage) (text rest last : List ℕ) → LeadsTo s text t rest → LeadsTo t rest u last
+    → LeadsTo s text u last
 leads_on s t u text rest last a b = record {
   same = λ later. a.same later ∙ b.same later;
   whole = b.whole;

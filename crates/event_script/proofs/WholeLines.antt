@@ -19,7 +19,8 @@ pub record HasLine (text : List ℕ) : Type 0 where
   pub clean : Lacks 10 line
   pub whole : IsWhole rest
 
-begin_with : (b : ℕ) (t : Bool) (front : List ℕ) → (b == 10) ≡ t → HasLine (front ++ 10 ∷ []) → HasLine (b ∷ (front ++ 10 ∷ []))
+begin_with : (b : ℕ) (t : Bool) (front : List ℕ) → (b == 10) ≡ t → HasLine (front ++ 10 ∷ [])
+    → HasLine (b ∷ (front ++ 10 ∷ []))
 begin_with b true front is h = record {
   line = [];
   rest = front ++ 10 ∷ [];

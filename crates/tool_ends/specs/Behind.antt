@@ -32,4 +32,5 @@ pub record IsApart (input : List ℕ) (script : Script) (text : Behind) : Type 0
 
 -- a script and the text behind it were read
 abbrev pub GivesApart : Option (List ℕ) → Option (List ℕ) → Script → Behind → Type 0
-GivesApart left left_after script text = (input : List ℕ) × WasRead most_input left left_after input × IsApart input script text
+GivesApart left left_after script text =
+    (input : List ℕ) × WasRead most_input left left_after input × IsApart input script text

@@ -16,4 +16,5 @@ pub returns-in-Err-clause-ends : goal.returns-in-Err-clause-ends
 returns-in-Err-clause-ends g c =
     let ask = c.args.ask in
     refused_of 100663296 (Calls ask) (is_limited ask) _ _ _ _ IsNoPair c.in-Err.why
-    (λ input none. of_none ask input c.in-Err.why none) c.in-Err.ensures.not_read c.put_refusal.result c.put_refusal.ensures.ends
+    (λ input none. of_none ask input c.in-Err.why none) c.in-Err.ensures.not_read c.put_refusal.result
+    c.put_refusal.ensures.ends

@@ -78,5 +78,8 @@ pub returns-clause-not_read : goal.returns-clause-not_read
 returns-clause-not_read g c =
     let s = c.loop-taken.invariant.so_far in
     let many : length s.input ≡ 100663297 =
-    omega (arith, s.len, c.loop-taken-test.false, c.loop-taken.invariant.within) in
-    (s.input, long_read 100663296 _ _ s.input s.read many, too_long s.input (omega (arith, many)) ∙ ap Some (sym c.of.ensures))
+    omega (arith, s.len, c.loop-taken-test.false, c.loop-taken.invariant.within) in (
+      s.input,
+      long_read 100663296 _ _ s.input s.read many,
+      too_long s.input (omega (arith, many)) ∙ ap Some (sym c.of.ensures),
+    )

@@ -11,11 +11,13 @@ pub returns-in-Cpus : goal.returns-in-Cpus
 returns-in-Cpus c = rw (c.unfinished-in-Cpus.ensures, c.in-Cpus.is) (no_cpus c.args.front.items c.requires _)
 
 pub returns-in-Start : goal.returns-in-Start
-returns-in-Start c = rw (c.unfinished-in-Start.ensures, c.in-Start.is) (no_start c.args.front.items c.requires c.in-Start.head)
+returns-in-Start c =
+    rw (c.unfinished-in-Start.ensures, c.in-Start.is) (no_start c.args.front.items c.requires c.in-Start.head)
 
 pub returns-in-Lines : goal.returns-in-Lines
 returns-in-Lines c =
-    rw (c.unfinished-in-Lines.ensures, c.in-Lines.is) (no_end c.args.front.items c.requires c.in-Lines.draft c.in-Lines.number)
+    rw (c.unfinished-in-Lines.ensures, c.in-Lines.is)
+    (no_end c.args.front.items c.requires c.in-Lines.draft c.in-Lines.number)
 
 pub returns-in-Ended : goal.returns-in-Ended
 returns-in-Ended c =
