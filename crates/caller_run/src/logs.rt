@@ -24,6 +24,8 @@ pub(crate) struct Log {
 }
 
 /// How many bytes the line of an event shows at most.
+// It is asked of each event twice, and so stands within its callers.
+#[inline(always)]
 pub(crate) fn most_shown(event: &Event) -> u32
     ensures { result ≡ most_shown event.now }
 {

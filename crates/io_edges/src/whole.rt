@@ -78,6 +78,8 @@ pub fn read_to_limit<S: Source>(
 ///
 /// `Failed` where the sink failed, which it has counted as a fault. What it got in this call is then a prefix of the
 /// piece.
+// Within its caller it is little more than a copy into a buffer.
+#[inline(always)]
 pub fn put_all<K: Sink>(sink: &mut K, piece: &[u8]) -> Result<(), Failed>
     ensures whole { OnOk result (Appends (K.held sink.old) (K.held sink.new) piece.now) }
     ensures prefix { AppendsPrefix (K.held sink.old) (K.held sink.new) piece.now }
