@@ -11,8 +11,9 @@ use Rattle.rng_tool.proofs.run_script.run_input.Goals as goal
 pub returns-in-Ok-clause-ends : goal.returns-in-Ok-clause-ends
 returns-in-Ok-clause-ends g c =
     let given = c.in-Ok.ensures.read in
-    said_of 16777216 CallsFor run_is_limited _ _ _ _ given.0 given.1 c.run_script.result
-    (wider _ (CallsFor given.0) (script_runs given.0 c.in-Ok.script given.2) c.run_script.result _ _ c.run_script.ensures.ends)
+    said_of 16777216 CallsFor run_is_limited _ _ _ _ given.0 given.1 c.run_script-status.result
+    (wider _ (CallsFor given.0) (script_runs given.0 c.in-Ok.script given.2) c.run_script-status.result _ _
+    c.run_script-status.ensures.ends)
 
 pub returns-in-Err-clause-ends : goal.returns-in-Err-clause-ends
 returns-in-Err-clause-ends g c =
