@@ -20,6 +20,10 @@ const MOST_READ: u64 = 16_777_216;
 
 const MOST_ACTS: u32 = 8;
 
+/// How many events a block has room for before it grows. A list of this size has pages of its own, which the system moves
+/// as it grows, where the events of a smaller one are copied.
+const FIRST_ROOM: usize = 6144;
+
 /// The blocks that are done, the events of the last one, and what is counted of them.
 #[derive(Drop)]
 pub(crate) struct Draft {
@@ -32,6 +36,13 @@ pub(crate) struct Draft {
     forked: [bool; 64],
     ghost tallied: { Tallied (blocks_in done.items events.items) events.items event_count bytes_read acts forked },
     ghost few_blocks: { vec_len done < 64 },
+}
+
+/// The events of a block that begins.
+fn no_events(alloc: Global) -> Result<Vec<Event>, AllocError>
+    ensures { IfOk result (λ events. events.items ≡ []) }
+{
+    Vec::with_capacity(alloc, FIRST_ROOM)
 }
 
 /// How many acts wait for a `vread` behind an event.
@@ -60,18 +71,19 @@ impl Draft {
     ghost use Rattle.event_script.specs.Drafts.{draft_as};
 
     /// The empty block of caller 0.
-    pub(crate) fn new(alloc: Global, head: Head) -> Draft
-        ensures { draft_as result ≡ record { version = head.version; cpus = head.cpus; done = []; events = [] } }
+    pub(crate) fn new(alloc: Global, head: Head) -> Result<Draft, AllocError>
+        ensures { IfOk result (λ draft.
+            draft_as draft ≡ record { version = head.version; cpus = head.cpus; done = []; events = [] }) }
     {
-        Draft {
+        Ok(Draft {
             head,
             done: Vec::new(alloc),
-            events: Vec::new(alloc),
+            events: no_events(alloc)?,
             event_count: 0,
             bytes_read: 0,
             acts: 0,
             forked: [false; 64],
-        }
+        })
     }
 
     /// Whether an event forks a number that is not above the caller's own, or was forked before.
@@ -135,7 +147,7 @@ impl Draft {
             return Err(LineError::Kind(FaultKind::Unforked));
         }
         self.done.reserve(1)?;
-        let events = mem::replace(&mut self.events, Vec::new(alloc));
+        let events = mem::replace(&mut self.events, no_events(alloc)?);
         self.done.push_reserved(events);
         self.acts = 0;
         Ok(())

@@ -175,7 +175,7 @@ pub(crate) fn read_start(
 {
     let (line, rest) = first_line(text)?;
     match line_says(alloc, head, line)? {
-        Said::Caller(0) => Ok((Draft::new(alloc, head), rest)),
+        Said::Caller(0) => Ok((Draft::new(alloc, head)?, rest)),
         _ => Err(LineError::Kind(FaultKind::BadCaller)),
     }
 }

@@ -1,5 +1,5 @@
 -- Steps written one after the other.
-use Rattle.std.proofs.Common.{◌≡◌, ℕ, ◌+◌, List, [], ◌∷◌, ◌++◌, length, drop, ap, sym, ◌∙◌, append_assoc, append-nil, arith}
+use Rattle.std.proofs.Common.{◌≡◌, ℕ, Bool, true, false, ◌==◌, List, [], ◌∷◌, ◌++◌, length, refl, sym, ap, ◌∙◌, append_assoc, append-nil, eqb-true, arith}
 use Rattle.std.specs.Prelude.{codes}
 use Rattle.std.specs.List.{flat_map}
 use Rattle.key_names.specs.declared.names.Step.{Step}
@@ -18,24 +18,32 @@ steps_text-cons step (next ∷ steps) = rw (steps_text-cons next steps)
     ∙ ap (λ (x : List ℕ). step_text step ++ x) (sym (append_assoc (codes ",") (step_text next)
     (flat_map next_text steps))))
 
-pub no_steps : (old new : List ℕ) (steps : List Step) → length steps ≡ 0 → new ≡ old ++ codes "-"
-    → new ≡ old ++ steps_text steps
+-- steps, the first behind this byte and each other one behind a comma
+unfoldable pub steps_behind : ℕ → List Step → List ℕ
+steps_behind before [] = []
+steps_behind before (step ∷ steps) = before ∷ (step_text step ++ flat_map next_text steps)
+
+behind_comma : (steps : List Step) → steps_behind 44 steps ≡ flat_map next_text steps
+unfolding steps_behind
+behind_comma [] = refl
+behind_comma (step ∷ steps) = refl
+
+pub some_steps : (before : ℕ) (steps : List Step) → false ≡ (length steps == 0)
+    → steps_behind before steps ≡ before ∷ steps_text steps
+unfolding steps_behind
+some_steps before [] some = absurd cc
+some_steps before (step ∷ steps) some = ap (λ (x : List ℕ). before ∷ x) (sym (steps_text-cons step steps))
+
+pub no_steps : (old new : List ℕ) (steps : List Step) → true ≡ (length steps == 0) → new ≡ old ++ codes " -"
+    → new ≡ old ++ (codes " " ++ steps_text steps)
 unfolding steps_text
 no_steps old new [] none e = e
-no_steps old new (step ∷ steps) none e = absurd (omega arith)
+no_steps old new (step ∷ steps) none e = absurd (omega (arith, eqb-true (length (step ∷ steps)) 0 (sym none)))
 
-pub first_step : (old new : List ℕ) (step : Step) (rest : List Step) → new ≡ old ++ step_text step
-    → new ++ flat_map next_text rest ≡ old ++ steps_text (step ∷ rest)
-first_step old new step rest e =
-    rw (e, steps_text-cons step rest) (append_assoc old (step_text step) (flat_map next_text rest))
-
-pub next_step : (old comma new : List ℕ) (steps : List Step) (i : ℕ) (step : Step) (whole : List ℕ)
-    → drop i steps ≡ step ∷ drop (i + 1) steps
-    → comma ≡ old ++ codes "," → new ≡ comma ++ step_text step → old ++ flat_map next_text (drop i steps) ≡ whole
-    → new ++ flat_map next_text (drop (i + 1) steps) ≡ whole
-next_step old comma new steps i step whole at e f so_far =
-    let rest = flat_map next_text (drop (i + 1) steps) in
-    let here : old ++ (next_text step ++ rest) ≡ whole =
-    ap (λ (ss : List Step). old ++ flat_map next_text ss) (sym at) ∙ so_far in
-    rw (f, e) (ap (λ (x : List ℕ). x ++ rest) (append_assoc old (codes ",") (step_text step))
-    ∙ append_assoc old (next_text step) rest ∙ here)
+pub next_step : (before : ℕ) (old pushed new : List ℕ) (step : Step) (steps : List Step)
+    → pushed ≡ old ++ before ∷ [] → new ≡ pushed ++ step_text step
+    → new ++ steps_behind 44 steps ≡ old ++ steps_behind before (step ∷ steps)
+unfolding steps_behind
+next_step before old pushed new step steps e f = let rest = flat_map next_text steps in
+    rw (f, e, behind_comma steps) (append_assoc (old ++ before ∷ []) (step_text step) rest
+    ∙ append_assoc old (before ∷ []) (step_text step ++ rest))

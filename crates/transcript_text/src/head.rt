@@ -37,7 +37,7 @@ fn append_step(piece: &mut Piece, step: &Step)
     match *step {
         Step::Look(generation) => {
             piece.push(b'~');
-            piece.append_number(generation);
+            piece.append_small(generation);
         }
         Step::Visit(mark) => {
             append_lane(piece, mark.lane);
@@ -48,41 +48,43 @@ fn append_step(piece: &mut Piece, step: &Step)
     }
 }
 
-/// The steps, with commas between them.
-#[inline(always)]
-fn append_steps(piece: &mut Piece, steps: &[Step])
-    requires room { length piece.old ≤ 1024 }
-    requires few { length steps.now ≤ 20 }
-    ensures text { piece.new ≡ piece.old ++ steps_text steps.now }
-    ensures short { length piece.new ≤ length piece.old + 1280 }
-{
-    let Some((first, rest)) = steps.split_first() else {
-        piece.push(b'-');
-        return;
-    };
-    append_step(piece, first);
-    for step in rest {
-        piece.push(b',');
-        append_step(piece, step);
-    }
-}
-
-/// An answer, and the spaces around it.
+/// A space and an answer.
 #[inline(always)]
 #[tactic(auto, unfolding(key_names::specs::Texts::TranscriptGrammar::answer_text))]
 fn append_answer(piece: &mut Piece, answer: Answer)
-    requires { length piece.old + 10 ≤ 4096 }
-    ensures text { piece.new ≡ piece.old ++ (codes " " ++ answer_text answer ++ codes " ") }
-    ensures short { length piece.new ≤ length piece.old + 10 }
+    requires { length piece.old + 9 ≤ 4096 }
+    ensures text { piece.new ≡ piece.old ++ (codes " " ++ answer_text answer) }
+    ensures short { length piece.new ≤ length piece.old + 9 }
 {
     // The answer of most lines.
     if let Answer::Ok = answer {
-        piece.append(b" ok ");
+        piece.append(b" ok");
         return;
     }
     piece.push(b' ');
     piece.append_word(answer_name(answer));
-    piece.push(b' ');
+}
+
+/// A space and the steps, with commas between them.
+// A step is written at one place, and its generation by a call unless it is short: so this stays small enough for the
+// compiler to put it where a line is written.
+#[inline(always)]
+fn append_steps(piece: &mut Piece, steps: &[Step])
+    requires room { length piece.old ≤ 1024 }
+    requires few { length steps.now ≤ 20 }
+    ensures text { piece.new ≡ piece.old ++ (codes " " ++ steps_text steps.now) }
+    ensures short { length piece.new ≤ length piece.old + 1280 }
+{
+    if steps.is_empty() {
+        piece.append(b" -");
+        return;
+    }
+    let mut before = b' ';
+    for step in steps {
+        piece.push(before);
+        append_step(piece, step);
+        before = b',';
+    }
 }
 
 /// The line up to the space before its data.

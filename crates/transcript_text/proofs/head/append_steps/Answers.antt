@@ -1,25 +1,33 @@
-use Rattle.std.proofs.Common.{◌≡◌, ◌∷◌, length, ap, arith}
-use Rattle.std.proofs.lemmas.List.{length_push, drop_more}
-use Rattle.transcript_text.proofs.StepLists.{no_steps, first_step, next_step}
+use Rattle.std.proofs.Common.{◌++◌, ℕ, List, length, ap, arith, ◌∙◌, sym, append-nil}
+use Rattle.std.proofs.lemmas.List.{length_push, at_drop_more, at_drop_all}
+use Rattle.key_names.specs.declared.names.Step.{Step}
+use Rattle.transcript_text.proofs.StepLists.{steps_behind, some_steps, no_steps, next_step}
 use Rattle.transcript_text.proofs.head.append_steps.Goals as goal
 
-pub returns-in_default-clause-text : goal.returns-in_default-clause-text
-returns-in_default-clause-text c = no_steps c.args.piece.now c.push.new.self c.args.steps.now
-    c.in_default.ensures.cases c.push.ensures
+pub returns-then-is_empty-clause-text : goal.returns-then-is_empty-clause-text
+returns-then-is_empty-clause-text c =
+    no_steps c.args.piece.now c.append.new.self c.args.steps.now c.if-is_empty.ensures c.append.ensures
 
 pub loop-step-init : goal.loop-step-init
-loop-step-init c = let e : c.args.steps.now ≡ c.in-Some.first.now ∷ c.in-Some.rest.now = c.in-Some.ensures.cases.0 in
-    record {
-      text = rw e (first_step c.args.piece.now c.append_step.new.piece c.in-Some.first.now
-          c.in-Some.rest.now c.append_step.ensures.text);
-      short = omega (arith, c.append_step.ensures.short);
-    }
+loop-step-init c = record {
+  text = ap (λ (x : List ℕ). c.args.piece.now ++ x) (some_steps 32 c.args.steps.now c.if-is_empty.ensures);
+  short = omega arith;
+}
 
 pub loop-step-preserved : goal.loop-step-preserved
-loop-step-preserved c = record {
-  text = next_step c.loop-step.piece c.push-in-loop-step.new.self c.append_step-in-loop-step.new.piece
-      c.in-Some.rest.now c.loop-step.step-index _ _
-      (drop_more c.in-Some.rest.now c.loop-step.step-index _ c.loop-step-test.true)
-      c.push-in-loop-step.ensures c.append_step-in-loop-step.ensures.text c.loop-step.invariant.text;
-  short = omega (arith, length_push c.loop-step.piece 44, ap length c.push-in-loop-step.ensures);
-}
+loop-step-preserved c = let l = c.loop-step in
+    record {
+      text = next_step l.before l.piece c.push.new.self c.append_step.new.piece _ _ c.push.ensures
+          c.append_step.ensures.text
+          ∙ sym (at_drop_more (λ (ss : List Step). l.piece ++ steps_behind l.before ss) c.args.steps.now l.step-index _
+          c.loop-step-test.true)
+          ∙ l.invariant.text;
+      short = omega (arith, length_push l.piece l.before, ap length c.push.ensures);
+    }
+
+pub returns-clause-text : goal.returns-clause-text
+unfolding steps_behind
+returns-clause-text c = let l = c.loop-step in
+    sym (append-nil l.piece) ∙ sym (at_drop_all (λ (ss : List Step). l.piece ++ steps_behind l.before ss) c.args.steps.now
+    l.step-index c.loop-step-test.false)
+    ∙ l.invariant.text

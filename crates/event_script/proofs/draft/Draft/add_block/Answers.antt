@@ -9,7 +9,7 @@ invariant_of-self-2-clause-tallied c =
     let t = tallied_block (draft_as d) d.event_count d.bytes_read d.acts d.forked d.tallied in
     rw (
       c.replace-events.ensures.after,
-      c.new.ensures.items,
+      c.in_ok-no_events.ensures,
       c.push_reserved.ensures.items,
       c.replace-events.ensures.value,
       c.in_ok-reserve.ensures.items,
