@@ -10,7 +10,7 @@ ghost use Rattle.caller_run.specs.Calling.{IsReady, StatesStand};
 ghost use Rattle.caller_run.specs.Says.{most_shown, shown_by, ShowsFit};
 
 use crate::caller::Caller;
-use crate::logs::most_shown;
+use crate::logs::{is_silent, most_shown};
 use crate::reply::{Reply, Shows};
 use crate::states::States;
 use event_script::Script;
@@ -84,6 +84,9 @@ fn longest_line(events: &[Event]) -> Option<u32>
 {
     let mut longest = 0;
     for event in events {
+        if is_silent(event) {
+            continue;
+        }
         if let Event::Inside { .. } | Event::Fork { .. } = event {
             return None;
         }

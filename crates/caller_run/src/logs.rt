@@ -1,5 +1,7 @@
 //! A caller's lines, the acts that wait for its next `vread`, and how much room both need.
 ghost use Rattle.std.specs.Prelude.{◌≡◌, ◌+◌, ◌*◌, ◌≤◌, [], All, IfOk, length, sum_by, vec_capacity, vec_len};
+ghost use Rattle.std.specs.Bool.{OnTrue};
+ghost use Rattle.caller_run.specs.Alone.{IsToldOnce};
 ghost use Rattle.caller_run.specs.Says.{most_shown};
 ghost use Rattle.caller_run.specs.Standing.{read_inside};
 ghost use Rattle.rng_core.specs.Acts.{wants};
@@ -23,12 +25,26 @@ pub(crate) struct Log {
     pub(crate) trace: Box<Trace>,
 }
 
+/// Whether an event is one of many that are told once and show no bytes. It is found by one look at its kind.
+#[inline(always)]
+pub(crate) fn is_silent(event: &Event) -> bool
+    ensures { OnTrue result (IsToldOnce event.now × (most_shown event.now ≡ 0)) }
+{
+    matches!(
+        event,
+        Event::At { .. } | Event::Irq { .. } | Event::Input { .. } | Event::Bits | Event::Tick
+    )
+}
+
 /// How many bytes the line of an event shows at most.
 // It is asked of each event twice, and so stands within its callers.
 #[inline(always)]
 pub(crate) fn most_shown(event: &Event) -> u32
     ensures { result ≡ most_shown event.now }
 {
+    if is_silent(event) {
+        return 0;
+    }
     match event {
         Event::Int8 => 1,
         Event::Int16 => 2,

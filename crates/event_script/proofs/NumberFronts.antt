@@ -7,7 +7,7 @@ use Rattle.std.proofs.Math.Seq.{drop-append_seam}
 use Rattle.std.proofs.lemmas.Bool.{cases_lt}
 use Rattle.std.proofs.lemmas.Fmt.{decimal_injective, decimal_nonempty, length-decimal-le}
 use Rattle.std.proofs.lemmas.Int.Digits.{digits_more, digits_value_more}
-use Rattle.std.proofs.lemmas.List.{length-take, get_or-take, take-append-drop, take-append-le}
+use Rattle.std.proofs.lemmas.List.{drop_more, length-take, get_or-take, take-append-drop, take-append-le}
 use Rattle.std.proofs.lemmas.Str.Parse.{digits_value-take-le, digits_value_short, numerals_by_value, tells_digits}
 use Rattle.key_names.specs.Texts.ScriptFaults.{number_below}
 use Rattle.key_names.proofs.Script.Numbers.{IsNumber, IsNumber-decimal, number_again, number_good, number_none, number_takes, value_of_decimal}
@@ -34,6 +34,9 @@ module _ (text : List ℕ) (value len : ℕ) (so_far : BeginsDigits text value l
         digits = digits_more 10 text len lt so_far.digits (rw there at is.0);
         value_is = omega (arith, more, so_far.value_is, value_is);
       }
+
+  pub digits_end : len < length text → (digit_value (get_or text len 0) < 10 → ⊥) → IsDigits text value len
+  digits_end lt not = record { begins = so_far; ends = rw (drop_more text len 0 lt) not }
 
   -- a few digits are a small number
   pub few_digits : len ≤ 18 → value < 10 ^ 18

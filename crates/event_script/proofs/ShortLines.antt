@@ -1,14 +1,19 @@
 -- Lines that are read where they stand, without a search for their ends.
-use Rattle.std.proofs.Common.{◌≡◌, ℕ, ◌≤◌, false, Ok, List, ◌∷◌, ◌++◌, refl, sym, ap, ◌∙◌, append_assoc}
+use Rattle.std.proofs.Common.{◌≡◌, ℕ, ◌≤◌, false, Result, Ok, Err, List, ◌∷◌, ◌++◌, refl, sym, ap, ◌∙◌, append_assoc}
 use Rattle.std.proofs.lemmas.List.Elements.{All-from_recursion}
 use Rattle.key_names.specs.declared.events.Event.{Event}
-use Rattle.key_names.specs.Texts.Spelling.{spaced}
+use Rattle.key_names.specs.declared.events.Event.TheVariants.{Irq}
+use Rattle.key_names.specs.declared.events.Word.TheVariants as words
+use Rattle.key_names.specs.Texts.Spelling.{spaced, word_text}
 use Rattle.key_names.specs.Texts.ScriptGrammar.{InRange, event_fields}
-use Rattle.key_names.specs.Texts.ScriptFaults.{SaysEvent, behind, is_unprintable, parts}
+use Rattle.key_names.specs.declared.faults.FaultKind.{FaultKind}
+use Rattle.key_names.specs.Texts.ScriptFaults.{◌>>=◌, Draft, SaysEvent, after, behind, behind_first, is_unprintable, line_of, parts, said}
 use Rattle.key_names.proofs.Script.LinedTexts.{none_unprintable, not_feed}
 use Rattle.key_names.proofs.Script.Parts.{Lacks, parts_at}
 use Rattle.key_names.proofs.Script.SaidLines.{printable_said, said_again}
 use Rattle.event_script.specs.Says.{said_first}
+use Rattle.event_script.specs.ShortLines.{IsShort, behind_word}
+use Rattle.event_script.specs.declared.short.Numbers.TheVariants.{Two}
 use Rattle.event_script.proofs.FirstOfLines.{whole_line}
 
 -- what the first line of a text says
@@ -33,3 +38,18 @@ front_says version cpus event word more text rest few range spelt there =
       says = rw (whole, says) refl;
       rest_is = rw cut refl;
     }
+
+-- what a line says, and then what it adds
+then_more : {X Y Z : Type 0} (found : Result X FaultKind) (f : X → Result Y FaultKind) (g : Y → Result Z FaultKind) (y : Y)
+    → (found >>= f) ≡ Ok y → (found >>= λ x. f x >>= g) ≡ g y
+then_more (Ok x) f g y says = rw says refl
+then_more (Err kind) f g y says = absurd cc
+
+-- an interrupt is what the first line says
+pub irq_adds : (d : Draft) (v1 v2 : ℕ) (text rest : List ℕ) → d.cpus ≤ 256 → IsShort words.Irq (Two v1 v2)
+    → text ≡ word_text words.Irq ++ (behind_word (Two v1 v2) ++ 10 ∷ rest)
+    → (behind_first d (parts 10 text) ≡ after d (SaysEvent (Irq v1 v2))) × (parts 10 rest ≡ behind (parts 10 text))
+irq_adds d v1 v2 text rest few short there =
+    let front = front_says d.version d.cpus (Irq v1 v2) (word_text words.Irq) (behind_word (Two v1 v2)) text rest few short
+    refl there in
+    (then_more (line_of (parts 10 text)) (said d.version d.cpus) (after d) (SaysEvent (Irq v1 v2)) front.says, front.rest_is)

@@ -2,7 +2,9 @@
 use Rattle.std.proofs.Common.{◌≡◌, ℕ, ◌+◌, ◌<◌, ◌≤◌, ltb, leb, Bool, true, false, ◌||◌, inl, inr, Option, Some, None, List, [], ◌∷◌, ◌++◌, ◌-◌, drop, replicate, get_or, set, length, refl, sym, ap, ◌∙◌, arith}
 use Rattle.std.specs.List.{list_any}
 use Rattle.std.specs.Prelude.{count_by, fold, sum_by}
-use Rattle.std.proofs.lemmas.Bool.{both_ways, cases_Bool, cases_eq, cases_lt, eq-eqb, leb-false, lt-ltb, ltb-false, ne_eqb, or_parts}
+use Rattle.std.proofs.Math.Bool.{or-false}
+use Rattle.std.proofs.Math.Nat.{add-zero}
+use Rattle.std.proofs.lemmas.Bool.{both_ways, cases_Bool, cases_eq, cases_lt, eq-eqb, le-ltb, leb-false, lt-leb, lt-ltb, ltb-false, ne_eqb, or_parts}
 use Rattle.std.proofs.lemmas.Grind.{get_or-set_at}
 use Rattle.std.proofs.lemmas.List.{get_or-drop, get_or-replicate, get_or-set_other, get_or_default, length-drop, length-set}
 use Rattle.std.proofs.lemmas.List.Folds.{list_any_at, list_any_none}
@@ -12,7 +14,7 @@ use Rattle.key_names.specs.declared.events.Event.TheVariants.{Fork}
 use Rattle.key_names.specs.Texts.ScriptGrammar.{InRange, acts_after, bytes_read, is_fork_of, times_forked}
 use Rattle.key_names.specs.Texts.ScriptFaults.{Draft, blocks_of, has_orphan, is_past_limits, with_event}
 use Rattle.key_names.proofs.Script.Drafts.{forks_of, lengths, no_orphan, orphanless, reads, times_with, total_block, total_split}
-use Rattle.event_script.specs.Tally.{Tallied, fork_in, is_over}
+use Rattle.event_script.specs.Tally.{IsLight, Tallied, fork_in, is_over}
 
 -- the flags behind an event
 abbrev pub marked : List Bool → Option ℕ → List Bool
@@ -161,3 +163,26 @@ tallied_start forked is = record {
   little = omega arith;
   waiting = omega arith;
 }
+
+-- ---- an event of which only its number counts
+
+pub light_within : (d : Draft) (e : Event) (count read acts : ℕ) (forked : List Bool) →
+    Tallied (blocks_of d) d.events count read acts forked
+    → IsLight e → leb 65536 count ≡ is_past_limits d e
+light_within d e count read acts forked t light =
+    let little : ltb 16777216 read ≡ false = le-ltb _ _ t.little in
+    let waiting : ltb 8 acts ≡ false = le-ltb _ _ t.waiting in
+    let alone : leb 65536 count ≡ is_over count read acts = rw (little, waiting, or-false, or-false) refl in
+    let same : is_over count read acts ≡ is_over count (read + bytes_read e) (acts_after acts e) =
+    rw (light.unread, light.waiting acts, add-zero) refl in
+    alone ∙ same ∙ limits_are d e count read acts forked t
+
+pub tallied_light : (d : Draft) (e : Event) (count read acts : ℕ) (forked : List Bool) →
+    Tallied (blocks_of d) d.events count read acts forked
+    → InRange d.version d.cpus e → IsLight e → count < 65536
+    → Tallied (blocks_of (with_event d e)) (d.events ++ e ∷ []) (count + 1) read acts forked
+tallied_light d e count read acts forked t range light few =
+    let within : is_past_limits d e ≡ false = sym (light_within d e count read acts forked t light)
+    ∙ lt-leb 65536 count (omega arith) in
+    let t = tallied_event d e count read acts forked t range within in
+    rw (light.unread, light.unforked, light.waiting acts, add-zero) at t

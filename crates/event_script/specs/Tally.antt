@@ -13,6 +13,12 @@ abbrev pub fork_in : Event → Option ℕ
 fork_in (Fork child) = Some child
 fork_in _ = None
 
+-- an event reads nothing, forks nobody and leaves as many acts waiting
+pub record IsLight (event : Event) : Type 0 where
+  pub unread : bytes_read event ≡ 0
+  pub unforked : fork_in event ≡ None
+  pub waiting : (acts : ℕ) → acts_after acts event ≡ acts
+
 -- so many events, bytes that they read, and acts that wait leave no room for one more event of theirs
 abbrev pub is_over : ℕ → ℕ → ℕ → Bool
 is_over count read acts = nat_le 65536 count || nat_lt 16777216 read || nat_lt 8 acts

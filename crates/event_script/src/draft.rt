@@ -1,8 +1,9 @@
 //! The script so far.
 
 ghost use Rattle.std.specs.Prelude.{◌≡◌, ◌<◌, ◌≤◌, ◌+◌, [], IfOk, map, vec_len};
+ghost use Rattle.std.specs.Bool.{OnTrue};
 ghost use Rattle.std.specs.List.{list_any};
-ghost use Rattle.event_script.specs.Tally.{Tallied, blocks_in, fork_in, is_over};
+ghost use Rattle.event_script.specs.Tally.{IsLight, Tallied, blocks_in, fork_in, is_over};
 ghost use Rattle.event_script.specs.Views.{Gives};
 ghost use Rattle.key_names.specs.Texts.ScriptFaults.{SaysEvent, SaysCaller, GoesOn, after, blocks_of, has_orphan, is_bad_fork, is_past_limits};
 ghost use Rattle.key_names.specs.Texts.ScriptGrammar.{InRange, acts_after};
@@ -67,6 +68,26 @@ fn fork_of(event: &Event) -> Option<u32>
     }
 }
 
+/// Whether an event is one of many that read nothing, fork nobody and leave as many acts waiting.
+fn is_light(event: &Event) -> bool
+    ensures { OnTrue result (IsLight event.now) }
+{
+    matches!(
+        event,
+        Event::At { .. }
+            | Event::Irq { .. }
+            | Event::Credit { .. }
+            | Event::Bits
+            | Event::Int8
+            | Event::Int16
+            | Event::Int32
+            | Event::Int64
+            | Event::Reseed
+            | Event::Tick
+            | Event::Drop
+    )
+}
+
 impl Draft {
     ghost use Rattle.event_script.specs.Drafts.{draft_as};
 
@@ -109,12 +130,31 @@ impl Draft {
             || acts > MOST_ACTS
     }
 
+    /// One more event of the last block, which reads nothing, forks nobody and leaves as many acts waiting.
+    #[inline(always)]
+    pub(crate) fn add_light(&mut self, event: Event) -> Result<(), LineError>
+        requires range { InRange self.old.head.version self.old.head.cpus event }
+        requires light { IsLight event }
+        ensures next { Gives (λ _. GoesOn (draft_as self.new)) result (after (draft_as self.old) (SaysEvent event)) }
+        ensures same { self.new.head ≡ self.old.head }
+    {
+        if self.event_count >= MOST_EVENTS {
+            return Err(LineError::Kind(FaultKind::TooMany));
+        }
+        self.events.push(event)?;
+        self.event_count += 1;
+        Ok(())
+    }
+
     /// One more event of the last block.
     pub(crate) fn add_event(&mut self, event: Event) -> Result<(), LineError>
         requires { InRange self.old.head.version self.old.head.cpus event }
         ensures next { Gives (λ _. GoesOn (draft_as self.new)) result (after (draft_as self.old) (SaysEvent event)) }
         ensures same { self.new.head ≡ self.old.head }
     {
+        if is_light(&event) {
+            return self.add_light(event);
+        }
         if self.is_bad_fork(&event) {
             return Err(LineError::Kind(FaultKind::BadFork));
         }

@@ -12,6 +12,9 @@ use key_names::FaultKind;
 /// So many digits are the number of a `u64`, whatever they are.
 const SAFE_DIGITS: usize = 19;
 
+/// So many digits are looked at in a loop whose length is known, so that the compiler writes out its turns.
+const NEAR_DIGITS: usize = 8;
+
 fn ends_number(text: &[u8]) -> bool
     ensures { IsTrue result ↔ EndsNumber text.now }
 {
@@ -61,6 +64,42 @@ fn long_number(most: u64, value: u64, text: &[u8]) -> Option<(u64, &[u8])>
     cut_number(most, next, SAFE_DIGITS + 1, text)
 }
 
+/// The number that a text begins with, read on behind the digits that were seen, which have this value.
+#[inline(never)]
+fn read_on(most: u64, value: u64, seen: usize, text: &[u8]) -> Option<(u64, &[u8])>
+    requires digits { BeginsDigits text.now value seen }
+    requires few { seen ≤ 19 }
+    ensures front { MatchOption result (NoFront decimal (λ n. n ≤ most) text.now)
+        (λ both. IsFront decimal (λ n. n ≤ most) text.now both.0 both.1.now) }
+    ensures ends { IfSome result (λ both. EndsNumber both.1.now) }
+{
+    let mut value = value;
+    for len in seen..text.len().min(SAFE_DIGITS) {
+        let Some(digit) = char::from(text[len]).to_digit(10) else {
+            return cut_number(most, value, len, text);
+        };
+        value = value * 10 + u64::from(digit);
+    }
+    if text.len() > SAFE_DIGITS {
+        return long_number(most, value, text);
+    }
+    cut_number(most, value, text.len(), text)
+}
+
+/// As `read_on`, for a number that mostly ends before.
+// Where a function begins, the room for what its calls answer is cleared. So a number that ends before clears none.
+#[inline(always)]
+fn read_on_apart(most: u64, value: u64, seen: usize, text: &[u8]) -> Option<(u64, &[u8])>
+    requires digits { BeginsDigits text.now value seen }
+    requires few { seen ≤ 19 }
+    ensures front { MatchOption result (NoFront decimal (λ n. n ≤ most) text.now)
+        (λ both. IsFront decimal (λ n. n ≤ most) text.now both.0 both.1.now) }
+    ensures ends { IfSome result (λ both. EndsNumber both.1.now) }
+{
+    let (number, rest) = read_on(most, value, seen, text)?;
+    Some((number, rest))
+}
+
 /// The number up to `most` that a text begins with, in decimal and without leading zeros, and what stands behind it.
 ///
 /// `None` where the text begins with no digit, or with a zero and another digit, and where all digits that it begins with
@@ -71,18 +110,17 @@ pub fn number_front(most: u64, text: &[u8]) -> Option<(u64, &[u8])>
         (λ both. IsFront decimal (λ n. n ≤ most) text.now both.0 both.1.now) }
     ensures ends { IfSome result (λ both. EndsNumber both.1.now) }
 {
-    let front = &text[..text.len().min(SAFE_DIGITS)];
+    if text.len() < NEAR_DIGITS {
+        return read_on_apart(most, 0, 0, text);
+    }
     let mut value: u64 = 0;
-    for (len, byte) in front.iter().enumerate() {
+    for (len, byte) in text[..NEAR_DIGITS].iter().enumerate() {
         let Some(digit) = char::from(*byte).to_digit(10) else {
             return cut_number(most, value, len, text);
         };
         value = value * 10 + u64::from(digit);
     }
-    if text.len() > SAFE_DIGITS {
-        return long_number(most, value, text);
-    }
-    cut_number(most, value, text.len(), text)
+    read_on_apart(most, value, NEAR_DIGITS, text)
 }
 
 /// The number that a field spells in decimal, without leading zeros, if it is at most `most`.

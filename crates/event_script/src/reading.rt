@@ -17,8 +17,8 @@ use crate::head::Head;
 use crate::line::{Said, has_bad_byte, line_says};
 use crate::numbers::number_up_to;
 use crate::script_error::ScriptError;
-use crate::short::{short_event, short_line};
-use key_names::{FaultKind, ScriptFault};
+use crate::short::{irq_in_front, short_event, short_line};
+use key_names::{Event, FaultKind, ScriptFault};
 use std::alloc::Global;
 
 /// The first line of a text, and what stands behind it.
@@ -193,6 +193,10 @@ pub(crate) fn read_line<'a>(
     ensures rest { IfOk result (λ both. parts 10 both.1.now ≡ behind (parts 10 text.now)) }
     ensures shorter { IfOk result (λ both. length both.1.now < length text.now) }
 {
+    if let Some((v1, v2, rest)) = irq_in_front(text) {
+        draft.add_light(Event::Irq { v1, v2 })?;
+        return Ok((true, rest));
+    }
     let (said, rest) = next_said(alloc, draft.head, text)?;
     let more = add_said(alloc, draft, said)?;
     Ok((more, rest))

@@ -7,6 +7,7 @@
 ghost use Rattle.std.specs.Prelude.{◌≡◌, ℕ, ◌∷◌, ◌++◌, IfSome};
 ghost use Rattle.std.specs.Bool.{OnTrue};
 ghost use Rattle.std.specs.Fmt.{decimal};
+ghost use Rattle.key_names.specs.declared.events.Word.TheVariants.{Irq};
 ghost use Rattle.key_names.specs.Texts.ScriptGrammar.{InRange, event_fields};
 ghost use Rattle.key_names.specs.Texts.Spelling.{spaced, word_text};
 ghost use Rattle.event_script.specs.declared.short.Numbers.TheVariants.{None, One, Two};
@@ -58,6 +59,8 @@ fn word_in_front(text: &[u8]) -> Option<(Word, &[u8])>
 }
 
 /// The number in front of a line end, behind a first number, and what stands behind the line end.
+// This and the next one are asked in two ways. Without the hints they would be calls.
+#[inline(always)]
 fn second_in_front(first: u64, text: &[u8]) -> Option<(Numbers, &[u8])>
     ensures { IfSome result (λ both.
         32 ∷ (decimal first ++ 32 ∷ text.now) ≡ behind_word both.0 ++ 10 ∷ both.1.now) }
@@ -69,6 +72,7 @@ fn second_in_front(first: u64, text: &[u8]) -> Option<(Numbers, &[u8])>
 }
 
 /// One or two numbers in front of a line end, and what stands behind the line end.
+#[inline(always)]
 fn some_in_front(text: &[u8]) -> Option<(Numbers, &[u8])>
     ensures { IfSome result (λ both. 32 ∷ text.now ≡ behind_word both.0 ++ 10 ∷ both.1.now) }
 {
@@ -86,6 +90,21 @@ fn numbers_in_front(text: &[u8]) -> Option<(Numbers, &[u8])>
     match text {
         [b'\n', rest @ ..] => Some((Numbers::None, rest)),
         [b' ', fields @ ..] => some_in_front(fields),
+        _ => None,
+    }
+}
+
+/// The numbers of the interrupt that the first line says, and what stands behind the line.
+// It is looked for before other words, and its event is made at once: a machine that runs has many.
+pub(crate) fn irq_in_front(text: &[u8]) -> Option<(u64, u64, &[u8])>
+    ensures spelt { IfSome result (λ all. text.now ≡ word_text Irq ++ (behind_word (Two all.0 all.1) ++ 10 ∷ all.2.now)) }
+    ensures short { IfSome result (λ all. IsShort Irq (Two all.0 all.1)) }
+{
+    let [b'i', b'r', b'q', b' ', fields @ ..] = text else {
+        return None;
+    };
+    match some_in_front(fields) {
+        Some((Numbers::Two(v1, v2), rest)) => Some((v1, v2, rest)),
         _ => None,
     }
 }

@@ -56,12 +56,13 @@ fn append_answer(piece: &mut Piece, answer: Answer)
     ensures text { piece.new ≡ piece.old ++ (codes " " ++ answer_text answer) }
     ensures short { length piece.new ≤ length piece.old + 9 }
 {
+    piece.push(b' ');
     // The answer of most lines.
     if let Answer::Ok = answer {
-        piece.append(b" ok");
+        piece.push(b'o');
+        piece.push(b'k');
         return;
     }
-    piece.push(b' ');
     piece.append_word(answer_name(answer));
 }
 

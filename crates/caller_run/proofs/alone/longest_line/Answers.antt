@@ -1,5 +1,6 @@
 use Rattle.std.proofs.Common.{ℕ, ◌≡◌, ◌≤◌, subst, take, refl, arith}
 use Rattle.std.specs.Prelude.{slice_index_or, All}
+use Rattle.std.proofs.lemmas.Bool.{OnTrue_at}
 use Rattle.std.proofs.lemmas.List.{take_all}
 use Rattle.std.proofs.lemmas.List.Elements.{All-more}
 use Rattle.key_names.specs.declared.events.Event.{Event}
@@ -32,6 +33,18 @@ loop-event-preserved c =
           (subst (λ e. most_shown e ≤ c.max-longest.result) c.event-item.is
           (above_more c.loop-event.longest c.most_shown.result c.max-longest.result (most_shown item)
           c.max-longest.ensures c.most_shown.ensures));
+    }
+
+pub loop-event-preserved-then-is_silent : goal.loop-event-preserved-then-is_silent
+loop-event-preserved-then-is_silent c =
+    let item = c.event-item.result in
+    let silent = OnTrue_at c.if-is_silent.true c.is_silent.ensures in record {
+      once = All-more IsToldOnce c.args.events.now c.loop-event.event-index item c.loop-event-test.true
+          c.loop-event.invariant.once (subst IsToldOnce c.event-item.is silent.0);
+      longest =
+          All-more (λ e. most_shown e ≤ c.loop-event.longest) c.args.events.now c.loop-event.event-index item
+          c.loop-event-test.true c.loop-event.invariant.longest
+          (subst (λ e. most_shown e ≤ c.loop-event.longest) c.event-item.is (omega (arith, silent.1)));
     }
 
 pub returns-clause-once : goal.returns-clause-once
