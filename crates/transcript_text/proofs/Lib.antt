@@ -5,7 +5,7 @@ pub mod FirstFaults
 pub mod GroupedLines
 pub mod HexPieces
 pub mod SpeltPieces
-pub mod LastDigits
+pub mod Decimals
 pub mod Keeping
 pub mod LineTexts
 pub mod NameTexts
@@ -21,5 +21,4 @@ pub mod ShownTexts
 pub mod StepLists
 pub mod StepTexts
 pub mod WholeTexts
-pub mod HexDigits
 pub mod Fronts

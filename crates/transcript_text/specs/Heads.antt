@@ -1,5 +1,5 @@
 -- A line up to its data.
-use Rattle.std.specs.Prelude.{ℕ, ◌+◌, ◌/◌, ◌%◌, List, [], ◌∷◌, ◌++◌, codes, decimal}
+use Rattle.std.specs.Prelude.{ℕ, List, ◌++◌, codes, decimal}
 use Rattle.key_names.specs.declared.events.Answer.{Answer}
 use Rattle.key_names.specs.declared.events.Word.{Word}
 use Rattle.key_names.specs.declared.names.Step.{Step}
@@ -11,7 +11,3 @@ unfoldable pub head_text : ℕ → ℕ → Word → Answer → List Step → Lis
 head_text caller event word answer steps =
     decimal caller ++ codes "." ++ decimal event ++ codes " " ++ word_text word ++ codes " "
     ++ answer_text answer ++ codes " " ++ steps_text steps ++ codes " "
-
--- the two digits of a number below 100
-abbrev pub two_digits : ℕ → List ℕ
-two_digits n = (48 + n / 10) ∷ (48 + n % 10) ∷ []

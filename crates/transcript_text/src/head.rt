@@ -21,7 +21,7 @@ fn append_lane(piece: &mut Piece, lane: LaneId)
         LaneId::Base => piece.append(b"b:"),
         LaneId::Cpu(cpu) => {
             piece.push(b'c');
-            piece.append_small(cpu as u64);
+            piece.append_number(cpu as u64);
             piece.push(b':');
         }
     }
@@ -37,7 +37,7 @@ fn append_step(piece: &mut Piece, step: &Step)
     match *step {
         Step::Look(generation) => {
             piece.push(b'~');
-            piece.append_small(generation);
+            piece.append_number(generation);
         }
         Step::Visit(mark) => {
             append_lane(piece, mark.lane);
@@ -67,8 +67,7 @@ fn append_answer(piece: &mut Piece, answer: Answer)
 }
 
 /// A space and the steps, with commas between them.
-// A step is written at one place, and its generation by a call unless it is short: so this stays small enough for the
-// compiler to put it where a line is written.
+// A step is written at one place, so this stays small enough for the compiler to put it where a line is written.
 #[inline(always)]
 fn append_steps(piece: &mut Piece, steps: &[Step])
     requires room { length piece.old ≤ 1024 }
@@ -99,7 +98,7 @@ pub(crate) fn append_head(piece: &mut Piece, line: LineView<'_>)
         line.entry.steps.now }
     ensures short { length piece.new ≤ 1400 }
 {
-    piece.append_small(line.caller as u64);
+    piece.append_number(line.caller as u64);
     piece.push(b'.');
     piece.append_number(line.event as u64);
     piece.push(b' ');

@@ -1,17 +1,13 @@
 //! A piece of text that is put in one go.
-ghost use Rattle.std.specs.Prelude.{◌≡◌, ◌+◌, ◌*◌, ◌<◌, ◌≤◌, ◌∷◌, ◌++◌, [], length, decimal, slice_index};
-ghost use Rattle.hex.specs.Hex.{encode_lower, lower_digits};
-ghost use Rattle.transcript_text.specs.Heads.{two_digits};
+ghost use Rattle.std.specs.Prelude.{◌≡◌, ◌+◌, ◌*◌, ◌<◌, ◌≤◌, ◌∷◌, ◌++◌, [], length, decimal};
+ghost use Rattle.hex.specs.Hex.{encode_lower};
 
-use itoa::Buffer;
+use hex::encode_to_slice;
+use itoa::write_digits;
 use std::marker::Model;
 
 /// The most bytes of a piece.
 pub(crate) const MOST_BYTES: usize = 4096;
-
-/// The two digits of each number below 100.
-static PAIRS: [u8; 200] =
-    *b"00010203040506070809101112131415161718192021222324252627282930313233343536373839404142434445464748495051525354555657585960616263646566676869707172737475767778798081828384858687888990919293949596979899";
 
 /// At most 4,096 bytes of text, on the stack.
 #[derive(Drop)]
@@ -81,91 +77,17 @@ impl Piece {
         self.len = end;
     }
 
-    // The two digits of a number below 100.
-    #[inline(always)]
-    fn append_pair(&mut self, number: u32)
-        requires small { number < 100 }
-        requires room { length self.old + 2 ≤ 4096 }
-        ensures { self.new ≡ self.old ++ two_digits number }
-    {
-        let from = 2 * number as usize;
-        self.append(&[PAIRS[from], PAIRS[from + 1]]);
-    }
-
-    #[inline(always)]
-    fn append_below_100(&mut self, number: u32)
-        requires small { number < 100 }
-        requires room { length self.old + 2 ≤ 4096 }
-        ensures text { self.new ≡ self.old ++ decimal number }
-        ensures short { length (decimal number) ≤ 2 }
-    {
-        if number < 10 {
-            self.push(b'0' + number as u8);
-            return;
-        }
-        self.append_pair(number);
-    }
-
-    #[inline(always)]
-    fn append_below_10000(&mut self, number: u32)
-        requires small { number < 10000 }
-        requires room { length self.old + 4 ≤ 4096 }
-        ensures text { self.new ≡ self.old ++ decimal number }
-        ensures short { length (decimal number) ≤ 4 }
-    {
-        if number < 100 {
-            self.append_below_100(number);
-            return;
-        }
-        self.append_below_100(number / 100);
-        self.append_pair(number % 100);
-    }
-
-    // A number of any length, by `itoa`. It is a call, so that what is inlined where a line is made stays short.
-    #[inline(never)]
-    fn append_long(&mut self, number: u64)
-        requires { length self.old + 20 ≤ 4096 }
-        ensures text { self.new ≡ self.old ++ decimal number }
-        ensures short { length (decimal number) ≤ 20 }
-    {
-        let mut digits = Buffer::new();
-        self.append(digits.format(number).as_bytes());
-    }
-
     /// A number.
-    // It stands within its caller by the hint, so that the length of the piece stays in a register.
+    // `itoa` writes it where it stays, from its end. The hint keeps the length in a register.
     #[inline(always)]
     pub(crate) fn append_number(&mut self, number: u64)
         requires { length self.old + 20 ≤ 4096 }
         ensures text { self.new ≡ self.old ++ decimal number }
         ensures short { length (decimal number) ≤ 20 }
     {
-        if number < 10_000 {
-            self.append_below_10000(number as u32);
-            return;
-        }
-        if number < 100_000_000 {
-            let last_four = (number % 10_000) as u32;
-            self.append_below_10000((number / 10_000) as u32);
-            self.append_pair(last_four / 100);
-            self.append_pair(last_four % 100);
-            return;
-        }
-        self.append_long(number);
-    }
-
-    /// A number that mostly has one or two digits.
-    #[inline(always)]
-    pub(crate) fn append_small(&mut self, number: u64)
-        requires { length self.old + 20 ≤ 4096 }
-        ensures text { self.new ≡ self.old ++ decimal number }
-        ensures short { length (decimal number) ≤ 20 }
-    {
-        if number < 100 {
-            self.append_below_100(number as u32);
-            return;
-        }
-        self.append_long(number);
+        let end = self.len + count_digits(number);
+        write_digits(number, &mut self.bytes, end);
+        self.len = end;
     }
 
     /// A word of a few bytes, copied without a call.
@@ -189,31 +111,21 @@ impl Piece {
         ensures { self.new ≡ self.old ++ encode_lower bytes.now }
     {
         let end = self.len + 2 * bytes.len();
-        write_hex(&mut self.bytes[self.len..end], bytes);
+        let Ok(()) = encode_to_slice(bytes, &mut self.bytes[self.len..end]) else {
+            unreachable!()
+        };
         self.len = end;
     }
 }
 
-// Digits by arithmetic: the compiler makes many of them at once, where a table such as that of `hex` takes a load for
-// each.
+/// How many digits a number has in decimal.
 #[inline(always)]
-fn digit(bits: u8) -> u8
-    requires { bits < 16 }
-    ensures { result ≡ slice_index lower_digits bits }
+fn count_digits(number: u64) -> usize
+    ensures count { result ≡ length (decimal number) }
+    ensures few { result ≤ 20 }
 {
-    if bits < 10 {
-        b'0' + bits
-    } else {
-        b'a' + (bits - 10)
+    if number < 10 {
+        return 1;
     }
-}
-
-fn write_hex(out: &mut [u8], bytes: &[u8])
-    requires { length out.old ≡ 2 * length bytes.now }
-    ensures { out.new ≡ encode_lower bytes.now }
-{
-    for i in 0..bytes.len() {
-        out[2 * i] = digit(bytes[i] / 16);
-        out[2 * i + 1] = digit(bytes[i] % 16);
-    }
+    number.ilog10() as usize + 1
 }

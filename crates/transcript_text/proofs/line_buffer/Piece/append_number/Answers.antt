@@ -1,21 +1,14 @@
-use Rattle.std.proofs.Common.{ℕ, List, ◌++◌, ◌%◌, ◌/◌, ap, ◌∙◌, arith}
-use Rattle.std.proofs.lemmas.Fmt.{length-decimal-le}
-use Rattle.transcript_text.specs.Heads.{two_digits}
-use Rattle.transcript_text.proofs.LastDigits.{last_four}
+use Rattle.std.proofs.Common.{◌≡◌, ◌+◌, ◌++◌, List, ℕ, ap, drop, take, ◌∙◌, arith}
+use Rattle.std.specs.Prelude.{decimal}
+use Rattle.transcript_text.proofs.Decimals.{written_on}
 use Rattle.transcript_text.proofs.line_buffer.Piece.append_number.Goals as goal
 
-pub returns-then-number-lt100000000-clause-text : goal.returns-then-number-lt100000000-clause-text
-returns-then-number-lt100000000-clause-text c =
-    let n = c.args.number in
-    c.append_pair-then-number-lt100000000.ensures
-    ∙ ap (λ (ds : List ℕ). ds ++ two_digits (n % 10000 % 100)) (c.append_pair.ensures
-    ∙ ap (λ (ds : List ℕ). ds ++ two_digits (n % 10000 / 100)) c.append_below_10000-then-number-lt100000000.ensures.text)
-    ∙ last_four n c.args.self.now (omega arith) (omega arith)
-
-pub returns-then-number-lt100000000-clause-short : goal.returns-then-number-lt100000000-clause-short
-returns-then-number-lt100000000-clause-short c =
-    length-decimal-le 20 c.args.number (omega arith) (omega arith) (omega arith)
-
-pub returns-then-number-lt10000-clause-short : goal.returns-then-number-lt10000-clause-short
-returns-then-number-lt10000-clause-short c =
-    length-decimal-le 20 c.args.number (omega arith) (omega arith) (omega arith)
+pub returns-clause-text : goal.returns-clause-text
+returns-clause-text c =
+    let digits = decimal c.args.number in
+    let len = c.self.inside.len in
+    let put = c.write_digits in
+    let from : put.result ≡ len = omega (arith, put.ensures.start, c.count_digits.ensures.count) in
+    ap (λ k. take (len + k) put.new.buf) c.count_digits.ensures.count
+    ∙ written_on len digits c.self.inside.bytes put.new.buf _ (rw from at put.ensures.before) (rw from at put.ensures.written)
+    ∙ ap (λ (xs : List ℕ). xs ++ digits) c.self.view_is

@@ -1,0 +1,31 @@
+-- How many digits a number has, and the number written over a text.
+use Rattle.std.proofs.Common.{ℕ, zero, suc, ◌≡◌, ◌+◌, ◌-◌, ◌*◌, ◌/◌, ◌%◌, ◌^◌, ◌≤◌, ◌<◌, List, [], ◌∷◌, ◌++◌, length, take, drop, ap, sym, ◌∙◌, length-append, arith}
+use Rattle.std.specs.Prelude.{decimal}
+use Rattle.std.proofs.Math.Nat.{pow-succ'}
+use Rattle.std.proofs.Math.Seq.{take-add, take-append_seam}
+use Rattle.std.proofs.lemmas.Fmt.{decimal_step}
+use Rattle.itoa.proofs.Decimal.{length_one}
+
+some_power : (k : ℕ) → 1 ≤ 10 ^ k
+some_power zero = omega arith
+some_power (suc k) = omega (arith, pow-succ' 10 k, some_power k)
+
+-- a number between two powers of ten has one digit more than the lower has zeros
+pub digits_counted : (k n : ℕ) → 10 ^ k ≤ n → n < 10 * 10 ^ k → n < 2 ^ 64 → length (decimal n) ≡ k + 1
+digits_counted zero n low high fits = length_one n (omega arith)
+digits_counted (suc k) n low high fits =
+    let power = pow-succ' 10 k in
+    let least : 10 * 10 ^ k ≤ n = omega (arith, power, low) in
+    let some = some_power k in
+    let most : n < 10 * (10 * 10 ^ k) = omega (arith, power, high) in
+    let front = digits_counted k (n / 10) (omega arith) (omega arith) (omega arith) in
+    ap length (decimal_step n (omega arith) fits) ∙ length-append (decimal (n / 10)) ((48 + n % 10) ∷ []) ∙ omega (arith, front)
+
+-- a text with digits written over what stood behind its first bytes
+pub written_on : (len : ℕ) (digits old new rest : List ℕ) → take len new ≡ take len old → drop len new ≡ digits ++ rest
+    → take (len + length digits) new ≡ take len old ++ digits
+written_on len digits old new rest before behind =
+    take-add len (length digits) new
+    ∙ ap (λ (xs : List ℕ). xs ++ take (length digits) (drop len new)) before
+    ∙ ap (λ (xs : List ℕ). take len old ++ take (length digits) xs) behind
+    ∙ ap (λ (xs : List ℕ). take len old ++ xs) (take-append_seam digits rest)
