@@ -1,11 +1,11 @@
 //! Fields that spell bytes.
-ghost use Rattle.std.specs.Prelude.{◌≡◌, ◌*◌, ◌/◌, ◌%◌, ◌<◌, ◌↔◌, [], true, false, IsTrue, IfOk, Some, None, if◌then◌else◌, length, slice_index};
+ghost use Rattle.std.specs.Prelude.{◌≡◌, ◌*◌, ◌<◌, ◌↔◌, [], false, IsTrue, IfOk, Some, None, if◌then◌else◌, length};
 ghost use Rattle.std.specs.Option.{is_some, option_map};
 ghost use Rattle.std.specs.Str.{bytes_eq};
-ghost use Rattle.hex.specs.Hex.{encode_lower, lower_digits};
 ghost use Rattle.key_names.specs.Texts.ScriptFaults.{bytes_of};
-ghost use Rattle.key_names.specs.Texts.Spelling.{AllLower, hex, is_lower_digit};
+ghost use Rattle.key_names.specs.Texts.Spelling.{AllLower, hex};
 
+use hex::decode_to_slice;
 use std::alloc::{AllocError, Global};
 
 /// Whether a field is the dash that stands for no bytes.
@@ -16,43 +16,16 @@ fn is_dash(field: &[u8]) -> bool
     field == dash
 }
 
-/// Whether all bytes are digits of lower-case hexadecimal.
+/// Whether all bytes are digits of lower-case hexadecimal. `hex` would read upper case too.
 fn is_lower_hex(field: &[u8]) -> bool
     ensures { IsTrue result ↔ AllLower field.now }
 {
-    // Zero while each byte is a number or a letter. The compiler looks at many bytes at once.
-    let mut past = 0;
+    // No byte ends the loop, so that the compiler looks at many at once.
+    let mut lower = true;
     for byte in field {
-        let past_number = byte.wrapping_sub(b'0').saturating_sub(9);
-        let past_letter = byte.wrapping_sub(b'a').saturating_sub(5);
-        past = past.max(past_number.min(past_letter));
+        lower &= matches!(byte, b'0'..=b'9' | b'a'..=b'f');
     }
-    past == 0
-}
-
-// A digit's low four bits are its value, and nine less for a letter, which alone has the bit of 64. The two digits are
-// read as one word, so that the compiler makes many bytes at once.
-#[inline(always)]
-fn byte_value(pair: [u8; 2]) -> u8
-    requires high { is_lower_digit (slice_index pair 0) ≡ true }
-    requires low { is_lower_digit (slice_index pair 1) ≡ true }
-    ensures high_digit { slice_index lower_digits (result / 16) ≡ slice_index pair 0 }
-    ensures low_digit { slice_index lower_digits (result % 16) ≡ slice_index pair 1 }
-{
-    let digits = u16::from_le_bytes(pair);
-    let values = (digits & 0x0f0f) + 9 * (digits / 64 & 0x0101);
-    ((16 * values + values / 256) % 256) as u8
-}
-
-fn write_bytes(out: &mut [u8], digits: &[u8])
-    requires lower { AllLower digits.now }
-    requires twice { length digits.now ≡ 2 * length out.old }
-    ensures { encode_lower out.new ≡ digits.now }
-{
-    let (pairs, _) = digits.as_chunks::<2>();
-    for i in 0..out.len() {
-        out[i] = byte_value(pairs[i]);
-    }
+    lower
 }
 
 /// Whether a field spells bytes, two digits of lower-case hexadecimal each, or none by a dash.
@@ -82,7 +55,9 @@ pub fn decode(field: &[u8], out: &mut [u8]) -> bool
     if !is_lower_hex(field) {
         return false;
     }
-    write_bytes(out, field);
+    let Ok(()) = decode_to_slice(field, out) else {
+        unreachable!()
+    };
     true
 }
 
