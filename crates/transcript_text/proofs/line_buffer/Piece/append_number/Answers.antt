@@ -1,4 +1,4 @@
-use Rattle.std.proofs.Common.{◌≡◌, ◌+◌, ◌++◌, List, ℕ, ap, drop, take, ◌∙◌, arith}
+use Rattle.std.proofs.Common.{◌≡◌, ◌+◌, ◌++◌, List, ℕ, ap, take, ◌∙◌, arith}
 use Rattle.std.specs.Prelude.{decimal}
 use Rattle.transcript_text.proofs.Decimals.{written_on}
 use Rattle.transcript_text.proofs.line_buffer.Piece.append_number.Goals as goal
