@@ -1,71 +1,97 @@
 -- A fork on a new table, in the words of its book.
-use Rattle.std.proofs.Common.{◌≡◌, ℕ, ◌+◌, ◌*◌, ◌-◌, ◌^◌, ◌<◌, ◌≤◌, max, List, [], ◌∷◌, ◌++◌, length, refl, sym, ap, ◌∙◌, subst, arith}
-use Rattle.std.proofs.Math.ListN.{get_or-map}
-use Rattle.std.proofs.lemmas.List.{length-map}
+use Rattle.std.proofs.Common.{◌≡◌, ℕ, ◌+◌, ◌-◌, ◌^◌, ◌<◌, ◌≤◌, false, true, List, [], ◌∷◌, ◌++◌, length, refl, sym, ap, ◌∙◌, subst, arith}
+use Rattle.std.proofs.lemmas.List.{length-map, map-append}
 use Rattle.std.proofs.lemmas.List.FromFn.{length-range_with_len}
 use Rattle.std.specs.List.{AllByRecursion, range_with_len}
+use Rattle.key_names.specs.declared.entries.VEntry.{VEntry}
+use Rattle.key_names.specs.declared.entries.VEntry.TheVariants.{Wipe}
 use Rattle.key_names.specs.declared.events.Answer.TheVariants.{Ok as Done}
 use Rattle.key_names.specs.declared.events.Event.TheVariants.{Add}
+use Rattle.key_names.specs.declared.names.LaneId.{LaneId}
+use Rattle.key_names.specs.declared.names.LaneId.TheVariants.{Pool as PoolLane, Base as BaseLane, Cpu as CpuLane}
 use Rattle.key_names.specs.declared.names.Step.{Step}
 use Rattle.key_names.specs.declared.point.Point.{Point}
-use Rattle.key_names.specs.Book.{LawfulLanes, Lists}
+use Rattle.key_names.specs.declared.point.Point.TheVariants.{Serve}
+use Rattle.key_names.specs.Book.{Book, LawfulBook, LawfulLanes, Lists, cpu_list}
 use Rattle.key_names.specs.Deeds.{Deed, deeds_of}
-use Rattle.key_names.specs.IsTranscript.{MarkBy}
+use Rattle.key_names.specs.IsTranscript.{MarkBy, VisitsAre, stamped_at}
 use Rattle.key_names.specs.SeenLine.{no_data}
-use Rattle.key_names.specs.Vgetrandom.{HostStep}
+use Rattle.key_names.specs.ServedNamed.{VisitsServeNamed}
+use Rattle.key_names.specs.StateList.{OrderedStateList, TakesRead, state_start}
+use Rattle.key_names.specs.Uses.{is_rekeyed}
+use Rattle.key_names.specs.Vgetrandom.{HostStep, IsCall, Outcome, at_point, outcome_behind}
 use Rattle.key_names.specs.VgetrandomState.{VgetrandomState, wiped_state}
-use Rattle.key_names.specs.VreadSteps.{published_by}
-use Rattle.key_names.proofs.Lists.Each.{each_append}
+use Rattle.key_names.specs.VreadSteps.{Shows, published_by}
+use Rattle.key_names.proofs.Lists.Each.{each_append, each_right, each_weaker}
+use Rattle.key_names.proofs.Transcripts.KeyVisits.{all_there, key_reads}
+use Rattle.key_names.proofs.Transcripts.TakenMarks.{deeds_within, mark_takes}
 use Rattle.key_names.proofs.Uses.BookUses.{lawful_is_disjoint}
+use Rattle.key_names.proofs.Values.BatchNamed as batch
+use Rattle.key_names.proofs.Values.ServedNamed.{lawful_serves_named}
+use Rattle.key_names.proofs.Vgetrandom.CallsKeep.{call_keeps}
+use Rattle.key_names.proofs.Vgetrandom.KeyReads.{KeyReads, call_names}
+use Rattle.key_names.proofs.Vgetrandom.KeyTakes.{call_bounded, ending_takes, shown_takes, step_append, step_takes, takes}
+use Rattle.key_names.proofs.Vgetrandom.StatesReplay.{Good, GoodBehind}
 use Rattle.lane_table.specs.declared.view.LaneView.{LaneView}
 use Rattle.lane_table.specs.declared.view.View.{View}
 use Rattle.lane_table.specs.declared.view.Visit.{Visit}
+use Rattle.lane_table.specs.Advances.{Climbs, floor}
 use Rattle.lane_table.specs.BookLaws.{Continues}
-use Rattle.lane_table.specs.BookLists.{book_lists, book_of}
+use Rattle.lane_table.specs.BookLists.{StateLists, book_lists, book_of}
 use Rattle.lane_table.specs.Calls.{Ended}
-use Rattle.lane_table.specs.Meaning.{replay}
-use Rattle.lane_table.specs.Steps.{Grows, halved, merged, told}
+use Rattle.lane_table.specs.Steps.{Grows, both_of, halved, merged, told}
 use Rattle.lane_table.specs.Steps as steps
-use Rattle.lane_table.specs.Advances.{floor}
-use Rattle.lane_table.specs.WorldRule.{AllBegin, Begins, at, blank, known_of}
+use Rattle.lane_table.specs.WorldRule.{AllBegin, at, known_of}
 use Rattle.lane_table.proofs.Book.BookEnds.{continues_before, ended_lanes, ended_lawful}
+use Rattle.lane_table.proofs.Calls.AdvanceLemmas.{climbs_append}
 use Rattle.lane_table.proofs.Rule.Shares.{merged_at, length_merged}
 use Rattle.lane_table.proofs.Lists.VisitLists.{begins_refl, with_both}
 use Rattle.vdso_state.specs.declared.place.Place.{Place}
 use Rattle.vdso_state.specs.declared.place.Turn.{Turn}
 use Rattle.vdso_state.specs.declared.place.Turn.TheVariants.{First, Second}
-use Rattle.vdso_state.specs.Places.{BehindPlace, Climbs}
-use Rattle.vdso_state.proofs.Leading.{climbs_append}
+use Rattle.vdso_state.specs.Places.{BehindPlace, Climbs as HostClimbs}
+use Rattle.vdso_state.proofs.Leading.{climbs_append as host_climbs_append}
 use Rattle.vcall_fork.specs.declared.stage.Stage.{Stage}
 use Rattle.vcall_fork.specs.declared.stage.Stage.TheVariants.{At}
 use Rattle.vcall_fork.specs.Stops.{RestOfCall}
 use Rattle.vcall_fork.specs.Forks.{ForksAreTold, ChildTakesKey}
+use Rattle.vcall_fork.proofs.Rests.{child_ordered, rest_asked, rest_bounded, rest_named}
 use Rattle.rng_core.specs.declared.setting.Setting.{Setting}
 use Rattle.rng_core.specs.Makes.{IsOutcomeOf, setting_of}
 use Rattle.rng_core.specs.Settings.{first_setting}
 use Rattle.rng_core.proofs.Makings.{did_floor}
 use Rattle.rng_core.proofs.Courses.{Course, IsKnown, known_grown, marks_both, marks_in, none_made, start, three_visits}
 use Rattle.rng_core.proofs.Hosting.{published_more}
-use Rattle.fork_runs.specs.Stretches.{FinishedOver}
 use Rattle.rng_core.specs.Traces.{knowing}
+use Rattle.fork_runs.specs.Stretches.{FinishedOver}
 use Rattle.fork_runs.specs.Runs.{DidAll, RanBy, ReachedStop, ForkedOver}
-use Rattle.fork_runs.specs.TableForks.{marks_of, Way, IsEnd, AreForkedBytes}
+use Rattle.fork_runs.specs.TableForks.{AreForkedBytes, IsEnd, ShowsNamed, Way, call_entries, marks_of, stamps_of, two_states}
 use Rattle.fork_runs.proofs.Courses.{course_did, course_calls}
+use Rattle.fork_runs.proofs.Joining.{child_at, floor_child, joined_floor, whole_again}
+use Rattle.fork_runs.proofs.Lines.{apart, begun, fronts, lawful, line_named, rekeyed_counts, start_holds}
+use Rattle.fork_runs.proofs.Looks.{found_some, good_first, good_here, good_parts, reads_both}
+use Rattle.fork_runs.proofs.Marks.{IsAt, at_most_once, calls_append, calls_have, hits_append, hits_calls}
+use Rattle.fork_runs.proofs.Stretching.{climbs_up}
 use Rattle.fork_runs.proofs.TwoStops.{parents_call, childs_call}
 
--- Joined passes
+stamps_up : (low high : ℕ) (stamps : List ℕ) → Climbs low stamps high → low ≤ high
+stamps_up low high [] h = omega arith
+stamps_up low high (stamp ∷ stamps) h = let a = h.0 in let b = stamps_up stamp high stamps h.1 in omega arith
 
--- two halves of the whole share
-whole_again : (a b c d : ℕ) → a ≡ 1 → b ≡ 1 → c ≡ 1 → d ≡ 1 →
-    a * 2 ^ (max c d - c) + b * 2 ^ (max c d - d) ≡ 2 ^ max c d
-whole_again a b c d p q r s =
-    (λ i. p i * 2 ^ (max (r i) (s i) - r i) + q i * 2 ^ (max (r i) (s i) - s i)) ∙ sym (λ i. 2 ^ max (r i) (s i))
+-- visits are those of a book whatever lists of states it has
+module _ (book : Book) (callers : StateLists) where
+  same_at : (lane : LaneId) (place : ℕ) → stamped_at book lane place ≡
+      stamped_at (record book { callers = callers }) lane place
+  same_at PoolLane place = refl
+  same_at BaseLane place = refl
+  same_at (CpuLane c) place = refl
 
-child_at : (v : View) (lane : ℕ) → at lane (steps.child v) ≡ told (at lane v)
-child_at v lane = get_or-map told v.lanes lane blank
-
-pub floor_child : (v : View) → floor (steps.child v) ≡ floor v
-floor_child v = ap (λ (a : LaneView). max v.seen (replay a.known).base.generation) (child_at v 1)
+  with_callers : (marks : List MarkBy) → VisitsAre book marks → VisitsAre (record book { callers = callers }) marks
+  with_callers marks k = record {
+    stand = each_weaker (IsAt book) (IsAt (record book { callers = callers })) marks
+        (λ by is. sym (same_at by.mark.lane by.mark.place) ∙ is) k.stand;
+    no_others = k.no_others;
+  }
 
 -- The calls to the stop
 
@@ -81,15 +107,15 @@ ran_course n s Second point before v w calls k =
     (course_calls 0 k.at_serve k.behind w (k.reseeded ∷ []) (k.more ∷ [])
     (course_did 0 k.at_serve k.behind k.reseeded k.reseeds) (course_did 0 k.behind w k.more k.shown_more)))
 
-module _ (lanes : ℕ) (visits : ℕ → List Visit) where
+module _ (lanes : ℕ) (visits : ℕ → List Visit) (callers : StateLists) where
   abbrev book : Lists
-  book = book_lists lanes visits []
+  book = book_lists lanes visits callers
 
   -- what a call did is what stands behind its steps
   shown_in : {P : List Deed → Type 0} (set : Setting) (v w : View) (own : List Step) → DidAll P set v own w →
       Continues lanes w visits → P (deeds_of book own)
   shown_in {P} set v w own k c = subst (λ (l : List Step). P (deeds_of book l)) (sym k.told.trace)
-      (k.stands lanes visits [] c)
+      (k.stands lanes visits callers c)
 
   before_call : {P : List Deed → Type 0} (set : Setting) (v w : View) (own : List Step) → DidAll P set v own w →
       Continues lanes w visits → Continues lanes v visits
@@ -114,6 +140,23 @@ module _ (lanes : ℕ) (visits : ℕ → List Visit) where
         shown_more = shown_in (first_setting 0) k.behind w k.more k.shown_more c;
       }
 
+  ran_good : (n : ℕ) (turn : Turn) (point : Point) (before : List HostStep) (v w : View) (calls : List (List Step)) →
+      RanBy (first_setting 0) n 0 wiped_state turn point before v calls w → Continues lanes w visits →
+      GoodBehind book 0 0 before
+  ran_good n First point before v w calls k c =
+      good_first lanes visits callers (first_setting 0) v w k.0 before k.2 c 0 0
+  ran_good n Second point before v w calls k c =
+      let behind = before_call (first_setting 0) k.behind w k.more k.shown_more c in
+      let serve = before_call (first_setting 0) k.at_serve k.behind k.reseeded k.reseeds behind in
+      let more = published_more (floor k.at_serve) (floor k.behind)
+      (did_floor (first_setting 0) (knowing k.at_serve []) (knowing k.behind k.reseeded) k.reseeds) in
+      let ready : 1 ≤ published_by (floor k.behind) =
+      (let a = k.earlier.ready in let b = k.known in omega arith) in
+      subst (GoodBehind book 0 0) (sym k.before_is) (good_parts book 0 0 k.earlier.before k.later.before Serve false
+      (good_first lanes visits callers (first_setting 0) v k.at_serve k.own k.earlier.before k.shown serve 0 0)
+      (good_here lanes visits callers (first_setting 0) k.behind w k.more k.later.before k.shown_more c
+      (found_some (floor k.behind) ready)))
+
   abbrev end_in : (caller n : ℕ) (place : Place) (left : Stage) (out held : List ℕ) (t s : VgetrandomState) (bytes : List ℕ)
       (v w : View) (own : List Step) → left ≡ At place → out ≡ held → t ≡ s →
       FinishedOver (first_setting caller) n 0 left out t bytes (knowing v []) (knowing w own) →
@@ -129,6 +172,52 @@ module _ (lanes : ℕ) (visits : ℕ → List Visit) where
     own = own;
     shown = shown_in (first_setting caller) v w own k.did c;
   }
+
+-- What the steps before the stop took, and read
+
+module _ (lists : Lists) (n : ℕ) where
+  abbrev shown_by : List HostStep → List Step → Type 0
+  shown_by steps own = Shows (setting_of (first_setting 0)) steps (deeds_of lists own)
+
+  own_reads : (steps : List HostStep) (own : List Step) → shown_by steps own → KeyReads (cpu_list lists) steps
+  own_reads steps own shows =
+      key_reads lists (setting_of (first_setting 0)) steps (deeds_of lists own) (all_there lists own) shows
+
+  reads_on_way : (turn : Turn) (point : Point) (before : List HostStep) (calls : List (List Step)) →
+      Way lists n turn point before calls → KeyReads (cpu_list lists) before
+  reads_on_way First point before calls k = own_reads before k.0 k.2
+  reads_on_way Second point before calls k = subst (KeyReads (cpu_list lists)) (sym k.before_is)
+      (reads_both (cpu_list lists) k.earlier.before (at_point Serve false ∷ k.later.before)
+      (own_reads k.earlier.before k.own k.shown) (own_reads k.later.before k.more k.shown_more))
+
+  module _ (c p : ℕ) where
+    own_takes : (steps : List HostStep) (own : List Step) → shown_by steps own →
+        step_takes c p steps ≤ mark_takes (CpuLane c) p own
+    own_takes steps own shows =
+        omega (
+          arith,
+          shown_takes c p (setting_of (first_setting 0)) steps (deeds_of lists own) shows,
+          deeds_within c p lists own,
+        )
+
+    takes_on_way : (turn : Turn) (point : Point) (before : List HostStep) (calls : List (List Step)) →
+        Way lists n turn point before calls → step_takes c p before ≤ calls_have (CpuLane c) p calls
+    takes_on_way First point before calls k =
+        let have : calls_have (CpuLane c) p calls ≡ mark_takes (CpuLane c) p k.0 + 0 =
+        ap (calls_have (CpuLane c) p) k.1 in
+        omega (arith, own_takes before k.0 k.2)
+    takes_on_way Second point before calls k =
+        let have : calls_have (CpuLane c) p calls
+        ≡ mark_takes (CpuLane c) p k.own + (mark_takes (CpuLane c) p k.reseeded + (mark_takes (CpuLane c) p k.more + 0)) =
+        ap (calls_have (CpuLane c) p) k.calls_are in
+        let parts : step_takes c p before ≡ step_takes c p (k.earlier.before ++ at_point Serve false ∷ k.later.before) =
+        ap (step_takes c p) k.before_is in
+        omega (
+          arith,
+          step_append c p k.earlier.before (at_point Serve false ∷ k.later.before),
+          own_takes k.earlier.before k.own k.shown,
+          own_takes k.later.before k.more k.shown_more,
+        )
 
 -- caller 0 called on a new table behind a sample, and forked
 module _ (turn : Turn) (point : Point) (n : ℕ) (p q w x : View) (left : Stage) (out : List ℕ) (t : VgetrandomState)
@@ -164,52 +253,61 @@ module _ (turn : Turn) (point : Point) (n : ℕ) (p q w x : View) (left : Stage)
   parent_course : Course (halved mid) over.parent_end rest_marks
   parent_course = course_did 0 (halved mid) over.parent_end over.parents over.parent_ends.did
 
-  child_course : Course (steps.child mid) over.child_end child_marks
-  child_course = course_did 1 (steps.child mid) over.child_end over.childs over.child_ends.did
+  abbrev half : View
+  half = steps.child mid
 
-  pub share_is : x.share ≡ 2 ^ x.halvings
-  share_is = subst (λ (z : View). z.share ≡ 2 ^ z.halvings) (sym over.joined)
-      (whole_again over.parent_end.share over.child_end.share over.parent_end.halvings over.child_end.halvings
-      (parent_course.same.share ∙ fork_course.same.share) (child_course.same.share ∙ fork_course.same.share)
-      (parent_course.same.halvings ∙ ap (λ (k : ℕ). k + 1) fork_course.same.halvings)
-      (child_course.same.halvings ∙ ap (λ (k : ℕ). k + 1) fork_course.same.halvings))
+  -- what the child's pass knows that took in the parent's
+  abbrev pub both : View
+  both = both_of half over.parent_end
+
+  child_course : Course both x child_marks
+  child_course = course_did 1 both x over.childs over.child_ends.did
+
+  half_wide : length half.lanes ≡ 3
+  half_wide = length-map mid.lanes told ∙ fork_course.same.sized
 
   parent_wide : length over.parent_end.lanes ≡ 3
   parent_wide = parent_course.same.sized ∙ fork_course.same.sized
 
-  child_wide : length over.child_end.lanes ≡ 3
-  child_wide = child_course.same.sized ∙ length-map mid.lanes told ∙ fork_course.same.sized
+  long : length half.lanes ≡ length over.parent_end.lanes
+  long = half_wide ∙ sym parent_wide
 
-  long : length over.parent_end.lanes ≡ length over.child_end.lanes
-  long = parent_wide ∙ sym child_wide
+  both_wide : length both.lanes ≡ 3
+  both_wide = length_merged half.lanes over.parent_end.lanes long ∙ half_wide
+
+  pub share_is : x.share ≡ 2 ^ x.halvings
+  share_is =
+      let whole : both.share ≡ 2 ^ both.halvings =
+      whole_again half.share over.parent_end.share half.halvings over.parent_end.halvings
+      fork_course.same.share (parent_course.same.share ∙ fork_course.same.share)
+      (ap (λ (k : ℕ). k + 1) fork_course.same.halvings)
+      (parent_course.same.halvings ∙ ap (λ (k : ℕ). k + 1) fork_course.same.halvings) in
+      child_course.same.share ∙ whole ∙ ap (λ (k : ℕ). 2 ^ k) (sym child_course.same.halvings)
 
   wide : length x.lanes ≡ 3
-  wide = ap (λ (z : View). length z.lanes) over.joined
-      ∙ length_merged over.parent_end.lanes over.child_end.lanes long ∙ parent_wide
+  wide = child_course.same.sized ∙ both_wide
 
-  both_at : (lane : ℕ) → at lane x ≡ merged (at lane over.parent_end) (at lane over.child_end)
-  both_at lane = ap (at lane) over.joined ∙ merged_at over.parent_end.lanes over.child_end.lanes lane long
+  both_at : (lane : ℕ) → at lane both ≡ merged (at lane half) (at lane over.parent_end)
+  both_at lane = merged_at half.lanes over.parent_end.lanes lane long
 
-  module _ (at_end : Ended 3 x) (fork_law : ForksAreTold) (key_law : ChildTakesKey) where
+  module _ (some : 1 ≤ n) (at_end : Ended 3 x) (fork_law : ForksAreTold) (key_law : ChildTakesKey) where
     ended : Ended (length x.lanes) x
     ended = subst (λ (k : ℕ). Ended k x) (sym wide) at_end
 
     low : 2 ≤ length x.lanes
     low = let e = wide in omega arith
 
-    heard : (lane : ℕ) → lane < 3 →
-        Begins (known_of over.parent_end lane) (known_of x lane) × Begins (known_of over.child_end lane) (known_of x lane)
-    heard lane near =
-        let all = subst (λ (a : LaneView). AllBegin a.heard (known_of x lane)) (both_at lane) (at_end.heard lane near) in
-        let one = with_both (known_of over.parent_end lane) _ (known_of x lane) all in
-        let two = with_both (known_of over.child_end lane) _ (known_of x lane) one.1 in
-        (one.0, two.0)
-
     parent_grows : Grows over.parent_end x
-    parent_grows lane near = (heard lane (let e = parent_wide in omega arith)).0
-
-    child_grows : Grows over.child_end x
-    child_grows lane near = (heard lane (let e = child_wide in omega arith)).1
+    parent_grows lane near =
+        let below : lane < 3 = (let e = parent_wide in omega arith) in
+        let here : (at lane x).heard ≡ (at lane both).heard = over.child_ends.did.told.went.heard lane
+        (let e = both_wide in omega arith) in
+        let all : AllBegin (at lane both).heard (known_of x lane) =
+        subst (λ (l : List (List Visit)). AllBegin l (known_of x lane)) here (at_end.heard lane below) in
+        let both_heard : AllBegin (merged (at lane half) (at lane over.parent_end)).heard (known_of x lane) =
+        subst (λ (a : LaneView). AllBegin a.heard (known_of x lane)) (both_at lane) all in
+        (with_both (known_of over.parent_end lane) _ (known_of x lane)
+        (with_both (known_of half lane) _ (known_of x lane) both_heard).1).0
 
     goes_on : Continues (length x.lanes) x (known_of x)
     goes_on = record {
@@ -220,10 +318,6 @@ module _ (turn : Turn) (point : Point) (n : ℕ) (p q w x : View) (left : Stage)
 
     parent_goes : Continues (length x.lanes) over.parent_end (known_of x)
     parent_goes = continues_before (length x.lanes) over.parent_end x (known_of x) (wide ∙ sym parent_wide) parent_grows
-        goes_on
-
-    child_goes : Continues (length x.lanes) over.child_end (known_of x)
-    child_goes = continues_before (length x.lanes) over.child_end x (known_of x) (wide ∙ sym child_wide) child_grows
         goes_on
 
     fork_goes : Continues (length x.lanes) mid (known_of x)
@@ -248,83 +342,262 @@ module _ (turn : Turn) (point : Point) (n : ℕ) (p q w x : View) (left : Stage)
         each_append (IsKnown x) (parents_marks ++ rest_marks) child_marks
         (known_grown over.parent_end x (parents_marks ++ rest_marks) (wide ∙ sym parent_wide) parent_grows
         (each_append (IsKnown over.parent_end) parents_marks rest_marks fork_known parent_course.known))
-        (known_grown over.child_end x child_marks (wide ∙ sym child_wide) child_grows child_course.known)
+        child_course.known
 
     made_at : (lane : ℕ) → lane < 3 → (at lane x).made ≡ marks_in lane marks
     made_at lane near =
-        let all = ap (λ (a : LaneView). a.made) (both_at lane) in
+        let all = child_course.made lane (let e = both_wide in omega arith) in
+        let both_made = ap (λ (a : LaneView). a.made) (both_at lane) in
         let a = fork_course.made lane near in
         let start_made = none_made lane near in
         let b = parent_course.made lane (let e = fork_course.same.sized in omega arith) in
-        let c = child_course.made lane (let e = fork_course.same.sized in let f = length-map mid.lanes told in omega arith) in
         let d = ap (λ (z : LaneView). z.made) (child_at mid lane) in
         let e = marks_both lane (parents_marks ++ rest_marks) child_marks in
         let f = marks_both lane parents_marks rest_marks in
         omega arith
 
+    -- The stamps climb, from each to the next
+
+    later : both.stamp ≡ over.parent_end.stamp
+    later = let up = stamps_up mid.stamp over.parent_end.stamp (stamps_of rest_marks) parent_course.climbs in omega arith
+
+    child_later : Climbs over.parent_end.stamp (stamps_of child_marks) x.stamp
+    child_later = subst (λ (stamp : ℕ). Climbs stamp (stamps_of child_marks) x.stamp) later child_course.climbs
+
+    climbing : Climbs 0 (stamps_of marks) x.stamp
+    climbing =
+        let one = climbs_append 0 mid.stamp over.parent_end.stamp (stamps_of parents_marks) (stamps_of rest_marks)
+        fork_course.climbs parent_course.climbs in
+        let two = climbs_append 0 over.parent_end.stamp x.stamp (stamps_of parents_marks ++ stamps_of rest_marks)
+        (stamps_of child_marks) one child_later in
+        subst (λ (l : List ℕ). Climbs 0 l x.stamp)
+        (sym (map-append (λ (by : MarkBy). by.mark.stamp) (parents_marks ++ rest_marks) child_marks
+        ∙ ap (λ (l : List ℕ). l ++ stamps_of child_marks)
+        (map-append (λ (by : MarkBy). by.mark.stamp) parents_marks rest_marks))) two
+
+    -- The states
+
+    abbrev parents_entries : List VEntry
+    parents_entries = reached.stop.entries ++ over.parent_ends.outcome.entries
+
+    abbrev childs_entries : List VEntry
+    childs_entries = over.child_ends.outcome.entries
+
+    abbrev callers : StateLists
+    callers = two_states parents_entries childs_entries
+
+    abbrev whole : Book
+    whole = book_of (length x.lanes) (known_of x) callers
+
+    abbrev lists : Lists
+    lists = book_lists (length x.lanes) (known_of x) callers
+
+    visits : VisitsAre whole marks
+    visits = with_callers (book_of (length x.lanes) (known_of x) []) callers marks
+        (three_visits x marks wide ended made_at known)
+
+    lanes : LawfulLanes lists
+    lanes = ended_lawful x callers low ended
+
     -- Both ends
 
-    abbrev parent_is : IsEnd (book_lists (length x.lanes) (known_of x) []) 0 n reached.stop.place reached.stop.held
-        reached.stop.state parent
-    parent_is = end_in (length x.lanes) (known_of x) 0 n reached.stop.place left out reached.stop.held t reached.stop.state
-        parent (halved mid) over.parent_end over.parents reached.stage_is reached.held_is reached.state_is
-        over.parent_ends parent_goes
+    abbrev parent_is : IsEnd lists 0 n reached.stop.place reached.stop.held reached.stop.state parent
+    parent_is = end_in (length x.lanes) (known_of x) callers 0 n reached.stop.place left out reached.stop.held t
+        reached.stop.state parent (halved mid) over.parent_end over.parents reached.stage_is reached.held_is
+        reached.state_is over.parent_ends parent_goes
 
-    abbrev child_is : IsEnd (book_lists (length x.lanes) (known_of x) []) 1 n reached.stop.place reached.stop.held wiped_state
-        child
-    child_is = end_in (length x.lanes) (known_of x) 1 n reached.stop.place left out reached.stop.held wiped_state
-        wiped_state child (steps.child mid) over.child_end over.childs reached.stage_is reached.held_is refl
-        over.child_ends child_goes
+    abbrev child_is : IsEnd lists 1 n reached.stop.place reached.stop.held wiped_state child
+    child_is = end_in (length x.lanes) (known_of x) callers 1 n reached.stop.place left out reached.stop.held wiped_state
+        wiped_state child both x over.childs reached.stage_is reached.held_is refl over.child_ends goes_on
 
-    published : reached.stop.place.published ≤ published_by (floor (steps.child mid))
-    published =
+    abbrev parent_call : IsCall n 0 wiped_state (reached.stop.before ++ at_point point false ∷ parent_is.steps)
+        (outcome_behind reached.stop.entries parent_is.outcome)
+    parent_call = parents_call fork_law n 0 wiped_state turn point reached.stop parent_is.steps parent_is.outcome parent_is.rest
+
+    abbrev child_call : IsCall n 0 wiped_state (reached.stop.before ++ at_point point true ∷ child_is.steps)
+        (outcome_behind reached.stop.entries (outcome_behind (Wipe ∷ []) child_is.outcome))
+    child_call = childs_call fork_law n 0 wiped_state turn point reached.stop child_is.steps child_is.outcome child_is.rest
+
+    fork_knows : reached.stop.place.published ≤ published_by (floor mid)
+    fork_knows =
         let a = reached.known in
         let b = published_more (floor w) (floor mid) (did_floor (first_setting 0) (knowing w []) (knowing mid over.forked)
         over.forks) in
-        let c = ap published_by (floor_child mid) in
         omega arith
 
-    child_climbs : Climbs reached.stop.place.published (published_by (floor over.child_end)) over.child_ends.steps
-    child_climbs = climbs_append reached.stop.place.published (published_by (floor (steps.child mid)))
-        (published_by (floor over.child_end)) [] over.child_ends.steps published over.child_ends.climbs
+    both_knows : reached.stop.place.published ≤ published_by (floor both)
+    both_knows =
+        let as_much = ap published_by (floor_child mid) in
+        let own = fork_knows in
+        let parents = climbs_up (published_by (floor (halved mid))) (published_by (floor over.parent_end))
+        over.parent_ends.steps over.parent_ends.climbs in
+        joined_floor reached.stop.place.published half over.parent_end long (omega arith) (omega arith)
 
-    lawful : LawfulLanes (book_lists (length x.lanes) (known_of x) [])
-    lawful = ended_lawful x [] low ended
+    child_climbs : HostClimbs reached.stop.place.published (published_by (floor x)) over.child_ends.steps
+    child_climbs = host_climbs_append reached.stop.place.published (published_by (floor both)) (published_by (floor x)) []
+        over.child_ends.steps both_knows over.child_ends.climbs
+
+    -- What the parts of the call did
+
+    abbrev the_way : Way lists n turn point reached.stop.before reached.calls
+    the_way = way_in (length x.lanes) (known_of x) callers n turn point reached.stop.before q w reached.calls reached.ran
+        stop_goes
+
+    way_good : GoodBehind lists 0 0 reached.stop.before
+    way_good = ran_good (length x.lanes) (known_of x) callers n turn point reached.stop.before q w reached.calls
+        reached.ran stop_goes
+
+    way_reads : KeyReads (cpu_list lists) reached.stop.before
+    way_reads = reads_on_way lists n turn point reached.stop.before reached.calls the_way
+
+    parent_good : Good lists parent_is.steps
+    parent_good = good_here (length x.lanes) (known_of x) callers (first_setting 0) (halved mid) over.parent_end over.parents
+        over.parent_ends.steps over.parent_ends.did parent_goes
+        (found_some (floor mid) (let a = reached.stop.ready in let b = fork_knows in omega arith))
+
+    child_good : Good lists child_is.steps
+    child_good = good_here (length x.lanes) (known_of x) callers (first_setting 1) both x over.childs over.child_ends.steps
+        over.child_ends.did goes_on
+        (found_some (floor both) (let a = reached.stop.ready in let b = both_knows in omega arith))
+
+    parents_behind : GoodBehind lists 0 0 (reached.stop.before ++ at_point point false ∷ parent_is.steps)
+    parents_behind = good_parts lists 0 0 reached.stop.before parent_is.steps point false way_good parent_good
+
+    parents_reads : AllByRecursion (TakesRead (cpu_list lists)) parents_entries
+    parents_reads = call_names (cpu_list lists) n 0 wiped_state
+        (reached.stop.before ++ at_point point false ∷ parent_is.steps)
+        (outcome_behind reached.stop.entries parent_is.outcome)
+        (reads_both (cpu_list lists) reached.stop.before (at_point point false ∷ parent_is.steps) way_reads
+        (own_reads lists n parent_is.steps parent_is.own parent_is.shown)) parent_call
+
+    childs_reads : AllByRecursion (TakesRead (cpu_list lists)) childs_entries
+    childs_reads = (each_right (TakesRead (cpu_list lists)) reached.stop.entries (Wipe ∷ childs_entries)
+        (call_names (cpu_list lists) n 0 wiped_state (reached.stop.before ++ at_point point true ∷ child_is.steps)
+        (outcome_behind reached.stop.entries (outcome_behind (Wipe ∷ []) child_is.outcome))
+        (reads_both (cpu_list lists) reached.stop.before (at_point point true ∷ child_is.steps) way_reads
+        (own_reads lists n child_is.steps child_is.own child_is.shown)) child_call)).1
+
+    -- No place of a lane is visited twice
+
+    marked_once : (lane : LaneId) (p : ℕ) →
+        calls_have lane p reached.calls + mark_takes lane p over.parents + mark_takes lane p over.childs ≤ 1
+    marked_once lane p =
+        omega (
+          arith,
+          at_most_once lane p whole 0 x.stamp marks climbing visits.stand,
+          hits_append lane p (parents_marks ++ rest_marks) child_marks,
+          hits_append lane p parents_marks rest_marks,
+          hits_calls lane p 0 (sampled.0 ∷ reached.calls ++ over.forked ∷ []),
+          hits_calls lane p 0 (over.parents ∷ []),
+          hits_calls lane p 1 (over.childs ∷ []),
+          calls_append lane p reached.calls (over.forked ∷ []),
+        )
+
+    -- nor is a read taken twice, or taken and given out
+    taken_once : (c p : ℕ) → takes c p parents_entries + ending_takes c p parent_is.outcome.ending
+        + (takes c p childs_entries + ending_takes c p child_is.outcome.ending) ≤ 1
+    taken_once c p =
+        let parents = (call_bounded c p n 0 wiped_state (reached.stop.before ++ at_point point false ∷ parent_is.steps)
+        (outcome_behind reached.stop.entries parent_is.outcome) parent_call).is in
+        let childs = (rest_bounded c p n 0 reached.stop.place reached.stop.held wiped_state child_is.steps child_is.outcome
+        child_is.rest).is in
+        omega (
+          arith,
+          parents,
+          childs,
+          step_append c p reached.stop.before (at_point point false ∷ parent_is.steps),
+          takes_on_way lists n c p turn point reached.stop.before reached.calls the_way,
+          own_takes lists n c p parent_is.steps parent_is.own parent_is.shown,
+          own_takes lists n c p child_is.steps child_is.own child_is.shown,
+          marked_once (CpuLane c) p,
+        )
+
+    free_of : (c p e : ℕ) → is_rekeyed lists c p ≡ true →
+        takes c p parents_entries + e + takes c p childs_entries ≤ 1 → e ≡ 0
+    free_of c p e rekeyed le =
+        let one = rekeyed_counts lists parents_entries childs_entries refl c p rekeyed in omega arith
+
+    -- The book is lawful
+
+    ordered : (steps : List HostStep) (outcome : Outcome) → IsCall n 0 wiped_state steps outcome →
+        OrderedStateList 0 0 outcome.entries
+    ordered steps outcome is =
+        let k = call_keeps 0 0 n 0 state_start wiped_state steps outcome is
+        (record { same_pos = refl; within = omega arith; expects = refl; zeros = refl }) in
+        record { comes = k.lawful; ends = k.after.expects }
+
+    lawful_book : LawfulBook lists
+    lawful_book = lawful lists parents_entries childs_entries refl
+        (λ c p. let le = taken_once c p in omega arith) lanes
+        (ordered (reached.stop.before ++ at_point point false ∷ parent_is.steps)
+        (outcome_behind reached.stop.entries parent_is.outcome) parent_call)
+        (child_ordered 0 0 1 reached.stop.entries childs_entries
+        (ordered (reached.stop.before ++ at_point point true ∷ child_is.steps)
+        (outcome_behind reached.stop.entries (outcome_behind (Wipe ∷ []) child_is.outcome)) child_call))
+        parents_reads childs_reads
+
+    -- The lines
+
+    serves : VisitsServeNamed lists
+    serves = lawful_serves_named lists lanes
+
+    abbrev parents_line : ShowsNamed lists (call_entries 0 parents_entries) parent_is.own parent
+    parents_line = line_named lists serves 0 parents_entries refl parent_is.own parent (setting_of (first_setting 0))
+        parent_is.steps parent_is.shown parent_is.outcome.ending parent_is.gives
+        (λ bytes is. batch.call_named lists 0 0 n 0 (begun lists serves 0 parents_entries refl) wiped_state
+        (reached.stop.before ++ at_point point false ∷ parent_is.steps)
+        (outcome_behind reached.stop.entries parent_is.outcome) parents_behind parent_call
+        (start_holds lists serves 0 parents_entries refl)
+        (fronts lists serves 0 parents_entries refl (lawful_book.states.states 0 0)) bytes is)
+        (λ answer is. rest_asked answer n 0 reached.stop.place reached.stop.held reached.stop.state parent_is.steps
+        parent_is.outcome is parent_is.rest)
+        (λ c p rekeyed. free_of c p (ending_takes c p parent_is.outcome.ending) rekeyed
+        (let le = taken_once c p in omega arith))
+
+    abbrev childs_line : ShowsNamed lists (call_entries 1 childs_entries) child_is.own child
+    childs_line = line_named lists serves 1 childs_entries refl child_is.own child (setting_of (first_setting 1))
+        child_is.steps child_is.shown child_is.outcome.ending child_is.gives
+        (λ bytes is. rest_named lists 1 0 n 0 reached.stop.place reached.stop.held some
+        (begun lists serves 1 childs_entries refl) child_is.steps child_is.outcome child_good child_is.rest
+        (start_holds lists serves 1 childs_entries refl)
+        (fronts lists serves 1 childs_entries refl (lawful_book.states.states 1 0)) bytes is)
+        (λ answer is. rest_asked answer n 0 reached.stop.place reached.stop.held wiped_state child_is.steps
+        child_is.outcome is child_is.rest)
+        (λ c p rekeyed. free_of c p (ending_takes c p child_is.outcome.ending) rekeyed
+        (let le = taken_once c p in omega arith))
 
     pub forked_bytes : AreForkedBytes turn point n parent child
     forked_bytes = record {
-      book = book_of (length x.lanes) (known_of x) [];
+      book = whole;
       cpus = length-map (range_with_len 0 (length x.lanes - 2)) _ ∙ length-range_with_len 0 (length x.lanes - 2)
           ∙ (let e = wide in omega arith);
-      lawful = lawful;
-      disjoint = lawful_is_disjoint (book_lists (length x.lanes) (known_of x) []) (record {
-        lanes = lawful;
-        states = record {
-          states = λ caller state. record { comes = tt; ends = refl };
-          one_taker = λ a b read is at. absurd cc;
-        };
-      });
+      lawful = lawful_book;
+      disjoint = lawful_is_disjoint lists lawful_book;
       added = sampled.0;
-      adds = shown_in (length x.lanes) (known_of x) (first_setting 0) p q sampled.0 sampled.1 sample_goes;
+      adds = shown_in (length x.lanes) (known_of x) callers (first_setting 0) p q sampled.0 sampled.1 sample_goes;
       stop = reached.stop;
       calls = reached.calls;
-      way = way_in (length x.lanes) (known_of x) n turn point reached.stop.before q w reached.calls reached.ran stop_goes;
+      way = the_way;
       forked = over.forked;
-      forks = shown_in (length x.lanes) (known_of x) (first_setting 0) w mid over.forked over.forks fork_goes;
+      forks = shown_in (length x.lanes) (known_of x) callers (first_setting 0) w mid over.forked over.forks fork_goes;
       parent_end = parent_is;
       child_end = child_is;
-      parent_call = parents_call fork_law n 0 wiped_state turn point reached.stop parent_is.steps parent_is.outcome parent_is.rest;
-      child_call = childs_call fork_law n 0 wiped_state turn point reached.stop child_is.steps child_is.outcome child_is.rest;
+      callers_are = refl;
+      parent_call = parent_call;
+      child_call = child_call;
       child_keyed = λ bytes is. key_law n 0 reached.stop.place reached.stop.held over.child_ends.steps
-          over.child_ends.outcome (published_by (floor over.child_end)) bytes child_is.rest reached.stop.ready
-          child_climbs is;
-      visits = three_visits x marks wide ended made_at known;
+          over.child_ends.outcome (published_by (floor x)) bytes child_is.rest reached.stop.ready child_climbs is;
+      parent_line = parents_line;
+      child_line = childs_line;
+      apart = apart lists lawful_book parents_entries childs_entries over.parents over.childs parent child parents_line
+          childs_line (λ lane p. let le = marked_once lane p in omega arith);
+      visits = visits;
       at_fork = mid.stamp;
       parents_last = over.parent_end.stamp;
-      childs_last = over.child_end.stamp;
+      childs_last = x.stamp;
       to_fork = fork_course.climbs;
       parents_rest = parent_course.climbs;
-      childs_rest = child_course.climbs;
+      childs_rest = child_later;
     }
 
 -- the same by what the calls were made with

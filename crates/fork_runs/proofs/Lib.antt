@@ -1,5 +1,9 @@
 pub mod Courses
 pub mod Ends
+pub mod Joining
+pub mod Lines
+pub mod Looks
+pub mod Marks
 pub mod Reaching
 pub mod Stretching
 pub mod TwoStops

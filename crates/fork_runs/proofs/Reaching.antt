@@ -1,5 +1,5 @@
 -- A new call that came to its stop.
-use Rattle.std.proofs.Common.{◌≡◌, ℕ, ◌≤◌, List, [], ◌∷◌, refl, sym, subst, arith}
+use Rattle.std.proofs.Common.{◌≡◌, ℕ, ◌≤◌, List, [], ◌∷◌, refl, sym, subst, ap, ◌∙◌, arith, length}
 use Rattle.key_names.specs.declared.events.Answer.TheVariants.{Ok as Done}
 use Rattle.key_names.specs.declared.events.Event.TheVariants.{Reseed}
 use Rattle.key_names.specs.declared.names.Step.{Step}
@@ -10,7 +10,7 @@ use Rattle.key_names.specs.SeenLine.{no_data}
 use Rattle.key_names.specs.VgetrandomState.{VgetrandomState}
 use Rattle.key_names.specs.VreadSteps.{published_by}
 use Rattle.lane_table.specs.declared.view.View.{View}
-use Rattle.lane_table.specs.Steps.{halved}
+use Rattle.lane_table.specs.Steps.{both_of, halved}
 use Rattle.lane_table.specs.Steps as steps
 use Rattle.lane_table.specs.Advances.{floor}
 use Rattle.vdso_state.specs.declared.place.Turn.{Turn}
@@ -26,7 +26,7 @@ use Rattle.rng_core.proofs.Hosting.{published_more}
 use Rattle.fork_runs.specs.Stretches.{StoppedOver}
 use Rattle.rng_core.specs.Traces.{knowing}
 use Rattle.fork_runs.specs.Runs.{DidAll, ReachedStop}
-use Rattle.fork_runs.proofs.Ends.{floor_child}
+use Rattle.fork_runs.proofs.Joining.{floor_child, joined_floor}
 use Rattle.fork_runs.proofs.TwoStops.{stop_then}
 
 -- what was published stays known
@@ -43,14 +43,18 @@ parent_known stage v before w low up is =
     let more = published_more (floor v) (floor before) up in
     subst (λ (z : View). published_or 0 stage ≤ published_by (floor z)) (sym is) (omega arith)
 
-pub child_known : (stage again : Stage) (v before w : View) → published_or 0 stage ≤ published_by (floor v) →
-    floor v ≤ floor before → w ≡ steps.child before → again ≡ stage → published_or 0 again ≤ published_by (floor w)
-child_known stage again v before w low up is same =
+pub child_known : (stage again : Stage) (v before half parents both : View) →
+    published_or 0 stage ≤ published_by (floor v) → floor v ≤ floor before → half ≡ steps.child before → again ≡ stage →
+    length half.lanes ≡ length parents.lanes → published_or 0 stage ≤ published_by (floor parents) →
+    both ≡ both_of half parents → published_or 0 again ≤ published_by (floor both)
+child_known stage again v before half parents both low up half_is same long parents_low is =
     let more = published_more (floor v) (floor before) up in
-    let a : published_or 0 stage ≤ published_by (floor before) = omega arith in
+    let as_much : floor half ≡ floor before = ap floor half_is ∙ floor_child before in
+    let halfs : published_by (floor half) ≡ published_by (floor before) = ap published_by as_much in
+    let own : published_or 0 stage ≤ published_by (floor half) = omega arith in
     subst (λ (z : View). published_or 0 again ≤ published_by (floor z)) (sym is)
-    (subst (λ (k : ℕ). published_or 0 again ≤ published_by k) (sym (floor_child before))
-    (subst (λ (x : Stage). published_or 0 x ≤ published_by (floor before)) (sym same) a))
+    (subst (λ (x : Stage). published_or 0 x ≤ published_by (floor (both_of half parents))) (sym same)
+    (joined_floor (published_or 0 stage) half parents long own parents_low))
 
 -- from v to w a caller ran a call to a stop, with steps of its own
 abbrev pub Stopping : Setting → ℕ → ℕ → Stage → List ℕ → VgetrandomState → Turn → Point → Stage → List ℕ →
@@ -105,6 +109,7 @@ module _ (law : ForksAreTold) (set : Setting) (n flags : ℕ) (s : VgetrandomSta
       more = own;
       calls_are = refl;
       at_serve = x;
+      known = earlier.known;
       behind = y;
       shown = earlier.did;
       reseeds = reseeded.1;

@@ -1,5 +1,5 @@
 -- What a host over the lanes did in a stretch of a call, in the words of the caller.
-use Rattle.std.proofs.Common.{◌≡◌, ℕ, ◌<◌, Bool, true, false, List, [], ◌∷◌, length, refl, sym, ap, ◌∙◌, subst}
+use Rattle.std.proofs.Common.{◌≡◌, ℕ, ◌<◌, ◌≤◌, arith, Bool, true, false, List, [], ◌∷◌, length, refl, sym, ap, ◌∙◌, subst}
 use Rattle.std.specs.Prelude.{◌&&◌, Result}
 use Rattle.key_names.specs.declared.errno.Errno.{Errno}
 use Rattle.key_names.specs.declared.point.Point.{Point}
@@ -13,7 +13,7 @@ use Rattle.vdso_state.specs.declared.outcome.VEnd.{VEnd}
 use Rattle.vdso_state.specs.declared.place.Turn.{Turn}
 use Rattle.vdso_state.specs.Call.{EndsAs}
 use Rattle.vdso_state.specs.Host.{DoesAll}
-use Rattle.vdso_state.specs.Places.{Ends}
+use Rattle.vdso_state.specs.Places.{Climbs, Ends}
 use Rattle.vcall_fork.specs.declared.stage.Stage.{Stage}
 use Rattle.vcall_fork.specs.Stops.{RestOfCall, Stopped}
 use Rattle.lane_table.specs.declared.lanes.Lanes.{Lanes}
@@ -29,6 +29,12 @@ use Rattle.rng_core.proofs.Acting.{acted_own, host_acts}
 use Rattle.rng_core.proofs.Hosting.{none_left, free_has}
 use Rattle.fork_runs.specs.Ending.{gives}
 use Rattle.fork_runs.specs.Stretches.{AreUnwiped, StoppedOver, GivesBytes, FinishedOver}
+
+pub climbs_up : (low high : ℕ) (steps : List HostStep) → Climbs low high steps → low ≤ high
+climbs_up low high [] h = h
+climbs_up low high (publishes g ∷ steps) h = let a = h.0 in let b = climbs_up g high steps h.1 in omega arith
+climbs_up low high (system_call n flags answer ∷ steps) h = climbs_up low high steps h
+climbs_up low high (at_point point wiped ∷ steps) h = climbs_up low high steps h
 
 never_both : (b : Bool) → (b && false) ≡ false
 never_both true = refl

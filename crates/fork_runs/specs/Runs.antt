@@ -41,6 +41,7 @@ pub record RanBySecond (set : Setting) (n flags : ℕ) (s : VgetrandomState) (po
   pub more : List Step
   pub calls_are : calls ≡ own ∷ reseeded ∷ more ∷ []
   pub at_serve : View
+  pub known : earlier.place.published ≤ published_by (floor at_serve)
   pub behind : View
   pub shown : DidAll (Shows (setting_of set) earlier.before) set v own at_serve
   pub reseeds : DidAll (IsOutcomeOf (setting_of set) Reseed Done no_data) set at_serve reseeded behind
@@ -63,8 +64,8 @@ pub record ReachedStop (set : Setting) (n flags : ℕ) (s : VgetrandomState) (tu
   pub calls : List (List Step)
   pub ran : RanBy set n flags s turn point stop.before v calls w
 
--- from v to w a caller forked caller 1 in a call that stood at a point, ended the call, and took in the child's pass,
--- which had ended its own
+-- from v to w a caller forked caller 1 in a call that stood at a point, and ended the call; then the child's pass took in
+-- the caller's, and ended its own
 pub record ForkedOver (set : Setting) (n flags : ℕ) (stage : Stage) (held : List ℕ) (s : VgetrandomState)
     (parent child : List ℕ) (v w : View) : Type 0 where
   pub forked : List Step
@@ -74,7 +75,5 @@ pub record ForkedOver (set : Setting) (n flags : ℕ) (stage : Stage) (held : Li
   pub parent_end : View
   pub parent_ends : FinishedOver set n flags stage held s parent (knowing (halved at_fork) []) (knowing parent_end parents)
   pub childs : List Step
-  pub child_end : View
   pub child_ends : FinishedOver (first_setting 1) n flags stage held wiped_state child
-      (knowing (steps.child at_fork) []) (knowing child_end childs)
-  pub joined : w ≡ both_of parent_end child_end
+      (knowing (both_of (steps.child at_fork) parent_end) []) (knowing w childs)

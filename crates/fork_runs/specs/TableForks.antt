@@ -2,18 +2,21 @@
 use Rattle.std.specs.Prelude.{ℕ, ◌≡◌, true, false, List, [], ◌∷◌, ◌++◌, length, map}
 use Rattle.std.specs.List.{flat_map, range_with_len}
 use Rattle.key_names.specs.declared.entries.BaseEntry.TheVariants.{Fork}
+use Rattle.key_names.specs.declared.entries.VEntry.{VEntry}
 use Rattle.key_names.specs.declared.entries.VEntry.TheVariants.{Wipe}
 use Rattle.key_names.specs.declared.events.Answer.TheVariants.{Ok as Done}
 use Rattle.key_names.specs.declared.events.Event.TheVariants.{Add, Reseed}
 use Rattle.key_names.specs.declared.names.Step.{Step}
 use Rattle.key_names.specs.declared.point.Point.{Point}
 use Rattle.key_names.specs.declared.point.Point.TheVariants.{Serve}
-use Rattle.key_names.specs.Book.{Book, Lists, LawfulLanes, lists_of}
+use Rattle.key_names.specs.Book.{Book, Lists, LawfulBook, lists_of}
 use Rattle.key_names.specs.Deeds.{deeds_of}
 use Rattle.key_names.specs.Forms.{BaseOnly}
 use Rattle.key_names.specs.IsTranscript.{MarkBy, VisitsAre, marks_from}
+use Rattle.key_names.specs.PrintedBytes.{Origin, origins_uses, StateEntries, PrintsBy}
 use Rattle.key_names.specs.SeenLine.{no_data}
-use Rattle.key_names.specs.Uses.{IsDisjoint}
+use Rattle.key_names.specs.ServedNamed.{served_in}
+use Rattle.key_names.specs.Uses.{Disjoint, IsDisjoint}
 use Rattle.key_names.specs.Vgetrandom.{HostStep, at_point, Outcome, outcome_behind, by_batch, IsCall}
 use Rattle.key_names.specs.VgetrandomState.{VgetrandomState, wiped_state}
 use Rattle.key_names.specs.VreadSteps.{Shows}
@@ -63,6 +66,22 @@ pub record IsEnd (lists : Lists) (caller n : ℕ) (place : Place) (held : List �
   pub own : List Step
   pub shown : IsShown lists caller steps own
 
+-- the entries that a call left in the list of a caller's first state, where no call was before it
+abbrev pub call_entries : ℕ → List VEntry → StateEntries
+call_entries caller entries = record { caller = caller; state = 0; from = 0; count = length entries }
+
+-- a line shows these bytes as a transcript's line does: they are those of the spans that entries of its own serve, each
+-- span's by the name of its key, by the last visit of its steps or by some of the entries that its call left
+pub record ShowsNamed (lists : Lists) (own : StateEntries) (steps : List Step) (out : List ℕ) : Type 0 where
+  pub origins : List Origin
+  pub by : PrintsBy own steps origins
+  pub shown : out ≡ served_in lists (origins_uses lists origins)
+
+-- one vgetrandom state of the parent, with the entries of its whole call, and one of the child, which starts wiped, with
+-- those of its end of the call
+abbrev pub two_states : List VEntry → List VEntry → List (List (List VEntry))
+two_states parents childs = (parents ∷ []) ∷ (childs ∷ []) ∷ []
+
 -- the visits that a caller's calls made, each call with steps of its own
 abbrev pub marks_of : ℕ → List (List Step) → List MarkBy
 marks_of caller calls = flat_map (marks_from caller 0 0) calls
@@ -72,11 +91,12 @@ stamps_of marks = map (λ by. by.mark.stamp) marks
 
 -- the visits of a lawful and disjoint book of one CPU are those of one `add`, which makes the core ready, of the parent's
 -- vgetrandom call as far as its stop, of the fork, of what is left of the parent's call, and of the child's; it has no
--- others. What parent and child give out are the bytes in which these two calls end
+-- others. Its states are the parent's and the child's. What parent and child give out are the bytes in which these two
+-- calls end; they are those of named spans, and no byte of a key is in both
 pub record AreForkedBytes (turn : Turn) (point : Point) (n : ℕ) (parent child : List ℕ) : Type 0 where
   pub book : Book
   pub cpus : length book.cpus ≡ 1
-  pub lawful : LawfulLanes (lists_of book)
+  pub lawful : LawfulBook (lists_of book)
   pub disjoint : IsDisjoint (lists_of book)
   pub added : List Step
   pub adds : IsOutcomeOf (setting_of (first_setting 0)) (Add (range_with_len 0 32) 256) Done no_data
@@ -88,6 +108,7 @@ pub record AreForkedBytes (turn : Turn) (point : Point) (n : ℕ) (parent child 
   pub forks : BaseOnly (Fork 1) (deeds_of (lists_of book) forked)
   pub parent_end : IsEnd (lists_of book) 0 n stop.place stop.held stop.state parent
   pub child_end : IsEnd (lists_of book) 1 n stop.place stop.held wiped_state child
+  pub callers_are : book.callers ≡ two_states (stop.entries ++ parent_end.outcome.entries) child_end.outcome.entries
   -- the parent's call is one that nobody stopped
   pub parent_call : IsCall n 0 wiped_state (stop.before ++ at_point point false ∷ parent_end.steps)
       (outcome_behind stop.entries parent_end.outcome)
@@ -97,12 +118,18 @@ pub record AreForkedBytes (turn : Turn) (point : Point) (n : ℕ) (parent child 
   -- a child that gives out bytes of its state read a key behind the fork, in the attempt that gave them
   pub child_keyed : (bytes : List ℕ) → child_end.outcome.ending ≡ by_batch bytes →
       takes_key false child_end.steps ≡ true
+  -- both lines show named bytes, each of entries of its own call, and of all these entries no two put the same byte of a
+  -- key to use: so no byte is shown twice, by one line or by both
+  pub parent_line : ShowsNamed (lists_of book) (call_entries 0 (stop.entries ++ parent_end.outcome.entries))
+      parent_end.own parent
+  pub child_line : ShowsNamed (lists_of book) (call_entries 1 child_end.outcome.entries) child_end.own child
+  pub apart : Disjoint (origins_uses (lists_of book) (parent_line.origins ++ child_line.origins))
   pub visits : VisitsAre book (marks_of 0 (added ∷ calls ++ forked ∷ []) ++ marks_of 0 (parent_end.own ∷ [])
       ++ marks_of 1 (child_end.own ∷ []))
-  -- the stamps of each caller climb; those of the two ends are not ordered beside each other
+  -- the stamps climb: first to the fork, then to the end of the parent's call, and from there to the child's
   pub at_fork : ℕ
   pub parents_last : ℕ
   pub childs_last : ℕ
   pub to_fork : Climbs 0 (stamps_of (marks_of 0 (added ∷ calls ++ forked ∷ []))) at_fork
   pub parents_rest : Climbs at_fork (stamps_of (marks_of 0 (parent_end.own ∷ []))) parents_last
-  pub childs_rest : Climbs at_fork (stamps_of (marks_of 1 (child_end.own ∷ []))) childs_last
+  pub childs_rest : Climbs parents_last (stamps_of (marks_of 1 (child_end.own ∷ []))) childs_last

@@ -132,6 +132,7 @@ fn finish_on_host<R: Wait>(
     requires known { published_or 0 call.stage ≤ published_by (floor (view host.old.site.pass.now)) }
     ensures loans { SameLoans host.old host.new }
     ensures has { HoldsLanes host.old.site.lanes.now host.old.site.set.caller [] host.new.site.pass.now }
+    ensures seen { published_by (floor (view host.old.site.pass.now)) ≤ published_by (floor (view host.new.site.pass.now)) }
     ensures finished { result ≡ true → FinishedOver host.old.site.set call.len call.flags call.stage buf.old st.old
         buf.new (moment host.old.site.pass.now host.old.site.trace.now) (moment host.new.site.pass.now host.new.site.trace.now) }
 {
@@ -153,6 +154,7 @@ pub(crate) fn finish<'x, R: Wait>(
     requires length { length buf.old ≡ held.old.call.len }
     requires known { published_or 0 held.old.call.stage ≤ published_by (floor (view pass.old)) }
     ensures has { HoldsLanes caller.now.lanes.now caller.now.set.caller [] pass.new }
+    ensures seen { published_by (floor (view pass.old)) ≤ published_by (floor (view pass.new)) }
     ensures finished { result ≡ true → (steps : List Step) × FinishedOver caller.now.set held.old.call.len
         held.old.call.flags held.old.call.stage buf.old held.old.st buf.new (moment pass.old []) (moment pass.new steps) }
 {

@@ -115,43 +115,44 @@ fn reach_stop<R: Wait>(
     }
 }
 
-// Forks where the call stands, and ends it in the parent and then in the child. The answer is whether both gave bytes.
+// Forks where the call stands, and ends it in the parent and then in the child, whose pass takes in the parent's first.
+// The answer is that pass, and whether both gave bytes.
 fn fork_at_stop<R: Wait>(
     rt: &R,
     caller: &Caller,
-    pass: &mut Pass,
+    mut pass: Pass,
     held: &mut HeldCall,
     buf: &mut [u8],
     child_buf: &mut [u8],
-) -> bool
-    requires has { HoldsLanes caller.now.lanes.now caller.now.set.caller [] pass.old }
+) -> (Pass, bool)
+    requires has { HoldsLanes caller.now.lanes.now caller.now.set.caller [] pass }
     requires cpu { caller.now.set.cpu < caller.now.lanes.now.cpus }
     requires stopped { is_stopped held.old.call.stage ≡ true }
     requires length { length buf.old ≡ held.old.call.len }
     requires child_length { length child_buf.old ≡ held.old.call.len }
-    requires known { published_or 0 held.old.call.stage ≤ published_by (floor (view pass.old)) }
-    ensures has { HoldsLanes caller.now.lanes.now caller.now.set.caller [] pass.new }
-    ensures forked { result ≡ true → ForkedOver caller.now.set held.old.call.len held.old.call.flags held.old.call.stage
-        buf.old held.old.st buf.new child_buf.new (view pass.old) (view pass.new) }
+    requires known { published_or 0 held.old.call.stage ≤ published_by (floor (view pass)) }
+    ensures has { HoldsLanes caller.now.lanes.now 1 [] result.0 }
+    ensures forked { result.1 ≡ true → ForkedOver caller.now.set held.old.call.len held.old.call.flags
+        held.old.call.stage buf.old held.old.st buf.new child_buf.new (view pass) (view result.0) }
 {
     let mut trace = Trace::empty();
     let mut site = Site {
         lanes: caller.lanes,
-        pass: &mut *pass,
+        pass: &mut pass,
         trace: &mut trace,
         set: caller.set,
     };
     let mut child_pass = fork(rt, &mut site, 1);
     let (call, st) = held.call.fork_call(buf, child_buf);
-    let parent_gave = finish(rt, caller, pass, held, buf);
+    let parent_gave = finish(rt, caller, &mut pass, held, buf);
+    caller.lanes.join(&mut child_pass, pass);
     let child = Caller {
         lanes: caller.lanes,
         set: Setting::first(1),
     };
     let mut childs = HeldCall { call, st };
     let child_gave = finish(rt, &child, &mut child_pass, &mut childs, child_buf);
-    caller.lanes.join(pass, child_pass);
-    parent_gave && child_gave
+    (child_pass, parent_gave && child_gave)
 }
 
 // A run on a new table. The answer is whether the call was stopped and both ends gave bytes.
@@ -181,7 +182,8 @@ fn fork_once<R: Wait>(
     if !reach_stop(rt, &caller, &mut pass, &mut held, parent, stop) {
         return Ok(false);
     }
-    if !fork_at_stop(rt, &caller, &mut pass, &mut held, parent, child) {
+    let (pass, gave) = fork_at_stop(rt, &caller, pass, &mut held, parent, child);
+    if !gave {
         return Ok(false);
     }
     let _visits = lanes.close(pass);
@@ -214,9 +216,10 @@ fn fork_until<R: Wait>(
 /// Makes a core with one CPU ready by a first sample, 32 bytes that count up from 0 and are credited with 256 bits. On
 /// it caller 0, whose state is wiped, wants so many bytes of vgetrandom, from 1 to 2^20, without flags. The call is
 /// held at the point of the attempt, and caller 1 forked there. A second attempt is had by a reseed while the first one
-/// stands at Serve. First the parent's call is ended, and then the child's, by its own pass; all of it on CPU 0, at
-/// moment 0, with hardware words of zeros. That the parent's ends first is tested and not promised: no clause orders the
-/// visits of the two ends.
+/// stands at Serve. First the parent's call is ended. Then the child's pass takes in the parent's and ends the child's
+/// call, so that its visits come after. All of it is done on CPU 0, at moment 0, with hardware words of zeros.
+///
+/// Both answers are the bytes of named spans of keystream, and no byte of a key is in both.
 ///
 /// A run whose call is over before the stop, or that gives no bytes, is made anew: none is known.
 ///

@@ -1,3 +1,4 @@
+pub mod Rests
 mod Stopping
 mod Forking
 mod Sharing

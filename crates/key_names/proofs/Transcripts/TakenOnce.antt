@@ -23,7 +23,7 @@ equal_or_not a b = go (a == b) refl
     go true is = inl (eqb-true a b is)
     go false is = inr (λ e. let yes : (a == b) ≡ true = eq-eqb a b e in cc)
 
-or_true : (a b : Bool) → (a || b) ≡ true → (a ≡ true) ⊎ (b ≡ true)
+pub or_true : (a b : Bool) → (a || b) ≡ true → (a ≡ true) ⊎ (b ≡ true)
 or_true true b is = inl refl
 or_true false b is = inr is
 
@@ -77,7 +77,7 @@ module _ (c p : ℕ) where
       not_both m.before.current j k m.entries ne in omega arith
 
   -- a read that an entry takes counts
-  any_entry : (es : List VEntry) → list_any (rekeys_place c p) es ≡ true → 1 ≤ takes c p es
+  pub any_entry : (es : List VEntry) → list_any (rekeys_place c p) es ≡ true → 1 ≤ takes c p es
   any_entry [] is = cc
   any_entry (Rekey cpu place ∷ es) is = elim (or_true (cpu == c && place == p) _ is) [
     | inl here ↦ (let one : is_here c p cpu place ≡ 1 = ap hit here in omega arith)
@@ -177,7 +177,7 @@ module _ (c p : ℕ) where
       let b : (place == p) ≡ true = eq-eqb place p (ap (λ o. option_map_or (λ (x : ℕ × ℕ). x.1) o 0) is) in
       rw (a, b) refl
 
-  counts_one : (es : List VEntry) (n : ℕ) → rekey_at es n ≡ Some (c, p) → 1 ≤ takes c p es
+  pub counts_one : (es : List VEntry) (n : ℕ) → rekey_at es n ≡ Some (c, p) → 1 ≤ takes c p es
   counts_one [] n is = cc
   counts_one (Rekey cpu place ∷ es) zero is = let one : is_here c p cpu place ≡ 1 = here_is cpu place is in omega arith
   counts_one (Rekey cpu place ∷ es) (suc n) is = let rest : 1 ≤ takes c p es = counts_one es n is in omega arith
@@ -207,7 +207,7 @@ module _ (c p : ℕ) where
   first_counts (Serve pos len) es n is at = cc
   first_counts Wipe es n is at = cc
 
-  counts_two : (es : List VEntry) (n m : ℕ) → (n ≡ m → ⊥) → rekey_at es n ≡ Some (c, p) →
+  pub counts_two : (es : List VEntry) (n m : ℕ) → (n ≡ m → ⊥) → rekey_at es n ≡ Some (c, p) →
       rekey_at es m ≡ Some (c, p) → 2 ≤ takes c p es
   counts_two [] n m ne is at = cc
   counts_two (e ∷ es) zero zero ne is at = absurd (ne refl)

@@ -246,7 +246,7 @@ module _ (lists : Lists) (caller k : ℕ) where
   held_if true is = refl
   held_if false is = cc
 
-  from_serve_named : (n c : ℕ) → 1 ≤ n → (x : Both) (s : VgetrandomState) (steps : List HostStep)
+  pub from_serve_named : (n c : ℕ) → 1 ≤ n → (x : Both) (s : VgetrandomState) (steps : List HostStep)
       (attempt : Attempt) → Good lists steps → FromServe n c s steps attempt → replay.Holds lists caller k x s →
       AttemptNamed x attempt
   from_serve_named n c some x s steps attempt good from h fronts held =
@@ -299,7 +299,7 @@ module _ (lists : Lists) (caller k : ℕ) where
       point_named (replay.Holds lists caller k) (replay.wiped_holds lists caller k) ServePoint (FromServe n c) x s steps
       attempt (λ u r rest later g f b. from_serve_named n c some u r rest later g f b) at good h
 
-  written_named : (n c : ℕ) → 1 ≤ n → (x : Both) (s : VgetrandomState) (steps : List HostStep) (attempt : Attempt) →
+  pub written_named : (n c : ℕ) → 1 ≤ n → (x : Both) (s : VgetrandomState) (steps : List HostStep) (attempt : Attempt) →
       Good lists steps → FromWritten n c s steps attempt → replay.Loose lists caller k x s → AttemptNamed x attempt
   written_named n c some x s steps attempt good from h =
       let g : Good lists (system_call 32 0 from.answer ∷ from.rest) =
@@ -320,7 +320,7 @@ module _ (lists : Lists) (caller k : ℕ) where
           }))
       go (failed errno) is g unkeyed = absurd is
 
-  start_named : (n c published : ℕ) → 1 ≤ n → (x : Both) (s : VgetrandomState) (steps : List HostStep)
+  pub start_named : (n c published : ℕ) → 1 ≤ n → (x : Both) (s : VgetrandomState) (steps : List HostStep)
       (attempt : Attempt) → Good lists steps → FromStart n c published s steps attempt →
       replay.Holds lists caller k x s → AttemptNamed x attempt
   start_named n c published some x s steps attempt good from h =
@@ -361,18 +361,21 @@ module _ (lists : Lists) (caller k : ℕ) where
   batch_out (by_batch out) = out
   batch_out (by_system answer) = []
 
-  system_named : (n flags : ℕ) (x : Both) (s : VgetrandomState) (steps : List HostStep) (outcome : Outcome) →
+  pub system_named : (n flags : ℕ) (x : Both) (s : VgetrandomState) (steps : List HostStep) (outcome : Outcome) →
       BySystem n flags s steps outcome → OutcomeNamed x outcome
   system_named n flags x s steps outcome by fronts out ends =
       let e : by_system by.answer ≡ by_batch out = sym (ap (λ (o : Outcome). o.ending) by.outcome_is) ∙ ends in cc
 
-  tried_named : (n flags c : ℕ) → 1 ≤ n → (Outdated : ℕ → VgetrandomState → List HostStep → Outcome → Type 0)
-      (x : Both) (s : VgetrandomState) (steps : List HostStep) (outcome : Outcome) →
+  -- an attempt, of which Tried relates the steps, and what follows it
+  pub rest_named : (n flags : ℕ) (Outdated : ℕ → VgetrandomState → List HostStep → Outcome → Type 0)
+      (Tried : List HostStep → Attempt → Type 0) (x : Both) (steps : List HostStep) (outcome : Outcome) →
+      ((tried : List HostStep) (attempt : Attempt) → Good lists tried → Tried tried attempt → AttemptNamed x attempt) →
+      ((tried : List HostStep) (attempt : Attempt) → Good lists tried → Tried tried attempt → attempt.end ≡ outdated →
+      replay.AttemptHolds lists caller k x attempt) →
       ((u : Both) (c : ℕ) (v : VgetrandomState) (rest : List HostStep) (later : Outcome) → Good lists rest →
       Outdated c v rest later → replay.Holds lists caller k u v → OutcomeNamed u later) → Good lists steps →
-      AttemptAndRest n flags Outdated (IsAttempt n c s) steps outcome → replay.Holds lists caller k x s →
-      OutcomeNamed x outcome
-  tried_named n flags c some Outdated x s steps outcome goes_on good r h =
+      AttemptAndRest n flags Outdated Tried steps outcome → OutcomeNamed x outcome
+  rest_named n flags Outdated Tried x steps outcome named leaves goes_on good r =
       let P : Outcome → Type 0 = λ o. OutcomeNamed x o in subst P (sym r.outcome_is) (go r.attempt.end refl r.goes_on)
     where
       split : Good lists r.tried × Good lists r.rest
@@ -396,12 +399,12 @@ module _ (lists : Lists) (caller k : ℕ) where
             earlier = [];
             last = r.attempt.entries;
             entries_are = all;
-            bytes_are = same ∙ attempt_named n c some x s r.tried r.attempt split.0 r.tries h own held;
+            bytes_are = same ∙ named r.tried r.attempt split.0 r.tries own held;
           }
       go outdated held by fronts out ends =
           let m : LastServes u r.outcome_after.entries out =
           goes_on u r.attempt.next_block r.attempt.state r.rest r.outcome_after split.1 by
-          (replay.attempt_holds lists caller k n c some x s r.tried r.attempt split.0 r.tries h)
+          (leaves r.tried r.attempt split.0 r.tries held)
           (fronts_behind x r.attempt.entries r.outcome_after.entries fronts) out ends in
           record {
             earlier = r.attempt.entries ++ m.earlier;
@@ -423,6 +426,17 @@ module _ (lists : Lists) (caller k : ℕ) where
             bytes_are = m.bytes_are ∙ ap (λ (y : Both). bytes_of y m.last)
                 (sym (fold-append (replay.step lists caller k) x r.attempt.entries m.earlier));
           }
+
+  pub tried_named : (n flags c : ℕ) → 1 ≤ n → (Outdated : ℕ → VgetrandomState → List HostStep → Outcome → Type 0)
+      (x : Both) (s : VgetrandomState) (steps : List HostStep) (outcome : Outcome) →
+      ((u : Both) (c : ℕ) (v : VgetrandomState) (rest : List HostStep) (later : Outcome) → Good lists rest →
+      Outdated c v rest later → replay.Holds lists caller k u v → OutcomeNamed u later) → Good lists steps →
+      AttemptAndRest n flags Outdated (IsAttempt n c s) steps outcome → replay.Holds lists caller k x s →
+      OutcomeNamed x outcome
+  tried_named n flags c some Outdated x s steps outcome goes_on good r h =
+      rest_named n flags Outdated (IsAttempt n c s) x steps outcome
+      (λ tried attempt g tries. attempt_named n c some x s tried attempt g tries h)
+      (λ tried attempt g tries late. replay.attempt_holds lists caller k n c some x s tried attempt g tries h) goes_on good r
 
   first_named : (n flags : ℕ) → 1 ≤ n → (x : Both) (s : VgetrandomState) (steps : List HostStep)
       (outcome : Outcome) → Good lists steps → FirstAttempt n flags s steps outcome → replay.Holds lists caller k x s →

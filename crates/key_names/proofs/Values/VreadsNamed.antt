@@ -169,7 +169,7 @@ module _ (lists : Lists) (caller k : ℕ) (below : k < 16) where
   start = record { named = state_start; bytes = state_bytes_start }
 
   -- behind each front of the state's list the names tell what the replay holds
-  front_tells : LawfulStateList (cpu_list lists) caller k (state_list lists caller k) → (pre post : List VEntry) →
+  pub front_tells : LawfulStateList (cpu_list lists) caller k (state_list lists caller k) → (pre post : List VEntry) →
       state_list lists caller k ≡ pre ++ post → batch.NamesTell lists caller k (after start pre)
   front_tells lawful pre post is =
       let es : List VEntry = state_list lists caller k in

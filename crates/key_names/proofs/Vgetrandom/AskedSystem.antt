@@ -14,7 +14,7 @@ use Rattle.key_names.proofs.Vgetrandom.CallsKeep.{match_cases}
 use Rattle.key_names.proofs.Vgetrandom.KeyTakes.{place_takes, answer_takes}
 
 -- the last step of the host is the system call with this answer
-record EndsAsked (answer : SystemAnswer) (steps : List HostStep) : Type 0 where
+pub record EndsAsked (answer : SystemAnswer) (steps : List HostStep) : Type 0 where
   before : List HostStep
   n : ℕ
   flags : ℕ
@@ -31,7 +31,7 @@ asked_behind answer front rest steps is asked = record {
 }
 
 module _ (answer : SystemAnswer) where
-  asked : (n flags : ℕ) (s : VgetrandomState) (steps : List HostStep) (outcome : Outcome) →
+  pub asked : (n flags : ℕ) (s : VgetrandomState) (steps : List HostStep) (outcome : Outcome) →
       outcome.ending ≡ by_system answer → BySystem n flags s steps outcome → EndsAsked answer steps
   asked n flags s steps outcome is by =
       let ends : by_system by.answer ≡ by_system answer = sym (ap (λ (o : Outcome). o.ending) by.outcome_is) ∙ is in
@@ -43,7 +43,7 @@ module _ (answer : SystemAnswer) where
         steps_are = by.steps_are ∙ ap (λ a. system_call n flags a ∷ []) same;
       }
 
-  tried_asked : (n flags : ℕ) (Outdated : ℕ → VgetrandomState → List HostStep → Outcome → Type 0)
+  pub tried_asked : (n flags : ℕ) (Outdated : ℕ → VgetrandomState → List HostStep → Outcome → Type 0)
       (Tried : List HostStep → Attempt → Type 0) (steps : List HostStep) (outcome : Outcome) →
       ((from : ℕ) (s : VgetrandomState) (rest : List HostStep) (after : Outcome) →
       after.ending ≡ by_system answer → Outdated from s rest after → EndsAsked answer rest) →
@@ -145,12 +145,17 @@ module _ (answer : SystemAnswer) where
     place = λ c p. ap (place_takes c p) (last_visit before d ds) ∙ sym (ap (answer_takes c p) is);
   })
 
-  pub asked_shown : (set : Setting) (n flags : ℕ) (s : VgetrandomState) (steps : List HostStep) (outcome : Outcome)
-      (deeds : List Deed) → outcome.ending ≡ by_system answer → IsCall n flags s steps outcome →
+  -- what a line shows whose last step of the host was a system call
+  pub steps_shown : (set : Setting) (steps : List HostStep) (deeds : List Deed) → EndsAsked answer steps →
       Shows set steps deeds → ShowsOrNone deeds
-  asked_shown set n flags s steps outcome deeds ends is shows =
-      let e = call_asked n flags s steps outcome ends is in
+  steps_shown set steps deeds e shows =
       let P : List HostStep → Type 0 = λ xs. Shows set xs deeds in
       let a = shows_asked set e.before e.n e.flags deeds (subst P e.steps_are shows) in
       let Q : List Deed → Type 0 = λ ds. ShowsOrNone ds in
       subst Q (sym a.deeds_are) (answered a.before a.call (errno_of (system_answer a.flags a.call)) a.answers)
+
+  pub asked_shown : (set : Setting) (n flags : ℕ) (s : VgetrandomState) (steps : List HostStep) (outcome : Outcome)
+      (deeds : List Deed) → outcome.ending ≡ by_system answer → IsCall n flags s steps outcome →
+      Shows set steps deeds → ShowsOrNone deeds
+  asked_shown set n flags s steps outcome deeds ends is shows =
+      steps_shown set steps deeds (call_asked n flags s steps outcome ends is) shows

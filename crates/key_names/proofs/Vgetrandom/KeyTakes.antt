@@ -54,7 +54,7 @@ module _ (c p : ℕ) where
   step_takes (at_point point wiped ∷ steps) = step_takes steps
   step_takes (system_call n flags answer ∷ steps) = answer_takes answer + step_takes steps
 
-  step_append : (xs ys : List HostStep) → step_takes (xs ++ ys) ≡ step_takes xs + step_takes ys
+  pub step_append : (xs ys : List HostStep) → step_takes (xs ++ ys) ≡ step_takes xs + step_takes ys
   step_append [] ys = omega arith
   step_append (publishes g ∷ xs) ys = step_append xs ys
   step_append (at_point point wiped ∷ xs) ys = step_append xs ys
@@ -91,8 +91,8 @@ module _ (c p : ℕ) where
           (refill_entries from (whole_blocks s n) (new_batch_bytes s n)) ∙ omega arith
 
   -- the entries of an attempt take no more than its steps have
-  record Bounded (steps : List HostStep) (attempt : Attempt) : Type 0 where
-    is : takes attempt.entries ≤ step_takes steps
+  pub record Bounded (steps : List HostStep) (attempt : Attempt) : Type 0 where
+    pub is : takes attempt.entries ≤ step_takes steps
 
   behind_bounded : (steps rest : List HostStep) (es : List VEntry) (attempt after : Attempt) →
       attempt ≡ record after { entries = es ++ after.entries } →
@@ -113,7 +113,7 @@ module _ (c p : ℕ) where
       behind_bounded steps at.rest (wipe_entry at.wiped) attempt at.attempt_after at.attempt_is (omega arith)
       (on (state_left at.wiped s) at.rest at.attempt_after at.goes_on)
 
-  serve_bounded : (n from : ℕ) (s : VgetrandomState) (steps : List HostStep) (attempt : Attempt) →
+  pub serve_bounded : (n from : ℕ) (s : VgetrandomState) (steps : List HostStep) (attempt : Attempt) →
       FromServe n from s steps attempt → Bounded steps attempt
   serve_bounded n from s steps attempt f =
       let none : takes (copy_entries s from n) ≡ 0 = copy_takes s from n in
@@ -126,7 +126,7 @@ module _ (c p : ℕ) where
       })
       f.goes_on)
 
-  written_bounded : (n from : ℕ) (s : VgetrandomState) (steps : List HostStep) (attempt : Attempt) →
+  pub written_bounded : (n from : ℕ) (s : VgetrandomState) (steps : List HostStep) (attempt : Attempt) →
       FromWritten n from s steps attempt → Bounded steps attempt
   written_bounded n from s steps attempt w = go w.answer w.goes_on (ap step_takes w.steps_are)
     where
@@ -142,7 +142,7 @@ module _ (c p : ℕ) where
             omega arith);
       }
 
-  start_bounded : (n from published : ℕ) (s : VgetrandomState) (steps : List HostStep) (attempt : Attempt) →
+  pub start_bounded : (n from published : ℕ) (s : VgetrandomState) (steps : List HostStep) (attempt : Attempt) →
       FromStart n from published s steps attempt → Bounded steps attempt
   start_bounded n from published s steps attempt f =
       match_cases (AtPoint ServePoint (FromServe n from) s steps attempt)
@@ -167,8 +167,8 @@ module _ (c p : ℕ) where
   ending_takes (by_system answer) = answer_takes answer
 
   -- nor do those of a call, its answer left out
-  record OutcomeBounded (steps : List HostStep) (outcome : Outcome) : Type 0 where
-    is : takes outcome.entries + ending_takes outcome.ending ≤ step_takes steps
+  pub record OutcomeBounded (steps : List HostStep) (outcome : Outcome) : Type 0 where
+    pub is : takes outcome.entries + ending_takes outcome.ending ≤ step_takes steps
 
   abbrev outcome_takes : Outcome → ℕ
   outcome_takes o = takes o.entries + ending_takes o.ending
@@ -178,13 +178,13 @@ module _ (c p : ℕ) where
   none_bounded steps outcome by is le =
       record { is = (let z : outcome_takes outcome ≡ outcome_takes by = ap outcome_takes is in omega arith) }
 
-  system_bounded : (n flags : ℕ) (s : VgetrandomState) (steps : List HostStep) (outcome : Outcome) →
+  pub system_bounded : (n flags : ℕ) (s : VgetrandomState) (steps : List HostStep) (outcome : Outcome) →
       BySystem n flags s steps outcome → OutcomeBounded steps outcome
   system_bounded n flags s steps outcome by =
       let same : step_takes steps ≡ answer_takes by.answer + 0 = ap step_takes by.steps_are in
       none_bounded steps outcome _ by.outcome_is (omega arith)
 
-  tried_bounded : (n flags : ℕ) (Outdated : ℕ → VgetrandomState → List HostStep → Outcome → Type 0)
+  pub tried_bounded : (n flags : ℕ) (Outdated : ℕ → VgetrandomState → List HostStep → Outcome → Type 0)
       (Tried : List HostStep → Attempt → Type 0) (steps : List HostStep) (outcome : Outcome) →
       ((tried : List HostStep) (attempt : Attempt) → Tried tried attempt → Bounded tried attempt) →
       ((from : ℕ) (s : VgetrandomState) (rest : List HostStep) (after : Outcome) → Outdated from s rest after →
@@ -213,7 +213,7 @@ module _ (c p : ℕ) where
       go outdated by = goes_on r.attempt.next_block r.attempt.state r.rest r.outcome_after by
       go not_keyed by = system_bounded n flags (state_after_call r.attempt.state) r.rest r.outcome_after by
 
-  second_bounded : (n flags from : ℕ) (s : VgetrandomState) (steps : List HostStep) (outcome : Outcome) →
+  pub second_bounded : (n flags from : ℕ) (s : VgetrandomState) (steps : List HostStep) (outcome : Outcome) →
       SecondAttempt n flags from s steps outcome → OutcomeBounded steps outcome
   second_bounded n flags from s steps outcome second =
       tried_bounded n flags (AfterBoth n flags) (IsAttempt n from s) steps outcome (attempt_bounded n from s)
@@ -238,7 +238,7 @@ module _ (c p : ℕ) where
       (λ outside first. first_bounded n flags (record s { in_use = true }) steps outcome first)))
       from
 
-  call_bounded : (n flags : ℕ) (s : VgetrandomState) (steps : List HostStep) (outcome : Outcome) →
+  pub call_bounded : (n flags : ℕ) (s : VgetrandomState) (steps : List HostStep) (outcome : Outcome) →
       IsCall n flags s steps outcome → OutcomeBounded steps outcome
   call_bounded n flags s steps outcome is =
       match_cases (BySystem n flags s steps outcome) (FromLook n flags s steps outcome)
@@ -293,7 +293,7 @@ module _ (c p : ℕ) where
   answered_takes (Some errno) ds = omega arith
 
   -- the steps that a line shows have no more than stands behind it
-  shown_takes : (set : Setting) (steps : List HostStep) (ds : List Deed) → Shows set steps ds →
+  pub shown_takes : (set : Setting) (steps : List HostStep) (ds : List Deed) → Shows set steps ds →
       step_takes steps ≤ deed_takes ds
   shown_takes set [] ds shows = omega arith
   shown_takes set (publishes g ∷ steps) ds shows =

@@ -207,12 +207,12 @@ module _ (lists : Lists) (caller k : ℕ) where
       go false g = on x s at.rest at.attempt_after rest_good g h
       go true g = on (step x Wipe) wiped_state at.rest at.attempt_after rest_good g (wiped_before x)
 
-  end_holds : (out : List ℕ) (c : ℕ) (x : Both) (s : VgetrandomState) (steps : List HostStep) (attempt : Attempt) →
+  pub end_holds : (out : List ℕ) (c : ℕ) (x : Both) (s : VgetrandomState) (steps : List HostStep) (attempt : Attempt) →
       FromEnd out c s steps attempt → Holds x s → AttemptHolds x attempt
   end_holds out c x s steps attempt e h =
       let P : Attempt → Type 0 = λ a. AttemptHolds x a in subst P (sym e.attempt_is) h
 
-  from_serve_holds : (n c : ℕ) → 1 ≤ n → (x : Both) (s : VgetrandomState) (steps : List HostStep) (attempt : Attempt) →
+  pub from_serve_holds : (n c : ℕ) → 1 ≤ n → (x : Both) (s : VgetrandomState) (steps : List HostStep) (attempt : Attempt) →
       Good lists steps → FromServe n c s steps attempt → Holds x s → AttemptHolds x attempt
   from_serve_holds n c some x s steps attempt good from h =
       behind_holds x (copy_entries s c n) attempt from.attempt_after from.attempt_is
@@ -228,7 +228,7 @@ module _ (lists : Lists) (caller k : ℕ) where
       point_holds Holds wiped_holds ServePoint (FromServe n c) x s steps attempt
       (λ u r rest later g f b. from_serve_holds n c some u r rest later g f b) at good h
 
-  written_holds : (n c : ℕ) → 1 ≤ n → (x : Both) (s : VgetrandomState) (steps : List HostStep) (attempt : Attempt) →
+  pub written_holds : (n c : ℕ) → 1 ≤ n → (x : Both) (s : VgetrandomState) (steps : List HostStep) (attempt : Attempt) →
       Good lists steps → FromWritten n c s steps attempt → Loose x s → AttemptHolds x attempt
   written_holds n c some x s steps attempt good from h =
       let g : Good lists (system_call 32 0 from.answer ∷ from.rest) =
@@ -249,7 +249,7 @@ module _ (lists : Lists) (caller k : ℕ) where
           }))
       go (failed errno) is g unkeyed = absurd is
 
-  start_holds : (n c published : ℕ) → 1 ≤ n → (x : Both) (s : VgetrandomState) (steps : List HostStep)
+  pub start_holds : (n c published : ℕ) → 1 ≤ n → (x : Both) (s : VgetrandomState) (steps : List HostStep)
       (attempt : Attempt) → Good lists steps → FromStart n c published s steps attempt → Holds x s →
       AttemptHolds x attempt
   start_holds n c published some x s steps attempt good from h =

@@ -1,5 +1,5 @@
 use Rattle.std.proofs.Common.{sym, ◌∙◌, arith}
-use Rattle.fork_runs.proofs.Stretching.{loans, has_still, finished_over}
+use Rattle.fork_runs.proofs.Stretching.{climbs_up, loans, has_still, finished_over}
 use Rattle.fork_runs.proofs.stretches.finish_on_host.Goals as goal
 
 pub returns-clause-loans : goal.returns-clause-loans
@@ -7,6 +7,9 @@ returns-clause-loans g c = loans _ _ _ c.finish-ended.ensures.runs.does
 
 pub returns-clause-has : goal.returns-clause-has
 returns-clause-has g c = has_still _ _ _ c.finish-ended.ensures.runs.does
+
+pub returns-clause-seen : goal.returns-clause-seen
+returns-clause-seen g c = climbs_up _ _ c.finish-ended.ensures.runs.steps c.finish-ended.ensures.climbs
 
 pub returns-clause-finished : goal.returns-clause-finished
 returns-clause-finished g c = λ met. finished_over c.args.host.now c.finish-ended.new.host c.requires.idle

@@ -7,7 +7,7 @@ use Rattle.fork_runs.proofs.table_forks.fork_once.Goals as goal
 
 pub close-visits-requires-clause-idle : goal.close-visits-requires-clause-idle
 close-visits-requires-clause-idle g c =
-    idle_of c.in_ok-lanes.lanes c.first.result.caller c.fork_at_stop.new.pass c.fork_at_stop.ensures.has
+    idle_of c.in_ok-lanes.lanes 1 c.fork_at_stop-pass.result.0 c.fork_at_stop-pass.ensures.has
 
 pub close-visits-requires-clause-whole : goal.close-visits-requires-clause-whole
 close-visits-requires-clause-whole g c =
@@ -19,8 +19,8 @@ close-visits-requires-clause-whole g c =
     let p = view c.in_ok-lanes.pass in
     let q = view c.add_first_sample.new.pass in
     let w = view c.reach_stop.new.pass in
-    share_is c.args.stop.attempt c.args.stop.point n p q w (view c.fork_at_stop.new.pass) later.stage c.reach_stop.new.buf
-    c.reach_stop.new.held.st c.fork_at_stop.new.buf c.fork_at_stop.new.child_buf
+    share_is c.args.stop.attempt c.args.stop.point n p q w (view c.fork_at_stop-pass.result.0) later.stage c.reach_stop.new.buf
+    c.reach_stop.new.held.st c.fork_at_stop-pass.new.buf c.fork_at_stop-pass.new.child_buf
     (ap (λ (m : Seated). m.0) c.in_ok-lanes.ensures.seat)
     (plain_sample set n call.len later.len call.flags later.flags c.wiped.result c.first.ensures same
     c.reach_stop.ensures.len c.begin.ensures.flags c.reach_stop.ensures.flags c.wiped.ensures p q
@@ -31,8 +31,8 @@ close-visits-requires-clause-whole g c =
     (c.reach_stop.ensures.reached c.if-not-reach_stop.false))
     (plain_over set n call.len later.len call.flags later.flags c.wiped.result c.first.ensures same
     c.reach_stop.ensures.len c.begin.ensures.flags c.reach_stop.ensures.flags c.wiped.ensures later.stage
-    c.reach_stop.new.buf c.reach_stop.new.held.st c.fork_at_stop.new.buf c.fork_at_stop.new.child_buf w
-    (view c.fork_at_stop.new.pass) (c.fork_at_stop.ensures.forked c.if-not-fork_at_stop.false))
+    c.reach_stop.new.buf c.reach_stop.new.held.st c.fork_at_stop-pass.new.buf c.fork_at_stop-pass.new.child_buf w
+    (view c.fork_at_stop-pass.result.0) (c.fork_at_stop-pass.ensures.forked c.if-not-gave.false))
 
 pub returns : goal.returns
 returns g c = λ _.
@@ -44,11 +44,11 @@ returns g c = λ _.
     let p = view c.in_ok-lanes.pass in
     let q = view c.add_first_sample.new.pass in
     let w = view c.reach_stop.new.pass in
-    let x = view c.fork_at_stop.new.pass in
+    let x = view c.fork_at_stop-pass.result.0 in
     let ended : Ended 3 x = subst (λ (k : ℕ). Ended (k + 2) x) c.in_ok-lanes.ensures.table.0 c.close-visits.ensures.ended
     in
     forked_bytes c.args.stop.attempt c.args.stop.point n p q w x later.stage c.reach_stop.new.buf
-    c.reach_stop.new.held.st c.fork_at_stop.new.buf c.fork_at_stop.new.child_buf
+    c.reach_stop.new.held.st c.fork_at_stop-pass.new.buf c.fork_at_stop-pass.new.child_buf
     (ap (λ (m : Seated). m.0) c.in_ok-lanes.ensures.seat)
     (plain_sample set n call.len later.len call.flags later.flags c.wiped.result c.first.ensures same
     c.reach_stop.ensures.len c.begin.ensures.flags c.reach_stop.ensures.flags c.wiped.ensures p q
@@ -59,6 +59,6 @@ returns g c = λ _.
     (c.reach_stop.ensures.reached c.if-not-reach_stop.false))
     (plain_over set n call.len later.len call.flags later.flags c.wiped.result c.first.ensures same
     c.reach_stop.ensures.len c.begin.ensures.flags c.reach_stop.ensures.flags c.wiped.ensures later.stage
-    c.reach_stop.new.buf c.reach_stop.new.held.st c.fork_at_stop.new.buf c.fork_at_stop.new.child_buf w x
-    (c.fork_at_stop.ensures.forked c.if-not-fork_at_stop.false))
-    ended c.forks_are_told.ensures c.child_takes_key.ensures
+    c.reach_stop.new.buf c.reach_stop.new.held.st c.fork_at_stop-pass.new.buf c.fork_at_stop-pass.new.child_buf w x
+    (c.fork_at_stop-pass.ensures.forked c.if-not-gave.false))
+    c.requires.some ended c.forks_are_told.ensures c.child_takes_key.ensures

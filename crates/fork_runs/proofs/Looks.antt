@@ -1,0 +1,88 @@
+-- What calls behind a ready core's look did: they published generations, and read keys that CPUs handed over.
+use Rattle.std.proofs.Common.{◌≡◌, ℕ, zero, suc, ◌≤◌, Bool, List, [], ◌∷◌, ◌++◌, map, refl, sym, subst, ap, ◌∙◌, arith}
+use Rattle.key_names.specs.declared.names.Step.{Step}
+use Rattle.key_names.specs.declared.point.Point.{Point}
+use Rattle.key_names.specs.declared.entries.CpuEntry.{CpuEntry}
+use Rattle.key_names.specs.Book.{Lists}
+use Rattle.key_names.specs.Deeds.{Deed, looked, deeds_of}
+use Rattle.key_names.specs.Vgetrandom.{HostStep, publishes, system_call, at_point}
+use Rattle.key_names.specs.VreadSteps.{NeverFall, Shows, looks_of, published_by}
+use Rattle.key_names.proofs.Transcripts.GoodSteps.{good_behind}
+use Rattle.key_names.proofs.Transcripts.KeyVisits.{AllThere, all_there}
+use Rattle.key_names.proofs.Vgetrandom.KeyReads.{KeyReads}
+use Rattle.key_names.proofs.Vgetrandom.StatesReplay.{Good, GoodBehind}
+use Rattle.lane_table.specs.declared.view.View.{View}
+use Rattle.lane_table.specs.declared.view.Visit.{Visit}
+use Rattle.lane_table.specs.Advances.{floor, looks_in, step_of}
+use Rattle.lane_table.specs.BookLaws.{Continues}
+use Rattle.lane_table.specs.BookLists.{StateLists, book_lists}
+use Rattle.rng_core.specs.declared.setting.Setting.{Setting}
+use Rattle.rng_core.specs.Makes.{setting_of}
+use Rattle.rng_core.proofs.ActRuns.{Risen, sees_risen}
+use Rattle.rng_core.proofs.Readings.{never_fall, same_looks}
+use Rattle.fork_runs.specs.Runs.{DidAll}
+
+-- a published generation that is not 0 was found
+pub found_some : (g : ℕ) → 1 ≤ published_by g → 1 ≤ g
+found_some zero h = absurd (omega arith)
+found_some (suc g) h = omega arith
+
+pub publishes_some : (g : ℕ) → 1 ≤ g → 1 ≤ published_by g
+publishes_some zero h = absurd (omega arith)
+publishes_some (suc g) h = omega arith
+
+pub good_both : (lists : Lists) (xs ys : List HostStep) → Good lists xs → Good lists ys → Good lists (xs ++ ys)
+good_both lists [] ys a b = b
+good_both lists (publishes g ∷ xs) ys a b = (a.0, good_both lists xs ys a.1 b)
+good_both lists (system_call n flags answer ∷ xs) ys a b = (a.0, good_both lists xs ys a.1 b)
+good_both lists (at_point point wiped ∷ xs) ys a b = good_both lists xs ys a b
+
+pub reads_both : (cpus : ℕ → List CpuEntry) (xs ys : List HostStep) → KeyReads cpus xs → KeyReads cpus ys →
+    KeyReads cpus (xs ++ ys)
+reads_both cpus [] ys a b = b
+reads_both cpus (publishes g ∷ xs) ys a b = reads_both cpus xs ys a b
+reads_both cpus (system_call n flags answer ∷ xs) ys a b = (a.0, reads_both cpus xs ys a.1 b)
+reads_both cpus (at_point point wiped ∷ xs) ys a b = reads_both cpus xs ys a b
+
+module _ (lists : Lists) (caller k : ℕ) where
+  -- a call whose first look is in its first part
+  pub good_parts : (before after : List HostStep) (point : Point) (wiped : Bool) → GoodBehind lists caller k before →
+      Good lists after → GoodBehind lists caller k (before ++ at_point point wiped ∷ after)
+  good_parts [] after point wiped good rest g steps is some = cc
+  good_parts (x ∷ xs) after point wiped good rest g steps is some =
+      let first : x ≡ publishes g = cc in
+      let more : xs ++ at_point point wiped ∷ after ≡ steps = cc in
+      subst (Good lists) more (good_both lists xs (at_point point wiped ∷ after)
+      (good g xs (ap (λ (y : HostStep). y ∷ xs) first) some) rest)
+
+module _ (lanes : ℕ) (visits : ℕ → List Visit) (callers : StateLists) where
+  abbrev book : Lists
+  book = book_lists lanes visits callers
+
+  module _ (set : Setting) (v w : View) (own : List Step) (steps : List HostStep)
+      (did : DidAll (Shows (setting_of set) steps) set v own w) (c : Continues lanes w visits) where
+    abbrev deeds : List Deed
+    deeds = deeds_of book (map step_of did.made_steps)
+
+    abbrev there : AllThere book deeds
+    there = all_there book (map step_of did.made_steps)
+
+    shows : Shows (setting_of set) steps deeds
+    shows = did.stands lanes visits callers c
+
+    rises : Risen (floor v) (looks_of deeds) (floor w)
+    rises = subst (λ (l : List ℕ). Risen (floor v) l (floor w)) (sym (same_looks book did.made_steps))
+        (sees_risen w (floor v) (floor w) did.made_steps did.told.went.sees)
+
+    -- with a core that was found ready before
+    pub good_here : 1 ≤ floor v → Good book steps
+    good_here some =
+        let g = published_by (floor v) in
+        good_behind book (setting_of set) (publishes g ∷ steps) (looked (floor v) ∷ deeds) (tt, there)
+        (never_fall (floor v) (floor v ∷ looks_of deeds) (floor w) (omega arith, rises))
+        (floor v, deeds, refl, (refl, shows)) g steps refl (publishes_some (floor v) some)
+
+    -- with one that its own first look found
+    pub good_first : (caller k : ℕ) → GoodBehind book caller k steps
+    good_first caller k = good_behind book (setting_of set) steps deeds there
+        (never_fall (floor v) (looks_of deeds) (floor w) rises) shows
