@@ -1,7 +1,6 @@
 pub mod Inputs
 pub mod Judging
 pub mod Runs
-pub mod Refusals
 pub mod ShownBytes
 pub mod Completes
 pub mod VforkWords

@@ -9,7 +9,7 @@ ghost use Rattle.rng_tool.specs.DrawOutcome.{DrawEnds, IsDraw};
 ghost use Rattle.rng_tool.specs.FeedOutcome.{FeedEnds, IsFeed};
 ghost use Rattle.rng_tool.specs.JudgeOutcome.{IsJudge, JudgeEnds};
 ghost use Rattle.rng_tool.specs.LoadOutcome.{IsLoad, LoadEnds};
-ghost use Rattle.rng_tool.specs.Outcome.{HasRefusal, IsRun, RunEnds};
+ghost use Rattle.rng_tool.specs.Outcome.{IsRun, RunEnds};
 ghost use Rattle.rng_tool.specs.VforkOutcome.{IsVfork, VforkEnds};
 ghost use Rattle.tool_ends.specs.Pairs.{most_input};
 ghost use Rattle.vdso_state.specs.declared.place.Turn.{Turn};
@@ -25,7 +25,6 @@ use io_edges::{Gate, Sink, Source};
 use std::alloc::Global;
 use std::sync::Wait;
 use std::thread::Threads;
-use tool_ends::refusal::Refusal;
 use tool_ends::{Status, end_output};
 
 /// Runs the command that the words are.
@@ -61,7 +60,7 @@ use tool_ends::{Status, end_output};
 ///
 /// - `Usage`: the words are no command, and nothing is read or written.
 /// - `ReadFault`: the source failed. Nothing is written.
-/// - `Refused`: the input has a fault, and the line that tells the first was written. `refusal` then has it too.
+/// - `Refused`: the input has a fault, and the line that tells the first was written.
 /// - `WriteFault`: the sink failed at a put, or at the flush behind the last. What it got in this call is a prefix of
 ///   the output.
 /// - `NoMemory`: there was no memory. Nothing is written.
@@ -76,7 +75,6 @@ pub fn run<R: Threads + Wait + Sync, S: Source, K: Sink, G: Gate>(
     source: &mut S,
     sink: &mut K,
     gate: &G,
-    refusal: &mut Option<Refusal>,
 ) -> Status
     ensures usage { result ≡ Status.Usage ↔ IsNoForm words.now }
     ensures unread { (TakesInput words.now → ⊥) → source.new ≡ source.old }
@@ -117,15 +115,11 @@ pub fn run<R: Threads + Wait + Sync, S: Source, K: Sink, G: Gate>(
     ensures feed_completes { (start feeders samples : ℕ) → IsFeed words.now start feeders samples
         → (Rose (K.faults sink.old) (K.faults sink.new) → ⊥) → (result ≡ Status.Done) ⊎ (result ≡ Status.NoMemory) }
     ensures verdict { result ≡ Status.No → (judge : Judge) × IsJudge words.now judge }
-    ensures told { result ≡ Status.Refused → HasRefusal refusal.new (K.held sink.old) (K.held sink.new) }
 {
     match Command::of(words) {
         None => Status::Usage,
-        Some(Command::Run) => end_output(run_input(rt, alloc, source, sink, gate, refusal), sink),
-        Some(Command::Judge(judge)) => end_output(
-            judge_input(rt, alloc, judge, source, sink, refusal),
-            sink,
-        ),
+        Some(Command::Run) => end_output(run_input(rt, alloc, source, sink, gate), sink),
+        Some(Command::Judge(judge)) => end_output(judge_input(rt, alloc, judge, source, sink), sink),
         Some(Command::Load(load)) => end_output(run_load(rt, alloc, load, sink, gate), sink),
         Some(Command::Draw(draw)) => end_output(run_draw(rt, alloc, draw, sink), sink),
         Some(Command::Vfork(vfork)) => end_output(run_vfork(rt, alloc, vfork, sink), sink),

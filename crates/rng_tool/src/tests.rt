@@ -123,7 +123,7 @@ fn run_over<R: Abort + Threads + Wait + Sync, G: Gate>(
     if edges.flush_fails {
         sink = sink.failing_at_flush();
     }
-    let status = run(rt, alloc, &words, &mut source, &mut sink, gate, &mut None);
+    let status = run(rt, alloc, &words, &mut source, &mut sink, gate);
     Ok((status, sink))
 }
 

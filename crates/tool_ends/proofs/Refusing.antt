@@ -34,7 +34,7 @@ module _ (most : ℕ) (Of : List ℕ → Status → List ℕ → Type 0) (limite
       ReadsEnds Of status left left_after held held_after
   refused_of Is SourceFails says none status e =
       subst (λ s. ReadsEnds Of s left left_after held held_after) (sym e.0) e.1
-  refused_of Is (FirstFault refusal) says none status e = said_of none.0 none.1 status
+  refused_of Is (FirstFault fault) says none status e = said_of none.0 none.1 status
       (wider _ (Of none.0) (says none.0 none.2) status held held_after e)
   refused_of Is NoTranscript says none status e = said_of none.0 none.1 status
       (wider _ (Of none.0) (says none.0 none.2) status held held_after e)

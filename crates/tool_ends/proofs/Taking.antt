@@ -94,7 +94,7 @@ module _ (most : ℕ) where
     no_input : (left after : Option (List ℕ)) (input : List ℕ) (why : NotRead) → WasRead most left after input
         → length input ≤ most + 1 → Is input why → (Is input ReadFault → ⊥) → GivesNone most Is left after why
     no_input left after input ReadFault read few is not = absurd (not is)
-    no_input left after input (Refused refusal) read few is not = (input, read, is)
+    no_input left after input (Refused fault) read few is not = (input, read, is)
     no_input left after input NoTranscript read few is not = (input, read, is)
     no_input left after input TooManyLines read few is not = (input, read, is)
     no_input left after input NoMemory read few is not = (input, few, read.read)

@@ -65,7 +65,7 @@ pub record FailsAsText (input : List ℕ) (number : ℕ) : Type 0 where
 -- why a text is not read as a transcript
 abbrev pub IsNoText : List ℕ → NotRead → Type 0
 IsNoText text ReadFault = ⊥
-IsNoText text (Refused refusal) = ⊥
+IsNoText text (Refused fault) = ⊥
 IsNoText text NoTranscript = IsNoTranscript text
 IsNoText text TooManyLines = HasMoreLines most_script_lines text
 IsNoText text NoMemory = ⊤
@@ -73,7 +73,7 @@ IsNoText text NoMemory = ⊤
 -- why an input is not read as a script
 abbrev pub IsNoScript : List ℕ → NotRead → Type 0
 IsNoScript input ReadFault = ⊥
-IsNoScript input (Refused refusal) = first_fault input ≡ Some refusal.fault
+IsNoScript input (Refused fault) = first_fault input ≡ Some fault
 IsNoScript input NoTranscript = ⊥
 IsNoScript input TooManyLines = ⊥
 IsNoScript input NoMemory = ⊤
@@ -81,7 +81,7 @@ IsNoScript input NoMemory = ⊤
 -- why an input is not read as a script with a transcript behind it
 abbrev pub IsNoPair : List ℕ → NotRead → Type 0
 IsNoPair input ReadFault = ⊥
-IsNoPair input (Refused refusal) = pair_fault input ≡ Some refusal.fault
+IsNoPair input (Refused fault) = pair_fault input ≡ Some fault
 IsNoPair input NoTranscript = FailsAsText input 1
 IsNoPair input TooManyLines = FailsAsText input 2 × HasMoreLines most_script_lines (behind input)
 IsNoPair input NoMemory = ⊤
@@ -107,8 +107,8 @@ GivesPair left left_after script t = (input : List ℕ) × WasRead most_input le
 -- that is too long
 abbrev pub GivesNone : ℕ → (List ℕ → NotRead → Type 0) → Option (List ℕ) → Option (List ℕ) → NotRead → Type 0
 GivesNone most Is left left_after ReadFault = ConsumesUpTo (most + 1) left left_after
-GivesNone most Is left left_after (Refused refusal) =
-    (input : List ℕ) × WasRead most left left_after input × Is input (Refused refusal)
+GivesNone most Is left left_after (Refused fault) =
+    (input : List ℕ) × WasRead most left left_after input × Is input (Refused fault)
 GivesNone most Is left left_after NoTranscript =
     (input : List ℕ) × WasRead most left left_after input × Is input NoTranscript
 GivesNone most Is left left_after TooManyLines =
@@ -141,7 +141,7 @@ pub record TellsFault (input output : List ℕ) : Type 0 where
 -- what says why an input is not read, and the status that says so
 abbrev pub RefusalOf : NotRead → Status → List ℕ → Type 0
 RefusalOf ReadFault status output = ⊥
-RefusalOf (Refused refusal) status output = (status ≡ IsRefused) × (output ≡ refusal_line refusal.fault)
+RefusalOf (Refused fault) status output = (status ≡ IsRefused) × (output ≡ refusal_line fault)
 RefusalOf NoTranscript status output = (status ≡ IsNo) × (output ≡ no_line 1)
 RefusalOf TooManyLines status output = (status ≡ IsNo) × (output ≡ no_line 2)
 RefusalOf NoMemory status output = ⊥
@@ -149,7 +149,7 @@ RefusalOf NoMemory status output = ⊥
 -- how an answer ends that says why
 abbrev pub RefusalEnds : NotRead → Status → Option (List ℕ) → Option (List ℕ) → Type 0
 RefusalEnds ReadFault status held held_after = (status ≡ Unread) × Keeps held held_after
-RefusalEnds (Refused refusal) status held held_after = WritesEnds (RefusalOf (Refused refusal)) status held held_after
+RefusalEnds (Refused fault) status held held_after = WritesEnds (RefusalOf (Refused fault)) status held held_after
 RefusalEnds NoTranscript status held held_after = WritesEnds (RefusalOf NoTranscript) status held held_after
 RefusalEnds TooManyLines status held held_after = WritesEnds (RefusalOf TooManyLines) status held held_after
 RefusalEnds NoMemory status held held_after = WritesEnds (RefusalOf NoMemory) status held held_after

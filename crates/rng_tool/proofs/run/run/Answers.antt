@@ -8,7 +8,6 @@ use Rattle.rng_tool.specs.Outcome.{CallsFor}
 use Rattle.rng_tool.specs.VforkOutcome.{VforkEnds, VforkOf}
 use Rattle.rng_tool.specs.declared.command.Command.TheVariants.{Vfork as VforkCommand}
 use Rattle.rng_tool.proofs.Completes.{ends_completes, judge_completes, read_before, run_completes}
-use Rattle.rng_tool.proofs.Refusals.{told_at_end}
 use Rattle.tool_ends.proofs.Endings.{ends_after, reads_end_after, rose_at_end, same_at_end}
 use Rattle.rng_tool.proofs.run.run.Goals as goal
 
@@ -33,10 +32,6 @@ returns-in-Some-Run-clause-run_completes g c is unread unwritten =
     (λ fault. unread (c.run_input.ensures.read_fault (read_before _ _ _ _ ended fault)))
     (λ fault. unwritten (rose_at_end _ _ _ _ _ ended c.run_input.ensures.not_counted
     c.run_input.ensures.cut fault))
-
-pub returns-in-Some-Run-clause-told : goal.returns-in-Some-Run-clause-told
-returns-in-Some-Run-clause-told g c =
-    told_at_end _ _ _ _ _ _ _ _ c.end_output.ensures.ended c.end_output.ensures.kept c.run_input.ensures.told
 
 pub returns-in-Some-Judge-clause-write_fault : goal.returns-in-Some-Judge-clause-write_fault
 returns-in-Some-Judge-clause-write_fault g c =
@@ -65,11 +60,6 @@ returns-in-Some-Judge-clause-judge_completes g c judge is unread unwritten =
     (λ fault. unread (c.judge_input.ensures.read_fault (read_before _ _ _ _ ended fault)))
     (λ fault. unwritten (rose_at_end _ _ _ _ _ ended c.judge_input.ensures.not_counted
     c.judge_input.ensures.cut fault))
-
-pub returns-in-Some-Judge-clause-told : goal.returns-in-Some-Judge-clause-told
-returns-in-Some-Judge-clause-told g c =
-    told_at_end _ _ _ _ _ _ _ _ c.end_output-in-Some-Judge.ensures.ended c.end_output-in-Some-Judge.ensures.kept
-    c.judge_input.ensures.told
 
 pub returns-in-Some-Load-clause-write_fault : goal.returns-in-Some-Load-clause-write_fault
 returns-in-Some-Load-clause-write_fault g c =

@@ -81,5 +81,5 @@ returns-clause-not_read g c =
     omega (arith, s.len, c.loop-taken-test.false, c.loop-taken.invariant.within) in (
       s.input,
       long_read 100663296 _ _ s.input s.read many,
-      too_long s.input (omega (arith, many)) ∙ ap Some (sym c.of.ensures),
+      too_long s.input (omega (arith, many)),
     )
