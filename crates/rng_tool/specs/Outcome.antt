@@ -5,7 +5,7 @@ use Rattle.key_names.specs.Texts.ScriptFaults.{first_fault}
 use Rattle.key_names.specs.Texts.ScriptGrammar.{Script, IsScript}
 use Rattle.key_names.specs.Texts.TranscriptGrammar.{IsTranscriptText}
 use Rattle.key_names.specs.declared.faults.ScriptFault.{ScriptFault}
-use Rattle.tool_ends.specs.Pairs.{refusal_line}
+use Rattle.tool_ends.specs.Pairs.{most_script, refusal_line}
 use Rattle.tool_ends.specs.Reads.{ReadsEnds}
 use Rattle.tool_ends.specs.declared.status.Status.{Status}
 use Rattle.tool_ends.specs.declared.status.Status.TheVariants.{Done, No, Usage, ReadFault, WriteFault, Refused, NoMemory}
@@ -41,7 +41,7 @@ CallsFor input NoMemory output = ⊥
 
 -- how the command `run` ends, what the source then has left and what the sink holds
 abbrev pub RunEnds : Status → Option (List ℕ) → Option (List ℕ) → Option (List ℕ) → Option (List ℕ) → Type 0
-RunEnds = ReadsEnds CallsFor
+RunEnds = ReadsEnds most_script CallsFor
 
 -- the words of a run
 abbrev pub IsRun : {A : Type 0} → List (String A) → Type 0

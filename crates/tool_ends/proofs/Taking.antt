@@ -10,7 +10,8 @@ use Rattle.std.specs.Io.KnownBytes.{Consumes, IsAtEnd}
 use Rattle.tool_ends.specs.Behind.{GivesApart, HoldsText, IsApart}
 use Rattle.tool_ends.specs.Intakes.{HasEndLine, IsFound}
 use Rattle.tool_ends.specs.declared.behind.Behind.{Behind}
-use Rattle.tool_ends.specs.Pairs.{GivesNone, GivesScript, IsNoPair, IsNoText, WasRead, behind, most_input, most_script}
+use Rattle.tool_ends.specs.Pairs.{GivesNone, GivesScript, IsNoPair, IsNoText, behind, most_input, most_script}
+use Rattle.tool_ends.specs.Reads.{WasRead}
 use Rattle.tool_ends.specs.declared.pair.NotRead.{NotRead}
 use Rattle.tool_ends.specs.declared.pair.NotRead.TheVariants.{ReadFault, Refused, NoTranscript, TooManyLines, NoMemory}
 use Rattle.tool_ends.proofs.FrontStays.{front_stays}

@@ -1,8 +1,8 @@
 -- A script with a transcript behind it as one input, and what answers an input that is none.
-use Rattle.std.specs.Prelude.{ℕ, ◌≡◌, ◌⊎◌, ◌+◌, ◌≤◌, ⊤, List, [], ◌∷◌, Option, Some, IfSome, codes, drop, length, take, nat_lt}
+use Rattle.std.specs.Prelude.{ℕ, ◌≡◌, ◌⊎◌, ◌+◌, ◌≤◌, ⊤, List, [], ◌∷◌, Option, Some, codes, drop, length, nat_lt}
 use Rattle.std.specs.Prelude.{if◌then◌else◌}
 use Rattle.std.specs.Fmt.{decimal}
-use Rattle.std.specs.Io.KnownBytes.{Consumes, IsAtEnd, Keeps}
+use Rattle.std.specs.Io.KnownBytes.{Keeps}
 use Rattle.io_edges.specs.Pieces.{ConsumesUpTo}
 use Rattle.key_names.specs.declared.faults.FaultKind.TheVariants.{TooLong}
 use Rattle.key_names.specs.declared.faults.ScriptFault.{ScriptFault}
@@ -17,7 +17,7 @@ use Rattle.tool_ends.specs.declared.pair.NotRead.{NotRead}
 use Rattle.tool_ends.specs.declared.pair.NotRead.TheVariants.{ReadFault, Refused, NoTranscript, TooManyLines, NoMemory}
 use Rattle.tool_ends.specs.declared.status.Status.{Status}
 use Rattle.tool_ends.specs.declared.status.Status.TheVariants.{ReadFault as Unread, Refused as IsRefused, No as IsNo}
-use Rattle.tool_ends.specs.Reads.{WritesEnds}
+use Rattle.tool_ends.specs.Reads.{WasRead, WritesEnds}
 
 -- the most bytes of a script
 abbrev pub most_script : ℕ
@@ -87,12 +87,6 @@ IsNoPair input TooManyLines = FailsAsText input 2 × HasMoreLines most_script_li
 IsNoPair input NoMemory = ⊤
 
 -- ---- from a source
-
--- what was read of what a source had left: all of it, or one byte more than there may be
-pub record WasRead (most : ℕ) (left left_after : Option (List ℕ)) (input : List ℕ) : Type 0 where
-  pub read : Consumes left left_after input
-  pub whole : length input ≤ most → IsAtEnd left_after
-  pub front : IfSome left (λ all. input ≡ take (most + 1) all)
 
 -- a script was read
 abbrev pub GivesScript : Option (List ℕ) → Option (List ℕ) → Script → Type 0
