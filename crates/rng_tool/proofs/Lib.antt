@@ -3,6 +3,7 @@ pub mod Judging
 pub mod Runs
 pub mod ShownBytes
 pub mod Completes
+pub mod Loads
 pub mod VforkWords
 pub mod WrittenLines
 pub mod Running
