@@ -47,7 +47,11 @@ impl<S: Source + Drop> TeeSource<S> {
         }
         let room = MOST_GIVEN.saturating_sub(self.front.len());
         let (kept, left) = piece.split_at(piece.len().min(room));
-        self.is_whole = self.front.extend_from_slice(kept).is_ok() && left.is_empty();
+        let Ok(()) = self.front.extend_from_slice(kept) else {
+            self.is_whole = false;
+            return;
+        };
+        self.is_whole = left.is_empty();
     }
 
     /// The line of this number, counted from 1, if the copy has all of it (tested).
