@@ -30,7 +30,8 @@ use tool_ends::{Status, end_output};
 /// Runs the command that the words are.
 ///
 /// Commands without numbers read all of the input, the others nothing. A script has at most 16 MiB, and with a transcript
-/// behind it 96 MiB; a longer input is answered by `refused 0 1`. A number is spelt as in a script; START is below 2^32.
+/// behind it 96 MiB; a longer input is answered by `refused 0 1`, and only one byte more of it is taken. A number is spelt
+/// as in a script; START is below 2^32.
 ///
 /// - `run`: the input is a script, whose callers run in threads. The output is its transcript, which is lawful for the
 ///   script however the callers' calls fell together; or the line `refused LINE KIND`, the first fault of what is no
@@ -59,11 +60,11 @@ use tool_ends::{Status, end_output};
 /// sample of each feeder; of `check`, not at all.
 ///
 /// - `Usage`: the words are no command, and nothing is read or written.
-/// - `ReadFault`: the source failed. Nothing is written.
+/// - `ReadFault`: the source failed. Nothing is written. No more was taken than of an input that is too long.
 /// - `Refused`: the input has a fault, and the line that tells the first was written.
 /// - `WriteFault`: the sink failed at a put, or at the flush behind the last. What it got in this call is a prefix of
 ///   the output.
-/// - `NoMemory`: there was no memory. Nothing is written.
+/// - `NoMemory`: there was no memory. Nothing is written. No more was taken than of an input that is too long.
 /// - `No`: a clause fails, and the line that names it was written.
 /// - `Done`: the input was read to its end, if the command takes one, and the whole output was written.
 ///
