@@ -1,5 +1,5 @@
 -- What is kept of a text that passes.
-use Rattle.std.proofs.Common.{◌≡◌, ℕ, ◌+◌, ◌≤◌, List, ◌++◌, length, take, min, sym, ap, ◌∙◌, append-nil, arith, inl, inr}
+use Rattle.std.proofs.Common.{◌≡◌, ℕ, ◌+◌, List, ◌++◌, length, take, min, sym, ap, ◌∙◌, append-nil, arith, inl, inr}
 use Rattle.std.specs.Prelude.{Result, Ok, Err, IsOk, OnOk}
 use Rattle.std.proofs.Math.Seq.{take-append-add}
 use Rattle.std.proofs.lemmas.Bool.{cases_lt}

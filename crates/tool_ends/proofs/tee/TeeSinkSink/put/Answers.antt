@@ -1,4 +1,4 @@
-use Rattle.std.proofs.Common.{◌≡◌, ◌++◌, length, take, ap, sym, ◌∙◌, append-nil, arith}
+use Rattle.std.proofs.Common.{◌≡◌, ◌++◌, take, ap, sym, ◌∙◌, append-nil, arith}
 use Rattle.std.proofs.lemmas.List.{length-take}
 use Rattle.tool_ends.proofs.Tees.{ok_holds, put_more}
 use Rattle.tool_ends.proofs.tee.TeeSinkSink.put.Goals as goal
