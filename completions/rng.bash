@@ -9,9 +9,9 @@ _rng() {
         first=${COMP_WORDS[2]-}
     fi
     if [[ $at -eq 1 && ${COMP_WORDS[1]} = try ]]; then
-        mapfile -t COMPREPLY < <(compgen -W 'run check replay load draw vfork feed' -- "$word")
+        mapfile -t COMPREPLY < <(compgen -W 'run check load vfork draw feed replay' -- "$word")
     elif [[ $at -eq 1 ]]; then
-        mapfile -t COMPREPLY < <(compgen -W 'run check replay load draw vfork feed try --help --version' -- "$word")
+        mapfile -t COMPREPLY < <(compgen -W 'run check load vfork draw feed replay try --help --version' -- "$word")
     elif [[ ${COMP_WORDS[COMP_CWORD-1]} = '<' ]]; then
         mapfile -t COMPREPLY < <(compgen -f -X '!*.script' -- "$word")
     fi

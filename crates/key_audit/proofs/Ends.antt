@@ -34,8 +34,8 @@ of_pair ask input script t pair NoMemory o told = absurd told
 pub of_none : (ask : Ask) (input : List ℕ) (why : NotRead) → IsNoPair input why → (s : Status) (o : List ℕ) →
     RefusalOf why s o → Calls ask input s o
 of_none ask input SourceFails is s o said = absurd is
-of_none ask input (FirstFault refusal) is s o said =
-    subst (λ status. Calls ask input status o) (sym said.0) (record { fault = refusal.fault; first = is; line = said.1 })
+of_none ask input (FirstFault fault) is s o said =
+    subst (λ status. Calls ask input status o) (sym said.0) (record { fault = fault; first = is; line = said.1 })
 of_none ask input NoTranscript is s o said =
     subst (λ status. Calls ask input status o) (sym said.0) (inr (record { number = 1; fails = is; line = said.1 }))
 of_none ask input TooManyLines is s o said =

@@ -15,7 +15,7 @@ use Rattle.key_rows.specs.declared.told.Told.{Told}
 use Rattle.key_rows.specs.MadeOrder.{RowsByMaking}
 use Rattle.key_rows.specs.Rows.{IsRow, all_pieces, birth_of}
 use Rattle.key_rows.specs.Told.{book_tells, tells_of}
-use Rattle.tool_ends.specs.Pairs.{FailsAsText, IsPair, TellsFault, no_line}
+use Rattle.tool_ends.specs.Pairs.{FailsAsText, IsPair, TellsFault, most_input, no_line}
 use Rattle.tool_ends.specs.Reads.{ReadsEnds}
 use Rattle.tool_ends.specs.declared.status.Status.{Status}
 use Rattle.tool_ends.specs.declared.status.Status.TheVariants.{Done, No, Usage, ReadFault, WriteFault, Refused, NoMemory}
@@ -118,4 +118,4 @@ Calls ask input NoMemory output = ⊥
 
 -- how a command ends, what the source then has left and what the sink holds
 abbrev pub AuditEnds : Ask → Status → Option (List ℕ) → Option (List ℕ) → Option (List ℕ) → Option (List ℕ) → Type 0
-AuditEnds ask = ReadsEnds (Calls ask)
+AuditEnds ask = ReadsEnds most_input (Calls ask)

@@ -88,8 +88,8 @@ text_said judge input number is s o said = subst (λ status. JudgeCalls judge in
 pub none_said : (judge : Judge) (input : List ℕ) (why : NotRead) → IsNoPair input why → (s : Status) (o : List ℕ) →
     RefusalOf why s o → JudgeCalls judge input s o
 none_said judge input SourceFails is s o said = absurd is
-none_said judge input (FirstFault refusal) is s o said = subst (λ status. JudgeCalls judge input status o) (sym said.0)
-    (record { fault = refusal.fault; first = is; line = said.1 })
+none_said judge input (FirstFault fault) is s o said = subst (λ status. JudgeCalls judge input status o) (sym said.0)
+    (record { fault = fault; first = is; line = said.1 })
 none_said judge input NoTranscript is s o said = text_said judge input 1 is s o said
 none_said judge input TooManyLines is s o said = text_said judge input 2 is.0 s o said
 none_said judge input Unread is s o said = absurd said
@@ -113,8 +113,8 @@ pub refusal_said : (judge : Judge) (input : List ℕ) (why : NotRead) → IsNoPa
     (held held_after : Option (List ℕ)) → RefusalEnds why status held held_after →
     WritesEnds (JudgeCalls judge input) status held held_after
 refusal_said judge input SourceFails none status held held_after e = absurd none
-refusal_said judge input (FirstFault refusal) none status held held_after e =
-    wider _ (JudgeCalls judge input) (none_said judge input (FirstFault refusal) none) status held held_after e
+refusal_said judge input (FirstFault fault) none status held held_after e =
+    wider _ (JudgeCalls judge input) (none_said judge input (FirstFault fault) none) status held held_after e
 refusal_said judge input NoTranscript none status held held_after e =
     wider _ (JudgeCalls judge input) (none_said judge input NoTranscript none) status held held_after e
 refusal_said judge input TooManyLines none status held held_after e =

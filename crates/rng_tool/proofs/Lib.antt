@@ -1,9 +1,9 @@
 pub mod Inputs
 pub mod Judging
 pub mod Runs
-pub mod Refusals
 pub mod ShownBytes
 pub mod Completes
+pub mod Loads
 pub mod VforkWords
 pub mod WrittenLines
 pub mod Running

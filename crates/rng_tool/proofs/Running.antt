@@ -22,8 +22,8 @@ script_runs input script is NoMemory o run = absurd run
 pub none_called : (input : List ℕ) (why : NotRead) → IsNoScript input why → (s : Status) (o : List ℕ) →
     RefusalOf why s o → CallsFor input s o
 none_called input SourceFails is s o said = absurd is
-none_called input (FirstFault refusal) is s o said = subst (λ status. CallsFor input status o) (sym said.0)
-    (record { fault = refusal.fault; first = is; line = said.1 })
+none_called input (FirstFault fault) is s o said = subst (λ status. CallsFor input status o) (sym said.0)
+    (record { fault = fault; first = is; line = said.1 })
 none_called input NoTranscript is s o said = absurd is
 none_called input TooManyLines is s o said = absurd is
 none_called input Unread is s o said = absurd said

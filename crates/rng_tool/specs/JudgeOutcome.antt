@@ -85,7 +85,7 @@ JudgeCalls judge input NoMemory output = ⊥
 
 -- how the command ends, what the source then has left and what the sink holds
 abbrev pub JudgeEnds : Judge → Status → Option (List ℕ) → Option (List ℕ) → Option (List ℕ) → Option (List ℕ) → Type 0
-JudgeEnds judge = ReadsEnds (JudgeCalls judge)
+JudgeEnds judge = ReadsEnds most_input (JudgeCalls judge)
 
 -- ---- the words
 

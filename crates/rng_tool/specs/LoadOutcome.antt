@@ -5,7 +5,11 @@ use Rattle.key_names.specs.declared.lines.Data.TheVariants.{Bytes}
 use Rattle.key_names.specs.SeenLine.{SeenLine, bytes_shown}
 use Rattle.key_names.specs.Texts.TranscriptGrammar.{all_lines}
 use Rattle.event_script.specs.LoadScript.{load_script}
+use Rattle.key_names.specs.IsTranscript.{clause_number}
+use Rattle.line_orders.specs.Clauses.{clause_of}
 use Rattle.transcript_check.specs.Judged.{IsSound}
+use Rattle.transcript_check.specs.declared.check.Verdict.{Verdict}
+use Rattle.transcript_check.specs.declared.check.Verdict.TheVariants.{Yes, No}
 use Rattle.rng_tool.specs.declared.load.Load.{Load}
 use Rattle.tool_ends.specs.Ends.{EndsWith}
 use Rattle.tool_ends.specs.declared.status.Status.{Status}
@@ -26,10 +30,15 @@ pub record IsSmall (load : Load) : Type 0 where
 abbrev pub IsLoad : {A : Type 0} → List (String A) → ℕ → ℕ → ℕ → Type 0
 IsLoad words start callers events = AskLoad (map string_bytes words) start callers events
 
-abbrev pub load_line : ℕ → ℕ → ℕ → List ℕ
-load_line callers events bytes =
+-- what a check says of a transcript
+abbrev pub check_words : Verdict → List ℕ
+check_words Yes = codes " check yes\n"
+check_words (No clause) = codes " check no " ++ decimal (clause_number (clause_of clause)) ++ codes "\n"
+
+abbrev pub load_line : ℕ → ℕ → ℕ → Verdict → List ℕ
+load_line callers events bytes verdict =
     codes "callers " ++ decimal callers ++ codes " events " ++ decimal events ++ codes " bytes " ++ decimal bytes
-    ++ codes " check yes\n"
+    ++ check_words verdict
 
 -- how many bytes the data of a line are
 abbrev pub data_len : Data → ℕ
@@ -37,12 +46,12 @@ data_len (Bytes len start) = len
 data_len _ = 0
 
 -- the output counts the events of the load's script, and the bytes that the lines of a lawful transcript for it show,
--- and says that it was checked
+-- and says that this transcript is lawful
 pub record LoadOf (start callers events : ℕ) (output : List ℕ) : Type 0 where
   pub lines : List (List SeenLine)
   pub run : IsSound (load_script start callers events) lines
   pub told : output ≡ load_line callers (sum_by length (load_script start callers events).callers)
-      (length (bytes_shown (all_lines lines)))
+      (length (bytes_shown (all_lines lines))) Yes
 
 -- how a load ends, and what the sink then holds
 abbrev pub LoadEnds : ℕ → ℕ → ℕ → Status → Option (List ℕ) → Option (List ℕ) → Type 0

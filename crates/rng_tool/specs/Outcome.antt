@@ -1,13 +1,12 @@
 -- What a run of the program promises for each way to end.
-use Rattle.std.specs.Prelude.{ℕ, ◌≡◌, List, [], ◌∷◌, Option, Some, IsSomeAnd, String, string_bytes, codes, map}
+use Rattle.std.specs.Prelude.{ℕ, ◌≡◌, List, [], ◌∷◌, Option, Some, String, string_bytes, codes, map}
 use Rattle.key_names.specs.SeenLine.{SeenLine}
 use Rattle.key_names.specs.Texts.ScriptFaults.{first_fault}
 use Rattle.key_names.specs.Texts.ScriptGrammar.{Script, IsScript}
 use Rattle.key_names.specs.Texts.TranscriptGrammar.{IsTranscriptText}
 use Rattle.key_names.specs.declared.faults.ScriptFault.{ScriptFault}
-use Rattle.tool_ends.specs.Pairs.{refusal_line}
-use Rattle.tool_ends.specs.Reads.{ReadsEnds, WasWritten}
-use Rattle.tool_ends.specs.declared.refusal.Refusal.{Refusal}
+use Rattle.tool_ends.specs.Pairs.{most_script, refusal_line}
+use Rattle.tool_ends.specs.Reads.{ReadsEnds}
 use Rattle.tool_ends.specs.declared.status.Status.{Status}
 use Rattle.tool_ends.specs.declared.status.Status.TheVariants.{Done, No, Usage, ReadFault, WriteFault, Refused, NoMemory}
 use Rattle.transcript_check.specs.Judged.{IsSound}
@@ -42,12 +41,7 @@ CallsFor input NoMemory output = ⊥
 
 -- how the command `run` ends, what the source then has left and what the sink holds
 abbrev pub RunEnds : Status → Option (List ℕ) → Option (List ℕ) → Option (List ℕ) → Option (List ℕ) → Type 0
-RunEnds = ReadsEnds CallsFor
-
--- the fault of this refusal is the one whose line was written
-abbrev pub HasRefusal : Option Refusal → Option (List ℕ) → Option (List ℕ) → Type 0
-HasRefusal refusal held held_after =
-    IsSomeAnd refusal (λ told. WasWritten (λ line. line ≡ refusal_line told.fault) held held_after)
+RunEnds = ReadsEnds most_script CallsFor
 
 -- the words of a run
 abbrev pub IsRun : {A : Type 0} → List (String A) → Type 0

@@ -18,7 +18,7 @@ use crate::vfork::{Vfork, vfork_of};
 
 /// The forms of the command line, as the line that answers any other words has them.
 pub(crate) const USAGE: &str =
-    "usage: rng run | rng check | rng replay | rng load START CALLERS EVENTS | rng draw C K | rng vfork POINT ATTEMPT N | rng feed START FEEDERS SAMPLES";
+    "usage: rng run | rng check | rng load START CALLERS EVENTS | rng vfork POINT ATTEMPT N | rng draw C K | rng feed START FEEDERS SAMPLES | rng replay";
 
 /// A command, with the numbers that its words give.
 #[derive(Clone, Copy, Debug, PartialEq, Eq)]

@@ -4,7 +4,7 @@ ghost use Rattle.io_edges.specs.Faults.{Rose};
 ghost use Rattle.key_names.specs.Texts.ScriptGrammar.{WellFormed};
 ghost use Rattle.key_names.specs.Texts.TranscriptGrammar.{transcript_text};
 ghost use Rattle.rng_tool.specs.JudgeOutcome.{IsJudge, JudgeCalls, JudgeEnds, SaidOf, word_of, yes_line};
-ghost use Rattle.rng_tool.specs.Outcome.{HasRefusal, RunOf};
+ghost use Rattle.rng_tool.specs.Outcome.{RunOf};
 ghost use Rattle.tool_ends.specs.Behind.{HoldsText, IsApart, compared_with};
 ghost use Rattle.tool_ends.specs.Reads.{WritesEnds};
 
@@ -18,7 +18,6 @@ use std::sync::Wait;
 use std::thread::Threads;
 use tool_ends::behind::Behind;
 use tool_ends::pair::read_apart;
-use tool_ends::refusal::Refusal;
 use tool_ends::short_lines::{ShortLine, no_line};
 use tool_ends::{Status, put_line, put_refusal};
 use transcript_check::check::{Verdict, check};
@@ -133,7 +132,6 @@ fn say_of_text<K: Sink>(
     ensures ends { (input : List ℕ) → IsApart input script.now behind
         → WritesEnds (JudgeCalls judge input) result (K.held sink.old) (K.held sink.new) }
     ensures was_read { result ≡ Status.ReadFault → ⊥ }
-    ensures not_refused { result ≡ Status.Refused → ⊥ }
     ensures cut { result ≡ Status.WriteFault → Rose (K.faults sink.old) (K.faults sink.new) }
     ensures silent { result ≡ Status.NoMemory → sink.new ≡ sink.old }
     ensures not_counted { (result ≡ Status.WriteFault → ⊥) → K.faults sink.new ≡ K.faults sink.old }
@@ -148,14 +146,13 @@ fn say_of_text<K: Sink>(
     }
 }
 
-/// Says what is asked of the script and the transcript that the source gives, or refuses the script and hands back why.
+/// Says what is asked of the script and the transcript that the source gives, or refuses the script.
 pub(crate) fn judge_input<R: Threads + Wait + Sync, S: Source, K: Sink>(
     rt: &R,
     alloc: Global,
     judge: Judge,
     source: &mut S,
     sink: &mut K,
-    refusal: &mut Option<Refusal>,
 ) -> Status
     ensures ends { JudgeEnds judge result (S.left source.old) (S.left source.new) (K.held sink.old)
         (K.held sink.new) }
@@ -164,13 +161,9 @@ pub(crate) fn judge_input<R: Threads + Wait + Sync, S: Source, K: Sink>(
     ensures no_read_fault { (result ≡ Status.ReadFault → ⊥) → S.faults source.new ≡ S.faults source.old }
     ensures cut { result ≡ Status.WriteFault → Rose (K.faults sink.old) (K.faults sink.new) }
     ensures not_counted { (result ≡ Status.WriteFault → ⊥) → K.faults sink.new ≡ K.faults sink.old }
-    ensures told { result ≡ Status.Refused → HasRefusal refusal.new (K.held sink.old) (K.held sink.new) }
 {
     match read_apart(alloc, source, &Rerun { rt, judge }) {
         Ok((script, behind)) => say_of_text(alloc, judge, &script, behind, sink),
-        Err(why) => {
-            *refusal = why.refusal();
-            put_refusal(&why, sink)
-        }
+        Err(why) => put_refusal(&why, sink),
     }
 }

@@ -4,6 +4,7 @@ ghost use Rattle.io_edges.specs.Faults.{Rose};
 ghost use Rattle.key_names.specs.Texts.ScriptGrammar.{WellFormed};
 ghost use Rattle.key_names.specs.SeenLine.{bytes_shown};
 ghost use Rattle.key_names.specs.Texts.TranscriptGrammar.{all_lines};
+ghost use Rattle.transcript_check.specs.Judged.{IsJudged};
 ghost use Rattle.rng_tool.specs.LoadOutcome.{AskLoad, IsLoad, IsSmall, LoadEnds, LoadOf, data_len, load_line};
 
 use crate::callers::transcript_of;
@@ -72,14 +73,20 @@ pub(crate) fn load_of(words: &[String]) -> Option<Load>
     }
 }
 
-fn load_line(callers: u32, events: u64, bytes: u64) -> ShortLine
-    ensures { result.bytes ≡ load_line callers events bytes }
+fn load_line(callers: u32, events: u64, bytes: u64, verdict: Verdict) -> ShortLine
+    ensures { result.bytes ≡ load_line callers events bytes verdict }
 {
     let mut line = ArrayString::new();
     add_number(&mut line, "callers ", u64::from(callers));
     add_number(&mut line, " events ", events);
     add_number(&mut line, " bytes ", bytes);
-    line.push_str(" check yes\n");
+    match verdict {
+        Verdict::Yes => line.push_str(" check yes\n"),
+        Verdict::No(clause) => {
+            add_number(&mut line, " check no ", u64::from(clause.number()));
+            line.push_str("\n");
+        }
+    }
     line
 }
 
@@ -130,6 +137,23 @@ fn shown_len(transcript: &Transcript) -> u64
     sum
 }
 
+// The line that sums up any transcript of a script, and says whether it is lawful.
+fn checked_line(
+    alloc: Global,
+    callers: u32,
+    script: &Script,
+    t: &Transcript,
+) -> Result<ShortLine, NoMemory>
+    requires well { WellFormed script.now }
+    requires few { sum_by length t.now ≤ 65600 }
+    ensures { (verdict : Verdict) → IsJudged script.now t.now verdict → IfOk result (λ line.
+        line.bytes ≡ load_line callers (sum_by length script.now.callers) (length (bytes_shown (all_lines t.now))) verdict) }
+{
+    let verdict = check(alloc, script, t)?;
+    let line = load_line(callers, event_count(script), shown_len(t), verdict);
+    Ok(line)
+}
+
 // The line of a load that was run and checked.
 fn summary<R: Threads + Wait + Sync, G: Gate>(
     rt: &R,
@@ -142,12 +166,8 @@ fn summary<R: Threads + Wait + Sync, G: Gate>(
 {
     let script = Script::load(alloc, load.start, load.callers, load.events)?;
     let transcript = transcript_of(rt, alloc, &script, gate)?;
-    match check(alloc, &script, &transcript) {
-        Ok(Verdict::Yes) => {}
-        Ok(Verdict::No(_)) => unreachable!(),
-        Err(_) => return Err(NoMemory),
-    }
-    Ok(load_line(load.callers, event_count(&script), shown_len(&transcript)))
+    let line = checked_line(alloc, load.callers, &script, &transcript)?;
+    Ok(line)
 }
 
 /// Runs a load, and writes the line that sums it up.

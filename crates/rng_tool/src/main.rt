@@ -33,53 +33,52 @@ use crate::judge::Judge;
 use crate::run::run;
 use crate::told::tell;
 use io_edges::{OpenGate, Source, StdSink, StdSource};
+use key_names::ScriptFault;
 use std::alloc::Global;
 use std::io::{BufWriter, Write};
 use std::process::ExitCode;
 use std::sync::Wait;
 use std::thread::Threads;
-use tool_ends::refusal::Refusal;
+use tool_ends::refusal::fault_in;
+use tool_ends::tee::{TeeSink, TeeSource};
 use tool_ends::{Status, words};
 
 /// How many bytes of output are gathered to one write.
 const GATHERED: usize = 64 * 1024;
 
-/// Runs the command of the words over this source, and gathers its output for the writer.
+/// Runs the command of the words over this source, and gathers its output for the writer. It answers how that ended, and
+/// beside it the fault of an input that was refused (tested).
 fn run_gathered<R: Threads + Wait + Sync, S: Source, O: Write + Drop>(
     rt: &R,
     alloc: Global,
     words: &[String],
     source: &mut S,
     output: O,
-    refusal: &mut Option<Refusal>,
-) -> Status
-    ensures usage { result ≡ Status.Usage → IsNoForm words.now }
-    ensures no_form { IsNoForm words.now → (result ≡ Status.Usage) ⊎ (result ≡ Status.NoMemory) }
+) -> (Status, Option<ScriptFault>)
+    ensures usage { result.0 ≡ Status.Usage → IsNoForm words.now }
+    ensures no_form { IsNoForm words.now → (result.0 ≡ Status.Usage) ⊎ (result.0 ≡ Status.NoMemory) }
     ensures unread { (TakesInput words.now → ⊥) → source.new ≡ source.old }
-    ensures read_fault { result ≡ Status.ReadFault → Rose (S.faults source.old) (S.faults source.new) }
+    ensures read_fault { result.0 ≡ Status.ReadFault → Rose (S.faults source.old) (S.faults source.new) }
     ensures ran { IsRun words.now → (held : Option (List ℕ)) × (held_after : Option (List ℕ))
-        × RunEnds result (S.left source.old) (S.left source.new) held held_after }
+        × RunEnds result.0 (S.left source.old) (S.left source.new) held held_after }
     ensures judged { (judge : Judge) → IsJudge words.now judge → (held : Option (List ℕ)) × (held_after : Option (List ℕ))
-        × JudgeEnds judge result (S.left source.old) (S.left source.new) held held_after }
-    ensures verdict { result ≡ Status.No → (judge : Judge) × IsJudge words.now judge }
+        × JudgeEnds judge result.0 (S.left source.old) (S.left source.new) held held_after }
+    ensures verdict { result.0 ≡ Status.No → (judge : Judge) × IsJudge words.now judge }
 {
     let Ok(output) = BufWriter::with_capacity(alloc, GATHERED, output) else {
-        return Status::NoMemory;
+        return (Status::NoMemory, None);
     };
-    let mut sink = StdSink::of(output);
-    run(rt, alloc, words, source, &mut sink, &OpenGate, refusal)
+    let mut sink = TeeSink::of(StdSink::of(output));
+    let status = run(rt, alloc, words, source, &mut sink, &OpenGate);
+    (status, fault_in(sink.front()))
 }
 
 fn main(rt: HostRuntime) -> ExitCode {
-    let mut source = StdSource::of(rt.stdin());
-    let mut refusal = None;
-    let status = match words(&rt) {
-        Ok(words) => {
-            let (alloc, output) = (rt.alloc(), rt.stdout());
-            run_gathered(&rt, alloc, &words, &mut source, output, &mut refusal)
-        }
-        Err(status) => status,
+    let mut source = TeeSource::of(rt.alloc(), StdSource::of(rt.stdin()));
+    let (status, fault) = match words(&rt) {
+        Ok(words) => run_gathered(&rt, rt.alloc(), &words, &mut source, rt.stdout()),
+        Err(status) => (status, None),
     };
-    tell(&rt, status, refusal);
+    tell(&rt, status, fault, &source);
     ExitCode::from(status.code())
 }

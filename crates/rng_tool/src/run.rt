@@ -9,7 +9,7 @@ ghost use Rattle.rng_tool.specs.DrawOutcome.{DrawEnds, IsDraw};
 ghost use Rattle.rng_tool.specs.FeedOutcome.{FeedEnds, IsFeed};
 ghost use Rattle.rng_tool.specs.JudgeOutcome.{IsJudge, JudgeEnds};
 ghost use Rattle.rng_tool.specs.LoadOutcome.{IsLoad, LoadEnds};
-ghost use Rattle.rng_tool.specs.Outcome.{HasRefusal, IsRun, RunEnds};
+ghost use Rattle.rng_tool.specs.Outcome.{IsRun, RunEnds};
 ghost use Rattle.rng_tool.specs.VforkOutcome.{IsVfork, VforkEnds};
 ghost use Rattle.tool_ends.specs.Pairs.{most_input};
 ghost use Rattle.vdso_state.specs.declared.place.Turn.{Turn};
@@ -25,13 +25,13 @@ use io_edges::{Gate, Sink, Source};
 use std::alloc::Global;
 use std::sync::Wait;
 use std::thread::Threads;
-use tool_ends::refusal::Refusal;
 use tool_ends::{Status, end_output};
 
 /// Runs the command that the words are.
 ///
 /// Commands without numbers read all of the input, the others nothing. A script has at most 16 MiB, and with a transcript
-/// behind it 96 MiB; a longer input is answered by `refused 0 1`. A number is spelt as in a script; START is below 2^32.
+/// behind it 96 MiB; a longer input is answered by `refused 0 1`, and only one byte more of it is taken. A number is spelt
+/// as in a script; START is below 2^32.
 ///
 /// - `run`: the input is a script, whose callers run in threads. The output is its transcript, which is lawful for the
 ///   script however the callers' calls fell together; or the line `refused LINE KIND`, the first fault of what is no
@@ -60,11 +60,11 @@ use tool_ends::{Status, end_output};
 /// sample of each feeder; of `check`, not at all.
 ///
 /// - `Usage`: the words are no command, and nothing is read or written.
-/// - `ReadFault`: the source failed. Nothing is written.
-/// - `Refused`: the input has a fault, and the line that tells the first was written. `refusal` then has it too.
+/// - `ReadFault`: the source failed. Nothing is written. No more was taken than of an input that is too long.
+/// - `Refused`: the input has a fault, and the line that tells the first was written.
 /// - `WriteFault`: the sink failed at a put, or at the flush behind the last. What it got in this call is a prefix of
 ///   the output.
-/// - `NoMemory`: there was no memory. Nothing is written.
+/// - `NoMemory`: there was no memory. Nothing is written. No more was taken than of an input that is too long.
 /// - `No`: a clause fails, and the line that names it was written.
 /// - `Done`: the input was read to its end, if the command takes one, and the whole output was written.
 ///
@@ -76,7 +76,6 @@ pub fn run<R: Threads + Wait + Sync, S: Source, K: Sink, G: Gate>(
     source: &mut S,
     sink: &mut K,
     gate: &G,
-    refusal: &mut Option<Refusal>,
 ) -> Status
     ensures usage { result ≡ Status.Usage ↔ IsNoForm words.now }
     ensures unread { (TakesInput words.now → ⊥) → source.new ≡ source.old }
@@ -117,15 +116,11 @@ pub fn run<R: Threads + Wait + Sync, S: Source, K: Sink, G: Gate>(
     ensures feed_completes { (start feeders samples : ℕ) → IsFeed words.now start feeders samples
         → (Rose (K.faults sink.old) (K.faults sink.new) → ⊥) → (result ≡ Status.Done) ⊎ (result ≡ Status.NoMemory) }
     ensures verdict { result ≡ Status.No → (judge : Judge) × IsJudge words.now judge }
-    ensures told { result ≡ Status.Refused → HasRefusal refusal.new (K.held sink.old) (K.held sink.new) }
 {
     match Command::of(words) {
         None => Status::Usage,
-        Some(Command::Run) => end_output(run_input(rt, alloc, source, sink, gate, refusal), sink),
-        Some(Command::Judge(judge)) => end_output(
-            judge_input(rt, alloc, judge, source, sink, refusal),
-            sink,
-        ),
+        Some(Command::Run) => end_output(run_input(rt, alloc, source, sink, gate), sink),
+        Some(Command::Judge(judge)) => end_output(judge_input(rt, alloc, judge, source, sink), sink),
         Some(Command::Load(load)) => end_output(run_load(rt, alloc, load, sink, gate), sink),
         Some(Command::Draw(draw)) => end_output(run_draw(rt, alloc, draw, sink), sink),
         Some(Command::Vfork(vfork)) => end_output(run_vfork(rt, alloc, vfork, sink), sink),

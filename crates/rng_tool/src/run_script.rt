@@ -2,7 +2,7 @@
 ghost use Rattle.std.specs.Prelude.{◌≡◌, ◌⊎◌};
 ghost use Rattle.io_edges.specs.Faults.{Rose};
 ghost use Rattle.key_names.specs.Texts.ScriptGrammar.{WellFormed};
-ghost use Rattle.rng_tool.specs.Outcome.{HasRefusal, RunEnds, RunOf};
+ghost use Rattle.rng_tool.specs.Outcome.{RunEnds, RunOf};
 ghost use Rattle.tool_ends.specs.Reads.{OnlyDone, WritesEnds};
 
 use crate::alone::write_alone;
@@ -14,7 +14,6 @@ use std::alloc::Global;
 use std::mem;
 use std::sync::Wait;
 use std::thread::Threads;
-use tool_ends::refusal::Refusal;
 use tool_ends::{Status, put_refusal, read_script};
 use transcript_text::write_all;
 
@@ -66,14 +65,13 @@ fn run_script<R: Threads + Wait + Sync, K: Sink, G: Gate>(
     }
 }
 
-/// Runs the script that the source gives, and writes its transcript or its refusal, which it also hands back.
+/// Runs the script that the source gives, and writes its transcript or its refusal.
 pub(crate) fn run_input<R: Threads + Wait + Sync, S: Source, K: Sink, G: Gate>(
     rt: &R,
     alloc: Global,
     source: &mut S,
     sink: &mut K,
     gate: &G,
-    refusal: &mut Option<Refusal>,
 ) -> Status
     ensures ends { RunEnds result (S.left source.old) (S.left source.new) (K.held sink.old) (K.held sink.new) }
     ensures silent { (result ≡ Status.ReadFault) ⊎ (result ≡ Status.NoMemory) → sink.new ≡ sink.old }
@@ -81,7 +79,6 @@ pub(crate) fn run_input<R: Threads + Wait + Sync, S: Source, K: Sink, G: Gate>(
     ensures no_read_fault { (result ≡ Status.ReadFault → ⊥) → S.faults source.new ≡ S.faults source.old }
     ensures cut { result ≡ Status.WriteFault → Rose (K.faults sink.old) (K.faults sink.new) }
     ensures not_counted { (result ≡ Status.WriteFault → ⊥) → K.faults sink.new ≡ K.faults sink.old }
-    ensures told { result ≡ Status.Refused → HasRefusal refusal.new (K.held sink.old) (K.held sink.new) }
 {
     match read_script(alloc, source) {
         Ok(script) => {
@@ -91,9 +88,6 @@ pub(crate) fn run_input<R: Threads + Wait + Sync, S: Source, K: Sink, G: Gate>(
             mem::forget(script);
             status
         }
-        Err(why) => {
-            *refusal = why.refusal();
-            put_refusal(&why, sink)
-        }
+        Err(why) => put_refusal(&why, sink),
     }
 }

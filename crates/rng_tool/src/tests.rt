@@ -123,7 +123,7 @@ fn run_over<R: Abort + Threads + Wait + Sync, G: Gate>(
     if edges.flush_fails {
         sink = sink.failing_at_flush();
     }
-    let status = run(rt, alloc, &words, &mut source, &mut sink, gate, &mut None);
+    let status = run(rt, alloc, &words, &mut source, &mut sink, gate);
     Ok((status, sink))
 }
 
@@ -227,6 +227,56 @@ fn a_sink_that_fails_at_each_call(rt: HostRuntime) -> Result<(), Fail> {
         let (ended, sink) = run_over(&rt, rt.alloc(), words, input, edges, &OpenGate)?;
         assert_eq!(rt; ended, Status::WriteFault, "row {row}");
         assert_eq!(rt; sink.held(), *output, "row {row}");
+    }
+    Ok(())
+}
+
+// Where the pieces of a text end that a sink takes, each line in a put of its own and at most `step` bytes a call.
+fn piece_ends(alloc: Global, text: &[u8], step: usize) -> Result<Vec<usize>, AllocError> {
+    let mut ends = Vec::new(alloc);
+    let mut begin = 0;
+    for (place, byte) in text.iter().enumerate() {
+        let end = place + 1;
+        if *byte == b'\n' || end.saturating_sub(begin) >= step {
+            ends.push(end)?;
+            begin = end;
+        }
+    }
+    Ok(ends)
+}
+
+// With room for a line, a sink that fails at put k holds the first k - 1 lines; with less, the pieces before it.
+#[test]
+fn a_sink_that_fails_at_each_line(rt: HostRuntime) -> Result<(), Fail> {
+    for (step, puts) in [(4096, 11), (7, 36)] {
+        let ends = piece_ends(rt.alloc(), READY_TRANSCRIPT, step)?;
+        assert_eq!(rt; ends.len(), puts, "pieces of {step}");
+        let mut held = 0;
+        for (before, end) in ends.iter().enumerate() {
+            let edges = Edges {
+                step,
+                failing_put: before as u64 + 1,
+                ..WHOLE
+            };
+            let (ended, sink) =
+                run_over(&rt, rt.alloc(), &["run"], READY_SCRIPT, edges, &OpenGate)?;
+            assert_eq!(rt; ended, Status::WriteFault, "pieces of {step}, {before} puts");
+            assert_eq!(rt;
+                Some(sink.held()),
+                READY_TRANSCRIPT.get(..held),
+                "pieces of {step}, {before} puts"
+            );
+            held = *end;
+        }
+        assert_eq!(rt; held, READY_TRANSCRIPT.len(), "pieces of {step}");
+        let edges = Edges {
+            step,
+            failing_put: puts as u64 + 1,
+            ..WHOLE
+        };
+        let (ended, sink) = run_over(&rt, rt.alloc(), &["run"], READY_SCRIPT, edges, &OpenGate)?;
+        assert_eq!(rt; ended, Status::Done, "pieces of {step}");
+        assert_eq!(rt; sink.held(), READY_TRANSCRIPT, "pieces of {step}");
     }
     Ok(())
 }

@@ -1,9 +1,13 @@
 //! What standard error is told of a run that did not end well.
 
 use crate::command::USAGE;
+use io_edges::Source;
 use key_names::{FaultKind, ScriptFault};
 use tool_ends::Status;
-use tool_ends::refusal::Refusal;
+use tool_ends::tee::TeeSource;
+
+/// The longest line that is shown.
+const MOST_SHOWN: usize = 80;
 
 // The kind in words.
 fn name_of(kind: FaultKind) -> &'static str {
@@ -23,24 +27,40 @@ fn name_of(kind: FaultKind) -> &'static str {
     }
 }
 
-fn tell_refusal<R: Eprint>(rt: &R, refusal: Refusal) {
-    let ScriptFault { line, kind } = refusal.fault;
+// The line, where it has 1 to 80 bytes and is printable.
+fn shown_line(line: &[u8]) -> Option<&str> {
+    if line.is_empty() || line.len() > MOST_SHOWN {
+        return None;
+    }
+    if !line.iter().all(|byte| (b' '..=b'~').contains(byte)) {
+        return None;
+    }
+    str::from_utf8(line).ok()
+}
+
+fn tell_fault<R: Eprint, S: Source + Drop>(rt: &R, fault: ScriptFault, input: &TeeSource<S>) {
+    let ScriptFault { line, kind } = fault;
     let (number, name) = (kind.number(), name_of(kind));
-    let _told = match refusal.line() {
+    let _told = match input.line(line).and_then(shown_line) {
         Some(text) => eprintln!(rt; "rng: line {line}, kind {number}, {name}: {text}"),
         None => eprintln!(rt; "rng: line {line}, kind {number}, {name}"),
     };
 }
 
 /// Writes one line to standard error where a command ended otherwise than by its answer: the usage, or what could not be
-/// read, written or had, or why an input was refused.
-pub(crate) fn tell<R: Eprint>(rt: &R, status: Status, refusal: Option<Refusal>) {
+/// read, written or had, or why the input was refused.
+pub(crate) fn tell<R: Eprint, S: Source + Drop>(
+    rt: &R,
+    status: Status,
+    fault: Option<ScriptFault>,
+    input: &TeeSource<S>,
+) {
     let _told = match status {
         Status::Done | Status::No => return,
         Status::Usage => eprintln!(rt; "{USAGE}"),
         Status::ReadFault => eprintln!(rt; "rng: standard input could not be read"),
         Status::WriteFault => eprintln!(rt; "rng: standard output could not be written"),
         Status::NoMemory => eprintln!(rt; "rng: there is not enough memory"),
-        Status::Refused => return refusal.map_or((), |refusal| tell_refusal(rt, refusal)),
+        Status::Refused => return fault.map_or((), |fault| tell_fault(rt, fault, input)),
     };
 }

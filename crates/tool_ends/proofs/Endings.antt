@@ -8,7 +8,7 @@ use Rattle.io_edges.specs.Faults.{Rose}
 use Rattle.io_edges.specs.Pieces.{AppendsPrefix}
 use Rattle.io_edges.proofs.Pieces.{AppendsPrefix-of_whole}
 use Rattle.tool_ends.specs.Ends.{AtOutputEnd, EndsWith, IsAnswered}
-use Rattle.tool_ends.specs.Reads.{ReadsEnds, SomeAnswer, WasAnswered}
+use Rattle.tool_ends.specs.Reads.{ReadsEnds, SomeAnswer, WasAnswered, WasGivenUp}
 use Rattle.tool_ends.specs.declared.status.Status.{Status}
 use Rattle.tool_ends.specs.declared.status.Status.TheVariants.{Done, No, Usage, ReadFault, WriteFault, Refused, NoMemory}
 
@@ -83,9 +83,10 @@ also_refused : (Of : List ℕ → Status → List ℕ → Type 0) (left : Option
 also_refused Of None output is = tt
 also_refused Of (Some all) output is = (Refused, tt, is)
 
-module _ (Of : List ℕ → Status → List ℕ → Type 0) (left left_after a b c : Option (List ℕ)) (k : Keeps b c) where
-  answer_stays : (Is : List ℕ → List ℕ → Type 0) → WasAnswered Is left left_after a b
-      → WasAnswered Is left left_after a c
+module _ (most : ℕ) (Of : List ℕ → Status → List ℕ → Type 0) (left left_after a b c : Option (List ℕ)) (k : Keeps b c)
+    where
+  answer_stays : (Is : List ℕ → List ℕ → Type 0) → WasAnswered most Is left left_after a b
+      → WasAnswered most Is left left_after a c
   answer_stays Is e = record {
     input = e.input;
     output = e.output;
@@ -95,7 +96,11 @@ module _ (Of : List ℕ → Status → List ℕ → Type 0) (left left_after a b
     written = appends_kept a b c e.output e.written k;
   }
 
-  read_stays : (status : Status) → ReadsEnds Of status left left_after a b → ReadsEnds Of status left left_after a c
+  given_up : WasGivenUp most left left_after a b → WasGivenUp most left left_after a c
+  given_up e = record { taken = e.taken; kept = Keeps-trans a b c e.kept k }
+
+  read_stays : (status : Status) → ReadsEnds most Of status left left_after a b
+      → ReadsEnds most Of status left left_after a c
   read_stays Done e = answer_stays (λ input output. Of input Done output) e
   read_stays No e = answer_stays (λ input output. Of input No output) e
   read_stays Refused e = record {
@@ -114,24 +119,25 @@ module _ (Of : List ℕ → Status → List ℕ → Type 0) (left left_after a b
     of_all = e.of_all;
     written = prefix_kept a b c e.output e.written k;
   }
-  read_stays ReadFault e = Keeps-trans a b c e k
-  read_stays NoMemory e = Keeps-trans a b c e k
+  read_stays ReadFault e = given_up e
+  read_stays NoMemory e = given_up e
   read_stays Usage e = e
 
-  answer_cut : (status : Status) → IsAnswered status → WasAnswered (λ input output. Of input status output) left left_after a b
-      → ReadsEnds Of WriteFault left left_after a c
+  answer_cut : (status : Status) → IsAnswered status
+      → WasAnswered most (λ input output. Of input status output) left left_after a b
+      → ReadsEnds most Of WriteFault left left_after a c
   answer_cut status is e = record {
     input = e.input;
     output = e.output;
     read = e.read;
     output_is = (status, is, e.is);
-    of_all = all_read (λ input output. SomeAnswer (Of input) output) left left_after e.input e.output e.read e.whole
+    of_all = all_read (λ input output. SomeAnswer (Of input) output) left left_after e.input e.output e.read.read e.whole
         (status, is, e.is);
     written = whole_cut a b c e.output e.written k;
   }
 
-  read_cut : (status : Status) → IsAnswered status → ReadsEnds Of status left left_after a b
-      → ReadsEnds Of WriteFault left left_after a c
+  read_cut : (status : Status) → IsAnswered status → ReadsEnds most Of status left left_after a b
+      → ReadsEnds most Of WriteFault left left_after a c
   read_cut Done is e = answer_cut Done is e
   read_cut No is e = answer_cut No is e
   read_cut Refused is e = record {
@@ -149,8 +155,8 @@ module _ (Of : List ℕ → Status → List ℕ → Type 0) (left left_after a b
 
   -- a command that reads its input
   pub reads_end_after : (status result : Status) (m n : ℕ) → AtOutputEnd status result m n
-      → ReadsEnds Of status left left_after a b → ReadsEnds Of result left left_after a c
+      → ReadsEnds most Of status left left_after a b → ReadsEnds most Of result left left_after a c
   reads_end_after status result m n ended e = elim ended [
-    | inl same ↦ subst (λ s. ReadsEnds Of s left left_after a c) (sym same.0) (read_stays status e)
-    | inr faulty ↦ subst (λ s. ReadsEnds Of s left left_after a c) (sym faulty.1) (read_cut status faulty.0 e)
+    | inl same ↦ subst (λ s. ReadsEnds most Of s left left_after a c) (sym same.0) (read_stays status e)
+    | inr faulty ↦ subst (λ s. ReadsEnds most Of s left left_after a c) (sym faulty.1) (read_cut status faulty.0 e)
   ]

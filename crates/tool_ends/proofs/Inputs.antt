@@ -1,11 +1,12 @@
 -- What was read of an input, and what all of it calls for.
-use Rattle.std.proofs.Common.{ℕ, ◌+◌, ◌≡◌, ◌≤◌, ◌<◌, ◌⊎◌, List, Option, None, Some, length, take, sym, ap, ◌∙◌, subst, arith, inl, inr}
+use Rattle.std.proofs.Common.{ℕ, ◌+◌, ◌≡◌, ◌≤◌, ◌<◌, ◌⊎◌, List, [], Option, None, Some, length, take, sym, ap, ◌∙◌, subst, arith, inl, inr}
 use Rattle.std.specs.Prelude.{IfSome}
-use Rattle.std.specs.Io.KnownBytes.{Consumes, IsAtEnd}
+use Rattle.std.specs.Io.KnownBytes.{Consumes}
+use Rattle.io_edges.specs.Pieces.{ConsumesUpTo}
 use Rattle.std.proofs.lemmas.Bool.{cases_lt}
 use Rattle.std.proofs.lemmas.List.{take_all, length-take}
 use Rattle.tool_ends.specs.Ends.{IsAnswered}
-use Rattle.tool_ends.specs.Reads.{ReadsEnds, SomeAnswer, WritesEnds}
+use Rattle.tool_ends.specs.Reads.{ReadsEnds, SomeAnswer, WasRead, WritesEnds}
 use Rattle.tool_ends.specs.declared.status.Status.{Status}
 use Rattle.tool_ends.specs.declared.status.Status.TheVariants.{Done, No, Usage, ReadFault, WriteFault, Refused, NoMemory}
 
@@ -64,46 +65,53 @@ module _ (limit : ℕ) (Of : List ℕ → Status → List ℕ → Type 0) (limit
   some_of_all (Some all) input output front is =
       (is.0, is.1, of_all is.0 is.1 (Some all) input output front is.2)
 
+  -- no more was taken than of an input that is too long
+  taken_at_most : (left left_after : Option (List ℕ)) (input : List ℕ) → Consumes left left_after input →
+      IfSome left (λ all. input ≡ take (limit + 1) all) → ConsumesUpTo (limit + 1) left left_after
+  taken_at_most None left_after input read front = ([], omega arith, tt)
+  taken_at_most (Some all) left_after input read front =
+      (input, omega (arith, ap length front, length-take (limit + 1) all), read)
+
   -- what was read, and what was written of it, end the command
   pub reads_end : (left left_after held held_after : Option (List ℕ)) (input : List ℕ) →
-      Consumes left left_after input → (length input ≤ limit → IsAtEnd left_after) →
-      IfSome left (λ all. input ≡ take (limit + 1) all) → (status : Status) →
-      WritesEnds (Of input) status held held_after → ReadsEnds Of status left left_after held held_after
-  reads_end left left_after held held_after input read whole front Done e = record {
+      WasRead limit left left_after input → (status : Status) → WritesEnds (Of input) status held held_after →
+      ReadsEnds limit Of status left left_after held held_after
+  reads_end left left_after held held_after input read Done e = record {
     input = input;
     output = e.0;
     read = read;
-    whole = whole (limited.done input e.0 e.1);
+    whole = read.whole (limited.done input e.0 e.1);
     is = e.1;
     written = e.2;
   }
-  reads_end left left_after held held_after input read whole front No e = record {
+  reads_end left left_after held held_after input read No e = record {
     input = input;
     output = e.0;
     read = read;
-    whole = whole (limited.no input e.0 e.1);
+    whole = read.whole (limited.no input e.0 e.1);
     is = e.1;
     written = e.2;
   }
-  reads_end left left_after held held_after input read whole front Refused e = record {
+  reads_end left left_after held held_after input read Refused e = record {
     input = input;
     output = e.0;
     read = read;
     refusal = e.1;
-    of_all = of_all Refused tt left input e.0 front e.1;
+    of_all = of_all Refused tt left input e.0 read.front e.1;
     written = e.2;
   }
-  reads_end left left_after held held_after input read whole front WriteFault e = record {
+  reads_end left left_after held held_after input read WriteFault e = record {
     input = input;
     output = e.0;
     read = read;
     output_is = e.1;
-    of_all = some_of_all left input e.0 front e.1;
+    of_all = some_of_all left input e.0 read.front e.1;
     written = e.2;
   }
-  reads_end left left_after held held_after input read whole front NoMemory e = e
-  reads_end left left_after held held_after input read whole front Usage e = e
-  reads_end left left_after held held_after input read whole front ReadFault e = absurd e
+  reads_end left left_after held held_after input read NoMemory e =
+      record { taken = taken_at_most left left_after input read.read read.front; kept = e }
+  reads_end left left_after held held_after input read Usage e = e
+  reads_end left left_after held held_after input read ReadFault e = absurd e
 
 -- ---- one answer
 

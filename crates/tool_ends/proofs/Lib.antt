@@ -6,3 +6,4 @@ pub mod NumberWords
 pub mod Pairs
 pub mod Refusing
 pub mod Taking
+pub mod Tees

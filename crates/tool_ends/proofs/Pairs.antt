@@ -16,7 +16,7 @@ use Rattle.transcript_text.specs.ReadTexts.{HasMoreLines}
 use Rattle.tool_ends.specs.Pairs.{IsNoPair, IsNoText, LacksLines, RefusalOf, TellsFault, behind, no_line, pair_fault, refusal_line}
 use Rattle.tool_ends.specs.declared.pair.NotRead.{NotRead}
 use Rattle.tool_ends.specs.declared.pair.NotRead.TheVariants.{ReadFault, Refused, NoTranscript, TooManyLines, NoMemory}
-use Rattle.tool_ends.specs.declared.refusal.Refusal.{Refusal}
+use Rattle.key_names.specs.declared.faults.ScriptFault.{ScriptFault}
 use Rattle.tool_ends.specs.declared.status.Status.{Status}
 use Rattle.tool_ends.specs.declared.status.Status.TheVariants.{Refused as IsRefused, No as IsNo}
 
@@ -68,7 +68,7 @@ too_long_alike input all output long too tells = record {
 pub no_pair : (input : List ℕ) (script : Script) → length input ≤ 100663296 → IsScript script (front input) →
     (why : NotRead) → IsNoText (behind input) why → IsNoPair input why
 no_pair input script short is ReadFault not = absurd not
-no_pair input script short is (Refused refusal) not = absurd not
+no_pair input script short is (Refused fault) not = absurd not
 no_pair input script short is NoTranscript not = record {
   short = short;
   script = script;
@@ -88,9 +88,9 @@ no_pair input script short is NoMemory not = tt
 
 -- ---- the lines that say so
 
-pub refused_by : (refusal : Refusal) (line : List ℕ) → line ≡ refusal_line refusal.fault → (s : Status) (o : List ℕ) →
-    (s ≡ IsRefused) × (o ≡ line) → RefusalOf (Refused refusal) s o
-refused_by refusal line is s o said = (said.0, said.1 ∙ is)
+pub refused_by : (fault : ScriptFault) (line : List ℕ) → line ≡ refusal_line fault → (s : Status) (o : List ℕ) →
+    (s ≡ IsRefused) × (o ≡ line) → RefusalOf (Refused fault) s o
+refused_by fault line is s o said = (said.0, said.1 ∙ is)
 
 pub failed_by : (number : ℕ) (line : List ℕ) → line ≡ no_line number → (s : Status) (o : List ℕ) →
     (s ≡ IsNo) × (o ≡ line) → (s ≡ IsNo) × (o ≡ no_line number)

@@ -10,7 +10,8 @@ use Rattle.std.specs.Io.KnownBytes.{Consumes, IsAtEnd}
 use Rattle.tool_ends.specs.Behind.{GivesApart, HoldsText, IsApart}
 use Rattle.tool_ends.specs.Intakes.{HasEndLine, IsFound}
 use Rattle.tool_ends.specs.declared.behind.Behind.{Behind}
-use Rattle.tool_ends.specs.Pairs.{GivesNone, GivesScript, IsNoPair, IsNoText, WasRead, behind, most_input, most_script}
+use Rattle.tool_ends.specs.Pairs.{GivesNone, GivesScript, IsNoPair, IsNoText, behind, most_input, most_script}
+use Rattle.tool_ends.specs.Reads.{WasRead}
 use Rattle.tool_ends.specs.declared.pair.NotRead.{NotRead}
 use Rattle.tool_ends.specs.declared.pair.NotRead.TheVariants.{ReadFault, Refused, NoTranscript, TooManyLines, NoMemory}
 use Rattle.tool_ends.proofs.FrontStays.{front_stays}
@@ -94,7 +95,7 @@ module _ (most : ℕ) where
     no_input : (left after : Option (List ℕ)) (input : List ℕ) (why : NotRead) → WasRead most left after input
         → length input ≤ most + 1 → Is input why → (Is input ReadFault → ⊥) → GivesNone most Is left after why
     no_input left after input ReadFault read few is not = absurd (not is)
-    no_input left after input (Refused refusal) read few is not = (input, read, is)
+    no_input left after input (Refused fault) read few is not = (input, read, is)
     no_input left after input NoTranscript read few is not = (input, read, is)
     no_input left after input TooManyLines read few is not = (input, read, is)
     no_input left after input NoMemory read few is not = (input, few, read.read)

@@ -5,7 +5,8 @@ use Rattle.key_names.specs.Texts.ScriptGrammar.{Script, IsScript}
 use Rattle.key_names.specs.SeenLine.{SeenLine}
 use Rattle.key_names.specs.Texts.TranscriptGrammar.{transcript_text}
 use Rattle.transcript_text.specs.Feeding.{HasFed, most_lines}
-use Rattle.tool_ends.specs.Pairs.{WasRead, behind, most_input, most_script_lines}
+use Rattle.tool_ends.specs.Pairs.{behind, most_input, most_script_lines}
+use Rattle.tool_ends.specs.Reads.{WasRead}
 use Rattle.tool_ends.specs.declared.behind.Behind.{Behind}
 use Rattle.tool_ends.specs.declared.behind.Behind.TheVariants.{Compared, Fed}
 

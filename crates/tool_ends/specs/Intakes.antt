@@ -30,7 +30,7 @@ pub record IsFound (input : List ℕ) (script : Script) (text : Behind) : Type 0
 -- what was seen of the script in front
 abbrev pub IsOpened : List ℕ → Opened → Type 0
 IsOpened input (Found script text) = IsFound input script text
-IsOpened input (Faulty refusal) = first_fault (front input) ≡ Some refusal.fault
+IsOpened input (Faulty fault) = first_fault (front input) ≡ Some fault
 
 -- the input that was taken: all of it is kept only while no line `end` is there
 abbrev pub HasTaken : List ℕ → Intake → Type 0
@@ -40,7 +40,7 @@ HasTaken input (IsOpen opened) = HasEndLine input × IsOpened input opened
 -- the script that was found, and the transcript with which the text behind it is compared
 abbrev pub made_of : Opened → Option (Script × List (List SeenLine))
 made_of (Found script text) = option_map (λ made. (script, made)) (compared_with text)
-made_of (Faulty refusal) = None
+made_of (Faulty fault) = None
 
 abbrev pub made_in : Intake → Option (Script × List (List SeenLine))
 made_in (Front bytes) = None

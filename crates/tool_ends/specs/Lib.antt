@@ -3,3 +3,4 @@ pub mod Ends
 pub mod Intakes
 pub mod Pairs
 pub mod Reads
+pub mod Tees

@@ -1,8 +1,8 @@
 -- A script with a transcript behind it as one input, and what answers an input that is none.
-use Rattle.std.specs.Prelude.{ℕ, ◌≡◌, ◌⊎◌, ◌+◌, ◌≤◌, ⊤, List, [], ◌∷◌, Option, Some, IfSome, codes, drop, length, take, nat_lt}
+use Rattle.std.specs.Prelude.{ℕ, ◌≡◌, ◌⊎◌, ◌+◌, ◌≤◌, ⊤, List, [], ◌∷◌, Option, Some, codes, drop, length, nat_lt}
 use Rattle.std.specs.Prelude.{if◌then◌else◌}
 use Rattle.std.specs.Fmt.{decimal}
-use Rattle.std.specs.Io.KnownBytes.{Consumes, IsAtEnd, Keeps}
+use Rattle.std.specs.Io.KnownBytes.{Keeps}
 use Rattle.io_edges.specs.Pieces.{ConsumesUpTo}
 use Rattle.key_names.specs.declared.faults.FaultKind.TheVariants.{TooLong}
 use Rattle.key_names.specs.declared.faults.ScriptFault.{ScriptFault}
@@ -17,7 +17,7 @@ use Rattle.tool_ends.specs.declared.pair.NotRead.{NotRead}
 use Rattle.tool_ends.specs.declared.pair.NotRead.TheVariants.{ReadFault, Refused, NoTranscript, TooManyLines, NoMemory}
 use Rattle.tool_ends.specs.declared.status.Status.{Status}
 use Rattle.tool_ends.specs.declared.status.Status.TheVariants.{ReadFault as Unread, Refused as IsRefused, No as IsNo}
-use Rattle.tool_ends.specs.Reads.{WritesEnds}
+use Rattle.tool_ends.specs.Reads.{WasRead, WritesEnds}
 
 -- the most bytes of a script
 abbrev pub most_script : ℕ
@@ -65,7 +65,7 @@ pub record FailsAsText (input : List ℕ) (number : ℕ) : Type 0 where
 -- why a text is not read as a transcript
 abbrev pub IsNoText : List ℕ → NotRead → Type 0
 IsNoText text ReadFault = ⊥
-IsNoText text (Refused refusal) = ⊥
+IsNoText text (Refused fault) = ⊥
 IsNoText text NoTranscript = IsNoTranscript text
 IsNoText text TooManyLines = HasMoreLines most_script_lines text
 IsNoText text NoMemory = ⊤
@@ -73,7 +73,7 @@ IsNoText text NoMemory = ⊤
 -- why an input is not read as a script
 abbrev pub IsNoScript : List ℕ → NotRead → Type 0
 IsNoScript input ReadFault = ⊥
-IsNoScript input (Refused refusal) = first_fault input ≡ Some refusal.fault
+IsNoScript input (Refused fault) = first_fault input ≡ Some fault
 IsNoScript input NoTranscript = ⊥
 IsNoScript input TooManyLines = ⊥
 IsNoScript input NoMemory = ⊤
@@ -81,18 +81,12 @@ IsNoScript input NoMemory = ⊤
 -- why an input is not read as a script with a transcript behind it
 abbrev pub IsNoPair : List ℕ → NotRead → Type 0
 IsNoPair input ReadFault = ⊥
-IsNoPair input (Refused refusal) = pair_fault input ≡ Some refusal.fault
+IsNoPair input (Refused fault) = pair_fault input ≡ Some fault
 IsNoPair input NoTranscript = FailsAsText input 1
 IsNoPair input TooManyLines = FailsAsText input 2 × HasMoreLines most_script_lines (behind input)
 IsNoPair input NoMemory = ⊤
 
 -- ---- from a source
-
--- what was read of what a source had left: all of it, or one byte more than there may be
-pub record WasRead (most : ℕ) (left left_after : Option (List ℕ)) (input : List ℕ) : Type 0 where
-  pub read : Consumes left left_after input
-  pub whole : length input ≤ most → IsAtEnd left_after
-  pub front : IfSome left (λ all. input ≡ take (most + 1) all)
 
 -- a script was read
 abbrev pub GivesScript : Option (List ℕ) → Option (List ℕ) → Script → Type 0
@@ -107,8 +101,8 @@ GivesPair left left_after script t = (input : List ℕ) × WasRead most_input le
 -- that is too long
 abbrev pub GivesNone : ℕ → (List ℕ → NotRead → Type 0) → Option (List ℕ) → Option (List ℕ) → NotRead → Type 0
 GivesNone most Is left left_after ReadFault = ConsumesUpTo (most + 1) left left_after
-GivesNone most Is left left_after (Refused refusal) =
-    (input : List ℕ) × WasRead most left left_after input × Is input (Refused refusal)
+GivesNone most Is left left_after (Refused fault) =
+    (input : List ℕ) × WasRead most left left_after input × Is input (Refused fault)
 GivesNone most Is left left_after NoTranscript =
     (input : List ℕ) × WasRead most left left_after input × Is input NoTranscript
 GivesNone most Is left left_after TooManyLines =
@@ -141,7 +135,7 @@ pub record TellsFault (input output : List ℕ) : Type 0 where
 -- what says why an input is not read, and the status that says so
 abbrev pub RefusalOf : NotRead → Status → List ℕ → Type 0
 RefusalOf ReadFault status output = ⊥
-RefusalOf (Refused refusal) status output = (status ≡ IsRefused) × (output ≡ refusal_line refusal.fault)
+RefusalOf (Refused fault) status output = (status ≡ IsRefused) × (output ≡ refusal_line fault)
 RefusalOf NoTranscript status output = (status ≡ IsNo) × (output ≡ no_line 1)
 RefusalOf TooManyLines status output = (status ≡ IsNo) × (output ≡ no_line 2)
 RefusalOf NoMemory status output = ⊥
@@ -149,7 +143,7 @@ RefusalOf NoMemory status output = ⊥
 -- how an answer ends that says why
 abbrev pub RefusalEnds : NotRead → Status → Option (List ℕ) → Option (List ℕ) → Type 0
 RefusalEnds ReadFault status held held_after = (status ≡ Unread) × Keeps held held_after
-RefusalEnds (Refused refusal) status held held_after = WritesEnds (RefusalOf (Refused refusal)) status held held_after
+RefusalEnds (Refused fault) status held held_after = WritesEnds (RefusalOf (Refused fault)) status held held_after
 RefusalEnds NoTranscript status held held_after = WritesEnds (RefusalOf NoTranscript) status held held_after
 RefusalEnds TooManyLines status held held_after = WritesEnds (RefusalOf TooManyLines) status held held_after
 RefusalEnds NoMemory status held held_after = WritesEnds (RefusalOf NoMemory) status held held_after

@@ -1,7 +1,7 @@
 -- How a command that reads its input ends, what the source then has left and what the sink holds.
-use Rattle.std.specs.Prelude.{ℕ, List, Option, IfSome}
+use Rattle.std.specs.Prelude.{ℕ, ◌≡◌, ◌+◌, ◌≤◌, List, Option, IfSome, length, take}
 use Rattle.std.specs.Io.KnownBytes.{Appends, Consumes, IsAtEnd, Keeps}
-use Rattle.io_edges.specs.Pieces.{AppendsPrefix}
+use Rattle.io_edges.specs.Pieces.{AppendsPrefix, ConsumesUpTo}
 use Rattle.tool_ends.specs.Ends.{IsAnswered}
 use Rattle.tool_ends.specs.declared.status.Status.{Status}
 use Rattle.tool_ends.specs.declared.status.Status.TheVariants.{Done, No, Usage, ReadFault, WriteFault, Refused, NoMemory}
@@ -35,48 +35,59 @@ WritesEnds Of NoMemory held held_after = Keeps held held_after
 WritesEnds Of Usage held held_after = ⊥
 WritesEnds Of ReadFault held held_after = ⊥
 
--- ---- with the reading: Of says which outputs an input calls for
+-- ---- with the reading, of at most so many bytes and one more: Of says which outputs an input calls for
+
+-- what was read of what a source had left: all of it, or one byte more than there may be
+pub record WasRead (most : ℕ) (left left_after : Option (List ℕ)) (input : List ℕ) : Type 0 where
+  pub read : Consumes left left_after input
+  pub whole : length input ≤ most → IsAtEnd left_after
+  pub front : IfSome left (λ all. input ≡ take (most + 1) all)
 
 -- the whole input was read, and an output of it was written
-pub record WasAnswered (Is : List ℕ → List ℕ → Type 0) (left left_after held held_after : Option (List ℕ))
+pub record WasAnswered (most : ℕ) (Is : List ℕ → List ℕ → Type 0) (left left_after held held_after : Option (List ℕ))
     : Type 0 where
   pub input : List ℕ
   pub output : List ℕ
-  pub read : Consumes left left_after input
+  pub read : WasRead most left left_after input
   pub whole : IsAtEnd left_after
   pub is : Is input output
   pub written : Appends held held_after output
 
 -- the refusal of what was read was written; it is also that of all that was left
-pub record WasRefused (Is : List ℕ → List ℕ → Type 0) (left left_after held held_after : Option (List ℕ))
+pub record WasRefused (most : ℕ) (Is : List ℕ → List ℕ → Type 0) (left left_after held held_after : Option (List ℕ))
     : Type 0 where
   pub input : List ℕ
   pub output : List ℕ
-  pub read : Consumes left left_after input
+  pub read : WasRead most left left_after input
   pub refusal : Is input output
   pub of_all : IfSome left (λ all. Is all output)
   pub written : Appends held held_after output
 
 -- the sink failed, and holds a prefix of an output that what was read calls for; so does all that was left
-pub record WasCutShort (Is : List ℕ → List ℕ → Type 0) (left left_after held held_after : Option (List ℕ))
+pub record WasCutShort (most : ℕ) (Is : List ℕ → List ℕ → Type 0) (left left_after held held_after : Option (List ℕ))
     : Type 0 where
   pub input : List ℕ
   pub output : List ℕ
-  pub read : Consumes left left_after input
+  pub read : WasRead most left left_after input
   pub output_is : Is input output
   pub of_all : IfSome left (λ all. Is all output)
   pub written : AppendsPrefix held held_after output
 
-abbrev pub ReadsEnds : (List ℕ → Status → List ℕ → Type 0) → Status → Option (List ℕ) → Option (List ℕ)
+-- nothing was written, and no more was taken than of an input that is too long
+pub record WasGivenUp (most : ℕ) (left left_after held held_after : Option (List ℕ)) : Type 0 where
+  pub taken : ConsumesUpTo (most + 1) left left_after
+  pub kept : Keeps held held_after
+
+abbrev pub ReadsEnds : ℕ → (List ℕ → Status → List ℕ → Type 0) → Status → Option (List ℕ) → Option (List ℕ)
     → Option (List ℕ) → Option (List ℕ) → Type 0
-ReadsEnds Of Done left left_after held held_after =
-    WasAnswered (λ input output. Of input Done output) left left_after held held_after
-ReadsEnds Of No left left_after held held_after =
-    WasAnswered (λ input output. Of input No output) left left_after held held_after
-ReadsEnds Of Refused left left_after held held_after =
-    WasRefused (λ input output. Of input Refused output) left left_after held held_after
-ReadsEnds Of WriteFault left left_after held held_after =
-    WasCutShort (λ input output. SomeAnswer (Of input) output) left left_after held held_after
-ReadsEnds Of ReadFault left left_after held held_after = Keeps held held_after
-ReadsEnds Of NoMemory left left_after held held_after = Keeps held held_after
-ReadsEnds Of Usage left left_after held held_after = ⊥
+ReadsEnds most Of Done left left_after held held_after =
+    WasAnswered most (λ input output. Of input Done output) left left_after held held_after
+ReadsEnds most Of No left left_after held held_after =
+    WasAnswered most (λ input output. Of input No output) left left_after held held_after
+ReadsEnds most Of Refused left left_after held held_after =
+    WasRefused most (λ input output. Of input Refused output) left left_after held held_after
+ReadsEnds most Of WriteFault left left_after held held_after =
+    WasCutShort most (λ input output. SomeAnswer (Of input) output) left left_after held held_after
+ReadsEnds most Of ReadFault left left_after held held_after = WasGivenUp most left left_after held held_after
+ReadsEnds most Of NoMemory left left_after held held_after = WasGivenUp most left left_after held held_after
+ReadsEnds most Of Usage left left_after held held_after = ⊥

@@ -4,7 +4,7 @@ ghost use Rattle.io_edges.specs.Faults.{Rose};
 ghost use Rattle.tool_ends.specs.Ends.{IsAnswered};
 ghost use Rattle.tool_ends.specs.Pairs.{RefusalEnds};
 ghost use Rattle.tool_ends.specs.Reads.{WritesEnds};
-ghost use Rattle.tool_ends.specs.declared.refusal.Refusal.{Refusal};
+ghost use Rattle.key_names.specs.declared.faults.ScriptFault.{ScriptFault};
 
 use crate::pair::NotRead;
 use crate::short_lines::{ShortLine, no_line, refusal_line};
@@ -43,14 +43,14 @@ pub fn put_refusal<K: Sink>(why: &NotRead, sink: &mut K) -> Status
     ensures ends { RefusalEnds why.now result (K.held sink.old) (K.held sink.new) }
     ensures memory { result ≡ Status.NoMemory → why.now ≡ NotRead.NoMemory }
     ensures unread { result ≡ Status.ReadFault → why.now ≡ NotRead.ReadFault }
-    ensures refused { result ≡ Status.Refused → (refusal : Refusal) × (why.now ≡ NotRead.Refused refusal) }
+    ensures refused { result ≡ Status.Refused → (fault : ScriptFault) × (why.now ≡ NotRead.Refused fault) }
     ensures cut { result ≡ Status.WriteFault → Rose (K.faults sink.old) (K.faults sink.new) }
     ensures silent { (result ≡ Status.ReadFault) ⊎ (result ≡ Status.NoMemory) → sink.new ≡ sink.old }
     ensures not_counted { (result ≡ Status.WriteFault → ⊥) → K.faults sink.new ≡ K.faults sink.old }
 {
     match why {
         NotRead::ReadFault => Status::ReadFault,
-        NotRead::Refused(refusal) => put_line(Status::Refused, &refusal_line(refusal.fault), sink),
+        NotRead::Refused(fault) => put_line(Status::Refused, &refusal_line(*fault), sink),
         NotRead::NoTranscript => put_line(Status::No, &no_line(1), sink),
         NotRead::TooManyLines => put_line(Status::No, &no_line(2), sink),
         NotRead::NoMemory => Status::NoMemory,

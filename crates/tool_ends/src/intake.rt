@@ -7,9 +7,9 @@ ghost use Rattle.tool_ends.specs.Pairs.{IsNoPair, most_input};
 use crate::behind::Behind;
 use crate::maker::Maker;
 use crate::pair::NotRead;
-use crate::refusal::Refusal;
 use crate::script_end::has_end_line;
 use event_script::{Script, ScriptError, read_front};
+use key_names::ScriptFault;
 use std::alloc::{AllocError, Global};
 
 /// The front of an input, in which a script was looked for.
@@ -17,8 +17,8 @@ use std::alloc::{AllocError, Global};
 pub(crate) enum Opened {
     /// The script, and the text behind it.
     Script(Script, Behind),
-    /// The script's first fault, with its line.
-    Faulty(Refusal),
+    /// The script's first fault.
+    Faulty(ScriptFault),
 }
 
 /// What was taken of an input.
@@ -37,7 +37,7 @@ fn open<M: Maker>(alloc: Global, maker: &M, input: &[u8]) -> Result<Opened, Allo
 {
     let (script, len) = match read_front(alloc, input) {
         Ok(both) => both,
-        Err(ScriptError::Fault(fault)) => return Ok(Opened::Faulty(Refusal::of(fault, input))),
+        Err(ScriptError::Fault(fault)) => return Ok(Opened::Faulty(fault)),
         Err(ScriptError::NoMemory) => return Err(AllocError),
     };
     let mut text = Behind::nothing(alloc, maker.make(alloc, &script))?;
@@ -69,7 +69,7 @@ impl Opened {
     {
         match self {
             Opened::Script(script, text) => Ok((script, text)),
-            Opened::Faulty(refusal) => Err(NotRead::Refused(refusal)),
+            Opened::Faulty(fault) => Err(NotRead::Refused(fault)),
         }
     }
 }

@@ -2,7 +2,8 @@
 //! answer an input of which no more is said.
 //!
 //! [`read_script`] reads a script, and [`pair::read_pair`] one with a transcript behind it. Or they say why there is none,
-//! and [`put_refusal`] answers so; a [`refusal::Refusal`] keeps the fault and the faulty line for who tells more.
+//! and [`put_refusal`] answers so. A [`tee::TeeSource`] and a [`tee::TeeSink`] keep the front of what passes, for a program
+//! that shows the faulty line, and [`refusal::fault_in`] finds the fault in the answer.
 //! [`pair::read_apart`] compares the text behind the script with that of a transcript which a [`maker::Maker`] makes, and
 //! reads it from where it is another. [`put_answer`], [`put_line`] and [`end_output`] write an answer and hand it on.
 //! `specs/Reads` says what a status promises of a source and a sink.
@@ -23,6 +24,7 @@ mod script;
 mod script_end;
 pub mod short_lines;
 mod status;
+pub mod tee;
 
 pub use answers::{put_answer, put_line, put_refusal};
 pub use command_line::words;

@@ -1,5 +1,5 @@
 //! A script and a transcript behind it, read from one input.
-ghost use Rattle.std.specs.Prelude.{◌≡◌, ◌≤◌, IfErr, IfOk, IfSome, OnOk, Some};
+ghost use Rattle.std.specs.Prelude.{◌≡◌, ◌≤◌, IfErr, IfOk, IfSome, OnOk};
 ghost use Rattle.io_edges.specs.Faults.{Rose};
 ghost use Rattle.tool_ends.specs.Behind.{GivesApart, compared_with};
 ghost use Rattle.tool_ends.specs.Pairs.{GivesPair, GivesNoPair};
@@ -8,7 +8,6 @@ ghost use Rattle.tool_ends.specs.declared.pair.NotRead.TheVariants.{NoMemory, Re
 use crate::behind::Behind;
 use crate::intake::Intake;
 use crate::maker::{Maker, NoMaker};
-use crate::refusal::Refusal;
 use event_script::Script;
 use io_edges::{Failed, Source};
 use key_names::{FaultKind, ScriptFault};
@@ -26,27 +25,14 @@ pub(crate) const PIECE: usize = 64 * 1024;
 pub enum NotRead {
     /// The source failed.
     ReadFault,
-    /// The input is too long, or its script has a fault: this is the first, with its line.
-    Refused(Refusal),
+    /// The input is too long, or its script has a fault: this is the first.
+    Refused(ScriptFault),
     /// The text behind the script is no transcript's: clause 1 fails.
     NoTranscript,
     /// It is one of more lines than any script's transcript has: clause 2 fails.
     TooManyLines,
     /// There was no memory for it.
     NoMemory,
-}
-
-impl NotRead {
-    /// The refusal that it is, if it is one.
-    pub fn refusal(&self) -> Option<Refusal>
-        ensures found { IfSome result (λ refusal. self.now ≡ NotRead.Refused refusal) }
-        ensures only { (refusal : Refusal) → self.now ≡ NotRead.Refused refusal → result ≡ Some refusal }
-    {
-        match self {
-            NotRead::Refused(refusal) => Some(*refusal),
-            _ => None,
-        }
-    }
 }
 
 impl From<Failed> for NotRead {
@@ -99,11 +85,10 @@ pub fn read_apart<S: Source, M: Maker>(
         intake.take(alloc, maker, &piece[..count])?;
         taken += count;
     }
-    let fault = ScriptFault {
+    Err(NotRead::Refused(ScriptFault {
         line: 0,
         kind: FaultKind::TooLong,
-    };
-    Err(NotRead::Refused(Refusal::of(fault, &[])))
+    }))
 }
 
 /// The script that a source gives, and the transcript that is all that follows. The source is read as by [`read_apart`],

@@ -1,57 +1,37 @@
-//! Why an input was refused, and the line at which it was.
-ghost use Rattle.std.specs.Prelude.{◌≡◌};
+//! The fault that a refusal's line tells.
+ghost use Rattle.std.specs.Prelude.{◌≡◌, IfSome};
+ghost use Rattle.tool_ends.specs.Pairs.{refusal_line};
 
-use arrayvec::ArrayString;
-use key_names::ScriptFault;
+use crate::short_lines::refusal_line;
+use event_script::numbers::number_up_to;
+use key_names::{FaultKind, ScriptFault};
 
-/// The longest line that is kept.
-const MOST_SHOWN: usize = 80;
+const KINDS: [FaultKind; 12] = [
+    FaultKind::TooLong,
+    FaultKind::BadByte,
+    FaultKind::BadHead,
+    FaultKind::BadCpus,
+    FaultKind::UnknownWord,
+    FaultKind::BadNumber,
+    FaultKind::BadHex,
+    FaultKind::BadCaller,
+    FaultKind::BadFork,
+    FaultKind::Unforked,
+    FaultKind::TooMany,
+    FaultKind::Unfinished,
+];
 
-/// Why an input was refused: its first fault, and the faulty line, where that has 1 to 80 bytes and is printable.
-#[derive(Clone, Copy, Debug, PartialEq, Eq)]
-pub struct Refusal {
-    /// The first fault, which is what `refused` tells.
-    pub fault: ScriptFault,
-    line: Option<ArrayString<MOST_SHOWN>>,
-}
-
-// The line of this number, counted from 1.
-fn line_of(input: &[u8], number: u32) -> Option<&[u8]> {
-    let before = (number as usize).checked_sub(1)?;
-    input.split(|byte| *byte == b'\n').nth(before)
-}
-
-// The line, where it is short and printable.
-fn shown_line(line: &[u8]) -> Option<ArrayString<MOST_SHOWN>> {
-    if line.is_empty() || !line.iter().all(|byte| (b' '..=b'~').contains(byte)) {
-        return None;
-    }
-    ArrayString::try_from(str::from_utf8(line).ok()?).ok()
-}
-
-impl Refusal {
-    /// The refusal of an input in which this fault was found.
-    pub fn of(fault: ScriptFault, input: &[u8]) -> Refusal
-        ensures { result.fault ≡ fault }
-    {
-        Refusal::at(fault, line_of(input, fault.line))
-    }
-
-    /// The refusal of an input in which this fault was found, in this line.
-    pub fn at(fault: ScriptFault, line: Option<&[u8]>) -> Refusal
-        ensures { result.fault ≡ fault }
-    {
-        Refusal {
-            fault,
-            line: line.and_then(shown_line),
+/// The fault whose line this is, if it is a line `refused LINE KIND`. That each such line is found is tested.
+pub fn fault_in(text: &[u8]) -> Option<ScriptFault>
+    ensures { IfSome result (λ fault. text.now ≡ refusal_line fault) }
+{
+    let word = text.split(|byte| *byte == b' ').nth(1)?;
+    let line = number_up_to(u64::from(u32::MAX), word)? as u32;
+    for kind in KINDS {
+        let fault = ScriptFault { line, kind };
+        if refusal_line(fault).as_str().as_bytes() == text {
+            return Some(fault);
         }
     }
-
-    /// The faulty line, if it is kept (tested).
-    pub fn line(&self) -> Option<&str> {
-        match &self.line {
-            Some(line) => Some(line.as_str()),
-            None => None,
-        }
-    }
+    None
 }

@@ -6,7 +6,6 @@ ghost use Rattle.key_names.specs.Texts.ScriptGrammar.{IsScript};
 ghost use Rattle.tool_ends.specs.Pairs.{GivesNoScript, GivesScript, IsNoScript};
 
 use crate::pair::{NotRead, PIECE};
-use crate::refusal::Refusal;
 use event_script::{Reader, Script, ScriptError};
 use io_edges::Source;
 use std::alloc::Global;
@@ -25,10 +24,7 @@ fn script_of(reader: Reader) -> Result<Script, NotRead>
         Err(unread) => unread,
     };
     match unread.error {
-        ScriptError::Fault(fault) => Err(NotRead::Refused(Refusal::at(
-            fault,
-            unread.line.as_deref(),
-        ))),
+        ScriptError::Fault(fault) => Err(NotRead::Refused(fault)),
         ScriptError::NoMemory => Err(NotRead::NoMemory),
     }
 }

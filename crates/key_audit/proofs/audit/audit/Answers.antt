@@ -1,4 +1,5 @@
 use Rattle.std.proofs.Common.{◌≡◌, subst}
+use Rattle.tool_ends.specs.Pairs.{most_input}
 use Rattle.tool_ends.proofs.Endings.{reads_end_after, rose_at_end, same_at_end}
 use Rattle.key_audit.specs.Outcome.{AuditEnds, Calls}
 use Rattle.key_audit.proofs.audit.audit.Goals as goal
@@ -14,7 +15,7 @@ returns-in-Some-clause-no_write_fault g c =
 pub returns-in-Some-clause-audited : goal.returns-in-Some-clause-audited
 returns-in-Some-clause-audited g c ask is =
     let same : c.in-Some.ask ≡ ask = cc (c.ask_of.ensures.only ask is, c.in-Some.is) in
-    reads_end_after (Calls ask) _ _ _ _ _ c.end_output.ensures.kept _ _ _ _ c.end_output.ensures.ended
+    reads_end_after most_input (Calls ask) _ _ _ _ _ c.end_output.ensures.kept _ _ _ _ c.end_output.ensures.ended
     (subst (λ one. AuditEnds one c.audit_input.result (g.S.Source.left c.args.source.now)
     (g.S.Source.left c.audit_input.new.source) (g.K.Sink.held c.args.sink.now) (g.K.Sink.held c.audit_input.new.sink))
     same c.audit_input.ensures.ends)

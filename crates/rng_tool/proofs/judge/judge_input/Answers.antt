@@ -1,12 +1,11 @@
-use Rattle.std.proofs.Common.{arith, length, subst}
+use Rattle.std.proofs.Common.{arith, length}
 use Rattle.std.proofs.lemmas.List.{length-drop}
 use Rattle.key_names.specs.Texts.ScriptFaults.{front}
-use Rattle.tool_ends.specs.Pairs.{IsNoPair, RefusalEnds, behind}
+use Rattle.tool_ends.specs.Pairs.{IsNoPair, behind}
 use Rattle.tool_ends.proofs.Refusing.{refused_of, said_of}
 use Rattle.rng_tool.specs.JudgeOutcome.{JudgeCalls}
 use Rattle.rng_tool.proofs.Inputs.{judge_is_limited}
 use Rattle.rng_tool.proofs.Judging.{none_said}
-use Rattle.rng_tool.proofs.Refusals.{was_told}
 use Rattle.rng_tool.proofs.judge.judge_input.Goals as goal
 
 pub say_of_text-requires-clause-short : goal.say_of_text-requires-clause-short
@@ -30,10 +29,3 @@ returns-in-Err-clause-ends g c =
     refused_of 100663296 (JudgeCalls judge) (judge_is_limited judge) _ _ _ _ IsNoPair c.in-Err.why
     (λ input none. none_said judge input c.in-Err.why none) c.in-Err.ensures.not_read c.put_refusal.result
     c.put_refusal.ensures.ends
-
-pub returns-in-Err-clause-told : goal.returns-in-Err-clause-told
-returns-in-Err-clause-told g c = λ is.
-    let why = c.in-Err.why in
-    was_told _ _ why _ c.refusal.ensures.only
-    (subst (λ status. RefusalEnds why status (g.K.Sink.held c.args.sink.now) (g.K.Sink.held c.put_refusal.new.sink)) is
-    c.put_refusal.ensures.ends)

@@ -34,8 +34,3 @@ returns-in-Err-clause-was_read g c = λ fault.
     let text = c.requires.short.0 in
     subst (IsNoText text) (c.put_refusal.ensures.unread fault)
     (c.in-Err.ensures.not_read text c.requires.short.1)
-
-pub returns-in-Err-clause-not_refused : goal.returns-in-Err-clause-not_refused
-returns-in-Err-clause-not_refused g c = λ is.
-    let text = c.requires.short.0 in
-    subst (IsNoText text) (c.put_refusal.ensures.refused is).1 (c.in-Err.ensures.not_read text c.requires.short.1)

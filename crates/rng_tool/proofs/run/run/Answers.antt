@@ -8,7 +8,7 @@ use Rattle.rng_tool.specs.Outcome.{CallsFor}
 use Rattle.rng_tool.specs.VforkOutcome.{VforkEnds, VforkOf}
 use Rattle.rng_tool.specs.declared.command.Command.TheVariants.{Vfork as VforkCommand}
 use Rattle.rng_tool.proofs.Completes.{ends_completes, judge_completes, read_before, run_completes}
-use Rattle.rng_tool.proofs.Refusals.{told_at_end}
+use Rattle.tool_ends.specs.Pairs.{most_input, most_script}
 use Rattle.tool_ends.proofs.Endings.{ends_after, reads_end_after, rose_at_end, same_at_end}
 use Rattle.rng_tool.proofs.run.run.Goals as goal
 
@@ -22,21 +22,17 @@ returns-in-Some-Run-clause-no_write_fault g c =
 
 pub returns-in-Some-Run-clause-ran : goal.returns-in-Some-Run-clause-ran
 returns-in-Some-Run-clause-ran g c is =
-    reads_end_after CallsFor _ _ _ _ _ c.end_output.ensures.kept _ _ _ _ c.end_output.ensures.ended
+    reads_end_after most_script CallsFor _ _ _ _ _ c.end_output.ensures.kept _ _ _ _ c.end_output.ensures.ended
     c.run_input.ensures.ends
 
 pub returns-in-Some-Run-clause-run_completes : goal.returns-in-Some-Run-clause-run_completes
 returns-in-Some-Run-clause-run_completes g c is unread unwritten =
     let ended = c.end_output.ensures.ended in
     run_completes _ _ _ c.end_output.result _
-    (reads_end_after CallsFor _ _ _ _ _ c.end_output.ensures.kept _ _ _ _ ended c.run_input.ensures.ends)
+    (reads_end_after most_script CallsFor _ _ _ _ _ c.end_output.ensures.kept _ _ _ _ ended c.run_input.ensures.ends)
     (λ fault. unread (c.run_input.ensures.read_fault (read_before _ _ _ _ ended fault)))
     (λ fault. unwritten (rose_at_end _ _ _ _ _ ended c.run_input.ensures.not_counted
     c.run_input.ensures.cut fault))
-
-pub returns-in-Some-Run-clause-told : goal.returns-in-Some-Run-clause-told
-returns-in-Some-Run-clause-told g c =
-    told_at_end _ _ _ _ _ _ _ _ c.end_output.ensures.ended c.end_output.ensures.kept c.run_input.ensures.told
 
 pub returns-in-Some-Judge-clause-write_fault : goal.returns-in-Some-Judge-clause-write_fault
 returns-in-Some-Judge-clause-write_fault g c =
@@ -49,7 +45,7 @@ returns-in-Some-Judge-clause-no_write_fault g c =
 pub returns-in-Some-Judge-clause-judged : goal.returns-in-Some-Judge-clause-judged
 returns-in-Some-Judge-clause-judged g c judge is =
     let same : c.in-Some-Judge.judge ≡ judge = cc (c.of.ensures.judge judge is, c.in-Some-Judge.is) in
-    reads_end_after (JudgeCalls judge) _ _ _ _ _ c.end_output-in-Some-Judge.ensures.kept _ _ _ _
+    reads_end_after most_input (JudgeCalls judge) _ _ _ _ _ c.end_output-in-Some-Judge.ensures.kept _ _ _ _
     c.end_output-in-Some-Judge.ensures.ended
     (subst (λ one. JudgeEnds one c.judge_input.result (g.S.Source.left c.args.source.now)
     (g.S.Source.left c.judge_input.new.source) (g.K.Sink.held c.args.sink.now) (g.K.Sink.held c.judge_input.new.sink))
@@ -60,16 +56,11 @@ returns-in-Some-Judge-clause-judge_completes g c judge is unread unwritten =
     let ended = c.end_output-in-Some-Judge.ensures.ended in
     let asked = c.in-Some-Judge.judge in
     judge_completes _ _ _ asked c.end_output-in-Some-Judge.result _
-    (reads_end_after (JudgeCalls asked) _ _ _ _ _ c.end_output-in-Some-Judge.ensures.kept _ _ _ _ ended
+    (reads_end_after most_input (JudgeCalls asked) _ _ _ _ _ c.end_output-in-Some-Judge.ensures.kept _ _ _ _ ended
     c.judge_input.ensures.ends)
     (λ fault. unread (c.judge_input.ensures.read_fault (read_before _ _ _ _ ended fault)))
     (λ fault. unwritten (rose_at_end _ _ _ _ _ ended c.judge_input.ensures.not_counted
     c.judge_input.ensures.cut fault))
-
-pub returns-in-Some-Judge-clause-told : goal.returns-in-Some-Judge-clause-told
-returns-in-Some-Judge-clause-told g c =
-    told_at_end _ _ _ _ _ _ _ _ c.end_output-in-Some-Judge.ensures.ended c.end_output-in-Some-Judge.ensures.kept
-    c.judge_input.ensures.told
 
 pub returns-in-Some-Load-clause-write_fault : goal.returns-in-Some-Load-clause-write_fault
 returns-in-Some-Load-clause-write_fault g c =

@@ -1,10 +1,8 @@
-use Rattle.std.proofs.Common.{subst}
-use Rattle.tool_ends.specs.Pairs.{IsNoScript, RefusalEnds}
+use Rattle.tool_ends.specs.Pairs.{IsNoScript}
 use Rattle.tool_ends.proofs.Inputs.{wider}
 use Rattle.tool_ends.proofs.Refusing.{refused_of, said_of}
 use Rattle.rng_tool.specs.Outcome.{CallsFor}
 use Rattle.rng_tool.proofs.Inputs.{run_is_limited}
-use Rattle.rng_tool.proofs.Refusals.{was_told}
 use Rattle.rng_tool.proofs.Running.{none_called, script_runs}
 use Rattle.rng_tool.proofs.run_script.run_input.Goals as goal
 
@@ -20,10 +18,3 @@ returns-in-Err-clause-ends g c =
     refused_of 16777216 CallsFor run_is_limited _ _ _ _ IsNoScript c.in-Err.why
     (λ input none. none_called input c.in-Err.why none) c.in-Err.ensures.not_read c.put_refusal.result
     c.put_refusal.ensures.ends
-
-pub returns-in-Err-clause-told : goal.returns-in-Err-clause-told
-returns-in-Err-clause-told g c = λ is.
-    let why = c.in-Err.why in
-    was_told _ _ why _ c.refusal.ensures.only
-    (subst (λ status. RefusalEnds why status (g.K.Sink.held c.args.sink.now) (g.K.Sink.held c.put_refusal.new.sink)) is
-    c.put_refusal.ensures.ends)

@@ -5,7 +5,7 @@ use Rattle.tool_ends.proofs.answers.put_refusal.Goals as goal
 pub returns-in-Refused-clause-ends : goal.returns-in-Refused-clause-ends
 returns-in-Refused-clause-ends g c =
     rw c.in-Refused.is
-    (wider _ _ (refused_by c.in-Refused.refusal _ c.refusal_line.ensures) _ _ _ c.put_line.ensures.ends)
+    (wider _ _ (refused_by c.in-Refused.fault _ c.refusal_line.ensures) _ _ _ c.put_line.ensures.ends)
 
 pub returns-in-NoTranscript-clause-ends : goal.returns-in-NoTranscript-clause-ends
 returns-in-NoTranscript-clause-ends g c =

@@ -1,4 +1,4 @@
-use Rattle.std.proofs.Common.{rules, ◌≡◌, ◌≤◌, ◌++◌, Some, ap, arith, length, subst, sym, ◌∙◌}
+use Rattle.std.proofs.Common.{rules, ◌≡◌, ◌≤◌, ◌++◌, arith, length, subst, sym, ◌∙◌}
 use Rattle.std.specs.Prelude.{drop}
 use Rattle.std.proofs.lemmas.List.{length-append, length-take, take-append-le}
 use Rattle.std.specs.Io.KnownBytes.{Consumes}
@@ -81,5 +81,5 @@ returns-clause-not_read g c =
     omega (arith, s.len, c.loop-taken-test.false, c.loop-taken.invariant.within) in (
       s.input,
       long_read 100663296 _ _ s.input s.read many,
-      too_long s.input (omega (arith, many)) ∙ ap Some (sym c.of.ensures),
+      too_long s.input (omega (arith, many)),
     )

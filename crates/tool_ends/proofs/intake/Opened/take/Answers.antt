@@ -25,4 +25,4 @@ returns-in-Script-clause-opened c =
 
 pub returns-in-Faulty-clause-opened : goal.returns-in-Faulty-clause-opened
 returns-in-Faulty-clause-opened c = λ input end opened.
-    rw c.in-Faulty.is (fault_stays input c.args.piece.now c.in-Faulty.field-0.fault end (rw c.in-Faulty.is at opened))
+    rw c.in-Faulty.is (fault_stays input c.args.piece.now c.in-Faulty.field-0 end (rw c.in-Faulty.is at opened))

@@ -1,0 +1,21 @@
+-- What a source or a sink has kept of a text that passed through it.
+use Rattle.std.specs.Prelude.{ℕ, ◌≡◌, ◌≤◌, ◌++◌, IsTrue, List, length, take}
+use Rattle.tool_ends.specs.declared.tee.TeeSource.{TeeSource}
+use Rattle.tool_ends.specs.declared.tee.TeeSink.{TeeSink}
+
+abbrev pub tee_source : {S : Type 0} → TeeSource S → S
+tee_source tee = tee.source
+
+abbrev pub tee_sink : {K : Type 0} → TeeSink K → K
+tee_sink tee = tee.sink
+
+-- this text was taken, and its front was kept, of at most 384 KiB
+pub record HasGiven {S : Type 0} (text : List ℕ) (tee : TeeSource S) : Type 0 where
+  pub behind : List ℕ
+  pub front : text ≡ tee.front.items ++ behind
+  pub whole : IsTrue tee.is_whole → text ≡ tee.front.items
+  pub few : length tee.front.items ≤ 393216
+
+-- this text was put, and its first bytes were kept
+abbrev pub HasGot : {K : Type 0} → List ℕ → TeeSink K → Type 0
+HasGot text tee = tee.front.items ≡ take 32 text

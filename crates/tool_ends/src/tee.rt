@@ -1,0 +1,164 @@
+//! A source and a sink that keep the front of what passes through them, for the message of a refusal.
+ghost use Rattle.std.specs.Prelude.{◌≡◌, ◌<◌, ◌≤◌, ◌++◌, [], ℕ, List, length, take, IfOk, OnOk, OnErr};
+ghost use Rattle.std.specs.Io.{ReadsAtMost, WritesAtMost};
+ghost use Rattle.std.specs.Io.KnownBytes.{Keeps, Appends, Consumes, IsAtEnd};
+ghost use Rattle.io_edges.specs.Faults.{Rose};
+ghost use Rattle.tool_ends.specs.Tees.{HasGiven, HasGot, tee_sink, tee_source};
+
+use arrayvec::ArrayVec;
+use io_edges::{Failed, Sink, Source};
+use std::alloc::Global;
+
+/// The most bytes that a source keeps: 384 KiB.
+const MOST_GIVEN: usize = 384 * 1024;
+
+/// The most bytes that a sink keeps. A line `refused LINE KIND` is shorter.
+const MOST_GOT: usize = 32;
+
+/// A source that keeps a copy of the first 384 KiB that were taken from it, or of less if there is no memory for more.
+#[derive(Drop)]
+pub struct TeeSource<S: Source + Drop> {
+    source: S,
+    front: Vec<u8>,
+    // Whether the front is all that was taken.
+    is_whole: bool,
+}
+
+impl<S: Source + Drop> TeeSource<S> {
+    /// A source that takes from this one, and has kept nothing.
+    pub fn of(alloc: Global, source: S) -> TeeSource<S>
+        ensures source { tee_source result ≡ source }
+        ensures given { HasGiven [] result }
+    {
+        TeeSource {
+            source,
+            front: Vec::new(alloc),
+            is_whole: true,
+        }
+    }
+
+    // Keeps of a piece that was taken what there is room for, if all before it was kept.
+    fn keep(&mut self, piece: &[u8])
+        ensures source { tee_source self.new ≡ tee_source self.old }
+        ensures given { (text : List ℕ) → HasGiven text self.old → HasGiven (text ++ piece.now) self.new }
+    {
+        if !self.is_whole {
+            return;
+        }
+        let room = MOST_GIVEN.saturating_sub(self.front.len());
+        let (kept, left) = piece.split_at(piece.len().min(room));
+        let Ok(()) = self.front.extend_from_slice(kept) else {
+            self.is_whole = false;
+            return;
+        };
+        self.is_whole = left.is_empty();
+    }
+
+    /// The line of this number, counted from 1, if the copy has all of it (tested).
+    pub fn line(&self, number: u32) -> Option<&[u8]> {
+        let before = (number as usize).checked_sub(1)?;
+        let mut lines = self.front.split(|byte| *byte == b'\n');
+        let line = lines.nth(before)?;
+        // More of the last line may have come after the front.
+        if self.is_whole || lines.next().is_some() {
+            Some(line)
+        } else {
+            None
+        }
+    }
+}
+
+impl<S: Source + Drop> Source for TeeSource<S> {
+    ghost left = { λ s. S.left s.source };
+
+    ghost faults = { λ s. S.faults s.source };
+
+    fn take(&mut self, buf: &mut [u8]) -> Result<usize, Failed>
+        ensures given { IfOk result (λ n. (text : List ℕ) → HasGiven text self.old
+            → HasGiven (text ++ take n buf.new) self.new) }
+        ensures none_given { OnErr result ((text : List ℕ) → HasGiven text self.old → HasGiven text self.new) }
+
+        // What each source promises.
+        ensures bound { ReadsAtMost result buf.new }
+        ensures taken { IfOk result (λ n.
+            Consumes (S.left (tee_source self.old)) (S.left (tee_source self.new)) (take n buf.new)) }
+        ensures end { IfOk result (λ n. n ≡ 0 → 0 < length buf.old → IsAtEnd (S.left (tee_source self.new))) }
+        ensures not_taken { OnErr result (Keeps (S.left (tee_source self.old)) (S.left (tee_source self.new))) }
+        ensures not_counted { OnOk result (S.faults (tee_source self.new) ≡ S.faults (tee_source self.old)) }
+        ensures cause { OnErr result (Rose (S.faults (tee_source self.old)) (S.faults (tee_source self.new))) }
+    {
+        let count = self.source.take(buf)?;
+        self.keep(&buf[..count]);
+        Ok(count)
+    }
+}
+
+/// A sink that keeps a copy of the first 32 bytes that were put to it.
+#[derive(Drop)]
+pub struct TeeSink<K: Sink + Drop> {
+    sink: K,
+    front: ArrayVec<u8, MOST_GOT>,
+}
+
+impl<K: Sink + Drop> TeeSink<K> {
+    /// A sink that puts to this one, and has kept nothing.
+    pub fn of(sink: K) -> TeeSink<K>
+        ensures sink { tee_sink result ≡ sink }
+        ensures got { HasGot [] result }
+    {
+        TeeSink {
+            sink,
+            front: ArrayVec::new(),
+        }
+    }
+
+    /// The first bytes that were put, at most 32.
+    pub fn front(&self) -> &[u8]
+        ensures { (text : List ℕ) → HasGot text self.now → result.now ≡ take 32 text }
+    {
+        self.front.as_slice()
+    }
+}
+
+impl<K: Sink + Drop> Sink for TeeSink<K> {
+    ghost held = { λ s. K.held s.sink };
+
+    ghost kept_back = { λ s. K.kept_back s.sink };
+
+    ghost faults = { λ s. K.faults s.sink };
+
+    #[inline(always)]
+    fn put(&mut self, piece: &[u8]) -> Result<usize, Failed>
+        ensures got { IfOk result (λ n. (text : List ℕ) → HasGot text self.old
+            → HasGot (text ++ take n piece.now) self.new) }
+        ensures none_got { OnErr result ((text : List ℕ) → HasGot text self.old → HasGot text self.new) }
+
+        // What each sink promises.
+        ensures bound { WritesAtMost result piece.now }
+        ensures some { IfOk result (λ n. 0 < length piece.now → 0 < n) }
+        ensures appended { IfOk result (λ n.
+            Appends (K.held (tee_sink self.old)) (K.held (tee_sink self.new)) (take n piece.now)) }
+        ensures not_appended { OnErr result (Keeps (K.held (tee_sink self.old)) (K.held (tee_sink self.new))) }
+        ensures not_counted { OnOk result (K.faults (tee_sink self.new) ≡ K.faults (tee_sink self.old)) }
+        ensures cause { OnErr result (Rose (K.faults (tee_sink self.old)) (K.faults (tee_sink self.new))) }
+    {
+        let count = self.sink.put(piece)?;
+        let kept = count.min(self.front.remaining_capacity());
+        if kept > 0 {
+            let _kept = self.front.try_extend_from_slice(&piece[..kept]);
+        }
+        Ok(count)
+    }
+
+    fn flush(&mut self) -> Result<(), Failed>
+        ensures got { (text : List ℕ) → HasGot text self.old → HasGot text self.new }
+
+        // What each sink promises.
+        ensures handed_on { OnOk result (K.kept_back (tee_sink self.new) ≡ []) }
+        ensures kept { Keeps (K.held (tee_sink self.old)) (K.held (tee_sink self.new)) }
+        ensures not_counted { OnOk result (K.faults (tee_sink self.new) ≡ K.faults (tee_sink self.old)) }
+        ensures cause { OnErr result (Rose (K.faults (tee_sink self.old)) (K.faults (tee_sink self.new))) }
+    {
+        self.sink.flush()
+    }
+}
