@@ -8,10 +8,10 @@ which crate it works for and whether that is a proof, a test's proof, or a wrong
 half second is lost; the system's own sum stands behind the table. The table has processor minutes, the dearest crate
 first. The command's status is the answer.
 
-`--page` puts the table into a page, as of CONTRIBUTING.md, between its two lines `gate times`. A crate's budget there is
-kept; a crate that has none gets what it took and a fifth more. What is over its budget is told. Where nothing was done for
-a crate of the page, since an earlier run's results were kept, the page stays as it is and the status is 1. A crate of which
-a part was kept shows too little, and that is not seen.
+`--page` puts the table into a page, bench/GATE.md, between its two lines `gate times`. A crate's budget there is kept; a
+crate that has none gets what it took and a fifth more. Crates over their budgets are named. If nothing was done for a
+crate of the page, since a kit kept an earlier run's results, the page stays as it is and the status is 1. A crate of which
+a part was kept shows too little, and that is not noticed.
 """
 import os
 import re

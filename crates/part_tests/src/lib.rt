@@ -1,7 +1,7 @@
 //! Tests of the parts, one module a crate, over the crates' public calls.
 //!
-//! They stand apart because a crate with tests is proved twice. Expected values come from outside: standards, other
-//! implementations, and in [`kernel_tables`] a C program that holds the kernel's rules.
+//! They stand apart because a crate with tests is proved twice. Expected values come from outside: standards and other
+//! implementations. Tables of vectors are rows of the program `vectors`.
 //!
 //! They promise nothing. They stand on contracts, as any caller does.
 #![tactic(auto)]
@@ -9,17 +9,11 @@
 #[cfg(test)]
 mod base_gen_tests;
 #[cfg(test)]
-mod blake2s_core_tests;
-#[cfg(test)]
 mod chacha_blocks_tests;
 #[cfg(test)]
 mod cpu_gen_tests;
 #[cfg(test)]
-mod input_pool_tests;
-#[cfg(test)]
 mod int_batch_tests;
-#[cfg(test)]
-mod kernel_tables;
 #[cfg(test)]
 mod sample_credit_tests;
 #[cfg(test)]

@@ -1,4 +1,4 @@
-//! Bytes of two keystreams, by another implementation.
+//! Bytes of a keystream, by another implementation.
 
 /// The zero key's, from 0 on.
 pub(crate) const ZERO_STREAM: [u8; 128] =
@@ -11,23 +11,7 @@ pub(crate) const ZERO_STREAM: [u8; 128] =
     \x29\xb7\x21\x76\x9c\xe6\x4e\x43\xd5\x71\x33\xb0\x74\xd8\x39\xd5\
     \x31\xed\x1f\x28\x51\x0a\xfb\x45\xac\xe1\x0a\x1f\x4b\x79\x4d\x6f";
 
-/// That of the key which is the second half of the zero key's block 0, from 0 on: what a user's read of more than 32
-/// bytes gives out.
-pub(crate) const CALL_KEY_STREAM: [u8; 100] =
-    *b"\xa9\xff\xcf\x43\xb9\x02\x8e\x27\xae\x4d\x97\x11\x30\x81\xca\x52\
-        \xe2\xb9\x0d\xdd\x5f\x89\x66\xd7\xe2\x75\x60\x51\x98\x53\xc5\x39\
-        \xeb\x37\x3c\xd6\xae\xb9\x70\xf2\xc6\x3d\x75\x82\x19\x12\x17\x7c\
-        \x57\x1f\x59\xd4\x0e\xfe\x20\x14\x3c\xf9\x22\xd2\xc9\xd3\x16\x39\
-        \x42\xf9\xc9\xef\xd8\xe6\x7f\xaf\x4f\x64\x38\x6c\x06\x88\x65\x16\
-        \x70\x6b\x36\xc2\xc4\x67\x36\x09\xc2\x06\xad\xbe\x5f\x76\xaa\xb9\
-        \x26\xeb\x29\x9b";
-
 /// Bytes of the zero key's stream.
 pub(crate) fn zero_stream(from: usize, to: usize) -> Option<&'static [u8]> {
     ZERO_STREAM.get(from..to)
-}
-
-/// Whether these are the first bytes of a user's long read from the zero key.
-pub(crate) fn are_of_call_key(bytes: &[u8]) -> bool {
-    CALL_KEY_STREAM.starts_with(bytes)
 }
