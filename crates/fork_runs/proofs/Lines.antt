@@ -1,15 +1,14 @@
 -- The two lines of a fork show named bytes, in a book whose states are the parent's and the child's.
-use Rattle.std.proofs.Common.{◌≡◌, ℕ, zero, suc, ◌+◌, ◌<◌, ◌≤◌, ◌⊎◌, inl, inr, Bool, true, false, List, [], ◌∷◌, ◌++◌, Some, refl, sym, subst, ap, ◌∙◌, arith, append-nil, length}
+use Rattle.std.proofs.Common.{◌≡◌, ℕ, zero, suc, ◌+◌, ◌≤◌, ◌⊎◌, inl, inr, Bool, true, false, List, [], ◌∷◌, ◌++◌, Some, refl, sym, subst, ap, ◌∙◌, arith, append-nil, length}
 use Rattle.std.specs.Prelude.{◌||◌}
-use Rattle.std.specs.List.{AllByRecursion, list_any, fold}
+use Rattle.std.specs.List.{AllByRecursion, list_any}
 use Rattle.std.proofs.lemmas.List.{length-append}
 use Rattle.key_names.specs.declared.entries.VEntry.{VEntry}
 use Rattle.key_names.specs.declared.events.Answer.TheVariants.{Ok as Done}
 use Rattle.key_names.specs.declared.events.Word.TheVariants.{Vread}
 use Rattle.key_names.specs.declared.names.LaneId.{LaneId}
-use Rattle.key_names.specs.declared.names.LaneId.TheVariants.{Cpu as CpuLane}
 use Rattle.key_names.specs.declared.names.Step.{Step}
-use Rattle.key_names.specs.Book.{Lists, LawfulBook, LawfulLanes, LawfulStates, StatePlace, cpu_list, list_at, rekey_in, state_list}
+use Rattle.key_names.specs.Book.{Lists, LawfulBook, LawfulLanes, StatePlace, cpu_list, list_at, rekey_in, state_list}
 use Rattle.key_names.specs.Deeds.{deeds_of}
 use Rattle.key_names.specs.PrintedBytes.{Origin, origins_uses, StateEntries, LinePrints}
 use Rattle.key_names.specs.SeenLine.{SeenLine, bytes_in, bytes_or_none}

@@ -1,19 +1,19 @@
 -- What calls behind a ready core's look did: they published generations, and read keys that CPUs handed over.
-use Rattle.std.proofs.Common.{◌≡◌, ℕ, zero, suc, ◌≤◌, Bool, List, [], ◌∷◌, ◌++◌, map, refl, sym, subst, ap, ◌∙◌, arith}
+use Rattle.std.proofs.Common.{◌≡◌, ℕ, zero, suc, ◌≤◌, Bool, List, [], ◌∷◌, ◌++◌, map, refl, sym, subst, ap, arith}
 use Rattle.key_names.specs.declared.names.Step.{Step}
 use Rattle.key_names.specs.declared.point.Point.{Point}
 use Rattle.key_names.specs.declared.entries.CpuEntry.{CpuEntry}
 use Rattle.key_names.specs.Book.{Lists}
 use Rattle.key_names.specs.Deeds.{Deed, looked, deeds_of}
 use Rattle.key_names.specs.Vgetrandom.{HostStep, publishes, system_call, at_point}
-use Rattle.key_names.specs.VreadSteps.{NeverFall, Shows, looks_of, published_by}
+use Rattle.key_names.specs.VreadSteps.{Shows, looks_of, published_by}
 use Rattle.key_names.proofs.Transcripts.GoodSteps.{good_behind}
 use Rattle.key_names.proofs.Transcripts.KeyVisits.{AllThere, all_there}
 use Rattle.key_names.proofs.Vgetrandom.KeyReads.{KeyReads}
 use Rattle.key_names.proofs.Vgetrandom.StatesReplay.{Good, GoodBehind}
 use Rattle.lane_table.specs.declared.view.View.{View}
 use Rattle.lane_table.specs.declared.view.Visit.{Visit}
-use Rattle.lane_table.specs.Advances.{floor, looks_in, step_of}
+use Rattle.lane_table.specs.Advances.{floor, step_of}
 use Rattle.lane_table.specs.BookLaws.{Continues}
 use Rattle.lane_table.specs.BookLists.{StateLists, book_lists}
 use Rattle.rng_core.specs.declared.setting.Setting.{Setting}

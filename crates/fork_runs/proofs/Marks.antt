@@ -1,6 +1,6 @@
 -- Marks whose stamps climb: no place of a lane is among them twice.
 use Rattle.std.proofs.Common.{◌≡◌, ℕ, suc, ◌+◌, ◌<◌, ◌≤◌, ◌⊎◌, inl, inr, Bool, true, false, List, [], ◌∷◌, ◌++◌, Some, Option, refl, sym, ap, ◌∙◌, arith, eqb-true}
-use Rattle.std.specs.Prelude.{◌==◌, if◌then◌else◌, ⊤}
+use Rattle.std.specs.Prelude.{◌==◌, if◌then◌else◌}
 use Rattle.std.specs.List.{AllByRecursion}
 use Rattle.std.specs.Option.{option_map_or}
 use Rattle.key_names.specs.declared.names.LaneId.{LaneId}
