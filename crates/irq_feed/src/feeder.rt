@@ -73,7 +73,7 @@ pub(crate) fn push_all<R: Wait, G: Gate>(
 
 /// Where feeders run.
 #[derive(Clone, Copy, Drop)]
-pub(crate) enum Feeders {
+pub enum Feeders {
     /// Each in a thread of its own, where one can be made.
     InThreads,
     /// None in a thread, as where no thread can be made.

@@ -22,12 +22,10 @@ mod samples;
 mod table_feed;
 mod worker;
 
+pub use feeder::Feeders;
 pub use intake::Intake;
 pub use mixed::Mixed;
 pub use queue::{FeedPass, FeedQueue};
-pub use run::feed;
+pub use run::{feed, feed_by};
 pub use samples::{Feeds, Sample};
 pub use table_feed::{FeedSums, feed_on_new_table};
-
-#[cfg(test)]
-mod tests;

@@ -59,7 +59,11 @@ pub fn feed<'a, R: Threads + Wait + Sync, G: Gate>(
 }
 
 /// The same, where the feeders run so.
-pub(crate) fn feed_by<'a, R: Threads + Wait + Sync, G: Gate>(
+///
+/// # Errors
+///
+/// Those of [`feed`].
+pub fn feed_by<'a, R: Threads + Wait + Sync, G: Gate>(
     rt: &R,
     alloc: Global,
     intake: &Intake<'a, G>,

@@ -3,7 +3,9 @@ ghost use Rattle.std.specs.Prelude.{IfOk, ◌≡◌, ◌*◌, length};
 ghost use Rattle.irq_feed.specs.Fed.{mixed_in};
 
 use io_edges::{Gate, NoMemory, OpenGate};
-use irq_feed::{FeedQueue, FeedSums, Feeds, Intake, Mixed, feed, feed_on_new_table};
+use irq_feed::{
+    FeedQueue, FeedSums, Feeders, Feeds, Intake, Mixed, feed, feed_by, feed_on_new_table,
+};
 use lane_table::Lanes;
 use rng_core::Setting;
 use std::alloc::Global;
@@ -180,5 +182,33 @@ fn sums_of_feeders_on_a_new_table(rt: HostRuntime) -> Result<(), Fail> {
             bits: 256
         }
     );
+    Ok(())
+}
+
+// What no caller of `feed` can bring about: no feeder gets a thread.
+#[test]
+fn feeders_without_threads_are_mixed_in_order(rt: HostRuntime) -> Result<(), Fail> {
+    let alloc = rt.alloc();
+    let feeds = Feeds::of(alloc, 0, 3, 5)?;
+    let gate = CountingGate::new();
+    let (lanes, mut pass) = Lanes::start(alloc, 1, 0)?;
+    let (queue, worker) = FeedQueue::of(alloc, &feeds)?;
+    let intake = Intake {
+        lanes: &lanes,
+        set: Setting::first(0),
+        feeds: &feeds,
+        queue: &queue,
+        gate: &gate,
+    };
+    let (mixed, _worker) = feed_by(&rt, alloc, &intake, &mut pass, worker, Feeders::Nowhere);
+    let mixed = mixed?;
+    assert_eq!(rt; mixed.len(), 15);
+    for i in 0..mixed.len() {
+        assert_eq!(rt; mixed.get(i), (i / 5, i % 5));
+    }
+    for feeder in 0..3 {
+        assert!(rt; mixed.direct(feeder));
+    }
+    assert_eq!(rt; gate.calls(), 15);
     Ok(())
 }
