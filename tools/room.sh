@@ -21,7 +21,7 @@ need_room() {
     exit 70
 }
 
-# Removes what the prover kept. The programs that were built stay, since they stand for the sources as they are.
+# Removes what the prover kept. The programs stay, since they were built from the sources as they are.
 clean() {
     before=$(kept_room)
     for folder in "$top"/crates/*/out; do

@@ -78,8 +78,8 @@ read_audit() {
     take_files "audit ${words%% *}" "$@"
 }
 
-# read_words WORDS..: ends where the words are none of a program's. Sets words, which are, and taken, how many of all words
-# are no files.
+# read_words WORDS..: ends if no program takes these words. Sets words, those of the program, and taken, how many of all
+# words are no files.
 read_words() {
     words=$* taken=$#
     case ${1-} in
@@ -123,7 +123,7 @@ read_words() {
     esac
 }
 
-# show FILES..: what they hold, one behind the other.
+# show FILES..: what they hold, one after the other.
 show() {
     for file; do
         case $file in

@@ -377,7 +377,7 @@ def arguments():
     parser.add_argument("script", metavar="SCRIPT", help="the script to write")
     parser.add_argument("values", metavar="VALUES", help="the list of values to write")
     parser.add_argument("events", metavar="EVENTS", type=int, nargs="?", default=LIMIT,
-                        help=f"cut the script off behind so many events; {LIMIT} where none is given")
+                        help=f"cut the script off after so many events; {LIMIT} if none is given")
     return parser.parse_args()
 
 

@@ -42,7 +42,7 @@ def check_signals():
 # ---- Daemons --------------------------------------------------------------------------------------------------------
 
 def check_daemons(name, words):
-    """The front is asked behind each step, since the prologue has something due every hundred requests."""
+    """The front is asked after each step, since the prologue has something due every hundred requests."""
     path = os.path.join(ROOM, "record")
     steps = prologue("add 616263 256", *["wait 100", "reseed"] * 11)
     ran = under(*words, "--prologue", steps, "--record", path, EDGES, "daemon")
@@ -102,10 +102,10 @@ def check_others_folder():
     began = subprocess.Popen([UNDER, "sh", "-c", "echo; read _; exec head -c 16 /dev/urandom"], stdin=subprocess.PIPE,
                              stdout=subprocess.PIPE, env=where)
     began.stdout.readline()
-    os.makedirs(os.path.join(above, "rng-under-new"))
+    os.makedirs(os.path.join(above, "rng-under.new"))
     ran = under("true", env=where)
     out, _ = began.communicate(b"\n")
-    is_well = ran[0] == began.returncode == 0 and len(out) == 16 and os.listdir(above) == ["rng-under-new"]
+    is_well = ran[0] == began.returncode == 0 and len(out) == 16 and os.listdir(above) == ["rng-under.new"]
     tell("a run leaves the folder of another one alone", "" if is_well else f"{ran} {len(out)} {os.listdir(above)}")
 
 
