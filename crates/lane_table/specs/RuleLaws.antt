@@ -48,6 +48,18 @@ pub record Tickets (s : St) (lane : ℕ) : Type 0 where
   pub turn : (j t : ℕ) (v : View) → IsView s j v → (at lane v).stage ≡ Holding t → t ≡ serving_of s lane
   pub loaded : (j : ℕ) (v : View) → IsView s j v → (at lane v).loaded ≤ serving_of s lane
 
+-- the ticket number is first and one more for each ticket that the passes drew; the serving number is below it by as
+-- many as are out
+pub record CountsFrom (first : ℕ) (s : St) (lane : ℕ) : Type 0 where
+  pub ticket : ticket_of s lane ≡ first + sum_by (λ a. a.tickets) (column lane s.views)
+  pub serving : serving_of s lane + sum_by (λ a. has_ticket a.stage) (column lane s.views)
+      ≡ first + sum_by (λ a. a.tickets) (column lane s.views)
+
+-- whenever a pass knows exactly this, the ticket number and the serving number of each lane are first
+abbrev pub NumbersAre : ℕ → View → Type 0
+NumbersAre first v = (s : St) (j lane : ℕ) → WorldRule first s → IsView s j v → lane < length s.homes →
+    (ticket_of s lane ≡ first) × (serving_of s lane ≡ first)
+
 -- what a pass knows of a lane begins the lane's list, and is all of it where the pass holds the lane; with an entry it
 -- knows those that the entry names behind. The same holds of the lists that the lane's value carries
 pub record KnownLists (s : St) (logs : ℕ → List Visit) : Type 0 where
@@ -119,6 +131,10 @@ pub record Generation (s : St) (logs : ℕ → List Visit) : Type 0 where
 
 abbrev pub EachTicketHasOneHolder : Type 0
 EachTicketHasOneHolder = (first : ℕ) (s : St) (lane : ℕ) → WorldRule first s → lane < length s.homes → Tickets s lane
+
+abbrev pub NumbersCountFromFirst : Type 0
+NumbersCountFromFirst = (first : ℕ) (s : St) (lane : ℕ) → WorldRule first s → lane < length s.homes →
+    CountsFrom first s lane
 
 abbrev pub KnownListsBegin : Type 0
 KnownListsBegin = (first : ℕ) (s : St) (r : WorldRule first s) → KnownLists s r.logs

@@ -29,9 +29,13 @@ with_drawn v = record v { drawn = v.drawn + 1 }
 
 -- Tickets
 
+-- the pass waits with the ticket that it drew
+abbrev pub waiting : ℕ → LaneView → LaneView
+waiting t a = record a { stage = Queued t; tickets = a.tickets + 1 }
+
 -- a ticket is drawn
 abbrev pub queued : ℕ → ℕ → Seated → Seated
-queued lane t m = (with_at lane (staged (Queued t) (at lane m.0)) (with_drawn m.0), m.1)
+queued lane t m = (with_at lane (waiting t (at lane m.0)) (with_drawn m.0), m.1)
 
 abbrev pub finding : ℕ → LaneView → LaneView
 finding n a = record a { found = n }
@@ -58,7 +62,7 @@ draws st m r m' = (lane : ℕ) → st.word ≡ ticket_word lane
 
 -- a ticket is drawn, and the number that was found is kept
 abbrev pub queued_found : ℕ → ℕ → Seated → Seated
-queued_found lane t m = (with_at lane (record (at lane m.0) { stage = Queued t; found = t }) (with_drawn m.0), m.1)
+queued_found lane t m = (with_at lane (waiting t (finding t (at lane m.0))) (with_drawn m.0), m.1)
 
 -- the same exchange, where what is found is kept
 abbrev pub tries : Step (Option Content) → Seated → ℕ → Seated → Type 0
@@ -210,7 +214,7 @@ halved v = record v { halvings = v.halvings + 1 }
 
 -- what a pass that is split off has of a lane: it knows as much, and did nothing yet
 abbrev pub told : LaneView → LaneView
-told a = record a { made = 0; places = []; stage = Away; owes = None; raised = 0 }
+told a = record a { made = 0; places = []; tickets = 0; stage = Away; owes = None; raised = 0 }
 
 abbrev pub child : View → View
 child v = record v { halvings = v.halvings + 1; drawn = 0; lanes = map told v.lanes }
@@ -225,6 +229,7 @@ merged a b = record a {
   known = longer a.known b.known;
   made = a.made + b.made;
   places = a.places ++ b.places;
+  tickets = a.tickets + b.tickets;
   loaded = max a.loaded b.loaded;
   found = max a.found b.found;
   heard = with_list a.known (with_list b.known (a.heard ++ b.heard));

@@ -70,6 +70,7 @@ blank = record {
   known = [];
   made = 0;
   places = [];
+  tickets = 0;
   stage = Away;
   owes = None;
   raised = 0;
@@ -141,6 +142,8 @@ pub record LaneOk (lane first ticket serving : ℕ) (home : Home) (col : List La
   -- each ticket from the one that is served on is one pass's
   pub ordered : serving ≤ ticket
   pub counted : serving + sum_by (λ a. has_ticket a.stage) col ≡ ticket
+  -- the ticket number counts the tickets that the passes drew, from first
+  pub drawn : ticket ≡ first + sum_by (λ a. a.tickets) col
   pub passes : (j : ℕ) (a : LaneView) → get_elem? col j ≡ some a → PassOk ticket serving owner home log j a
   pub whereabouts : IsHomeOrHeld lane first serving home col log
   -- the passes made all visits of the list, each once

@@ -2,13 +2,19 @@
 //! each law is the contract of a function without code.
 ghost use Rattle.lane_table.specs.BookLaws.{ClosedIsForwardLawful, HalfAnsweredIsHalfFinished, AnsweredIsLawful};
 ghost use Rattle.lane_table.specs.BookLaws.{ClosedReplays, ClosedGives};
-ghost use Rattle.lane_table.specs.RuleLaws.{EachTicketHasOneHolder, KnownListsBegin, ValuesAreReplays};
+ghost use Rattle.lane_table.specs.RuleLaws.{EachTicketHasOneHolder, NumbersCountFromFirst, KnownListsBegin, ValuesAreReplays};
 ghost use Rattle.lane_table.specs.RuleLaws.{CountsAndSharesAddUp, StampsRise, ListsAreLawfulSoFar, GenerationIsTheBases};
 
 /// In each lane the tickets from the serving number on to the ticket number are out, each with one pass, and no others.
 /// Who holds the lane has the one that is served.
 pub fn each_ticket_has_one_holder()
     ensures { EachTicketHasOneHolder }
+{}
+
+/// A lane's ticket number is the first number of the table, and one more for each ticket that a pass drew. Its serving
+/// number is below it by as many tickets as are out.
+pub fn numbers_count_from_first()
+    ensures { NumbersCountFromFirst }
 {}
 
 /// Each lane has one list of visits. What a pass knows of it is a beginning, and all of it where the pass holds the

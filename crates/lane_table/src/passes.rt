@@ -2,6 +2,7 @@
 ghost use Rattle.std.specs.Prelude.{◌≡◌, ◌+◌, ◌*◌, ◌^◌, ◌<◌, ◌≤◌, ℕ, [], IfOk, length, replicate, slice_set, slice_get, Some, vec_len};
 ghost use Rattle.std.specs.List.{sum_by};
 ghost use Rattle.lane_table.specs.WorldRule.{Replays, words_of};
+ghost use Rattle.lane_table.specs.RuleLaws.{NumbersAre};
 ghost use Rattle.lane_table.specs.Steps.{first_view, halved, child, both_of};
 ghost use Rattle.lane_table.specs.Calls.{view, slots, count_of, first_of, plan_of, made_in, IsPassOf, IsSamePass, IsIdle, Ended, AreStarts};
 
@@ -74,8 +75,7 @@ fn start_words(alloc: Global, count: usize, first: u64) -> Result<Vec<u64>, Allo
 
 impl Lanes {
     /// A table with this many CPUs, 1 to 256, each lane in its starting state and the generation 0, and the pass of
-    /// caller 0, which has the whole share. Stamps start at `first`, at most 2^62. Tickets and serving numbers do so
-    /// too, and that is not promised.
+    /// caller 0, which has the whole share. Stamps, tickets and serving numbers start at `first`, at most 2^62.
     ///
     /// # Errors
     ///
@@ -86,6 +86,7 @@ impl Lanes {
         ensures table { IfOk result (λ r. (r.0.cpus ≡ cpus) × (first_of r.0 ≡ first)) }
         ensures pass { IfOk result (λ r. IsPassOf r.0 r.1 × (r.1.caller ≡ 0)) }
         ensures seat { IfOk result (λ r. r.1.seat.me ≡ (first_view (plan_of (cpus + 2) first), [])) }
+        ensures numbers { IfOk result (λ r. NumbersAre first (view r.1)) }
     {
         let count = cpus as usize + 2;
         let words = start_words(alloc, count, first)?;

@@ -42,6 +42,7 @@ pub enum Stage {
 ///
 /// - `known`: a beginning of the lane's list of visits.
 /// - `made` and `places`: how many visits it made, and where they stand in the list.
+/// - `tickets`: how many tickets of the lane it drew.
 /// - `stage`: where it stands at the lane.
 /// - `owes`: the place of an entry that names the place that it holds here, and that this place has to answer.
 /// - `raised`: 1 where it raised the generation in this hold.
@@ -51,6 +52,7 @@ pub struct LaneView {
     pub known: LinkedList<Visit>,
     pub made: u64,
     pub places: LinkedList<u64>,
+    pub tickets: u64,
     pub stage: Stage,
     pub owes: Option<u64>,
     pub raised: u64,

@@ -1,5 +1,5 @@
 //! Passes that meet at lanes.
-ghost use Rattle.std.specs.Prelude.{◌≡◌, ℕ, ◌<◌, ◌≤◌, []};
+ghost use Rattle.std.specs.Prelude.{◌≡◌, ℕ, ◌<◌, ◌≤◌, ◌^◌, []};
 ghost use Rattle.key_names.specs.declared.entries.CpuEntry.TheVariants.{Irq};
 ghost use Rattle.lane_table.specs.declared.view.Handed.{Handed};
 ghost use Rattle.lane_table.specs.declared.view.LaneEntry.TheVariants.{Cpu};
@@ -72,6 +72,22 @@ fn beside<R: Wait>(
     let another = find(lanes, other, LaneId::Cpu(1));
     lanes.back(pass, held);
     (same, another)
+}
+
+// What caller 1 finds on a new table: at CPU 0 while caller 0 holds it for the first time, at CPU 1, and at CPU 0 while
+// caller 0 holds it once more.
+fn found_from<R: Wait>(
+    rt: &R,
+    alloc: Global,
+    first: u64,
+) -> Result<[Result<Found, TakeFault>; 3], AllocError>
+    requires { first ≤ 2 ^ 62 }
+{
+    let (lanes, mut a) = started(alloc, 2, first)?;
+    let mut b = split_off(&lanes, &mut a, 1);
+    let (same, another) = beside(rt, &lanes, &mut a, &mut b);
+    let (again, _) = beside(rt, &lanes, &mut a, &mut b);
+    Ok([same, another, again])
 }
 
 // Mixes an interrupt into the CPU that is held.
@@ -201,6 +217,27 @@ fn held_cpu_is_busy_and_another_is_free(rt: HostRuntime) -> Result<(), Fail> {
     let behind = find(&lanes, &mut b, LaneId::Cpu(0));
     assert_eq!(rt; behind, Ok((LaneId::Cpu(0), 0, 0)));
     assert_eq!(rt; counted(lanes, a, b), 0);
+    Ok(())
+}
+
+fn busy<T>(serving: u64, ticket: u64) -> Result<T, TakeFault> {
+    Err(TakeFault::Busy { serving, ticket })
+}
+
+#[test]
+fn tickets_and_serving_numbers_count_from_the_first(rt: HostRuntime) -> Result<(), Fail> {
+    let found = found_from(&rt, rt.alloc(), 7)?;
+    assert_eq!(rt; found, [busy(7, 8), Ok((LaneId::Cpu(1), 0, 7)), busy(8, 9)]);
+    let last = NEVER - 2;
+    let found = found_from(&rt, rt.alloc(), last)?;
+    assert_eq!(rt;
+        found,
+        [
+            busy(last, last + 1),
+            Ok((LaneId::Cpu(1), 0, last)),
+            Err(TakeFault::Spent)
+        ]
+    );
     Ok(())
 }
 

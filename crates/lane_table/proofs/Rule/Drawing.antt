@@ -8,9 +8,9 @@ use Rattle.atomic_table.specs.Table.{step, keeps, Allows}
 use Rattle.atomic_table.proofs.Lists.{exchanged}
 use Rattle.lane_table.specs.declared.view.LaneView.{LaneView}
 use Rattle.lane_table.specs.declared.view.View.{View}
-use Rattle.lane_table.specs.declared.view.Stage.TheVariants.{Away, Queued, Holding}
+use Rattle.lane_table.specs.declared.view.Stage.TheVariants.{Away, Holding}
 use Rattle.lane_table.specs.WorldRule.{LaneOk, St, WorldRule, at, column, ticket_word, serving_word}
-use Rattle.lane_table.specs.Steps.{Seated, OwesNothing, with_at, with_drawn, finding, found, loading, loaded, queued, queued_found, draws as Draws, tries as Tries, finds as Finds, loads as Loads}
+use Rattle.lane_table.specs.Steps.{Seated, OwesNothing, with_at, with_drawn, finding, found, loading, loaded, waiting, queued, queued_found, draws as Draws, tries as Tries, finds as Finds, loads as Loads}
 use Rattle.lane_table.specs.Calls.{IsAway}
 use Rattle.lane_table.proofs.Rule.OneLane as lane
 use Rattle.lane_table.proofs.Rule.World.{Here, Goes}
@@ -39,10 +39,10 @@ module _ {first : ℕ} {s : St} {id : ℕ} {v : View} (h : Here first s id v) (i
       WorldRule first record {
         words = set s.words (ticket_word i) (t + 1);
         homes = s.homes;
-        views = set s.views id (with_at i (record (at i v) { stage = Queued t; found = n }) (with_drawn v));
+        views = set s.views id (with_at i (waiting t (finding n (at i v))) (with_drawn v));
       })
   drawn n away low = let k : ℕ = ticket_word i in let t : ℕ = get_or s.words k 0 in let a' : LaneView =
-      record (at i v) { stage = Queued t; found = n } in let w : View = with_at i a' (with_drawn v) in
+      waiting t (finding n (at i v)) in let w : View = with_at i a' (with_drawn v) in
       let p : Plain i v w a' = record {
         lanes = refl;
         known = refl;
@@ -85,7 +85,7 @@ module _ {first : ℕ} {s : St} {id : ℕ} {v : View} (h : Here first s id v) (i
         stamps = refl;
       } in
       plain.reads h i near p k (world.ticket_step h i y)
-      (lane.recast (h.rule.lane i near) id (world.here h i) a' refl refl refl loaded_below (le_refl y) refl
+      (lane.recast (h.rule.lane i near) id (world.here h i) a' refl refl refl refl loaded_below (le_refl y) refl
       (world.begun h i near) (λ e. e)) refl refl
 
   -- the serving word is loaded
@@ -108,7 +108,7 @@ module _ {first : ℕ} {s : St} {id : ℕ} {v : View} (h : Here first s id v) (i
         stamps = refl;
       } in
       plain.reads h i near p k (world.serving_step h i y)
-      (lane.recast (h.rule.lane i near) id (world.here h i) a' refl refl refl (le_refl y) found_below refl
+      (lane.recast (h.rule.lane i near) id (world.here h i) a' refl refl refl refl (le_refl y) found_below refl
       (world.begun h i near) (λ e. e)) refl refl
 
 module _ (first n id i : ℕ) (me : Seated) (near : i < n) (share : 0 < me.0.share) where

@@ -1,5 +1,6 @@
--- What the rule tells the pass that has the whole share, once it stands nowhere: it knows all, and made all.
-use Rattle.std.proofs.Common.{◌≡◌, ℕ, ◌+◌, ◌*◌, ◌-◌, ◌^◌, ◌<◌, ◌≤◌, ◌≢◌, List, [], length, get_or, sym, ap, ◌∙◌, subst, ⊎_elim, arith, Option, Some}
+-- What the rule tells the pass that has the whole share, once it stands nowhere: it knows all, and made all. In a new
+-- table it also drew nothing yet.
+use Rattle.std.proofs.Common.{◌≡◌, ℕ, zero, suc, ◌+◌, ◌*◌, ◌-◌, ◌^◌, ◌<◌, ◌≤◌, ◌≢◌, List, [], length, get_or, replicate, refl, sym, ap, ◌∙◌, subst, ⊎_elim, arith, Option, Some}
 use Rattle.std.proofs.Math.Nat.{mul-pos}
 use Rattle.std.proofs.lemmas.Nat.{pow-add, pow_pos}
 use Rattle.std.specs.List.{sum_by}
@@ -12,12 +13,15 @@ use Rattle.lane_table.specs.declared.view.Visit.{Visit}
 use Rattle.lane_table.specs.declared.view.LaneView.{LaneView}
 use Rattle.lane_table.specs.declared.view.View.{View}
 use Rattle.lane_table.specs.declared.view.Content.{Content}
+use Rattle.lane_table.specs.declared.view.Plan.{Plan}
 use Rattle.lane_table.specs.declared.view.Stage.TheVariants.{Away, Holding}
 use Rattle.lane_table.specs.Meaning.{behind_of, parent}
 use Rattle.lane_table.specs.References.{Answered}
-use Rattle.lane_table.specs.WorldRule.{AllBegin, Owes, Replays, Rising, St, WorldRule, at, blank, column, known_of, times, once_below, serving_word, weight}
+use Rattle.lane_table.specs.WorldRule.{AllBegin, Owes, Replays, Rising, St, WorldRule, at, blank, column, has_ticket, known_of, times, once_below, serving_word, ticket_word, weight}
+use Rattle.lane_table.specs.Steps.{first_view}
 use Rattle.lane_table.specs.Calls.{Ended, IsIdle}
-use Rattle.lane_table.proofs.Lists.Lists.{at_below, at_unmap, sum_by-map, two_below, only_one}
+use Rattle.lane_table.specs.RuleLaws.{NumbersAre}
+use Rattle.lane_table.proofs.Lists.Lists.{all_zero, at_below, at_unmap, sum_by-map, two_below, only_one}
 use Rattle.lane_table.proofs.Lists.VisitLists.{begins_whole}
 use Rattle.lane_table.proofs.Rule.Naming.{parent_within}
 use Rattle.lane_table.proofs.Rule.World.{Here}
@@ -51,6 +55,19 @@ module _ {first : ℕ} {s : St} {id : ℕ} {v : View} (h : Here first s id v) (s
     made_all = sym (only_one (λ (u : View). (at i u).made) s.views id v h.is
         (λ j u ne e. ap (λ (a : LaneView). a.made) (others i j u ne e)))
         ∙ sym (sum_by-map (λ (a : LaneView). a.made) (at i) s.views) ∙ (h.rule.lane i near).made
+
+    -- the tickets that were drawn are its own, and none is out
+    pub numbers : (get_or s.words (ticket_word i) 0 ≡ first + (at i v).tickets)
+        × (get_or s.words (serving_word i) 0 ≡ first + (at i v).tickets)
+    numbers = let ok = h.rule.lane i near in
+        let own : sum_by (λ (a : LaneView). a.tickets) (column i s.views) ≡ (at i v).tickets =
+        sum_by-map (λ (a : LaneView). a.tickets) (at i) s.views
+        ∙ only_one (λ (u : View). (at i u).tickets) s.views id v h.is
+        (λ j u ne e. ap (λ (a : LaneView). a.tickets) (others i j u ne e)) in
+        let out : sum_by (λ (a : LaneView). has_ticket a.stage) (column i s.views) ≡ 0 =
+        sum_by-map (λ (a : LaneView). has_ticket a.stage) (at i) s.views
+        ∙ all_zero (λ (u : View). has_ticket (at i u).stage) s.views (λ j u e. ap has_ticket (all_away i j u e)) in
+        let d = ok.drawn in let c = ok.counted in (omega arith, omega arith)
 
     -- the value is at home
     ends : (c : Content) × (get_elem? s.homes i ≡ some (some (Some c))) × (c.place ≡ (at i v).made)
@@ -102,6 +119,21 @@ module _ {first : ℕ} {s : St} {id : ℕ} {v : View} (h : Here first s id v) (s
         made = λ i near. made_all i near ∙ ap length (sym (knows_all i near));
         placed = λ i p near. placed_all i near p;
       }
+
+-- what a new table's pass has of a lane
+blank_in : (n i : ℕ) → get_or (replicate n blank) i blank ≡ blank
+blank_in zero i = refl
+blank_in (suc n) zero = refl
+blank_in (suc n) (suc i) = blank_in n i
+
+pub numbers_begin : (plan : Plan) → NumbersAre plan.first (first_view plan)
+numbers_begin plan s j i r is near = let v : View = first_view plan in let new = blank_in plan.count i in
+    let none' : (at i v).tickets ≡ 0 = ap (λ (a : LaneView). a.tickets) new in
+    let n = numbers {first = plan.first} {s = s} {id = j} {v = v} record { rule = r; is = is; share = omega arith } refl
+    (λ k. ap (λ (a : LaneView). a.stage) (blank_in plan.count k)) i near in (
+      (let t = n.0 in omega arith),
+      (let t = n.1 in omega arith),
+    )
 
 module _ (first id : ℕ) (v : View) (words : List ℕ) (contents : List (Option Content))
     (final : Final (Seen (WorldRule first) id v) words contents) (some_share : 0 < v.share)

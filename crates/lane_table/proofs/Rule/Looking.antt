@@ -119,7 +119,7 @@ lifts first n id t g me share hold none' next small s r wide is _ = let h : Here
     let w₁ = get_or-set_other s.words 0 (ticket_word 1) g 0 (λ e. omega arith) in let w₂ =
     get_or-set_other s.words 0 (serving_word 1) g 0 (λ e. omega arith) in
     let was = (r.lane 1 near).passes id (at 1 v) (world.here h 1) in
-    let ok = lane.recast (r.lane 1 near) id (world.here h 1) a' refl refl refl was.loaded was.found refl was.begins
+    let ok = lane.recast (r.lane 1 near) id (world.here h 1) a' refl refl refl refl was.loaded was.found refl was.begins
     (λ e. e) in
     let one : (at 1 w).raised ≡ 1 = ap (λ (a : LaneView). a.raised) (plain.w_here h 1 near p) in (
       w,

@@ -12,7 +12,7 @@ use Rattle.lane_table.specs.declared.view.Content.{Content}
 use Rattle.lane_table.specs.declared.view.Stage.{Stage}
 use Rattle.lane_table.specs.declared.view.Stage.TheVariants.{Away, Queued, Holding}
 use Rattle.lane_table.specs.WorldRule.{Begins, AllBegin, Rising, Replays, has_ticket, blank, Home, Stands, PassOk, IsHomeOrHeld, LaneOk, KnownWhole, times, once_below}
-use Rattle.lane_table.specs.Steps.{holder, told, merged, longer}
+use Rattle.lane_table.specs.Steps.{finding, waiting, holder, told, merged, longer}
 use Rattle.lane_table.proofs.Lists.Lists.{at_below, sum_at_set}
 use Rattle.lane_table.proofs.Lists.VisitLists.{begins_trans, begins_length, begins_nil, begins_refl, longer_all, all_trans, all_heard}
 
@@ -61,13 +61,14 @@ module _ {lane first ticket serving : ℕ} {home : Home} {col : List LaneView} {
     known_stands known (Holding t) h k = (k.0, k.1, k.2, h k.3, k.4)
 
     -- a view learns, of the list or of the words, and stands as before
-    pub recast : (b : LaneView) → b.stage ≡ a.stage → b.made ≡ a.made → b.places ≡ a.places → b.loaded ≤ serving →
-        b.found ≤ ticket → b.heard ≡ a.heard → Begins b.known log → (a.known ≡ log → b.known ≡ log)
+    pub recast : (b : LaneView) → b.stage ≡ a.stage → b.made ≡ a.made → b.places ≡ a.places → b.tickets ≡ a.tickets →
+        b.loaded ≤ serving → b.found ≤ ticket → b.heard ≡ a.heard → Begins b.known log → (a.known ≡ log → b.known ≡ log)
         → LaneOk lane first ticket serving home (set col id b) log owner
-    recast b stage made' places' loaded' found' heard' begins whole = record {
+    recast b stage made' places' tickets' loaded' found' heard' begins whole = record {
       ordered = ok.ordered;
       counted = let s = sum_at_set (λ (x : LaneView). has_ticket x.stage) col id a b at in
           let q : has_ticket b.stage ≡ has_ticket a.stage = ap has_ticket stage in let o = ok.counted in omega arith;
+      drawn = let s = sum_at_set (λ (x : LaneView). x.tickets) col id a b at in let o = ok.drawn in omega arith;
       passes = passes_set (PassOk ticket serving owner home log) col id b (λ j x _ e. ok.passes j x e) record {
         begins = begins;
         heard = subst (λ (l : List (List Visit)). AllBegin l log) (sym heard') mine.heard;
@@ -104,13 +105,14 @@ module _ {lane first ticket serving : ℕ} {home : Home} {col : List LaneView} {
     -- a ticket is drawn
     pub draws : (n : ℕ) → a.stage ≡ Away → n ≤ ticket →
         (owner' : ℕ → ℕ) × LaneOk lane first (ticket + 1) serving home
-        (set col id (record a { stage = Queued ticket; found = n })) log owner'
-    draws n away low = let a' : LaneView = record a { stage = Queued ticket; found = n } in (
+        (set col id (waiting ticket (finding n a))) log owner'
+    draws n away low = let a' : LaneView = waiting ticket (finding n a) in (
       drawn_by,
       record {
         ordered = let o = ok.ordered in omega arith;
         counted = let s = sum_at_set (λ (x : LaneView). has_ticket x.stage) col id a a' at in
             let q : has_ticket a.stage ≡ 0 = ap has_ticket away in let o = ok.counted in omega arith;
+        drawn = let s = sum_at_set (λ (x : LaneView). x.tickets) col id a a' at in let o = ok.drawn in omega arith;
         passes = passes_set (PassOk (ticket + 1) serving drawn_by home log) col id a'
             (λ j b _ e. let o = ok.passes j b e in record {
               begins = o.begins;
@@ -156,6 +158,7 @@ module _ {lane first ticket serving : ℕ} {home : Home} {col : List LaneView} {
         ordered = ok.ordered;
         counted = let s = sum_at_set (λ (x : LaneView). has_ticket x.stage) col id a a' at in
             let q : has_ticket a.stage ≡ 1 = ap has_ticket waits in let o = ok.counted in omega arith;
+        drawn = let s = sum_at_set (λ (x : LaneView). x.tickets) col id a a' at in let o = ok.drawn in omega arith;
         passes = passes_set (PassOk ticket serving owner (some none) log) col id a'
             (λ j b ne e. let o = ok.passes j b e in record {
               begins = o.begins;
@@ -203,17 +206,18 @@ module _ {lane first ticket serving : ℕ} {home : Home} {col : List LaneView} {
 
     -- the value goes home, and the next ticket is served
     pub gives : (t : ℕ) (log' : List Visit) (c : Content) (a' : LaneView) → a.stage ≡ Holding t → Begins log log' →
-        a'.stage ≡ Away → a'.known ≡ log' → a'.loaded ≡ a.loaded → a'.found ≡ a.found → a'.heard ≡ a.heard
+        a'.stage ≡ Away → a'.known ≡ log' → a'.tickets ≡ a.tickets → a'.loaded ≡ a.loaded → a'.found ≡ a.found → a'.heard ≡ a.heard
         → a'.made + length log ≡ a.made + length log' →
         ((p : ℕ) → times p a'.places + once_below p (length log) ≡ times p a.places + once_below p (length log')) →
         Rising first log' → Replays lane first log' c
         → LaneOk lane first ticket (t + 1) (some (some (Some c))) (set col id a') log' owner
-    gives t log' c a' hold more away whole loaded' found' heard' count news rises plays = let stood =
+    gives t log' c a' hold more away whole tickets' loaded' found' heard' count news rises plays = let stood =
         holds_turn t hold in let home' : Home = some (some (Some c)) in let lt = stood.1 in let is = stood.0 in record {
           ordered = omega arith;
           counted = let s = sum_at_set (λ (x : LaneView). has_ticket x.stage) col id a a' at in
               let q : has_ticket a.stage ≡ 1 = ap has_ticket hold in let q' : has_ticket a'.stage ≡ 0 = ap has_ticket away in
               let o = ok.counted in omega arith;
+          drawn = let s = sum_at_set (λ (x : LaneView). x.tickets) col id a a' at in let o = ok.drawn in omega arith;
           passes = passes_set (PassOk ticket (t + 1) owner home' log') col id a'
               (λ j b ne e. let o = ok.passes j b e in record {
                 begins = begins_trans b.known log log' o.begins more;
@@ -244,6 +248,7 @@ module _ {lane first ticket serving : ℕ} {home : Home} {col : List LaneView} {
       ordered = ok.ordered;
       counted = let s = sum_by_push (λ (x : LaneView). has_ticket x.stage) col (told a) in let o = ok.counted in
           omega arith;
+      drawn = let s = sum_by_push (λ (x : LaneView). x.tickets) col (told a) in let o = ok.drawn in omega arith;
       passes = λ j b e. ⊎_elim (λ (h : get_elem? col j ≡ some b). ok.passes j b h)
           (λ (h : told a ≡ b). subst (PassOk ticket serving owner home log j) h
           record { begins = mine.begins; heard = mine.heard; stands = tt; loaded = mine.loaded; found = mine.found })
@@ -307,6 +312,8 @@ module _ {lane first ticket serving : ℕ} {home : Home} {col : List LaneView} {
           counted = let s = sum_at_set (λ (x : LaneView). has_ticket x.stage) col id a m at in let t =
               sum_at_set (λ (x : LaneView). has_ticket x.stage) col₁ other b blank at' in let q : has_ticket b.stage ≡ 0 =
               ap has_ticket away in let o = ok.counted in omega arith;
+          drawn = let s = sum_at_set (λ (x : LaneView). x.tickets) col id a m at in let t =
+              sum_at_set (λ (x : LaneView). x.tickets) col₁ other b blank at' in let o = ok.drawn in omega arith;
           passes = passes_set (PassOk ticket serving owner home log) col₁ other blank (λ j x _ e. one j x e)
               record { begins = begins_nil log; heard = tt; stands = tt; loaded = omega arith; found = omega arith };
           whereabouts = whereabouts_set lane first serving home col₁ log other b blank at' (λ h. absurd (cc (away, h)))

@@ -87,7 +87,7 @@ module _ {first : ℕ} {s : St} {id : ℕ} {v : View} (h : Here first s id v) (i
         stamps = refl;
       } in
       let ok = lane.gives (h.rule.lane i near) id (world.here h i) t log c a' hold (begins_refl log) refl turn.3 refl
-      refl refl refl (λ _. refl) (h.rule.lane i near).rising
+      refl refl refl refl (λ _. refl) (h.rule.lane i near).rising
       (subst (λ (z : ℕ × List Visit). Replays i z.0 z.1 c) (λ q. ((world.sized h).1 q, turn.3 q)) plays) in
       let w₀ = world.unraised h k (t + 1) (λ e. omega arith) in let same = plain.w_raised h i near p refl in
       laid held c w has (plain.plainly h i near p {k = k} {y = t + 1} (homes' c) (h.rule.owners i)
@@ -127,7 +127,7 @@ module _ {first : ℕ} {s : St} {id : ℕ} {v : View} (h : Here first s id v) (i
         let lawful' = giving.lawful_here h i t near hold x enters in
         let long : length log' ≡ length (h.rule.logs i) + 1 =
         omega (arith, length-append (known_of v i) (x ∷ []), ap length whole) in
-        let ok = lane.gives (h.rule.lane i near) id (world.here h i) t log' c a' hold more refl refl refl refl refl
+        let ok = lane.gives (h.rule.lane i near) id (world.here h i) t log' c a' hold more refl refl refl refl refl refl
         (omega arith)
         (λ p. subst (λ (l : List Visit). times p a'.places + once_below p (length l) ≡ times p
         (at i v).places + once_below p (length log')) whole (placed_push (at i v).places (known_of v i) x p))
@@ -241,6 +241,7 @@ module _ {first : ℕ} {s : St} {id : ℕ} {v : View} (h : Here first s id v) (i
             stage = refl;
             made = refl;
             places = refl;
+            tickets = refl;
             loaded = refl;
             found = refl;
             heard = refl;

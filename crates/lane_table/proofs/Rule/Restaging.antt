@@ -6,12 +6,11 @@ use native.Mathlib.Decide.{ℕ_discrete}
 use Rattle.lane_table.specs.declared.view.Visit.{Visit}
 use Rattle.lane_table.specs.declared.view.LaneView.{LaneView}
 use Rattle.lane_table.specs.declared.view.View.{View}
-use Rattle.lane_table.specs.declared.view.Stage.TheVariants.{Queued}
 use Rattle.lane_table.specs.declared.lanes.Lanes.{Lanes}
 use Rattle.lane_table.specs.declared.lanes.Pass.{Pass}
 use Rattle.lane_table.specs.References.{ConsistentLists}
 use Rattle.lane_table.specs.WorldRule.{Begins, Consistent, at, blank, known_of}
-use Rattle.lane_table.specs.Steps.{Grows, Seated, with_at, loaded, found, queued, queued_found}
+use Rattle.lane_table.specs.Steps.{Grows, Seated, with_at, finding, loaded, found, waiting, queued, queued_found}
 use Rattle.lane_table.specs.Calls.{IsPassOf, IsSamePass, SameView, Tried, view}
 use Rattle.lane_table.proofs.Lists.VisitLists.{begins_refl}
 
@@ -154,7 +153,7 @@ restages_found i n m = record {
 
 abbrev pub restages_queued : (i t : ℕ) (m : Seated) → Restages i m (queued i t m)
 restages_queued i t m = record {
-  to = record (at i m.0) { stage = Queued t };
+  to = waiting t (at i m.0);
   lanes = refl;
   known = refl;
   owed = refl;
@@ -174,7 +173,7 @@ restages_queued i t m = record {
 
 abbrev pub restages_queued_found : (i t : ℕ) (m : Seated) → Restages i m (queued_found i t m)
 restages_queued_found i t m = record {
-  to = record (at i m.0) { stage = Queued t; found = t };
+  to = waiting t (finding t (at i m.0));
   lanes = refl;
   known = refl;
   owed = refl;

@@ -13,7 +13,7 @@ use Rattle.lane_table.specs.declared.view.Stage.TheVariants.{Away, Queued, Holdi
 use Rattle.lane_table.specs.Meaning.{behind_of, ahead_of, parent}
 use Rattle.lane_table.specs.References.{Closed, AllHalfAnswered, Pointed}
 use Rattle.lane_table.specs.WorldRule.{Home, IsHolding, Owes, PassOk, Replays, St, Stands, WorldRule, at, column, known_of, raises}
-use Rattle.lane_table.specs.RuleLaws.{Counts, Generation, HasTicket, IsAnswered, IsView, KnownLists, LawfulSoFar, Stamps, Tickets, Values, generation_word, serving_of, ticket_of}
+use Rattle.lane_table.specs.RuleLaws.{Counts, CountsFrom, Generation, HasTicket, IsAnswered, IsView, KnownLists, LawfulSoFar, Stamps, Tickets, Values, generation_word, serving_of, ticket_of}
 use Rattle.lane_table.proofs.Lists.Lists.{all_zero, at_unmap, only_one, sum_by-map}
 use Rattle.lane_table.proofs.Lists.VisitLists.{at_begun}
 use Rattle.lane_table.proofs.Rule.Naming.{parent_cpu, parent_within}
@@ -70,6 +70,9 @@ module _ {first : ℕ} {s : St} (r : WorldRule first s) where
           turn = λ j t v is stage. (holds j t v is stage).0;
           loaded = λ j v is. (passes j v is).loaded;
         }
+
+    pub counts_from : CountsFrom first s i
+    counts_from = let ok = r.lane i near in record { ticket = ok.drawn; serving = ok.counted ∙ ok.drawn }
 
     at_home : (c : Content) → get_elem? s.homes i ≡ some (some (Some c)) → Replays i first (r.logs i) c
     at_home c e = ⊎_elim

@@ -78,6 +78,7 @@ module _ {first : ℕ} {s : St} {id : ℕ} {v : View} (h : Here first s id v) (i
         stage = refl;
         made = refl;
         places = refl;
+        tickets = refl;
         loaded = refl;
         found = refl;
         heard = refl;

@@ -67,6 +67,7 @@ module _ (first count : ℕ) (two : 2 ≤ count) where
   first_lane i c plays = record {
     ordered = omega arith;
     counted = omega arith;
+    drawn = omega arith;
     passes = λ j a e. ⊎_elim (λ (h : get_elem? [] j ≡ some a). absurd (some-ne-none a (sym h)))
         (λ (h : blank ≡ a). subst (PassOk first first (λ _. 0) (some (some (Some c))) [] j) h
         record { begins = ([], refl); heard = tt; stands = tt; loaded = omega arith; found = omega arith })

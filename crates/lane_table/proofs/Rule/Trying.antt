@@ -1,9 +1,8 @@
 -- What `try_take` finds: the numbers that were read, and what is left where the lane was not got.
 use Rattle.std.proofs.Common.{◌≡◌, ◌≢◌, ℕ, ◌+◌, ◌^◌, ◌<◌, ◌≤◌, length, ap, ◌∙◌, inl, inr, arith}
 use Rattle.lane_table.specs.declared.view.LaneView.{LaneView}
-use Rattle.lane_table.specs.declared.view.Stage.TheVariants.{Queued}
 use Rattle.lane_table.specs.WorldRule.{at}
-use Rattle.lane_table.specs.Steps.{Seated, loaded, found, queued_found}
+use Rattle.lane_table.specs.Steps.{Seated, finding, loaded, found, waiting, queued_found}
 use Rattle.lane_table.specs.Calls.{IsBusy, IsSpent, Tried}
 use Rattle.lane_table.proofs.Rule.Restaging.{Restages, restages_both, restages_loaded, restages_found, restages_queued_found, restages_to, to_here, to_long, to_tried}
 
@@ -85,6 +84,6 @@ module _ (i n k : ℕ) (m m₁ m₂ : Seated) (near : i < length m.0.lanes) (at�
       pub three_drawn : m₃.0.drawn ≡ m.0.drawn + 1
       three_drawn = ap (λ (z : Seated). z.0.drawn) at₃ ∙ ap (λ (n : ℕ). n + 1) still_drawn
 
-      pub three_here : at i m₃.0 ≡ record (at i m.0) { loaded = n; found = q; stage = Queued q }
+      pub three_here : at i m₃.0 ≡ waiting q (record (at i m.0) { loaded = n; found = q })
       three_here = ap (λ (z : Seated). at i z.0) at₃ ∙ to_here (restages_queued_found i q m₂) near₂
-          ∙ ap (λ (a : LaneView). record a { found = q; stage = Queued q }) here₂
+          ∙ ap (λ (a : LaneView). waiting q (finding q a)) here₂

@@ -43,6 +43,7 @@ pub record Recasts (log : List Visit) (a b : LaneView) : Type 0 where
   pub stage : b.stage ≡ a.stage
   pub made : b.made ≡ a.made
   pub places : b.places ≡ a.places
+  pub tickets : b.tickets ≡ a.tickets
   pub loaded : b.loaded ≡ a.loaded
   pub found : b.found ≡ a.found
   pub heard : b.heard ≡ a.heard
@@ -55,6 +56,7 @@ same_at log a b e h = record {
   stage = ap (λ (x : LaneView). x.stage) e;
   made = ap (λ (x : LaneView). x.made) e;
   places = ap (λ (x : LaneView). x.places) e;
+  tickets = ap (λ (x : LaneView). x.tickets) e;
   loaded = ap (λ (x : LaneView). x.loaded) e;
   found = ap (λ (x : LaneView). x.found) e;
   heard = ap (λ (x : LaneView). x.heard) e;
@@ -237,7 +239,7 @@ module _ {first : ℕ} {s : St} {id : ℕ} {v : View} (h : Here first s id v) wh
         (rw (col, pick_here i log' logs, pick_here i owner' h.rule.owners) m.lane))
         (λ ne. let o = m.others j below ne in let ok = h.rule.lane j below in
         let was = ok.passes id (at j v) (here j) in
-        let cast = lane.recast ok id (here j) (at j w) o.stage o.made o.places
+        let cast = lane.recast ok id (here j) (at j w) o.stage o.made o.places o.tickets
         (let f = o.loaded in let g = was.loaded in omega arith) (let f = o.found in let g = was.found in omega arith)
         o.heard o.begins o.whole in
         let w₁ = other_word (ticket_word j) (m.word.others j ne).0 in let w₂ =
