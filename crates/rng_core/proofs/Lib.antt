@@ -8,6 +8,8 @@ pub mod ActRuns
 pub mod Acting
 pub mod CallEnds
 pub mod Makings
+pub mod OwnStates
+pub mod OwnReads
 pub mod Courses
 pub mod Finding
 pub mod Fulfilling

@@ -19,6 +19,7 @@ mod cpu_values;
 mod crng;
 mod interface;
 mod lane_values;
+pub mod laws;
 mod projections;
 mod setting;
 mod site;
