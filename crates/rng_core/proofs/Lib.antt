@@ -9,6 +9,7 @@ pub mod Acting
 pub mod CallEnds
 pub mod Makings
 pub mod OwnStates
+pub mod OwnReads
 pub mod Courses
 pub mod Finding
 pub mod Fulfilling

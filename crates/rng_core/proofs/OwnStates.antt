@@ -1,11 +1,9 @@
 -- States of a caller's own: what each use leaves, and what the laws of books say of all.
-use Rattle.std.proofs.Common.{◌≡◌, ℕ, zero, suc, ◌+◌, ◌<◌, ◌≤◌, Bool, true, false, cond, eqb, eq-eqb, ne_eqb, List, [], ◌∷◌, ◌++◌, length, map, refl, sym, ap, ◌∙◌, subst, arith, Some, None, append-nil, inl, inr}
+use Rattle.std.proofs.Common.{◌≡◌, ℕ, zero, suc, ◌+◌, ◌<◌, ◌≤◌, Bool, true, false, cond, eq-eqb, ne_eqb, List, [], ◌∷◌, length, map, refl, sym, ap, ◌∙◌, subst, arith, Some, None, append-nil, inl, inr}
 use Rattle.std.specs.Prelude.{◌==◌, ◌&&◌, not, nat_lt, if◌then◌else◌, slice_get}
-use Rattle.std.specs.List.{sum_by, fold, AllByRecursion}
+use Rattle.std.specs.List.{sum_by, AllByRecursion}
 use Rattle.std.proofs.lemmas.Bool.{eqb-true}
 use Rattle.std.proofs.lemmas.List.Sums.{sum_by-cons, fold-append}
-use lib.ListN.{get_elem?}
-use Rattle.atomic_table.proofs.Lists.{at_map}
 use Rattle.key_names.specs.declared.entries.CpuEntry.{CpuEntry}
 use Rattle.key_names.specs.declared.entries.Taken.TheVariants.{User}
 use Rattle.key_names.specs.declared.entries.VEntry.{VEntry}
@@ -23,7 +21,7 @@ use Rattle.key_names.specs.LiveMaterial.{StateBytes, state_bytes_start}
 use Rattle.key_names.specs.Meaning.{CallerState, CallMeaning, LineMeaning, ByLocalCopy, ByVgetrandom, LocalOrCall, VreadMeans, caller_start, current_state, tries_local, unused_line, with_state}
 use Rattle.key_names.specs.IsTranscript.{state_lists}
 use Rattle.key_names.specs.SeenLine.{Shown}
-use Rattle.key_names.specs.StateList.{NamedState, anything, state_start, state_step, TakesRead, LawfulStateList, rekey_at}
+use Rattle.key_names.specs.StateList.{NamedState, state_start, TakesRead, LawfulStateList, rekey_at}
 use Rattle.key_names.specs.StatesReplayed.{IsNamed, IsReplayed}
 use Rattle.key_names.specs.VgetrandomState.{VgetrandomState, wiped_state}
 use Rattle.key_names.specs.VreadSteps.{NeverFall, looks_of, published_by}
@@ -31,7 +29,7 @@ use Rattle.key_names.proofs.Lists.Each.{each_append, each_both, each_weaker}
 use Rattle.key_names.proofs.Vgetrandom.CopiesKeep.{Settled, Keeps, keeps_append, keeps_weaker}
 use Rattle.key_names.proofs.Vgetrandom.CallsKeep.{match_cases, call_keeps, local_keeps, wipe_keeps, lawful_list}
 use Rattle.key_names.proofs.Vgetrandom.KeyReads.{call_names, copy_names}
-use Rattle.key_names.proofs.Vgetrandom.KeyTakes.{takes, takes_append, copy_takes, call_takes, deed_takes}
+use Rattle.key_names.proofs.Vgetrandom.KeyTakes.{takes, takes_append, copy_takes, call_takes}
 use Rattle.key_names.proofs.Vgetrandom.StatesReplay as replay
 use Rattle.key_names.proofs.Transcripts.KeyVisits.{all_there, key_reads}
 use Rattle.key_names.proofs.Transcripts.GoodSteps.{good_behind}
@@ -44,11 +42,10 @@ use Rattle.key_names.proofs.Uses.BookUses.{half_finished_is_disjoint, half_finis
 use Rattle.key_names.proofs.Values.HeldBytes.{half_finished_holds_named}
 use Rattle.lane_table.specs.declared.view.LaneView.{LaneView}
 use Rattle.lane_table.specs.declared.view.View.{View}
-use Rattle.lane_table.specs.declared.view.Visit.{Visit}
-use Rattle.lane_table.specs.WorldRule.{Begins, St, WorldRule, at, column, known_of, once_below, times}
+use Rattle.lane_table.specs.WorldRule.{St, WorldRule, at, known_of, once_below, times}
 use Rattle.lane_table.specs.LaneNumbers.{index_of}
 use Rattle.lane_table.specs.BookLists.{StateLists, book_lists}
-use Rattle.lane_table.specs.BookLaws.{ClosedLanes, Continues}
+use Rattle.lane_table.specs.BookLaws.{Continues}
 use Rattle.lane_table.specs.Advances.{MadeStep, looked, visited, step_of, places_in}
 use Rattle.lane_table.proofs.Book.BookWhole.{no_cpu}
 use Rattle.lane_table.proofs.Lists.Lists.{sum_by-map}
@@ -56,7 +53,7 @@ use Rattle.lane_table.proofs.Lists.VisitLists.{begins_trans}
 use Rattle.lane_table.proofs.Rule.RuleParts.{known_lists, lawful_so_far, counts}
 use Rattle.rng_core.specs.Makes.{setting_of}
 use Rattle.rng_core.specs.InsideMakes.{bound_acts, outcome_line}
-use Rattle.rng_core.specs.OwnStates.{OwnUse, by_vread, by_vread_inside, by_vread_local, by_wipe, before_use, after_use, entries_of, steps_of, IsKnown, UseIsKnown, Follow, after_uses, entries_left, visits_at, all_visits_at, OwnStates, own_lists, OwnBook, OwnStatesAreLawful}
+use Rattle.rng_core.specs.OwnStates.{OwnUse, by_vread, by_vread_inside, by_vread_local, by_wipe, before_use, after_use, entries_of, steps_of, IsKnown, UseIsKnown, Follow, after_uses, entries_left, visits_at, all_visits_at, OwnStates, OwnBook, OwnStatesAreLawful}
 
 -- The visits of steps, counted as marks and as places
 

@@ -8,6 +8,7 @@ pub mod Integers
 pub mod Hosted
 pub mod Hosting
 pub mod OwnStates
+pub mod OwnReads
 pub mod Reading
 pub mod Settings
 pub mod SampleDeeds

@@ -1,4 +1,5 @@
 //! What the laws of books say to a caller of the core, as the contract of a function without code.
+ghost use Rattle.rng_core.specs.OwnReads.{TwoReadsHaveABook};
 ghost use Rattle.rng_core.specs.OwnStates.{OwnStatesAreLawful};
 
 /// At each moment between two atomic steps of a table, its lists so far and those of a caller's vgetrandom states make a
@@ -7,4 +8,10 @@ ghost use Rattle.rng_core.specs.OwnStates.{OwnStatesAreLawful};
 /// two calls; the law takes of each read what its clause tells.
 pub fn own_states_are_lawful()
     ensures { OwnStatesAreLawful }
+{}
+
+/// For example, after two calls of [`vread`](crate::vread) on one state, wiped before the first, with one pass: what their
+/// clauses tell is all that the law asks for.
+pub fn two_reads_have_a_book()
+    ensures { TwoReadsHaveABook }
 {}

@@ -8,7 +8,7 @@ use Rattle.atomic_table.specs.Table.{step, keeps, Allows}
 use Rattle.atomic_table.proofs.Lists.{exchanged}
 use Rattle.lane_table.specs.declared.view.LaneView.{LaneView}
 use Rattle.lane_table.specs.declared.view.View.{View}
-use Rattle.lane_table.specs.declared.view.Stage.TheVariants.{Away, Queued, Holding}
+use Rattle.lane_table.specs.declared.view.Stage.TheVariants.{Away, Holding}
 use Rattle.lane_table.specs.WorldRule.{LaneOk, St, WorldRule, at, column, ticket_word, serving_word}
 use Rattle.lane_table.specs.Steps.{Seated, OwesNothing, with_at, with_drawn, finding, found, loading, loaded, waiting, queued, queued_found, draws as Draws, tries as Tries, finds as Finds, loads as Loads}
 use Rattle.lane_table.specs.Calls.{IsAway}

@@ -1,7 +1,6 @@
 -- What `try_take` finds: the numbers that were read, and what is left where the lane was not got.
 use Rattle.std.proofs.Common.{◌≡◌, ◌≢◌, ℕ, ◌+◌, ◌^◌, ◌<◌, ◌≤◌, length, ap, ◌∙◌, inl, inr, arith}
 use Rattle.lane_table.specs.declared.view.LaneView.{LaneView}
-use Rattle.lane_table.specs.declared.view.Stage.TheVariants.{Queued}
 use Rattle.lane_table.specs.WorldRule.{at}
 use Rattle.lane_table.specs.Steps.{Seated, finding, loaded, found, waiting, queued_found}
 use Rattle.lane_table.specs.Calls.{IsBusy, IsSpent, Tried}
