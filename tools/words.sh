@@ -119,6 +119,7 @@ read_words() {
         taken=$((taken + 1))
         ;;
     '') refuse 'which command is missing' ;;
+    clean | --version) refuse "$1 takes no other words, and does not follow try" ;;
     *) refuse "'$1' is no command; ./rng --help lists them" ;;
     esac
 }
@@ -134,8 +135,9 @@ show() {
     done
 }
 
-# hint FILE: why a script may have been refused, by its first lines.
+# hint FILE: why a script may have been refused, by its first lines. Standard input cannot be read again.
 hint() {
+    [ "$1" != - ] || return 0
     first=$(show "$1" | head -c 100 | LC_ALL=C tr -d '\0' | sed q)
     third=$(show "$1" | LC_ALL=C sed -n '3{p;q;}' | head -c 100 | LC_ALL=C tr -c ' -~\n' '?')
     case $first in

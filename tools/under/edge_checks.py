@@ -39,6 +39,12 @@ def check_signals():
     tell("supervised: a signal that is ignored ends no wait", "" if ran[1] == "epoll_wait waited on\n" else str(ran))
 
 
+def check_open_modes(name, words):
+    """A descriptor that is not open to be read answers as it does without rng-under."""
+    ran, alone = under(*words, EDGES, "modes"), run([EDGES, "modes"])
+    tell(f"{name}: descriptors of the devices in each mode", "" if ran[:2] == alone[:2] else f"{ran}, not {alone}")
+
+
 # ---- Daemons --------------------------------------------------------------------------------------------------------
 
 def check_daemons(name, words):
@@ -210,6 +216,7 @@ def main():
     if len(ways) > 1:
         check_signals()
     for name, words in ways[:2]:
+        check_open_modes(name, words)
         check_daemons(name, words)
         check_kill(name, words)
         check_orphans(name, words)
