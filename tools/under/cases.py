@@ -20,6 +20,7 @@ WHOLE = {
     "no-device": (LAWFUL, [(0, READY), (0, "fault ENOENT always")]),
     "EPERM": (LAWFUL, [(0, READY), (0, "fault EPERM always")]),
     "ENOSYS": (LAWFUL, [(0, READY), (0, "fault ENOSYS always")]),
+    "ENOSYS-early": (LAWFUL, [(0, EARLY), (0, "fault ENOSYS always")]),
     "nothing": (LAWFUL, [(0, READY), (0, "fault ENOSYS always"), (0, "fault ENOENT always")]),
     "EINTR": (UNLAWFUL, [(0, READY), (0, "fault EINTR always")]),
     "EIO": (UNLAWFUL, [(0, READY), (0, "fault EIO always")]),

@@ -78,6 +78,8 @@ class Report:
         print(f"{shlex.join(self.program.words)}: {len(base.requests)} requests, {base.served} bytes, {self.count} cases")
         if len(points) < len(base.requests):
             print("requests tried: " + ", ".join(map(str, points)))
+        for line in verdicts.not_held(base.one):
+            print(line)
         if not base.is_still:
             print("its clock goes on: with the clock held still it does not end, or fails")
         if not base.depends:
@@ -147,8 +149,9 @@ class Report:
         print(f"\n{finding.case.name}: {finding.word}\n    $ {self.shown_again(finding)}")
         for run in finding.runs:
             print(f"    seed {run.seed} wrote: {as_text(run.shown) or 'nothing'}")
-        if finding.runs[0].err:
-            print(f"    and on standard error: {verdicts.last_line(finding.runs[0])}")
+        said = verdicts.last_line(finding.runs[0])
+        if said:
+            print(f"    and on standard error: {said}")
 
     def end(self, is_whole):
         """The rows that are left, how to see each again, and the exit status."""

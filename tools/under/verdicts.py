@@ -53,8 +53,16 @@ class Base:
 
 # ---- How a run ended ---------------------------------------------------------------------------------------------
 
+STILL = "rng-under: --still"
+
+
+def not_held(run):
+    """What rng-under says that it cannot hold still."""
+    return [it[len("rng-under: "):] for it in run.err.splitlines() if it.startswith(STILL)]
+
+
 def last_line(run):
-    lines = [it.strip() for it in run.err.splitlines() if it.strip() and not it.startswith("rng-under: --still")]
+    lines = [it.strip() for it in run.err.splitlines() if it.strip() and not it.startswith(STILL)]
     return lines[-1][:160] if lines else ""
 
 
