@@ -64,7 +64,7 @@ def ways():
     """The ways to serve that this machine allows: a name, the words of rng-under, and the caller."""
     found = [("preloaded", [], CALLER)]
     status, _, err = under("--supervise", CALLER, "errnos")
-    if "takes no filter" in err or "lets nobody read and write" in err:
+    if any(it in err for it in ("takes no filter", "trace no other", "lets nobody read and write")):
         skip("supervised", err.strip())
         return found
     found.append(("supervised", ["--supervise"], CALLER))
@@ -251,8 +251,16 @@ def check_statuses(name, words):
         tell(f"{name}: status of {' '.join(its)[:20]}", "" if status == wanted else f"{status}")
 
 
+def is_there(number):
+    try:
+        with open(f"/proc/{number}/stat") as file:
+            return file.read().split(") ")[-1][0] != "Z"
+    except OSError:
+        return False
+
+
 def check_left_behind(name, words):
-    """What a program left is waited for, until a signal says not to: one is enough."""
+    """What a program left is waited for, until a signal says not to: one is enough. What was traced cannot go on then."""
     left = "sleep 1234.5 </dev/null >/dev/null 2>&1 & echo $!; exit 3"
     began = subprocess.Popen([UNDER, *words, "sh", "-c", left], stdout=subprocess.PIPE, stderr=subprocess.PIPE)
     number = int(began.stdout.readline())
@@ -264,8 +272,11 @@ def check_left_behind(name, words):
     except subprocess.TimeoutExpired:
         status = "no end"
         began.kill()
-    os.kill(number, signal.SIGKILL)
-    tell(f"{name}: one signal, and what was left is not waited for", "" if waits and status == 3 else f"{waits} {status}")
+    goes_on = is_there(number)
+    if goes_on:
+        os.kill(number, signal.SIGKILL)
+    is_well = waits and status == 3 and goes_on == (name == "preloaded")
+    tell(f"{name}: one signal, and what was left is not waited for", "" if is_well else f"{waits} {status} {goes_on}")
 
 
 def check_limits(name, words, caller):

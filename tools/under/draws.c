@@ -6,26 +6,24 @@
 #include <stddef.h>
 #include <stdio.h>
 #include <stdlib.h>
-#include <string.h>
 #include <sys/mman.h>
 #include <sys/random.h>
-#include <sys/socket.h>
 #include <sys/stat.h>
+#include <sys/syscall.h>
 #include <sys/sysmacros.h>
-#include <sys/un.h>
+#include <time.h>
 #include <unistd.h>
 
 _Static_assert(offsetof(struct draws, list) == 4096 && sizeof(struct request) == 32, "look_ahead.py reads it so");
+_Static_assert(offsetof(struct draws, alive) == 4096 - 192 && offsetof(struct draws, reply) == 4096 - 64, "and so");
 
-static char socket_path[sizeof(((struct sockaddr_un *)0)->sun_path)];
+enum { PATIENCE = 200000000 }; // nanoseconds between two looks at whether the front lives
 
 struct draws *draws_map(void) {
-    const char *folder = getenv("RNG_UNDER");
-    char path[sizeof socket_path];
-    if (!folder || snprintf(path, sizeof path, "%s/draws", folder) >= (int)sizeof path)
-        return NULL;
-    (void)snprintf(socket_path, sizeof socket_path, "%s/asked", folder);
-    int file = open(path, O_RDWR | O_CLOEXEC);
+    const char *path = getenv("RNG_UNDER");
+    int file = path ? open(path, O_RDWR | O_CLOEXEC) : -1;
+    if (!path)
+        errno = EINVAL;
     if (file < 0)
         return NULL;
     void *at = mmap(NULL, sizeof(struct draws), PROT_READ | PROT_WRITE, MAP_SHARED, file, 0);
@@ -37,10 +35,7 @@ struct draws *draws_map(void) {
 }
 
 void draws_fail(const char *why) {
-    char line[160];
-    int length = snprintf(line, sizeof line, "rng-under: %s\n", why);
-    if (length > 0 && write(STDERR_FILENO, line, (size_t)length) < 0)
-        _exit(STATUS_OWN);
+    (void)dprintf(STDERR_FILENO, "rng-under: %s\n", why);
     _exit(STATUS_OWN);
 }
 
@@ -50,16 +45,26 @@ int word_of_device(mode_t mode, dev_t device) {
     return minor(device) == 8 ? DREAD : minor(device) == 9 ? UREAD : -1;
 }
 
-// The front makes more draws, for a request of so many bytes. Returns once it has.
-static void ask_front(uint32_t length) {
-    struct sockaddr_un name = {.sun_family = AF_UNIX};
-    memcpy(name.sun_path, socket_path, sizeof name.sun_path);
-    int front = socket(AF_UNIX, SOCK_STREAM | SOCK_CLOEXEC, 0);
-    char done;
-    if (front < 0 || connect(front, (struct sockaddr *)&name, sizeof name) ||
-        send(front, &length, sizeof length, MSG_NOSIGNAL) != (ssize_t)sizeof length || recv(front, &done, 1, 0) != 1)
-        draws_fail("the front is gone, and nobody makes draws");
-    close(front);
+// Whether the front has ended, or been killed: then the kernel has given up its lock.
+static int is_gone(struct draws *draws) {
+    return draws->is_gone || pthread_mutex_trylock(&draws->alive) != EBUSY;
+}
+
+// The front makes more draws, for a request of so many bytes. Returns once it has. The front may still answer one that
+// was killed while it asked, so the answers are numbered.
+static void ask_front(struct draws *draws, uint32_t length) {
+    struct timespec until;
+    draws->wanted = length;
+    uint32_t number = __atomic_add_fetch(&draws->asked, 1, __ATOMIC_SEQ_CST);
+    sem_post(&draws->question);
+    while (__atomic_load_n(&draws->answered, __ATOMIC_SEQ_CST) != number) {
+        syscall(SYS_clock_gettime, CLOCK_REALTIME, &until); // the C library's may be held still
+        until.tv_nsec += PATIENCE;
+        until.tv_sec += until.tv_nsec / 1000000000;
+        until.tv_nsec %= 1000000000;
+        if (sem_timedwait(&draws->reply, &until) && errno == ETIMEDOUT && is_gone(draws))
+            draws_fail("the front is gone, and nobody makes draws");
+    }
 }
 
 // How a request that may not be served is answered: 0, or an errno.
@@ -74,8 +79,9 @@ static int refusal(const struct draws *draws, const struct request *wish) {
 
 static int is_known(const struct draws *draws, uint32_t length) {
     if (length <= SHORT)
-        return draws->at < draws->short_count;
-    return draws->at < draws->long_count && length <= draws->long_width;
+        return draws->at < draws->short_count && draws->at < PLACES;
+    return draws->at < draws->long_count && length <= draws->long_width &&
+           (draws->at + 1ULL) * draws->long_width <= LONGS;
 }
 
 // Whether this fault answers now. One that is not kept answers once.
@@ -100,7 +106,7 @@ static long note(struct draws *draws, struct request wish, const unsigned char *
 static long take_locked(struct draws *draws, struct request wish, const unsigned char **data) {
     uint32_t whole = wish.asked > MOST ? MOST : (uint32_t)wish.asked;
     for (;;) {
-        uint32_t fault = draws->served < draws->limit ? take_fault(&draws->fault, wish.word) : 0;
+        uint32_t fault = draws->served < draws->limit && draws->served < PLACES ? take_fault(&draws->fault, wish.word) : 0;
         if (fault) {
             wish.length = 0;
             wish.word |= FAULTED;
@@ -109,7 +115,7 @@ static long take_locked(struct draws *draws, struct request wish, const unsigned
         }
         int is_cut = draws->cut && whole > draws->cut;
         wish.length = is_cut ? draws->cut : whole;
-        if (draws->served < draws->limit && wish.length <= draws->room_left) {
+        if (draws->served < draws->limit && draws->served < PLACES && wish.length <= draws->room_left) {
             wish.error = refusal(draws, &wish);
             if (wish.error || !wish.length || is_known(draws, wish.length)) {
                 if (is_cut && !wish.error && !draws->is_cut_kept)
@@ -117,7 +123,7 @@ static long take_locked(struct draws *draws, struct request wish, const unsigned
                 return note(draws, wish, data);
             }
         }
-        ask_front(wish.length);
+        ask_front(draws, wish.length);
         if (draws->is_full)
             return OVER;
     }
@@ -128,7 +134,7 @@ static void take_lock(struct draws *draws) {
         // One who was killed while it held the lock may have taken a draw that no request in the list has, and the front
         // may still be at work for it. The front's answer comes behind that, and sets right what was taken.
         pthread_mutex_consistent(&draws->lock);
-        ask_front(0);
+        ask_front(draws, 0);
     }
 }
 
@@ -141,7 +147,7 @@ long draws_take(struct draws *draws, struct request wish, const unsigned char **
 int draws_open(struct draws *draws) {
     take_lock(draws);
     if (draws->served >= draws->limit && !draws->is_full)
-        ask_front(0);
+        ask_front(draws, 0);
     uint32_t kind = take_fault(&draws->opens, 0);
     draws_release(draws);
     return (int)kind;

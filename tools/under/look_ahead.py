@@ -11,6 +11,7 @@ import ctypes
 import errno
 import mmap
 import os
+import secrets
 import struct
 import subprocess
 
@@ -26,11 +27,12 @@ FIRST_WINDOW, GROWTH, LEAST_WIDTH = 64, 4, 128
 # The file that draws.h describes.
 SHORT, LONGS = 32, 4 << 20
 NAMES = ("served", "limit", "is_ready", "is_full", "at", "short_count", "long_count", "long_width", "cut", "room_left",
-         "is_loaded")
+         "is_loaded", "wanted", "asked", "answered", "is_gone", "left_root")
 HEAD = {name: 64 + 4 * place for place, name in enumerate(NAMES)}
 REQUEST = struct.Struct("<QIIIIIi")
 LIST_AT = 4096
-CUT_KEPT_AT, OPENS_WATCHED_AT, FAULT_AT, OPENS_AT = (LIST_AT - it for it in (32, 28, 24, 12))
+ALIVE_AT, QUESTION_AT, REPLY_AT = LIST_AT - 192, LIST_AT - 128, LIST_AT - 64
+CUT_KEPT_AT, OPENS_WATCHED_AT, FAULT_AT, OPENS_AT = (ALIVE_AT - it for it in (32, 28, 24, 12))
 FAULT = struct.Struct("<III")  # kind, words, is_kept
 FAULTED, AT_END = 0x100, 0x10000
 SHORTS_AT = LIST_AT + EVENTS * REQUEST.size
@@ -77,7 +79,7 @@ class Prologue:
 
     def __init__(self, path, seed):
         self.path, self.cpus, self.due = path, 1, 0
-        self.parts = [(0, [f"write {seed.encode().hex()}"] if seed else [])]
+        self.parts = [(0, [f"write {os.fsencode(seed).hex()}"] if seed else [])]
         self.places = [0] if seed else []  # of each event, its line
         with open(path, encoding="ascii", errors="replace") as file:
             lines = file.read().split("\n")
@@ -178,22 +180,41 @@ class Draws:
         self.window, self.count, self.taken = FIRST_WINDOW, 0, 0
         self.widest, self.widest_before = 0, 0
         self.why = ""  # no more is served
-        path = os.path.join(folder, "draws")
-        with open(path, "x+b") as file:
-            os.truncate(path, SIZE)
+        self.path = os.path.join(folder, "draws-" + secrets.token_hex(16))
+        with open(self.path, "x+b") as file:
+            try:
+                os.posix_fallocate(file.fileno(), 0, SIZE)
+            except OSError as fault:
+                raise Failed(f"{folder}: {(SIZE >> 20) + 1} MiB are needed there: {fault.strerror}; TMPDIR can name another "
+                             "folder") from None
             self.map = mmap.mmap(file.fileno(), SIZE)
         struct.pack_into("<I", self.map, OPENS_WATCHED_AT, prologue.watches_opens())
-        self.make_lock()
+        self.make_locks()
 
-    def make_lock(self):
-        """A mutex that processes share, and that outlives one who is killed."""
-        threads = ctypes.CDLL(None)
+    def make_locks(self):
+        """Mutexes that processes share, and that outlive one who is killed; and what the front waits for."""
+        self.threads = ctypes.CDLL(None)
         kind = ctypes.create_string_buffer(64)
-        lock = (ctypes.c_char * 64).from_buffer(self.map)
-        threads.pthread_mutexattr_init(kind)
-        if (threads.pthread_mutexattr_setpshared(kind, 1) or threads.pthread_mutexattr_setrobust(kind, 1)
-                or threads.pthread_mutex_init(lock, kind)):
-            raise Failed("the lock cannot be made")
+        lock, alive, self.question, self.reply = [
+            (ctypes.c_char * 64).from_buffer(self.map, at) for at in (0, ALIVE_AT, QUESTION_AT, REPLY_AT)]
+        self.threads.pthread_mutexattr_init(kind)
+        if (self.threads.pthread_mutexattr_setpshared(kind, 1) or self.threads.pthread_mutexattr_setrobust(kind, 1)
+                or self.threads.pthread_mutex_init(lock, kind) or self.threads.pthread_mutex_init(alive, kind)
+                or self.threads.pthread_mutex_lock(alive) or self.threads.sem_init(self.question, 1, 0)
+                or self.threads.sem_init(self.reply, 1, 0)):
+            raise Failed("the locks cannot be made")
+
+    def next_question(self):
+        """Waits until somebody asks for draws, and returns the question's number and its length."""
+        while True:
+            number = self.get("asked")
+            if number != self.get("answered"):
+                return number, self.get("wanted")
+            self.threads.sem_wait(self.question)
+
+    def reply_to(self, number):
+        self.put(answered=number)
+        self.threads.sem_post(self.reply)
 
     def get(self, name):
         return struct.unpack_from("<I", self.map, HEAD[name])[0]
@@ -209,10 +230,16 @@ class Draws:
         return self.map[place:place + length]
 
     def gather(self):
-        """Takes the requests that were served since the last time into the script."""
-        for place in range(len(self.requests), self.get("served")):
+        """Takes the requests that were served since the last time into the script. All programs under it can write
+        that memory."""
+        served = self.get("served")
+        if not len(self.requests) <= served <= EVENTS:
+            raise Failed(f"the memory that is shared with the program was damaged: it counts {served} requests")
+        for place in range(len(self.requests), served):
             fields = REQUEST.unpack_from(self.map, LIST_AT + place * REQUEST.size)
             _, length, flags, _, _, word, fault = fields
+            if word & ~FAULTED >= len(WORDS) or length > LONGEST or self.taken >= EVENTS or fault and fault not in SPELT:
+                raise Failed(f"the memory that is shared with the program was damaged: request {place} is none")
             got = b""
             if word & FAULTED:
                 self.requests.append((None, fields, got))

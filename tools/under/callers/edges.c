@@ -1,0 +1,139 @@
+// Draws where it is hard to be served: while signals come, without rights, root folder or descriptors, and with the
+// memory damaged that is shared with the front. For the checks.
+#define _GNU_SOURCE
+#include <errno.h>
+#include <fcntl.h>
+#include <grp.h>
+#include <signal.h>
+#include <stdint.h>
+#include <stdio.h>
+#include <stdlib.h>
+#include <string.h>
+#include <sys/epoll.h>
+#include <sys/mman.h>
+#include <sys/random.h>
+#include <sys/time.h>
+#include <sys/wait.h>
+#include <time.h>
+#include <unistd.h>
+
+enum { NOBODY = 65534, SHARED = 4096, SERVED_AT = 64, LIST_AT = 4096, WORD_AT = 24 };
+
+static volatile sig_atomic_t signals;
+static void count_signal(int number) {
+    (void)number;
+    signals++;
+}
+
+static double now(void) {
+    struct timespec time;
+    clock_gettime(CLOCK_MONOTONIC, &time);
+    return (double)time.tv_sec * 1e6 + (double)time.tv_nsec / 1e3;
+}
+
+static long read_in_one_way(int way, int file, int device) {
+    unsigned char bytes[16];
+    if (way == 0)
+        return pread(file, bytes, sizeof bytes, 0);
+    return way == 1 ? read(device, bytes, sizeof bytes) : getrandom(bytes, sizeof bytes, 0);
+}
+
+// How often a call that nothing can interrupt was interrupted, by a signal whose handler restarts nothing; and the
+// microseconds of each.
+static void interrupted(const char *own, long count) {
+    static const char *const ways[] = {"file", "device", "getrandom"};
+    int file = open(own, O_RDONLY), device = open("/dev/urandom", O_RDONLY);
+    sigaction(SIGALRM, &(struct sigaction){.sa_handler = count_signal}, NULL);
+    setitimer(ITIMER_REAL, &(struct itimerval){{0, 100}, {0, 100}}, NULL);
+    for (int way = 0; way < 3; way++) {
+        long failed = 0;
+        double begin = now();
+        for (long at = 0; at < count; at++)
+            failed += read_in_one_way(way, file, device) != 16;
+        (void)fprintf(stderr, "%s %.1f us\n", ways[way], (now() - begin) / (double)count);
+        printf("%s %ld of %ld failed\n", ways[way], failed, count);
+    }
+    setitimer(ITIMER_REAL, &(struct itimerval){0}, NULL);
+    printf("signals %s\n", signals ? "came" : "did not come");
+}
+
+static void end_soon(void (*at_end)(int), int over) {
+    if (fork())
+        return;
+    usleep(100000);
+    if (at_end)
+        at_end(over);
+    _exit(0);
+}
+
+static void write_one(int over) {
+    if (write(over, "1", 1) != 1)
+        _exit(1);
+}
+
+// A child's end is a signal that this program ignores, so it does not see it while it waits.
+static void wait_on(void) {
+    struct epoll_event event = {.events = EPOLLIN};
+    int ends[2], group = epoll_create1(0);
+    if (pipe(ends) || epoll_ctl(group, EPOLL_CTL_ADD, ends[0], &event))
+        exit(1);
+    end_soon(NULL, 0);
+    end_soon(NULL, 0);
+    usleep(50000);
+    end_soon(write_one, ends[1]);
+    int got = epoll_wait(group, &event, 1, -1);
+    printf("epoll_wait %s\n", got < 0 ? strerrorname_np(errno) : "waited on");
+    while (wait(NULL) > 0)
+        continue;
+}
+
+static void draw_many(const char *when) {
+    unsigned char bytes[40];
+    unsigned sum = 0;
+    for (int at = 0; at < 300; at++) {
+        if (getrandom(bytes, at % 2 ? 40 : 16, 0) != (at % 2 ? 40 : 16))
+            exit(1);
+        sum = sum * 31 + bytes[0];
+    }
+    printf("%s %u\n", when, sum);
+}
+
+// As a daemon does. The checks let the front be asked again after each step.
+static void daemonize(void) {
+    draw_many("begun");
+    close_range(3, ~0U, 0);
+    draw_many("without descriptors");
+    if (geteuid() == 0 && (chroot("/proc/self/fdinfo") || chdir("/")))
+        exit(1);
+    draw_many("without its root folder");
+    if (geteuid() == 0 && (setgroups(0, NULL) || setgid(NOBODY) || setuid(NOBODY)))
+        exit(1);
+    draw_many("without rights");
+}
+
+static void damage(const char *what) {
+    unsigned char bytes[16];
+    const char *path = getenv("RNG_UNDER");
+    int file = path ? open(path, O_RDWR) : -1;
+    unsigned char *at = mmap(NULL, (size_t)2 * SHARED, PROT_READ | PROT_WRITE, MAP_SHARED, file, 0);
+    if (at == MAP_FAILED || getrandom(bytes, sizeof bytes, 0) != sizeof bytes)
+        exit(1);
+    memset(at + (!strcmp(what, "count") ? SERVED_AT : LIST_AT + WORD_AT), 0x7f, sizeof(uint32_t));
+    if (!strcmp(what, "count"))
+        exit(getrandom(bytes, sizeof bytes, 0) != sizeof bytes);
+}
+
+int main(int count, char **words) {
+    const char *way = count > 1 ? words[1] : "";
+    if (!strcmp(way, "interrupted") && count == 3)
+        interrupted(words[0], atol(words[2]));
+    else if (!strcmp(way, "damage") && count == 3)
+        damage(words[2]);
+    else if (!strcmp(way, "wait"))
+        wait_on();
+    else if (!strcmp(way, "daemon"))
+        daemonize();
+    else
+        return 2;
+    return 0;
+}

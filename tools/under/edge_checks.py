@@ -1,0 +1,230 @@
+"""Checks of rng-under at its edges: signals, daemons, kills, wrong words, a damaged memory. Prints a line for each, and
+ends non-zero where one fails. What this machine does not allow is skipped, and said."""
+
+import os
+import shutil
+import signal
+import subprocess
+import sys
+import time
+
+import checks
+from checks import CALLER, HERE, ROOM, UNDER, is_there, problem_of_record, prologue, run, skip, tell, under
+
+EDGES = os.path.join(ROOM, "edges")
+LEFT = "setsid sleep 1234.5 </dev/null >/dev/null 2>&1 & echo $!; exec sleep 1234.5"
+
+
+def wait_until(is_so, seconds=20):
+    end = time.monotonic() + seconds
+    while not is_so() and time.monotonic() < end:
+        time.sleep(0.02)
+    return is_so()
+
+
+def folder(name):
+    path = os.path.join(ROOM, name)
+    os.makedirs(path, exist_ok=True)
+    return path
+
+
+# ---- Supervised: no signal ends a call that goes on without a supervisor --------------------------------------------
+
+def check_signals():
+    wanted = "".join(f"{way} 0 of 20000 failed\n" for way in ("file", "device", "getrandom")) + "signals came\n"
+    status, out, err = under("--supervise", EDGES, "interrupted", "20000")
+    tell(f"supervised: 60,000 calls while signals come, {', '.join(err.split(chr(10))[:3])}",
+         "" if (status, out) == (0, wanted) else out + err)
+    ran = under("--supervise", EDGES, "wait")
+    tell("supervised: a signal that is ignored ends no wait", "" if ran[1] == "epoll_wait waited on\n" else str(ran))
+
+
+# ---- Daemons --------------------------------------------------------------------------------------------------------
+
+def check_daemons(name, words):
+    """The front is asked behind each step, since the prologue has something due every hundred requests."""
+    path = os.path.join(ROOM, "record")
+    steps = prologue("add 616263 256", *["wait 100", "reseed"] * 11)
+    ran = under(*words, "--prologue", steps, "--record", path, EDGES, "daemon")
+    problem = problem_of_record(path) if ran[0] == 0 and ran[1].count("\n") == 4 else str(ran)
+    tell(f"{name}: a daemon without descriptors, root folder and rights", problem)
+    if os.geteuid() or not shutil.which("setpriv"):
+        return skip(f"{name}: a program that is started without rights", "this user cannot give them up")
+    nobody = ["setpriv", "--reuid", "65534", "--clear-groups"]
+    ran = under(*words, "--record", path, *nobody, "head", "-c", "16", "/dev/urandom")
+    with open(path) as file:
+        is_served = "\nuread 16\n" in file.read()
+    tell(f"{name}: a program that is started without rights", "" if ran[0] == 0 and is_served else str(ran))
+    return None
+
+
+def check_left_root():
+    if os.geteuid() or not os.path.exists(checks.STATIC):
+        return skip("preloaded: a program that is started in another root folder", "that takes root")
+    there = folder("there")
+    shutil.copy(checks.STATIC, there)
+    status, _, err = under("chroot", there, "/caller_static", "forks")
+    is_told = status == 0 and "changed its root folder" in err and "--supervise" in err
+    tell("preloaded: a program in another root folder is told", "" if is_told else f"{status} {err}")
+    path = os.path.join(ROOM, "record")
+    ran = under("--supervise", "--record", path, "chroot", there, "/caller_static", "forks")
+    tell("supervised: a program in another root folder", problem_of_record(path) if ran[0] == 0 else str(ran))
+    return None
+
+
+# ---- Ends -----------------------------------------------------------------------------------------------------------
+
+def check_kill(name, words):
+    """Killed, it takes with it what it started; the next run takes its folder."""
+    above = folder(f"killed{name}")
+    where = dict(os.environ, TMPDIR=above)
+    began = subprocess.Popen([UNDER, *words, "sh", "-c", LEFT], stdout=subprocess.PIPE, env=where)
+    left = int(began.stdout.readline())
+    with open(f"/proc/{left}/stat") as file:
+        first = int(file.read().split(") ")[-1].split()[1])
+    began.kill()
+    began.wait()
+    is_ended = wait_until(lambda: not is_there(left) and not is_there(first))
+    tell(f"{name}: killed, it leaves no process", "" if is_ended else f"{left} or {first} goes on")
+    for one in (left, first):
+        if is_there(one):
+            os.kill(one, signal.SIGKILL)
+    before = os.listdir(above)
+    status, _, err = under("true", env=where)
+    after = os.listdir(above)
+    tell(f"{name}: the next run clears its folder", "" if status == 0 and before and not after else f"{after} {err}")
+
+
+def check_others_folder():
+    """The folder of a run that goes on is left alone, and so is one that only has such a name."""
+    above = folder("others")
+    where = dict(os.environ, TMPDIR=above)
+    began = subprocess.Popen([UNDER, "sh", "-c", "echo; read _; exec head -c 16 /dev/urandom"], stdin=subprocess.PIPE,
+                             stdout=subprocess.PIPE, env=where)
+    began.stdout.readline()
+    os.makedirs(os.path.join(above, "rng-under-new"))
+    ran = under("true", env=where)
+    out, _ = began.communicate(b"\n")
+    is_well = ran[0] == began.returncode == 0 and len(out) == 16 and os.listdir(above) == ["rng-under-new"]
+    tell("a run leaves the folder of another one alone", "" if is_well else f"{ran} {len(out)} {os.listdir(above)}")
+
+
+def check_orphans(name, words):
+    code = ("for it in 1 2 3 4 5 6 7 8; do (true &); done; tries=0\n"
+            "while sleep 0.2; [ $tries -lt 20 ]; do tries=$((tries + 1))\n"
+            "left=$(cat /proc/[0-9]*/stat 2>/dev/null | awk -v mine=$PPID '$4 == mine && $3 == \"Z\"' | wc -l)\n"
+            "[ $left -ne 0 ] || break; done; echo $left")
+    status, out, err = under(*words, "sh", "-c", code)
+    tell(f"{name}: orphans are waited for as they end", "" if (status, out) == (0, "0\n") else f"{status} {out} {err}")
+
+
+# ---- What cannot be done is told, before the program starts -----------------------------------------------------------
+
+def refused(name, words, said, **more):
+    """The command ends with status 125 and a line that has these words, and the program is not started."""
+    mark = os.path.join(ROOM, "started")
+    status, out, err = under(*words, "touch", mark, **more)
+    is_well = status == 125 and not out and all(it in err for it in said) and "Traceback" not in err
+    tell(f"refused: {name}", "" if is_well and not os.path.exists(mark) else f"status {status}, {err}")
+    if os.path.exists(mark):
+        os.unlink(mark)
+
+
+def check_refusals():
+    refused("an unknown option", ["--nonsense"], ["--nonsense", "usage: "])
+    refused("no number", ["--most", "many"], ["--most"])
+    refused("no request at all", ["--most", "0"], ["--most"])
+    refused("an unknown prologue", ["--prologue", "nonesuch"], ["no prologue nonesuch", "early, empty, late, ready"])
+    refused("a prologue that is a folder", ["--prologue", ROOM], [ROOM])
+    refused("a record in no folder", ["--record", "/nowhere/record"], ["/nowhere/record: No such file"])
+    refused("a list in no folder", ["--asked", "/nowhere/asked"], ["/nowhere/asked: No such file"])
+    refused("a file is too large for this user", [], ["MiB are needed", "TMPDIR"], preexec_fn=limit_files)
+    status, _, err = run([UNDER])
+    tell("refused: no program", "" if status == 125 and "usage: " in err else f"{status} {err}")
+    path = os.path.join(ROOM, "made")
+    under("--prologue", "empty", "--most", "5", "--record", path, CALLER, "retry")
+    is_kept = os.path.exists(path) and os.path.getsize(path) > 0
+    os.unlink(path)
+    under("--record", path, "--asked", "/nowhere/asked", "true")
+    tell("a file that got no record is not left", "" if is_kept and not os.path.exists(path) else "it is there")
+
+
+def limit_files():
+    import resource
+    resource.setrlimit(resource.RLIMIT_FSIZE, (1 << 20, 1 << 20))
+
+
+def check_full_folder():
+    """A temporary folder without room: nothing is started, and no signal ends the command."""
+    room = folder("full")
+    code = f"mount -t tmpfs -o size=2m none {room} || exit 77; TMPDIR={room} exec '{UNDER}' echo started"
+    ran = run(["unshare", "-m", "sh", "-c", code]) if shutil.which("unshare") and not os.geteuid() else (77, "", "")
+    if ran[0] in (1, 77):
+        return skip("a temporary folder without room", "no file system can be mounted")
+    is_well = ran[:2] == (125, "") and "MiB are needed" in ran[2]
+    return tell("a temporary folder without room", "" if is_well else str(ran))
+
+
+def check_seeds_and_folders():
+    path = os.path.join(ROOM, "record")
+    ran = under("--seed", b"\xff\x01 \n", "--record", path, CALLER, "forks")
+    tell("a seed of any bytes", problem_of_record(path) if ran[0] == 0 else str(ran))
+    long = folder(os.path.join(*["n" * 100] * 8))
+    ran = under("--record", path, CALLER, "forks", env=dict(os.environ, TMPDIR=long))
+    tell("a temporary folder with a long name", problem_of_record(path) if ran[0] == 0 else str(ran))
+    ran = under(CALLER, "forks", env=dict(os.environ, TMPDIR="/nowhere"))
+    tell("a temporary folder that is not there", "" if "Traceback" not in ran[2] and ran[0] in (0, 125) else str(ran))
+    for name, words in (("preloaded", []), ("supervised", ["--supervise"])):
+        status, _, err = under(*words, "true")
+        is_told = status == 0 and "nothing was asked for" in err
+        tell(f"{name}: a run in which nothing was asked says so", "" if is_told else f"{status} {err}")
+    for what in ("count", "word"):
+        status, _, err = under(EDGES, "damage", what)
+        is_well = status == 125 and "was damaged" in err and "Traceback" not in err
+        tell(f"a damaged memory is told: {what}", "" if is_well else f"{status} {err}")
+
+
+def check_modes():
+    """Whatever the umask and whatever was there, nobody else can write what is loaded into programs."""
+    tools = os.path.join(folder("modes"), "tools/under")
+    shutil.copytree(HERE, tools, ignore=shutil.ignore_patterns("out", "__pycache__"))
+    out, own = os.path.join(tools, "out"), os.path.join(tools, "rng-under")
+    problem = ""
+    for step in ("compiled by a user with an open umask", "found open to others"):
+        ran = run(["sh", "-c", 'umask 0; exec "$@"', "sh", own, CALLER, "retry"], env=dict(os.environ, RNG=checks.RNG))
+        modes = {name: os.stat(os.path.join(out, name)).st_mode & 0o777 for name in [".", *os.listdir(out)]}
+        if ran[0] or "shim.so" not in modes or any(mode & 0o022 for mode in modes.values()):
+            problem = problem or f"{step}: {ran} {modes}"
+        for name in modes:
+            os.chmod(os.path.join(out, name), 0o777)
+    tell("no other user can write what is compiled", problem)
+
+
+def main():
+    for name, source in (("edges", "callers/edges.c"), ("caller", "callers/caller.c")):
+        status, out, err = checks.compile_one(name, source)
+        tell(f"{source} compiles without a warning", out + err if status else "")
+    if checks.FAILED:
+        return 1
+    ways = [(name, words) for name, words, _ in checks.ways()]
+    if len(ways) > 1:
+        check_signals()
+    for name, words in ways[:2]:
+        check_daemons(name, words)
+        check_kill(name, words)
+        check_orphans(name, words)
+    check_left_root()
+    check_others_folder()
+    check_refusals()
+    check_full_folder()
+    check_seeds_and_folders()
+    check_modes()
+    print(f"edges of programs on the core: {len(checks.FAILED)} failed")
+    return 1 if checks.FAILED else 0
+
+
+if __name__ == "__main__":
+    try:
+        sys.exit(main())
+    finally:
+        shutil.rmtree(ROOM, ignore_errors=True)
