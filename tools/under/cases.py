@@ -11,7 +11,7 @@ EARLY = "add 000102030405060708090a0b0c0d0e0f 128"
 READY = "add 000102030405060708090a0b0c0d0e0f101112131415161718191a1b1c1d1e1f 256"
 VMFORK = "vmfork 1 00112233445566778899aabbccddeeff"
 PAGE = 4096
-LAWFUL, UNLAWFUL = "lawful", "unlawful"
+LAWFUL, COMBINED, UNLAWFUL = GROUPS = "lawful", "combined", "unlawful"
 
 # Of each case without a number: its group, and its lines, each with the number of requests after which it is due.
 WHOLE = {
@@ -20,7 +20,7 @@ WHOLE = {
     "no-device": (LAWFUL, [(0, READY), (0, "fault ENOENT always")]),
     "EPERM": (LAWFUL, [(0, READY), (0, "fault EPERM always")]),
     "ENOSYS": (LAWFUL, [(0, READY), (0, "fault ENOSYS always")]),
-    "ENOSYS-early": (LAWFUL, [(0, EARLY), (0, "fault ENOSYS always")]),
+    "ENOSYS-early": (COMBINED, [(0, EARLY), (0, "fault ENOSYS always")]),
     "nothing": (LAWFUL, [(0, READY), (0, "fault ENOSYS always"), (0, "fault ENOENT always")]),
     "EINTR": (UNLAWFUL, [(0, READY), (0, "fault EINTR always")]),
     "EIO": (UNLAWFUL, [(0, READY), (0, "fault EIO always")]),
@@ -133,4 +133,4 @@ def cases_of(requests, only, most):
     names += [it for it in only if it not in names and named(it)]
     order = [*WHOLE, *(f"{name}:" for name in AT_REQUEST)]
     found = [it for it in map(named, names) if is_chosen(it, only)]
-    return sorted(found, key=lambda it: (it.group, order.index(it.name.rstrip("0123456789")), it.point)), points
+    return sorted(found, key=lambda it: (GROUPS.index(it.group), order.index(it.name.rstrip("0123456789")), it.point)), points

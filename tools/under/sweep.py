@@ -4,18 +4,18 @@ docs/CALLERS.md says what the cases and the verdicts are; man/rng-under.1 is the
 """
 
 import collections
+import contextlib
 import json
 import os
 import shlex
 import shutil
 import signal
 import sys
-import tempfile
 import time
 
 import cases
 import verdicts
-from sweep_runs import Lanes, Program, be_reaper
+from sweep_runs import Lanes, Program, be_reaper, some
 
 WELL_DONE, IS_BAD, OWN, INTERRUPTED = 0, 1, 125, 130
 POINTS = 24
@@ -30,7 +30,7 @@ def add_arguments(parser):
                            "{dir} in ARGS is a new folder at each run, whose files count as output")
     more.add_argument("--only", metavar="CASES",
                       help="with --sweep: these cases, by commas: names as EPERM or late:2, patterns as 'late:*', or "
-                           "lawful (where nothing is named), unlawful, all")
+                           "lawful (where nothing is named), combined, unlawful, all")
     more.add_argument("--jobs", metavar="N", type=int, help="with --sweep: so many runs side by side")
     more.add_argument("--seconds", metavar="N", type=float, help="with --sweep: a run that takes longer hangs; 30")
     more.add_argument("--input", metavar="FILE", help="with --sweep: the standard input of each run; none")
@@ -75,7 +75,8 @@ class Report:
     def begin(self, base, chosen, points):
         self.order = [it.name for it in chosen]
         self.count = len(chosen)
-        print(f"{shlex.join(self.program.words)}: {len(base.requests)} requests, {base.served} bytes, {self.count} cases")
+        print(f"{shlex.join(self.program.words)}: {some(len(base.requests), 'request')}, {some(base.served, 'byte')}, "
+              f"{some(self.count, 'case')}")
         if len(points) < len(base.requests):
             print("requests tried: " + ", ".join(map(str, points)))
         for line in verdicts.not_held(base.one):
@@ -127,10 +128,10 @@ class Report:
         words = [self.command, *self.program.options(finding.case.name, run.seed, run.is_still)]
         if run.requests and len(run.requests) >= run.most:
             words += ["--most", str(run.most)]
-        folder = "\"$(mktemp -d)\""
-        return " ".join([*map(shlex.quote, words), *[
-            folder.join(shlex.quote(piece) if piece else "" for piece in word.split("{dir}")) if "{dir}" in word
-            else shlex.quote(word) for word in self.program.words]])
+        has_folder = any("{dir}" in word for word in self.program.words)
+        program = ['"$d"'.join(shlex.quote(piece) if piece else "" for piece in word.split("{dir}")) if "{dir}" in word
+                   else shlex.quote(word) for word in self.program.words]
+        return ("d=$(mktemp -d); " if has_folder else "") + " ".join([*map(shlex.quote, words), *program])
 
     def fields(self, finding):
         number, what = finding.request()
@@ -165,7 +166,7 @@ class Report:
                 self.details(finding)
         counts = collections.Counter(it.word for it in found)
         sums = ", ".join(f"{word} {counts[word]}" for word in (*verdicts.ORDER, verdicts.FAILED) if counts[word])
-        whole = f"{len(found)} cases" if is_whole else f"interrupted, after {len(found)} of {self.count} cases"
+        whole = some(len(found), "case") if is_whole else f"interrupted, after {len(found)} of {self.count} cases"
         print(f"\n{whole}: {sums or 'nothing'}", flush=True)
         self.save({"end": is_whole, "cases": len(found), "verdicts": dict(counts)})
         if not is_whole:
@@ -207,7 +208,7 @@ def swept(given, program, lanes, report):
 
 def sweep_in(room, given, command, json_file):
     program = Program(given, command, room)
-    lanes = Lanes(given.jobs or os.cpu_count() or 1)
+    lanes = Lanes(given.jobs or len(os.sched_getaffinity(0)))
     report = Report(program, command, json_file)
     try:
         return swept(given, program, lanes, report)
@@ -218,19 +219,15 @@ def sweep_in(room, given, command, json_file):
         lanes.stop()
 
 
-def main(given, command):
-    """Returns the exit status. OSError where a file or folder cannot be made."""
+def main(given, command, room):
+    """Sweeps in a folder that is there, and returns the exit status. OSError where a file cannot be made."""
     given.seconds = given.seconds or 30
     for number in (signal.SIGINT, signal.SIGTERM, signal.SIGHUP):
         signal.signal(number, stop)
     be_reaper()
-    json_file = open(given.json, "w", encoding="utf-8") if given.json else None
-    room = tempfile.mkdtemp(prefix="rng-sweep-")
     try:
-        return sweep_in(room, given, command, json_file)
+        with contextlib.ExitStack() as files:
+            json_file = files.enter_context(open(given.json, "w", encoding="utf-8")) if given.json else None
+            return sweep_in(room, given, command, json_file)
     except Stopped:
         return INTERRUPTED
-    finally:
-        shutil.rmtree(room, ignore_errors=True)
-        if json_file:
-            json_file.close()

@@ -180,6 +180,20 @@ def check_interrupt():
         tell(f"sweep: ended by {number.name}", problem)
 
 
+def check_killed_sweep():
+    """A sweep that is killed leaves no process, and its folder only until the next run."""
+    began = start_sweep("--seconds", "60", "--only", "late:1", caller("hangs"))
+    time.sleep(3)
+    began.kill()
+    began.communicate(timeout=30)
+    until = time.monotonic() + 20
+    while any(it.startswith("process") for it in left_behind()) and time.monotonic() < until:
+        time.sleep(0.1)
+    left = [it for it in left_behind() if it.startswith("process")]
+    under("true", env=dict(os.environ, TMPDIR=TEMPORARY))
+    tell("sweep: is killed", str(left or left_behind() or ""))
+
+
 def runs_of(process):
     """The rng-under that a sweep has started."""
     with open(f"/proc/{process}/task/{process}/children", encoding="ascii") as file:
@@ -290,6 +304,7 @@ def main():
     check_fault_words()
     check_interrupt()
     check_killed_run()
+    check_killed_sweep()
     tell("sweep: nothing is left behind", str(left_behind() or ""))
     print(f"sweeps: {len(FAILED)} failed")
     return 1 if FAILED else 0

@@ -20,6 +20,10 @@ FLAGS = ((1, "GRND_NONBLOCK"), (2, "GRND_RANDOM"), (4, "GRND_INSECURE"))
 DEVICES = {"dread": "/dev/random", "uread": "/dev/urandom"}
 
 
+def some(count, word):
+    return f"{count} {word}" + ("" if count == 1 else "s")
+
+
 class Request:
     """A line of --asked, and whether its bytes are those of a core that was not ready."""
 
@@ -50,8 +54,8 @@ class Request:
             call = f"read of {DEVICES[self.word]}" + (", O_NONBLOCK" if self.flags else "")
         else:
             call = "|".join(["getrandom", *[name for bit, name in FLAGS if self.flags & bit]]).replace("|", ", ", 1)
-        got = f"{self.served} bytes" if self.answer.isdecimal() else self.answer
-        return f"{call}, {self.asked} bytes: {got}" + (" of a core that is not ready" if self.is_unready else "")
+        got = some(self.served, "byte") if self.answer.isdecimal() else self.answer
+        return f"{call}, {some(self.asked, 'byte')}: {got}" + (" of an unready core" if self.is_unready else "")
 
 
 class Program:
@@ -136,7 +140,8 @@ class Run:
                 out += b"%s:\n%s" % (path.encode(errors="replace"), self.read(path))
         self.shown, self.digest, self.is_silent = out[:SHOWN], hashlib.sha256(out).digest(), not out.strip()
         unready = {fields[0] for fields in self.transcript() if fields[3].startswith("~0") and fields[2] == "ok"}
-        self.requests = [Request(line, unready) for line in self.read("asked").decode().splitlines()]
+        asked = [it for it in self.read("asked").decode(errors="replace").splitlines() if len(it.split()) == 6]
+        self.requests = [Request(line, unready) for line in asked]
         self.served = sum(it.served for it in self.requests)
         self.unready = sum(it.served for it in self.requests if it.is_unready)
         shutil.rmtree(self.folder, ignore_errors=True)
@@ -154,8 +159,8 @@ class Run:
 # ---- Side by side ------------------------------------------------------------------------------------------------
 
 def end_with_parent():
-    """In a new process: it is ended where the sweep is."""
-    ctypes.CDLL(None).prctl(PR_SET_PDEATHSIG, signal.SIGTERM, 0, 0, 0)
+    """In a new process: it is killed if the sweep is, and its supervisor ends what it ran."""
+    ctypes.CDLL(None).prctl(PR_SET_PDEATHSIG, signal.SIGKILL, 0, 0, 0)
 
 
 def be_reaper():

@@ -8,6 +8,7 @@ other, in a way that a kernel can: the request is served on another CPU, and ano
 import signal
 
 import cases
+from sweep_runs import some
 
 WELL, REFUSES, LESS, ASKS_ON, HANGS, CRASH, WITHOUT, UNREADY, FIXED = ORDER = (
     "WELL", "REFUSES", "LESS", "ASKS-ON", "HANGS", "CRASH", "WITHOUT", "UNREADY", "FIXED")
@@ -62,7 +63,7 @@ def not_held(run):
 
 
 def last_line(run):
-    lines = [it.strip() for it in run.err.splitlines() if it.strip() and not it.startswith(STILL)]
+    lines = [it.strip() for it in run.err.splitlines() if it.strip() and not it.startswith("rng-under: ")]
     return lines[-1][:160] if lines else ""
 
 
@@ -140,15 +141,15 @@ def weight_of(case, one, compares, run_of):
 
 def uses_unready(case, one, two, compares, run_of):
     """Why bytes of a core that was not ready were used, or nothing where they were not."""
-    what = f"{one.unready} of {one.served} bytes are those of a core that was not ready"
+    what = f"the output depends on bytes of an unready core, {one.unready} of {one.served}"
     if not compares:
         if not sum(it.served for it in one.requests if it.is_unready and not it.is_mallocs()):
             return ""
-        return what + "; whether they were used does not show, since the output is no measure here"
+        return f"bytes of an unready core, {one.unready} of {one.served}; whether the output depends on them does not show"
     if one.unready == one.served or not any(line == cases.EARLY for _, line in case.steps):
-        return what + ", and the output depends on them" if one.digest != two.digest else ""
+        return what if one.digest != two.digest else ""
     other, = yield [run_of(case, SEEDS[0], other_early_bytes(case.steps))]
-    return what + ", and the output depends on them" if other.digest != one.digest else ""
+    return what if other.digest != one.digest else ""
 
 
 # ---- The verdict -------------------------------------------------------------------------------------------------
@@ -169,11 +170,11 @@ def judged(case, base, program, is_still=True):
     if end:
         return Finding(case, *end, runs, first_odd(one))
     if one.is_silent and not base.one.is_silent:
-        return Finding(case, WITHOUT, "it ended with status 0 and wrote nothing", runs, first_odd(one))
+        return Finding(case, WITHOUT, "status 0, and it wrote nothing", runs, first_odd(one))
     if base.depends and one.digest == two.digest:
         return Finding(case, FIXED, "the same output for two seeds", runs, first_odd(one))
     if not one.unready and one.served >= base.served:
-        return Finding(case, WELL, f"{len(one.requests)} requests, {one.served} bytes", runs)
+        return Finding(case, WELL, f"{some(len(one.requests), 'request')}, {some(one.served, 'byte')}", runs)
     return (yield from judged_by_bytes(case, base, runs, run_of))
 
 
@@ -182,20 +183,20 @@ def judged_by_bytes(case, base, runs, run_of):
     one, two = runs
     again, = yield [run_of(case, SEEDS[0])]
     compares = base.compares() and again.digest == one.digest
-    odd, note = first_odd(one), f"{one.served} bytes were served in the place of {base.served}; none is missed"
+    odd, note = first_odd(one), f"{one.served} bytes in the place of {base.served}; the output needs no more"
     if one.unready:
         why = yield from uses_unready(case, one, two, compares, run_of)
         if why:
             unready = next(at for at, it in enumerate(one.requests, 1) if it.is_unready)
             return Finding(case, UNREADY, why, runs, unready)
-        note = f"{one.unready} of {one.served} bytes are those of a core that was not ready; what it wrote has none of them"
+        note = f"bytes of an unready core, {one.unready} of {one.served}; the output depends on none of them"
     if base.weight is None:
         base.weight = yield from weight_of(cases.READY_CASE, base.one, base.compares(), run_of)
     weight = yield from weight_of(case, one, compares, run_of)
     if base.weight and not weight:
-        return Finding(case, WITHOUT, "it ended with status 0, and no random byte is in what it wrote", runs, odd)
+        return Finding(case, WITHOUT, "status 0, and the output depends on no random byte", runs, odd)
     if weight < base.weight:
-        return Finding(case, LESS, f"{weight} random bytes are in what it wrote, in the place of {base.weight}", runs, odd)
+        return Finding(case, LESS, f"the output depends on {weight} random bytes, in the place of {base.weight}", runs, odd)
     return Finding(case, WELL, note, runs, odd)
 
 
