@@ -53,7 +53,8 @@ def compile_one(name, source, *options):
 
 def check_sources():
     for name, source, *options in (
-            ("shim.so", "shim.c draws.c", "-fPIC", "-shared", "-ldl"), ("supervisor", "supervisor.c draws.c"),
+            ("shim.so", "shim.c opens.c draws.c", "-fPIC", "-shared", "-ldl"),
+            ("still.so", "still.c", "-fPIC", "-shared", "-ldl"), ("supervisor", "supervisor.c draws.c"),
             ("caller", "callers/caller.c"), ("zeroed", "callers/zeroed.c")):
         status, out, err = compile_one(name, source, *options)
         tell(f"{source} compiles without a warning", out + err if status else "")

@@ -9,6 +9,7 @@
 #include <sys/mman.h>
 #include <sys/random.h>
 #include <sys/stat.h>
+#include <sys/syscall.h>
 #include <sys/sysmacros.h>
 #include <time.h>
 #include <unistd.h>
@@ -57,7 +58,7 @@ static void ask_front(struct draws *draws, uint32_t length) {
     uint32_t number = __atomic_add_fetch(&draws->asked, 1, __ATOMIC_SEQ_CST);
     sem_post(&draws->question);
     while (__atomic_load_n(&draws->answered, __ATOMIC_SEQ_CST) != number) {
-        clock_gettime(CLOCK_REALTIME, &until);
+        syscall(SYS_clock_gettime, CLOCK_REALTIME, &until); // the C library's may be held still
         until.tv_nsec += PATIENCE;
         until.tv_sec += until.tv_nsec / 1000000000;
         until.tv_nsec %= 1000000000;
@@ -83,6 +84,14 @@ static int is_known(const struct draws *draws, uint32_t length) {
            (draws->at + 1ULL) * draws->long_width <= LONGS;
 }
 
+// Whether this fault answers now. One that is not kept answers once.
+static uint32_t take_fault(struct fault *fault, uint32_t word) {
+    uint32_t kind = fault->words & 1U << word ? fault->kind : 0;
+    if (kind && !fault->is_kept)
+        fault->kind = 0;
+    return kind;
+}
+
 static long note(struct draws *draws, struct request wish, const unsigned char **data) {
     if (!wish.error && wish.length) {
         uint32_t at = draws->at++;
@@ -97,12 +106,19 @@ static long note(struct draws *draws, struct request wish, const unsigned char *
 static long take_locked(struct draws *draws, struct request wish, const unsigned char **data) {
     uint32_t whole = wish.asked > MOST ? MOST : (uint32_t)wish.asked;
     for (;;) {
+        uint32_t fault = draws->served < draws->limit && draws->served < PLACES ? take_fault(&draws->fault, wish.word) : 0;
+        if (fault) {
+            wish.length = 0;
+            wish.word |= FAULTED;
+            wish.error = fault == AT_END ? 0 : (int32_t)fault;
+            return note(draws, wish, data);
+        }
         int is_cut = draws->cut && whole > draws->cut;
         wish.length = is_cut ? draws->cut : whole;
         if (draws->served < draws->limit && draws->served < PLACES && wish.length <= draws->room_left) {
             wish.error = refusal(draws, &wish);
             if (wish.error || !wish.length || is_known(draws, wish.length)) {
-                if (is_cut && !wish.error)
+                if (is_cut && !wish.error && !draws->is_cut_kept)
                     draws->cut = 0;
                 return note(draws, wish, data);
             }
@@ -113,14 +129,28 @@ static long take_locked(struct draws *draws, struct request wish, const unsigned
     }
 }
 
-long draws_take(struct draws *draws, struct request wish, const unsigned char **data) {
+static void take_lock(struct draws *draws) {
     if (pthread_mutex_lock(&draws->lock) == EOWNERDEAD) {
         // One who was killed while it held the lock may have taken a draw that no request in the list has, and the front
         // may still be at work for it. The front's answer comes behind that, and sets right what was taken.
         pthread_mutex_consistent(&draws->lock);
         ask_front(draws, 0);
     }
+}
+
+long draws_take(struct draws *draws, struct request wish, const unsigned char **data) {
+    take_lock(draws);
     return take_locked(draws, wish, data);
+}
+
+// The front is asked where something of the prologue may be due.
+int draws_open(struct draws *draws) {
+    take_lock(draws);
+    if (draws->served >= draws->limit && !draws->is_full)
+        ask_front(draws, 0);
+    uint32_t kind = take_fault(&draws->opens, 0);
+    draws_release(draws);
+    return (int)kind;
 }
 
 void draws_release(struct draws *draws) { pthread_mutex_unlock(&draws->lock); }

@@ -16,7 +16,7 @@ import struct
 import subprocess
 
 WORDS = ("read", "dread", "uread")
-SPELT = {0: "ok", errno.EAGAIN: "EAGAIN", errno.EINVAL: "EINVAL", errno.EINTR: "EINTR"}
+SPELT = {0: "ok", **errno.errorcode}
 READS = ("read", "vread", "kread", "dread", "uread")
 
 # The limits of a script.
@@ -32,42 +32,97 @@ HEAD = {name: 64 + 4 * place for place, name in enumerate(NAMES)}
 REQUEST = struct.Struct("<QIIIIIi")
 LIST_AT = 4096
 ALIVE_AT, QUESTION_AT, REPLY_AT = LIST_AT - 192, LIST_AT - 128, LIST_AT - 64
+CUT_KEPT_AT, OPENS_WATCHED_AT, FAULT_AT, OPENS_AT = (ALIVE_AT - it for it in (32, 28, 24, 12))
+FAULT = struct.Struct("<III")  # kind, words, is_kept
+FAULTED, AT_END = 0x100, 0x10000
 SHORTS_AT = LIST_AT + EVENTS * REQUEST.size
 LONGS_AT = SHORTS_AT + EVENTS * SHORT
 SIZE = LONGS_AT + LONGS
+
+
+# The faults of a prologue: for each the requests that it answers.
+CALL, FILES = 1, 2 | 4
+ANSWERS = {"EINTR": CALL | FILES, "EAGAIN": CALL | FILES, "EIO": CALL | FILES, "EFAULT": CALL | FILES,
+           "EPERM": CALL, "ENOSYS": CALL, "end": FILES}
+OPENS = ("ENOENT", "EACCES", "EMFILE", "ENXIO")
 
 
 class Failed(Exception):
     """What cannot go on, and why."""
 
 
+class Cut:
+    """The line `short N`: the next request for more bytes gets N."""
+
+    def __init__(self, length, is_kept):
+        self.length, self.is_kept = length, is_kept
+
+    def put(self, draws):
+        draws.put(cut=self.length)
+        struct.pack_into("<I", draws.map, CUT_KEPT_AT, self.is_kept)
+
+
+class Fault:
+    """The line `fault KIND`: the next request that KIND can answer is answered so, and makes no event."""
+
+    def __init__(self, kind, is_kept):
+        self.kind, self.is_kept, self.is_of_opens = kind, is_kept, kind in OPENS
+
+    def put(self, draws):
+        code = AT_END if self.kind == "end" else getattr(errno, self.kind)
+        place, words = (OPENS_AT, 1) if self.is_of_opens else (FAULT_AT, ANSWERS[self.kind])
+        FAULT.pack_into(draws.map, place, code, words, self.is_kept)
+
+
 class Prologue:
-    """Parts of events, each with the number of requests behind which it is due. A number is a request to cut short."""
+    """Parts, each with the number of requests behind which it is due: events, and words of the prologue's own."""
 
     def __init__(self, path, seed):
-        self.path, self.cpus, due = path, 1, 0
+        self.path, self.cpus, self.due = path, 1, 0
         self.parts = [(0, [f"write {os.fsencode(seed).hex()}"] if seed else [])]
         self.places = [0] if seed else []  # of each event, its line
         with open(path, encoding="ascii", errors="replace") as file:
             lines = file.read().split("\n")
         for number, line in enumerate(lines, 1):
-            word, _, rest = line.partition(" ")
-            if not line or word.startswith("#"):
-                continue
-            if word in ("cpus", "wait", "short") and not rest.isdecimal():
-                raise Failed(f"{path}: line {number}: {word} wants one number")
-            if word == "short" and not 1 <= int(rest) <= LONGEST:
-                raise Failed(f"{path}: line {number}: short wants a number from 1 to {LONGEST}")
-            if word == "cpus":
-                self.cpus = int(rest)
-            elif word == "wait":
-                due += int(rest)
-                self.parts.append((due, []))
-            elif word == "short":
-                self.parts[-1][1].append(int(rest))
-            else:
-                self.parts[-1][1].append(line)
-                self.places.append(number)
+            if line and not line.startswith("#"):
+                self.take(number, line, line.split(" "))
+
+    def take(self, number, line, fields):
+        word, rest = fields[0], fields[1:]
+        is_kept = rest[1:] == ["always"]
+        may_be_kept = is_kept and word == "short"
+        if word in ("cpus", "wait", "short") and not ("".join(rest[:1]).isdecimal() and (may_be_kept or not rest[1:])):
+            raise Failed(f"{self.path}: line {number}: {word} wants one number")
+        if word == "short" and not 1 <= int(rest[0]) <= LONGEST:
+            raise Failed(f"{self.path}: line {number}: short wants a number from 1 to {LONGEST}")
+        if word == "cpus":
+            self.cpus = int(rest[0])
+        elif word == "wait":
+            self.wait(int(rest[0]))
+        elif word == "short":
+            self.parts[-1][1].append(Cut(int(rest[0]), is_kept))
+        elif word == "fault":
+            self.take_fault(number, rest, is_kept)
+        else:
+            self.parts[-1][1].append(line)
+            self.places.append(number)
+
+    def wait(self, count):
+        self.due += count
+        self.parts.append((self.due, []))
+
+    def take_fault(self, number, rest, is_kept):
+        """A second fault right below the first answers the request after it."""
+        if not rest or rest[0] not in (*ANSWERS, *OPENS) or (rest[1:] and not is_kept):
+            kinds = ", ".join((*ANSWERS, *OPENS))
+            raise Failed(f"{self.path}: line {number}: fault wants one of {kinds}, and may have always behind it")
+        fault = Fault(rest[0], is_kept)
+        if any(isinstance(it, Fault) and it.is_of_opens == fault.is_of_opens for it in self.parts[-1][1]):
+            self.wait(1)
+        self.parts[-1][1].append(fault)
+
+    def watches_opens(self):
+        return any(isinstance(it, Fault) and it.is_of_opens for _, part in self.parts for it in part)
 
     def events(self):
         return [it for _, part in self.parts for it in part if isinstance(it, str)]
@@ -133,6 +188,7 @@ class Draws:
                 raise Failed(f"{folder}: {(SIZE >> 20) + 1} MiB are needed there: {fault.strerror}; TMPDIR can name another "
                              "folder") from None
             self.map = mmap.mmap(file.fileno(), SIZE)
+        struct.pack_into("<I", self.map, OPENS_WATCHED_AT, prologue.watches_opens())
         self.make_locks()
 
     def make_locks(self):
@@ -182,9 +238,12 @@ class Draws:
         for place in range(len(self.requests), served):
             fields = REQUEST.unpack_from(self.map, LIST_AT + place * REQUEST.size)
             _, length, flags, _, _, word, fault = fields
-            if word >= len(WORDS) or length > LONGEST or self.taken >= EVENTS or fault and fault not in SPELT:
+            if word & ~FAULTED >= len(WORDS) or length > LONGEST or self.taken >= EVENTS or fault and fault not in SPELT:
                 raise Failed(f"the memory that is shared with the program was damaged: request {place} is none")
             got = b""
+            if word & FAULTED:
+                self.requests.append((None, fields, got))
+                continue
             if not fault and length:
                 got = self.served_bytes(length)
                 self.taken += 1
@@ -224,13 +283,13 @@ class Draws:
         if self.count and self.taken >= self.count:
             self.window *= GROWTH
         for due in self.prologue.feed(len(self.requests)):
-            if isinstance(due, int):
-                self.put(cut=due)
-            else:
+            if isinstance(due, str):
                 self.add(due)
+            else:
+                due.put(self)
         self.widest_before, self.widest = self.widest, 0
         self.base, self.base_bytes, self.taken = list(self.events), self.bytes, 0
-        limit = min(len(self.requests) + EVENTS - len(self.events), self.prologue.next_due(), self.most)
+        limit = min(len(self.requests) + EVENTS - len(self.events), self.prologue.next_due(), self.most, EVENTS)
         self.count = max(0, min(self.window, limit - len(self.requests)))
         self.put(at=0, short_count=0, long_count=0, limit=limit, room_left=max(0, BYTES - self.bytes))
 
@@ -279,6 +338,8 @@ class Draws:
         transcript = self.core.transcript_of(self.events)
         lines = transcript.split("\n")
         for place, fields, got in self.requests:
+            if place is None:
+                continue
             wanted = [SPELT.get(fields[6]), got.hex() or "-"]
             if lines[1 + place].split(" ")[2::2] != wanted:
                 raise Failed(f"the record is not what was served: {lines[1 + place]}, but served was {wanted}")
@@ -291,4 +352,5 @@ class Draws:
             one = processes.setdefault(process, len(processes))
             own = threads.setdefault(process, {})
             who = f"{one}.{own.setdefault(thread, len(own))}"
-            yield f"0.{place} {who} {WORDS[word]} {asked} {flags} {SPELT.get(fault) if fault else length}\n"
+            event = "-" if place is None else f"0.{place}"
+            yield f"{event} {who} {WORDS[word & ~FAULTED]} {asked} {flags} {SPELT[fault] if fault else length}\n"

@@ -1,0 +1,11 @@
+// Waits for something that does not come.
+#include "judged.h"
+#include <sys/random.h>
+#include <unistd.h>
+
+int main(void) {
+    unsigned char key[16];
+    while (getrandom(key, sizeof key, GRND_NONBLOCK) != sizeof key)
+        pause();
+    return wrote(key, sizeof key);
+}

@@ -1,0 +1,14 @@
+// Takes its key from a core that is not ready, and waits for a nonce. What it writes differs at each run for the nonce's
+// sake, and has as many bytes as ever, and yet it is wrong.
+#include "judged.h"
+#include <errno.h>
+#include <sys/random.h>
+
+int main(void) {
+    unsigned char both[32];
+    ssize_t got = getrandom(both, 16, GRND_INSECURE);
+    do
+        got = getrandom(both + 16, 16, 0);
+    while (got < 0 && errno == EINTR);
+    return got == 16 ? wrote(both, sizeof both) : refused("getrandom");
+}

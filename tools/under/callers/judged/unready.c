@@ -1,0 +1,15 @@
+// Takes /dev/urandom for a key after any failure, whether the core is ready or not.
+#include "judged.h"
+#include <fcntl.h>
+#include <sys/random.h>
+#include <unistd.h>
+
+int main(void) {
+    unsigned char key[16];
+    if (getrandom(key, sizeof key, 0) != sizeof key) {
+        int file = open("/dev/urandom", O_RDONLY);
+        if (read(file, key, sizeof key) != sizeof key)
+            return refused("/dev/urandom");
+    }
+    return wrote(key, sizeof key);
+}
