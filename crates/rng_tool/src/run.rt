@@ -120,7 +120,10 @@ pub fn run<R: Threads + Wait + Sync, S: Source, K: Sink, G: Gate>(
     match Command::of(words) {
         None => Status::Usage,
         Some(Command::Run) => end_output(run_input(rt, alloc, source, sink, gate), sink),
-        Some(Command::Judge(judge)) => end_output(judge_input(rt, alloc, judge, source, sink), sink),
+        Some(Command::Judge(judge)) => end_output(
+            judge_input(rt, alloc, judge, source, sink),
+            sink,
+        ),
         Some(Command::Load(load)) => end_output(run_load(rt, alloc, load, sink, gate), sink),
         Some(Command::Draw(draw)) => end_output(run_draw(rt, alloc, draw, sink), sink),
         Some(Command::Vfork(vfork)) => end_output(run_vfork(rt, alloc, vfork, sink), sink),

@@ -258,9 +258,19 @@ fn a_sink_that_fails_at_each_line(rt: HostRuntime) -> Result<(), Fail> {
                 failing_put: before as u64 + 1,
                 ..WHOLE
             };
-            let (ended, sink) =
-                run_over(&rt, rt.alloc(), &["run"], READY_SCRIPT, edges, &OpenGate)?;
-            assert_eq!(rt; ended, Status::WriteFault, "pieces of {step}, {before} puts");
+            let (ended, sink) = run_over(
+                &rt,
+                rt.alloc(),
+                &["run"],
+                READY_SCRIPT,
+                edges,
+                &OpenGate,
+            )?;
+            assert_eq!(rt;
+                ended,
+                Status::WriteFault,
+                "pieces of {step}, {before} puts"
+            );
             assert_eq!(rt;
                 Some(sink.held()),
                 READY_TRANSCRIPT.get(..held),

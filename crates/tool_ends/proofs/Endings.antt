@@ -84,79 +84,79 @@ also_refused Of None output is = tt
 also_refused Of (Some all) output is = (Refused, tt, is)
 
 module _ (most : ℕ) (Of : List ℕ → Status → List ℕ → Type 0) (left left_after a b c : Option (List ℕ)) (k : Keeps b c)
-    where
-  answer_stays : (Is : List ℕ → List ℕ → Type 0) → WasAnswered most Is left left_after a b
-      → WasAnswered most Is left left_after a c
-  answer_stays Is e = record {
-    input = e.input;
-    output = e.output;
-    read = e.read;
-    whole = e.whole;
-    is = e.is;
-    written = appends_kept a b c e.output e.written k;
-  }
+  where
+    answer_stays : (Is : List ℕ → List ℕ → Type 0) → WasAnswered most Is left left_after a b
+        → WasAnswered most Is left left_after a c
+    answer_stays Is e = record {
+      input = e.input;
+      output = e.output;
+      read = e.read;
+      whole = e.whole;
+      is = e.is;
+      written = appends_kept a b c e.output e.written k;
+    }
 
-  given_up : WasGivenUp most left left_after a b → WasGivenUp most left left_after a c
-  given_up e = record { taken = e.taken; kept = Keeps-trans a b c e.kept k }
+    given_up : WasGivenUp most left left_after a b → WasGivenUp most left left_after a c
+    given_up e = record { taken = e.taken; kept = Keeps-trans a b c e.kept k }
 
-  read_stays : (status : Status) → ReadsEnds most Of status left left_after a b
-      → ReadsEnds most Of status left left_after a c
-  read_stays Done e = answer_stays (λ input output. Of input Done output) e
-  read_stays No e = answer_stays (λ input output. Of input No output) e
-  read_stays Refused e = record {
-    input = e.input;
-    output = e.output;
-    read = e.read;
-    refusal = e.refusal;
-    of_all = e.of_all;
-    written = appends_kept a b c e.output e.written k;
-  }
-  read_stays WriteFault e = record {
-    input = e.input;
-    output = e.output;
-    read = e.read;
-    output_is = e.output_is;
-    of_all = e.of_all;
-    written = prefix_kept a b c e.output e.written k;
-  }
-  read_stays ReadFault e = given_up e
-  read_stays NoMemory e = given_up e
-  read_stays Usage e = e
+    read_stays : (status : Status) → ReadsEnds most Of status left left_after a b
+        → ReadsEnds most Of status left left_after a c
+    read_stays Done e = answer_stays (λ input output. Of input Done output) e
+    read_stays No e = answer_stays (λ input output. Of input No output) e
+    read_stays Refused e = record {
+      input = e.input;
+      output = e.output;
+      read = e.read;
+      refusal = e.refusal;
+      of_all = e.of_all;
+      written = appends_kept a b c e.output e.written k;
+    }
+    read_stays WriteFault e = record {
+      input = e.input;
+      output = e.output;
+      read = e.read;
+      output_is = e.output_is;
+      of_all = e.of_all;
+      written = prefix_kept a b c e.output e.written k;
+    }
+    read_stays ReadFault e = given_up e
+    read_stays NoMemory e = given_up e
+    read_stays Usage e = e
 
-  answer_cut : (status : Status) → IsAnswered status
-      → WasAnswered most (λ input output. Of input status output) left left_after a b
-      → ReadsEnds most Of WriteFault left left_after a c
-  answer_cut status is e = record {
-    input = e.input;
-    output = e.output;
-    read = e.read;
-    output_is = (status, is, e.is);
-    of_all = all_read (λ input output. SomeAnswer (Of input) output) left left_after e.input e.output e.read.read e.whole
-        (status, is, e.is);
-    written = whole_cut a b c e.output e.written k;
-  }
+    answer_cut : (status : Status) → IsAnswered status
+        → WasAnswered most (λ input output. Of input status output) left left_after a b
+        → ReadsEnds most Of WriteFault left left_after a c
+    answer_cut status is e = record {
+      input = e.input;
+      output = e.output;
+      read = e.read;
+      output_is = (status, is, e.is);
+      of_all = all_read (λ input output. SomeAnswer (Of input) output) left left_after e.input e.output e.read.read e.whole
+          (status, is, e.is);
+      written = whole_cut a b c e.output e.written k;
+    }
 
-  read_cut : (status : Status) → IsAnswered status → ReadsEnds most Of status left left_after a b
-      → ReadsEnds most Of WriteFault left left_after a c
-  read_cut Done is e = answer_cut Done is e
-  read_cut No is e = answer_cut No is e
-  read_cut Refused is e = record {
-    input = e.input;
-    output = e.output;
-    read = e.read;
-    output_is = (Refused, tt, e.refusal);
-    of_all = also_refused Of left e.output e.of_all;
-    written = whole_cut a b c e.output e.written k;
-  }
-  read_cut Usage is e = absurd is
-  read_cut ReadFault is e = absurd is
-  read_cut WriteFault is e = absurd is
-  read_cut NoMemory is e = absurd is
+    read_cut : (status : Status) → IsAnswered status → ReadsEnds most Of status left left_after a b
+        → ReadsEnds most Of WriteFault left left_after a c
+    read_cut Done is e = answer_cut Done is e
+    read_cut No is e = answer_cut No is e
+    read_cut Refused is e = record {
+      input = e.input;
+      output = e.output;
+      read = e.read;
+      output_is = (Refused, tt, e.refusal);
+      of_all = also_refused Of left e.output e.of_all;
+      written = whole_cut a b c e.output e.written k;
+    }
+    read_cut Usage is e = absurd is
+    read_cut ReadFault is e = absurd is
+    read_cut WriteFault is e = absurd is
+    read_cut NoMemory is e = absurd is
 
-  -- a command that reads its input
-  pub reads_end_after : (status result : Status) (m n : ℕ) → AtOutputEnd status result m n
-      → ReadsEnds most Of status left left_after a b → ReadsEnds most Of result left left_after a c
-  reads_end_after status result m n ended e = elim ended [
-    | inl same ↦ subst (λ s. ReadsEnds most Of s left left_after a c) (sym same.0) (read_stays status e)
-    | inr faulty ↦ subst (λ s. ReadsEnds most Of s left left_after a c) (sym faulty.1) (read_cut status faulty.0 e)
-  ]
+    -- a command that reads its input
+    pub reads_end_after : (status result : Status) (m n : ℕ) → AtOutputEnd status result m n
+        → ReadsEnds most Of status left left_after a b → ReadsEnds most Of result left left_after a c
+    reads_end_after status result m n ended e = elim ended [
+      | inl same ↦ subst (λ s. ReadsEnds most Of s left left_after a c) (sym same.0) (read_stays status e)
+      | inr faulty ↦ subst (λ s. ReadsEnds most Of s left left_after a c) (sym faulty.1) (read_cut status faulty.0 e)
+    ]
