@@ -1,6 +1,6 @@
 -- What is told of a script and a transcript, as what their text calls for.
 use Rattle.std.proofs.Common.{ℕ, List, sym, subst, ◌∙◌, inl, inr}
-use Rattle.std.specs.Prelude.{⊤, Result, Ok, Err, IfOk}
+use Rattle.std.specs.Prelude.{Result, Ok, Err, IfOk}
 use Rattle.std.specs.Global.{Vec}
 use Rattle.key_names.specs.Book.{Book}
 use Rattle.key_names.specs.Calls.{Call}
@@ -60,8 +60,3 @@ pub live_told : {E : Type 0} (stamp : ℕ) (callers : List (List Call)) (book : 
     IfOk r (λ text. TellsLive stamp callers book ms text.items)
 live_told stamp callers book ms (Ok text) unused told = record { told = told; unused = unused }
 live_told stamp callers book ms (Err e) unused told = tt
-
--- of some outputs nothing is said
-pub any_ok : {A E : Type 0} (r : Result A E) → IfOk r (λ a. ⊤)
-any_ok (Ok a) = tt
-any_ok (Err e) = tt

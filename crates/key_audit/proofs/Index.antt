@@ -15,10 +15,10 @@ use Rattle.key_names.proofs.Transcripts.TranscriptBooks.{lt_or_le}
 use Rattle.key_audit.specs.Index.{IsIndexTo}
 use Rattle.key_audit.specs.Live.{name_at}
 
-equal_names : (a b : KeyName) → names.cmp a b ≡ Equal → a ≡ b
+pub equal_names : (a b : KeyName) → names.cmp a b ≡ Equal → a ≡ b
 equal_names a b e = search rules
 
-found_name : (a b : KeyName) → is_at (names.cmp a) b ≡ true → a ≡ b
+pub found_name : (a b : KeyName) → is_at (names.cmp a) b ≡ true → a ≡ b
 found_name a b e = equal_names a b ((Equal-is (names.cmp a b)).0 e)
 
 named_within : (rows : List Row) (n : ℕ) (key : KeyName) → name_at rows n ≡ Some key → n < length rows

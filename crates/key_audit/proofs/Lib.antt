@@ -4,6 +4,8 @@ pub mod CutStates
 pub mod Ends
 pub mod Index
 pub mod KeptEntries
+pub mod KeptSamples
 pub mod KeptVisits
+pub mod Passes
 pub mod VisitMarks
 pub mod WordTexts

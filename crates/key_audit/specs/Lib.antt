@@ -1,7 +1,11 @@
 pub mod Commands
+pub mod Edges
 pub mod Index
 pub mod Kept
+pub mod KeptPool
 pub mod Live
 pub mod Moments
 pub mod Outcome
+pub mod Reach
+pub mod Sources
 pub mod Texts

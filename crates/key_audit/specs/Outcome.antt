@@ -1,5 +1,5 @@
 -- What the program promises for each way to end: a script, and a transcript behind it, and what is told of them.
-use Rattle.std.specs.Prelude.{ℕ, ◌≡◌, ◌⊎◌, ⊤, List, ◌++◌, Option, map, All, IsPermutation}
+use Rattle.std.specs.Prelude.{ℕ, ◌≡◌, ◌⊎◌, List, ◌++◌, Option, map, All, IsPermutation}
 use Rattle.std.specs.List.{flat_map}
 use Rattle.key_names.specs.Book.{Book, lists_of}
 use Rattle.key_names.specs.Calls.{Call}
@@ -9,6 +9,7 @@ use Rattle.key_names.specs.SeenLine.{SeenLine}
 use Rattle.key_names.specs.Texts.ScriptGrammar.{Script}
 use Rattle.transcript_check.specs.Judged.{IsSound}
 use Rattle.key_uses.specs.HeldUnused.{HoldsUnused}
+use Rattle.key_rows.specs.declared.moments.Line.{Line as LineName}
 use Rattle.key_rows.specs.declared.moments.Moments.{Moments}
 use Rattle.key_rows.specs.declared.rows.Row.{Row}
 use Rattle.key_rows.specs.declared.told.Told.{Told}
@@ -23,6 +24,8 @@ use Rattle.key_audit.specs.declared.ask.Ask.{Ask}
 use Rattle.key_audit.specs.declared.ask.Ask.TheVariants.{Keys, Live, Line}
 use Rattle.key_audit.specs.Live.{AreRowsOf, held_lines, lists_behind, live_keys, live_rests, rest_line}
 use Rattle.key_audit.specs.Moments.{AreMoments}
+use Rattle.key_audit.specs.Reach.{TellsReached}
+use Rattle.key_audit.specs.Sources.{TellsSources, bits_before, samples_before}
 use Rattle.key_audit.specs.Texts.{rows_text}
 
 -- ---- what is told of a book
@@ -43,17 +46,21 @@ pub record TellsKeys (book : Book) (output : List ℕ) : Type 0 where
   pub ordered : RowsByMaking moments rows
   pub text : output ≡ rows_text moments rows
 
--- the lines of what is in memory behind a stamp, and of what can be computed from it, of which nothing is said yet
+-- the lines of what is in memory behind a stamp, and of what can be computed from it
 pub record TellsHeld (stamp : ℕ) (callers : List (List Call)) (book : Book) (ms : List (List CallMeaning))
     (output : List ℕ) : Type 0 where
   pub moments : Moments
   pub are_moments : AreMoments book moments
   pub rows : List Row
   pub are : AreRows book rows
+  pub ordered : RowsByMaking moments rows
   -- the rows of the keys that are in memory, each once and no others
   pub numbers : List ℕ
   pub held : AreRowsOf rows (live_keys (lists_behind stamp callers book ms)) numbers
+  -- and then what can be computed from these keys and rests
   pub more : List ℕ
+  pub reached : TellsReached moments rows (map (λ held. held.key) (live_keys (lists_behind stamp callers book ms)))
+      (live_rests (lists_behind stamp callers book ms)) more
   pub text : output ≡ held_lines moments rows numbers
       ++ flat_map rest_line (live_rests (lists_behind stamp callers book ms)) ++ more
 
@@ -63,18 +70,26 @@ pub record TellsLive (stamp : ℕ) (callers : List (List Call)) (book : Book) (m
   pub told : TellsHeld stamp callers book ms output
   pub unused : HoldsUnused (lists_behind stamp callers book ms)
 
--- of where a line comes from nothing is said yet
-abbrev pub Tells : Ask → List (List Call) → Book → List (List CallMeaning) → List ℕ → Type 0
-Tells Keys callers book ms output = TellsKeys book output
-Tells (Live stamp) callers book ms output = TellsLive stamp callers book ms output
-Tells (Line line) callers book ms output = ⊤
+-- the rows of the keys that the bytes of a line come from, and the extractions of their roots
+pub record TellsLine (line : LineName) (script : Script) (book : Book) (output : List ℕ) : Type 0 where
+  pub moments : Moments
+  pub are_moments : AreMoments book moments
+  pub rows : List Row
+  pub are : AreRows book rows
+  pub ordered : RowsByMaking moments rows
+  pub told : TellsSources moments rows line (samples_before script book) (bits_before book) output
+
+abbrev pub Tells : Ask → Script → List (List Call) → Book → List (List CallMeaning) → List ℕ → Type 0
+Tells Keys script callers book ms output = TellsKeys book output
+Tells (Live stamp) script callers book ms output = TellsLive stamp callers book ms output
+Tells (Line line) script callers book ms output = TellsLine line script book output
 
 -- ---- what is told of a transcript
 
 -- the transcript is lawful, and this is told of its book
 pub record TellsLawful (ask : Ask) (script : Script) (t : List (List SeenLine)) (output : List ℕ) : Type 0 where
   pub sound : IsSound script t
-  pub tells : Tells ask (script_calls script t) sound.book sound.meanings output
+  pub tells : Tells ask script (script_calls script t) sound.book sound.meanings output
 
 -- the number of the first clause that fails
 pub record TellsClause (script : Script) (t : List (List SeenLine)) (output : List ℕ) : Type 0 where

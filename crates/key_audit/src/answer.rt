@@ -26,7 +26,7 @@ pub(crate) fn answer_text(
     t: &Transcript,
 ) -> Result<Vec<u8>, AllocError>
     ensures { (sound : IsSound script.now t.now) → IfOk result (λ text.
-        Tells ask (script_calls script.now t.now) sound.book sound.meanings text.items) }
+        Tells ask script.now (script_calls script.now t.now) sound.book sound.meanings text.items) }
 {
     let Some(book) = book_of(alloc, script, t)? else {
         return Ok(Vec::new(alloc));

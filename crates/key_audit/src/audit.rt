@@ -55,7 +55,7 @@ fn audit_input<S: Source, K: Sink>(alloc: Global, ask: Ask, source: &mut S, sink
 /// - `live T`: what is in memory behind stamp T, and which later keys and lines can be computed from it.
 /// - `line C.E`: the rows that the bytes of event E of caller C come from, and the extractions of their roots.
 ///
-/// No clause speaks of the output of `line C.E`, nor of the lines of `live T` behind `held` and `rest`.
+/// The stamp and the line of an entry of a vgetrandom state are in no clause.
 ///
 /// T is below 2^64, C and E are below 2^32, all spelt as in a script.
 ///

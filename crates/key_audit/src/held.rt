@@ -13,7 +13,7 @@ ghost use Rattle.key_audit.specs.Live.{held_line, held_lines, kept_line, rest_li
 
 use crate::book::KeptBook;
 use crate::entries::all_entries_to;
-use crate::graph::Graph;
+use crate::row_index::RowIndex;
 use crate::text::Text;
 use key_rows::cut::kept_to;
 use key_rows::held::{BatchHolder, Held, HeldKey, HeldRest};
@@ -52,14 +52,14 @@ pub(crate) fn held_at(
 /// `AllocError` where there is no memory for them.
 pub(crate) fn held_rows(
     alloc: Global,
-    graph: &Graph<'_>,
+    index: &RowIndex<'_>,
     keys: &[HeldKey],
 ) -> Result<Vec<usize>, AllocError>
-    ensures { IfOk result (λ numbers. AreRowsOf graph.now.rows.now keys.now numbers.items) }
+    ensures { IfOk result (λ numbers. AreRowsOf index.now.rows.now keys.now numbers.items) }
 {
     let mut numbers = Vec::with_capacity(alloc, keys.len())?;
     for held in keys {
-        let number = graph.find(held.key).ok_or(AllocError)?;
+        let number = index.find(held.key).ok_or(AllocError)?;
         numbers.push(number)?;
     }
     Ok(numbers)

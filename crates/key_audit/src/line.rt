@@ -1,6 +1,23 @@
 //! The command `line C.E`: where the bytes of a line come from.
+ghost use Rattle.std.specs.Prelude.{◌≡◌, ◌≤◌, ◌++◌, ◌↔◌, List, IfOk, OnOk, IsTrue, filter, map, reverse, slice_get, take};
+ghost use Rattle.std.specs.BTreeSet.{contains};
+ghost use Rattle.std.specs.List.{flat_map};
+ghost use Rattle.key_names.specs.declared.names.KeyName.{KeyName as BookName};
+ghost use Rattle.key_names.specs.contracts.names.KeyNameOrd.TheImpl.{ghosts as names};
+ghost use Rattle.key_names.specs.Book.{Book};
+ghost use Rattle.key_names.specs.Calls.{Call};
+ghost use Rattle.key_names.specs.Meaning.{CallMeaning};
+ghost use Rattle.key_names.specs.SeenLine.{SeenLine};
+ghost use Rattle.key_audit.specs.Edges.{IsReached};
+ghost use Rattle.key_audit.specs.KeptPool.{is_kept_sample, kept_bits, kept_samples, sample_count};
+ghost use Rattle.key_audit.specs.Kept.{KeepsBook};
+ghost use Rattle.key_audit.specs.Outcome.{TellsLine};
+ghost use Rattle.key_audit.specs.Sources.{TellsSources, edges_back, event_at, extraction_text, hands_sample, is_served_for};
+ghost use Rattle.key_audit.specs.Sources.{counts_text, root_text, serves, serving};
+ghost use Rattle.key_audit.specs.Texts.{rows_text};
+
 use crate::book::KeptBook;
-use crate::graph::Graph;
+use crate::edges::{edges_back, edges_of, reached_by};
 use crate::keys::rows_of;
 use crate::moments::moments_of;
 use crate::text::{Text, moment_at};
@@ -9,64 +26,219 @@ use key_names::{Event, KeyName, LaneId};
 use key_rows::moments::{Line, Moment, Moments};
 use key_rows::rows::{Fate, Row};
 use key_uses::used::Origin;
+use list_replay::KeptPool;
 use std::alloc::{AllocError, Global};
+use std::collections::BTreeSet;
 
-// Whether bytes of the row's key were copied out for a line.
-fn serves(moments: &Moments, line: Line, row: &Row) -> bool {
-    row.pieces.iter().any(|piece| match piece.fate {
+fn is_served_for(moments: &Moments, line: Line, fate: Fate) -> bool
+    ensures { result ≡ is_served_for moments.now line fate }
+{
+    match fate {
         Fate::Served(by) => moment_at(moments, by).line == line,
         _ => false,
-    })
+    }
 }
 
-// Whether a visit of the pool was made for a sample. Bits are asked for and credited without one.
-fn is_sample(script: &Script, moment: &Moment) -> bool {
-    if moment.line.caller >= script.callers() {
+// Whether bytes of the row's key were copied out for a line.
+fn serves(moments: &Moments, line: Line, row: &Row) -> bool
+    ensures { result ≡ serves moments.now line row.now }
+{
+    row.pieces
+        .iter()
+        .any(|piece| is_served_for(moments, line, piece.fate))
+}
+
+fn serving(
+    alloc: Global,
+    moments: &Moments,
+    line: Line,
+    rows: &[Row],
+) -> Result<Vec<KeyName>, AllocError>
+    ensures { IfOk result (λ keys. keys.items ≡ serving moments.now line rows.now) }
+{
+    let mut keys = Vec::new(alloc);
+    for row in rows {
+        if serves(moments, line, row) {
+            keys.push(row.key)?;
+        }
+    }
+    Ok(keys)
+}
+
+// The keys that the bytes of a line come from.
+fn sources(
+    alloc: Global,
+    moments: &Moments,
+    line: Line,
+    rows: &[Row],
+) -> Result<BTreeSet<KeyName>, AllocError>
+    ensures { (key : BookName) → IfOk result (λ keys. IsTrue (contains names.cmp keys key)
+        ↔ IsReached (edges_back rows.now) (serving moments.now line rows.now) key) }
+{
+    let serving = serving(alloc, moments, line, rows)?;
+    let edges = edges_of(alloc, rows)?;
+    let back = edges_back(alloc, &edges)?;
+    reached_by(alloc, &back, &serving)
+}
+
+// The rows of these keys, the last made first.
+fn rows_back<'a>(
+    alloc: Global,
+    keys: &BTreeSet<KeyName>,
+    rows: &'a [Row],
+) -> Result<Vec<&'a Row>, AllocError>
+    ensures { IfOk result (λ chosen. map (λ row. row.now) chosen.items
+        ≡ filter (λ row. contains names.cmp keys.now row.key) (reverse rows.now)) }
+{
+    rows.iter()
+        .rev()
+        .filter(|row| keys.contains(&row.key))
+        .collect(alloc)
+}
+
+// Whether an event hands a sample to the pool. Bits are asked for and credited without one.
+fn hands_sample(script: &Script, line: Line) -> bool
+    ensures { result ≡ hands_sample (event_at script.now line.caller line.event) }
+{
+    if line.caller >= script.callers() {
         return false;
     }
-    match script
-        .events(moment.line.caller)
-        .get(moment.line.event as usize)
-    {
+    match script.events(line.caller).get(line.event as usize) {
         Some(Event::Bits | Event::Credit { .. }) | None => false,
         Some(_) => true,
     }
 }
 
-// How many samples went into the pool before its visit at a place.
-fn samples_before(script: &Script, book: &KeptBook, moments: &Moments, place: usize) -> u64 {
+// Whether a visit of the pool was made for a sample.
+fn is_sample(script: &Script, kept: &KeptPool, moment: &Moment) -> bool
+    ensures { result ≡ is_kept_sample script.now kept.now moment.now }
+{
+    kept.root.is_none() && hands_sample(script, moment.line)
+}
+
+// The first visits, so many.
+fn first_visits(pool: &[KeptPool], count: u64) -> &[KeptPool]
+    ensures { result.now ≡ take count pool.now }
+{
+    pool.get(..count as usize).unwrap_or(pool)
+}
+
+// A visit counts if it was made for a sample.
+fn sample_count(script: &Script, kept: &KeptPool, moments: &[Moment], place: usize) -> u64
+    ensures count { result ≡ sample_count script.now kept.now (slice_get moments.now place) }
+    ensures small { result ≤ 1 }
+{
+    match moments.get(place) {
+        Some(moment) => u64::from(is_sample(script, kept, moment)),
+        None => 0,
+    }
+}
+
+// How many samples some visits were made for, from the first on.
+fn samples_in(script: &Script, pool: &[KeptPool], moments: &[Moment]) -> u64
+    ensures { result ≡ kept_samples script.now 0 pool.now moments.now }
+{
     let mut count: u64 = 0;
-    for (kept, moment) in book.lanes.pool.iter().zip(&moments.pool).take(place) {
-        if kept.root.is_none() && is_sample(script, moment) {
-            count = count.saturating_add(1);
-        }
+    for (place, kept) in pool.iter().enumerate() {
+        count += sample_count(script, kept, moments, place);
     }
     count
 }
 
-// The line of the extraction that made a root.
-fn put_extraction(
-    text: &mut Text,
-    script: &Script,
-    book: &KeptBook,
-    moments: &Moments,
-    place: u64,
-) -> Result<(), AllocError> {
-    let bits = book
-        .lanes
-        .pool
-        .get(place as usize)
-        .map_or(0, |kept| kept.before);
+fn bits_at(pool: &[KeptPool], place: u64) -> u32
+    ensures { result ≡ kept_bits (slice_get pool.now place) }
+{
+    match pool.get(place as usize) {
+        Some(kept) => kept.before,
+        None => 0,
+    }
+}
+
+fn put_root(text: &mut Text, moments: &Moments, place: u64) -> Result<(), AllocError>
+    ensures { OnOk result (text.new.bytes.items ≡ text.old.bytes.items ++ root_text moments.now place) }
+{
     text.word("extraction ")?;
     text.name(KeyName::Root(place))?;
     text.word(" ")?;
-    text.entry(moments, Origin::Lane(LaneId::Pool, place))?;
-    text.number(
-        " samples ",
-        samples_before(script, book, moments, place as usize),
-    )?;
+    text.entry(moments, Origin::Lane(LaneId::Pool, place))
+}
+
+fn put_counts(text: &mut Text, samples: u64, bits: u32) -> Result<(), AllocError>
+    ensures { OnOk result (text.new.bytes.items ≡ text.old.bytes.items ++ counts_text samples bits) }
+{
+    text.number(" samples ", samples)?;
     text.number(" bits ", u64::from(bits))?;
     text.word("\n")
+}
+
+// Adds the line of the extraction that made a root.
+fn put_extraction(
+    text: &mut Text,
+    script: &Script,
+    pool: &[KeptPool],
+    moments: &Moments,
+    key: KeyName,
+) -> Result<(), AllocError>
+    ensures { OnOk result (text.new.bytes.items ≡ text.old.bytes.items ++ extraction_text moments.now
+        (λ place. kept_samples script.now 0 (take place pool.now) moments.now.pool.items)
+        (λ place. kept_bits (slice_get pool.now place)) key) }
+{
+    match key {
+        KeyName::Root(place) => {
+            let samples = samples_in(script, first_visits(pool, place), &moments.pool);
+            put_root(text, moments, place)?;
+            put_counts(text, samples, bits_at(pool, place))
+        }
+        _ => Ok(()),
+    }
+}
+
+fn put_rows(text: &mut Text, moments: &Moments, rows: &[&Row]) -> Result<(), AllocError>
+    ensures { OnOk result (text.new.bytes.items
+        ≡ text.old.bytes.items ++ rows_text moments.now (map (λ row. row.now) rows.now)) }
+{
+    for row in rows {
+        text.row(moments, row)?;
+    }
+    Ok(())
+}
+
+fn put_extractions(
+    text: &mut Text,
+    script: &Script,
+    pool: &[KeptPool],
+    moments: &Moments,
+    rows: &[&Row],
+) -> Result<(), AllocError>
+    ensures { OnOk result (text.new.bytes.items ≡ text.old.bytes.items ++ flat_map (λ row. extraction_text moments.now
+        (λ place. kept_samples script.now 0 (take place pool.now) moments.now.pool.items)
+        (λ place. kept_bits (slice_get pool.now place)) row.key) (map (λ row. row.now) rows.now)) }
+{
+    for row in rows {
+        put_extraction(text, script, pool, moments, row.key)?;
+    }
+    Ok(())
+}
+
+// Of a line, given what is kept of the pool's visits.
+fn origin_text(
+    alloc: Global,
+    line: Line,
+    script: &Script,
+    pool: &[KeptPool],
+    moments: &Moments,
+    rows: &[Row],
+) -> Result<Vec<u8>, AllocError>
+    ensures { IfOk result (λ text. TellsSources moments.now rows.now line
+        (λ place. kept_samples script.now 0 (take place pool.now) moments.now.pool.items)
+        (λ place. kept_bits (slice_get pool.now place)) text.items) }
+{
+    let keys = sources(alloc, moments, line, rows)?;
+    let chosen = rows_back(alloc, &keys, rows)?;
+    let mut text = Text::new(alloc);
+    put_rows(&mut text, moments, &chosen)?;
+    put_extractions(&mut text, script, pool, moments, &chosen)?;
+    Ok(text.bytes)
 }
 
 /// The rows that the bytes of a line come from, the last made first, and the extractions of their roots.
@@ -79,25 +251,12 @@ pub(crate) fn sources_text(
     line: Line,
     script: &Script,
     book: &KeptBook,
-) -> Result<Vec<u8>, AllocError> {
+) -> Result<Vec<u8>, AllocError>
+    ensures { (t : List (List SeenLine)) (callers : List (List Call)) (of : Book) (ms : List (List CallMeaning)) →
+        KeepsBook book.now t callers of ms → IfOk result (λ text. TellsLine line script.now of text.items) }
+{
     let moments = moments_of(alloc, book)?;
     let rows = rows_of(alloc, book, &moments)?;
-    let graph = Graph::of(alloc, &rows)?;
-    let mut marked = Vec::with_capacity(alloc, rows.len())?;
-    for row in &rows {
-        marked.push(serves(&moments, line, row))?;
-    }
-    graph.mark_before(&mut marked);
-    let mut text = Text::new(alloc);
-    for (row, is_marked) in rows.iter().zip(&marked).rev() {
-        if *is_marked {
-            text.row(&moments, row)?;
-        }
-    }
-    for (row, is_marked) in rows.iter().zip(&marked).rev() {
-        if let (KeyName::Root(place), true) = (row.key, *is_marked) {
-            put_extraction(&mut text, script, book, &moments, place)?;
-        }
-    }
-    Ok(text.bytes)
+    let text = origin_text(alloc, line, script, &book.lanes.pool, &moments, &rows)?;
+    Ok(text)
 }

@@ -8,11 +8,11 @@ ghost use Rattle.key_audit.specs.Kept.{KeepsBook};
 ghost use Rattle.key_audit.specs.Outcome.{TellsHeld};
 
 use crate::book::KeptBook;
-use crate::graph::Graph;
 use crate::held::{held_at, held_rows, put_held, put_rests};
 use crate::keys::rows_of;
 use crate::moments::moments_of;
 use crate::reach::reached_text;
+use crate::row_index::RowIndex;
 use crate::text::Text;
 use std::alloc::{AllocError, Global};
 
@@ -28,12 +28,12 @@ pub(crate) fn live_text(alloc: Global, stamp: u64, book: &KeptBook) -> Result<Ve
     let moments = moments_of(alloc, book)?;
     let rows = rows_of(alloc, book, &moments)?;
     let held = held_at(alloc, stamp, book, &moments)?;
-    let graph = Graph::of(alloc, &rows)?;
-    let numbers = held_rows(alloc, &graph, &held.keys)?;
+    let index = RowIndex::of(alloc, &rows)?;
+    let numbers = held_rows(alloc, &index, &held.keys)?;
     let mut text = Text::new(alloc);
     put_held(&mut text, &moments, &rows, &numbers)?;
     put_rests(&mut text, &held.rests)?;
-    let reached = reached_text(alloc, &moments, &graph, &numbers, &held.rests)?;
+    let reached = reached_text(alloc, &moments, &rows, &held.keys, &held.rests)?;
     text.bytes.extend_from_slice(&reached)?;
     Ok(text.bytes)
 }

@@ -1,23 +1,23 @@
 //! `key_audit`: which keys a lawful transcript's run made, who held each, and what became of its bytes.
 //!
-//! [`audit`] carries the contract: it says of every command what each status means, and of `keys` and the first part of
-//! `live` what the output means; of `NoMemory` only that nothing is written. What `line` writes, and what `live` says can
-//! be computed, is only tested. [`book`] has what it stands on, the book of a transcript. `main` adds the standard streams,
-//! the line on standard error and the exit code, which are tested.
+//! [`audit`] carries the contract: it says of every command what each status and the output mean; of `NoMemory` only that
+//! nothing is written. Stamps and lines of vgetrandom states' entries are only tested. [`book`] has what it stands on, the
+//! book of a transcript. `main` adds the standard streams, the line on standard error and the exit code, which are tested.
 #![tactic(auto)]
 
 mod answer;
 mod ask;
 mod audit;
 mod book;
+mod edges;
 mod entries;
-mod graph;
 mod held;
 mod keys;
 mod line;
 mod live;
 mod moments;
 mod reach;
+mod row_index;
 mod text;
 
 use crate::ask::USAGE;

@@ -1,118 +1,219 @@
 //! What can be computed from what is in memory: keys that were not made yet, and bytes of later lines.
-use crate::graph::Graph;
+ghost use Rattle.std.specs.Prelude.{◌≡◌, ◌++◌, IfOk, OnOk, IsPermutation, IsSortedByKey, map};
+ghost use Rattle.std.specs.BTreeSet.{contains};
+ghost use Rattle.std.specs.List.Sorted.{IsStableByKey};
+ghost use Rattle.key_names.specs.contracts.names.KeyNameOrd.TheImpl.{ghosts as names};
+ghost use Rattle.key_rows.specs.contracts.moments.LineOrd.TheImpl.{ghosts as lines};
+ghost use Rattle.key_audit.specs.Reach.{TellsReached, copied_bytes, copied_lines, copied_piece, copied_row, copied_text};
+ghost use Rattle.key_audit.specs.Reach.{has_piece, is_in_rest, is_line, line_begin, line_end, next_lines, rest_keys};
+ghost use Rattle.key_audit.specs.Reach.{row_rest_keys};
+
+use crate::edges::{edges_of, reached_by, set_of};
 use crate::held::put_kept;
 use crate::text::{Text, moment_at};
-use key_names::Span;
-use key_rows::held::HeldRest;
+use key_names::{KeyName, Span};
+use key_rows::held::{HeldKey, HeldRest};
 use key_rows::moments::{Line, Moments};
 use key_rows::rows::{Fate, Piece, Row};
 use std::alloc::{AllocError, Global};
+use std::collections::BTreeSet;
 
-/// Bytes that were copied out for a line.
+/// Bytes of a key that were copied out for a line.
 #[derive(Clone, Copy)]
-struct Reached {
+struct Copied {
     line: Line,
-    /// The number of their key's row.
-    row: usize,
     span: Span,
 }
 
-// Whether the key of each row is held, given the numbers of those that are.
-fn held_marks(alloc: Global, rows: usize, numbers: &[usize]) -> Result<Vec<bool>, AllocError> {
-    let mut is_held = vec![in alloc; false; rows]?;
-    for number in numbers {
-        if let Some(mark) = is_held.get_mut(*number) {
-            *mark = true;
-        }
-    }
-    Ok(is_held)
+// Whether the first byte of a piece is in the rest of a batch.
+fn has_piece(rest: &HeldRest, piece: &Piece) -> bool
+    ensures { result ≡ has_piece rest.now piece.now }
+{
+    rest.span.key == piece.span.key
+        && rest.span.from <= piece.span.from
+        && piece.span.from - rest.span.from < rest.span.len
 }
 
-// Whether a piece is of the rest of a batch that is held.
-fn is_in_rest(rests: &[HeldRest], piece: &Piece) -> bool {
-    rests.iter().any(|rest| {
-        rest.span.key == piece.span.key
-            && rest.span.from <= piece.span.from
-            && piece.span.from < rest.span.from.saturating_add(rest.span.len)
-    })
+fn is_in_rest(rests: &[HeldRest], piece: &Piece) -> bool
+    ensures { result ≡ is_in_rest rests.now piece.now }
+{
+    rests.iter().any(|rest| has_piece(rest, piece))
 }
 
-/// What can be computed from what is held.
-#[derive(Clone, Copy)]
-struct Reach<'a> {
-    moments: &'a Moments,
-    rows: &'a [Row],
-    rests: &'a [HeldRest],
-    /// Whether the key of each row is held, or computed from keys that are.
-    known: &'a [bool],
-}
-
-impl Reach<'_> {
-    fn reached(&self, row: usize, piece: &Piece) -> Option<Reached> {
-        let is_known = self.known.get(row).copied().unwrap_or(false);
-        match piece.fate {
-            Fate::Served(by) if is_known || is_in_rest(self.rests, piece) => Some(Reached {
-                line: moment_at(self.moments, by).line,
-                row,
-                span: piece.span,
-            }),
-            _ => None,
-        }
-    }
-
-    // All bytes that can be computed, line by line.
-    fn all(&self, alloc: Global) -> Result<Vec<Reached>, AllocError> {
-        let mut all = Vec::new(alloc);
-        for (number, row) in self.rows.iter().enumerate() {
-            for piece in &row.pieces {
-                if let Some(reached) = self.reached(number, piece) {
-                    all.push(reached)?;
-                }
+// Adds the keys that bytes of rests became, of a row.
+fn push_rest_keys(keys: &mut Vec<KeyName>, rests: &[HeldRest], row: &Row) -> Result<(), AllocError>
+    ensures { OnOk result (keys.new.items ≡ keys.old.items ++ row_rest_keys rests.now row.now) }
+{
+    for piece in &row.pieces {
+        if let Fate::Became(key) = piece.fate {
+            if is_in_rest(rests, piece) {
+                keys.push(key)?;
             }
         }
-        all.sort_by_key(|one| (one.line.caller, one.line.event, one.row, one.span.from))?;
-        Ok(all)
-    }
-}
-
-fn put_lines(text: &mut Text, all: &[Reached]) -> Result<(), AllocError> {
-    let mut last = None;
-    for reached in all {
-        if last != Some(reached.line) {
-            if last.is_some() {
-                text.word("\n")?;
-            }
-            text.word("line ")?;
-            text.line(reached.line)?;
-            last = Some(reached.line);
-        }
-        text.word(" ")?;
-        text.span(reached.span)?;
-        text.word("<")?;
-        text.name(reached.span.key)?;
-    }
-    if last.is_some() {
-        text.word("\n")?;
     }
     Ok(())
 }
 
+// Some keys, and those that bytes of rests became.
+fn with_rest_keys(
+    alloc: Global,
+    keys: &[KeyName],
+    rests: &[HeldRest],
+    rows: &[Row],
+) -> Result<Vec<KeyName>, AllocError>
+    ensures { IfOk result (λ all. all.items ≡ keys.now ++ rest_keys rests.now rows.now) }
+{
+    let mut all = Vec::from_slice(alloc, keys)?;
+    for row in rows {
+        push_rest_keys(&mut all, rests, row)?;
+    }
+    Ok(all)
+}
+
+// Adds the bytes of a piece, if they were served and can be computed.
+fn push_piece(
+    all: &mut Vec<Copied>,
+    moments: &Moments,
+    is_known: bool,
+    rests: &[HeldRest],
+    piece: &Piece,
+) -> Result<(), AllocError>
+    ensures { OnOk result (all.new.items
+        ≡ all.old.items ++ copied_piece moments.now is_known rests.now piece.now) }
+{
+    if is_known || is_in_rest(rests, piece) {
+        if let Fate::Served(by) = piece.fate {
+            all.push(Copied {
+                line: moment_at(moments, by).line,
+                span: piece.span,
+            })?;
+        }
+    }
+    Ok(())
+}
+
+fn push_row(
+    all: &mut Vec<Copied>,
+    moments: &Moments,
+    known: &BTreeSet<KeyName>,
+    rests: &[HeldRest],
+    row: &Row,
+) -> Result<(), AllocError>
+    ensures { OnOk result (all.new.items
+        ≡ all.old.items ++ copied_row moments.now (contains names.cmp known.now) rests.now row.now) }
+{
+    let is_known = known.contains(&row.key);
+    for piece in &row.pieces {
+        push_piece(all, moments, is_known, rests, piece)?;
+    }
+    Ok(())
+}
+
+// The bytes that were served and can be computed, in the order of the rows.
+fn copied_bytes(
+    alloc: Global,
+    moments: &Moments,
+    known: &BTreeSet<KeyName>,
+    rests: &[HeldRest],
+    rows: &[Row],
+) -> Result<Vec<Copied>, AllocError>
+    ensures { IfOk result (λ all. all.items
+        ≡ copied_bytes moments.now (contains names.cmp known.now) rests.now rows.now) }
+{
+    let mut all = Vec::new(alloc);
+    for row in rows {
+        push_row(&mut all, moments, known, rests, row)?;
+    }
+    Ok(all)
+}
+
+// Line by line, and those of a line as they stand.
+fn sort_by_line(all: &mut Vec<Copied>) -> Result<(), AllocError>
+    ensures each { IsPermutation all.old.items all.new.items }
+    ensures ordered { OnOk result (IsSortedByKey (λ one. one.line) lines.cmp all.new.items) }
+    ensures stable { OnOk result (IsStableByKey (λ one. one.line) lines.cmp all.old.items all.new.items) }
+{
+    all.sort_by_key(|one| one.line)?;
+    Ok(())
+}
+
+fn end_line(text: &mut Text, last: Option<Line>) -> Result<(), AllocError>
+    ensures { OnOk result (text.new.bytes.items ≡ text.old.bytes.items ++ line_end last) }
+{
+    match last {
+        Some(_) => text.word("\n"),
+        None => Ok(()),
+    }
+}
+
+fn is_line(last: Option<Line>, line: Line) -> bool
+    ensures { result ≡ is_line last line }
+{
+    match last {
+        Some(last) => last == line,
+        None => false,
+    }
+}
+
+// Begins a line, unless the last bytes are of the same one.
+fn begin_line(text: &mut Text, last: Option<Line>, line: Line) -> Result<(), AllocError>
+    ensures { OnOk result (text.new.bytes.items ≡ text.old.bytes.items ++ line_begin last line) }
+{
+    if is_line(last, line) {
+        return Ok(());
+    }
+    end_line(text, last)?;
+    text.word("line ")?;
+    text.line(line)
+}
+
+fn put_copied(text: &mut Text, one: Copied) -> Result<(), AllocError>
+    ensures { OnOk result (text.new.bytes.items ≡ text.old.bytes.items ++ copied_text one) }
+{
+    text.word(" ")?;
+    text.span(one.span)?;
+    text.word("<")?;
+    text.name(one.span.key)
+}
+
+fn put_lines(text: &mut Text, all: &[Copied]) -> Result<(), AllocError>
+    ensures { OnOk result (text.new.bytes.items ≡ text.old.bytes.items ++ copied_lines all.now) }
+{
+    let mut last = None;
+    for one in all {
+        begin_line(text, last, one.line)?;
+        put_copied(text, *one)?;
+        last = Some(one.line);
+    }
+    end_line(text, last)
+}
+
+// Adds the lines of keys that can be computed and are not held.
 fn put_next(
     text: &mut Text,
     moments: &Moments,
+    held: &BTreeSet<KeyName>,
+    known: &BTreeSet<KeyName>,
     rows: &[Row],
-    is_held: &[bool],
-    known: &[bool],
-) -> Result<(), AllocError> {
-    for (number, row) in rows.iter().enumerate() {
-        if known.get(number) == Some(&true) && is_held.get(number) == Some(&false) {
+) -> Result<(), AllocError>
+    ensures { OnOk result (text.new.bytes.items ≡ text.old.bytes.items
+        ++ next_lines moments.now (contains names.cmp held.now) (contains names.cmp known.now) rows.now) }
+{
+    for row in rows {
+        if known.contains(&row.key) && !held.contains(&row.key) {
             put_kept(text, "next ", moments, row)?;
         }
     }
     Ok(())
 }
 
-/// The lines of what can be computed from the keys of the rows of these numbers, and from these rests of batches.
+fn names_of(alloc: Global, keys: &[HeldKey]) -> Result<Vec<KeyName>, AllocError>
+    ensures { IfOk result (λ names. names.items ≡ map (λ held. held.key) keys.now) }
+{
+    keys.iter().map(|held| held.key).collect(alloc)
+}
+
+/// The lines of what can be computed from these keys and these rests of batches.
 ///
 /// # Errors
 ///
@@ -120,22 +221,22 @@ fn put_next(
 pub(crate) fn reached_text(
     alloc: Global,
     moments: &Moments,
-    graph: &Graph<'_>,
-    numbers: &[usize],
+    rows: &[Row],
+    keys: &[HeldKey],
     rests: &[HeldRest],
-) -> Result<Vec<u8>, AllocError> {
-    let rows = graph.rows();
-    let is_held = held_marks(alloc, rows.len(), numbers)?;
-    let mut known = Vec::from_slice(alloc, &is_held)?;
-    graph.mark_behind(&mut known);
+) -> Result<Vec<u8>, AllocError>
+    ensures { IfOk result (λ text.
+        TellsReached moments.now rows.now (map (λ held. held.key) keys.now) rests.now text.items) }
+{
+    let names = names_of(alloc, keys)?;
+    let edges = edges_of(alloc, rows)?;
+    let held = set_of(alloc, &names)?;
+    let start = with_rest_keys(alloc, &names, rests, rows)?;
+    let known = reached_by(alloc, &edges, &start)?;
+    let mut copied = copied_bytes(alloc, moments, &known, rests, rows)?;
+    sort_by_line(&mut copied)?;
     let mut text = Text::new(alloc);
-    put_next(&mut text, moments, rows, &is_held, &known)?;
-    let reach = Reach {
-        moments,
-        rows,
-        rests,
-        known: &known,
-    };
-    put_lines(&mut text, &reach.all(alloc)?)?;
+    put_next(&mut text, moments, &held, &known, rows)?;
+    put_lines(&mut text, &copied)?;
     Ok(text.bytes)
 }

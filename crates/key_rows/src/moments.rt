@@ -7,7 +7,7 @@ use key_names::LaneId;
 use key_uses::used::Origin;
 
 /// A line of a transcript, by its caller and its event.
-#[derive(Clone, Copy, Debug, PartialEq, Eq)]
+#[derive(Clone, Copy, Debug, PartialEq, Eq, PartialOrd, Ord)]
 pub struct Line {
     pub caller: u32,
     pub event: u32,

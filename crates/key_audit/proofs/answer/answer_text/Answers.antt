@@ -1,6 +1,6 @@
 use Rattle.key_names.specs.IsTranscript.{script_calls}
 use Rattle.key_audit.specs.Live.{calls_over}
-use Rattle.key_audit.proofs.Ends.{any_ok, live_told}
+use Rattle.key_audit.proofs.Ends.{live_told}
 use Rattle.key_audit.proofs.answer.answer_text.Goals as goal
 
 pub returns-in_default : goal.returns-in_default
@@ -23,4 +23,7 @@ returns-in-Live c sound =
     (c.live_text.ensures c.args.t.now callers sound.book sound.meanings keeps))
 
 pub returns : goal.returns
-returns c sound = rw c.in-Line.is (any_ok c.sources_text.result)
+returns c sound =
+    let keeps = rw c.in-Some.is at (c.in_ok-book.ensures sound.book sound.meanings sound.lawful) in
+    let callers = script_calls c.args.script.now c.args.t.now in
+    rw c.in-Line.is (c.sources_text.ensures c.args.t.now callers sound.book sound.meanings keeps)

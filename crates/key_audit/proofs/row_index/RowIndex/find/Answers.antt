@@ -1,6 +1,6 @@
 use Rattle.std.proofs.Common.{sym, ◌∙◌}
 use Rattle.key_audit.proofs.Index.{found, none}
-use Rattle.key_audit.proofs.graph.Graph.find.Goals as goal
+use Rattle.key_audit.proofs.row_index.RowIndex.find.Goals as goal
 
 pub returns-clause-found : goal.returns-clause-found
 returns-clause-found c =

@@ -2,7 +2,7 @@ use Rattle.std.proofs.Common.{ap, refl}
 use Rattle.std.specs.Prelude.{length, option_map}
 use Rattle.std.proofs.lemmas.Option.{slice_get_read}
 use Rattle.key_audit.proofs.Index.{added}
-use Rattle.key_audit.proofs.graph.Graph.of.Goals as goal
+use Rattle.key_audit.proofs.row_index.RowIndex.of.Goals as goal
 
 pub loop-number-preserved : goal.loop-number-preserved
 loop-number-preserved c =

@@ -1,0 +1,114 @@
+-- What can be computed from what is in memory: keys that were not made yet, and bytes of later lines.
+use Rattle.std.specs.Prelude.{ℕ, Bool, false, not, ◌&&◌, ◌||◌, ◌↔◌, ◌≡◌, Option, Some, None, List, [], ◌∷◌, ◌++◌, codes}
+use Rattle.std.specs.Prelude.{filter, nat_le, nat_lt, ◌-◌, if◌then◌else◌, Contains, IsTrue, IsPermutation, IsSortedByKey}
+use Rattle.std.specs.List.{flat_map, list_any}
+use Rattle.std.specs.List.Sorted.{IsStableByKey}
+use Rattle.key_names.specs.declared.names.KeyName.{KeyName}
+use Rattle.key_names.specs.contracts.names.KeyNamePartialEq.TheImpl.{ghosts as names}
+use Rattle.key_rows.specs.declared.held.HeldRest.{HeldRest}
+use Rattle.key_rows.specs.declared.moments.Line.{Line}
+use Rattle.key_rows.specs.contracts.moments.LineOrd.TheImpl.{ghosts as lines}
+use Rattle.key_rows.specs.contracts.moments.LinePartialEq.TheImpl.{ghosts as same_lines}
+use Rattle.key_rows.specs.declared.moments.Moments.{Moments}
+use Rattle.key_rows.specs.declared.rows.Fate.{Fate}
+use Rattle.key_rows.specs.declared.rows.Fate.TheVariants.{Became, Served, GivenUp, Held}
+use Rattle.key_rows.specs.declared.rows.Piece.{Piece}
+use Rattle.key_rows.specs.declared.rows.Row.{Row}
+use Rattle.key_audit.specs.Edges.{IsReached, edges_of}
+use Rattle.key_audit.specs.Live.{kept_line}
+use Rattle.key_audit.specs.Texts.{line_text, moment_at, name_text, span_text}
+use Rattle.key_audit.specs.declared.reach.Copied.{Copied}
+
+-- ---- keys
+
+-- whether the first byte of a piece is in the rest of a batch
+abbrev pub has_piece : HeldRest → Piece → Bool
+has_piece rest piece = names.eq rest.span.key piece.span.key
+    && (nat_le rest.span.from piece.span.from && nat_lt (piece.span.from - rest.span.from) rest.span.len)
+
+abbrev pub is_in_rest : List HeldRest → Piece → Bool
+is_in_rest rests piece = list_any (λ rest. has_piece rest piece) rests
+
+-- the keys that bytes of these rests became
+abbrev pub rest_key : List HeldRest → Piece → Fate → List KeyName
+rest_key rests piece (Became key) = if is_in_rest rests piece then key ∷ [] else []
+rest_key rests piece (Served by) = []
+rest_key rests piece (GivenUp by) = []
+rest_key rests piece Held = []
+
+abbrev pub row_rest_keys : List HeldRest → Row → List KeyName
+row_rest_keys rests row = flat_map (λ piece. rest_key rests piece piece.fate) row.pieces.items
+
+abbrev pub rest_keys : List HeldRest → List Row → List KeyName
+rest_keys rests rows = flat_map (row_rest_keys rests) rows
+
+-- the rows of keys that can be computed and are not held, in the rows' order
+abbrev pub next_lines : Moments → (KeyName → Bool) → (KeyName → Bool) → List Row → List ℕ
+next_lines moments is_held is_known rows =
+    flat_map (kept_line (codes "next ") moments) (filter (λ row. is_known row.key && not (is_held row.key)) rows)
+
+-- ---- bytes that were copied out
+
+-- bytes that an entry served, with the line of the entry
+abbrev pub copied_at : Moments → Piece → Fate → List Copied
+copied_at moments piece (Served by) = record { line = (moment_at moments by).line; span = piece.span } ∷ []
+copied_at moments piece (Became key) = []
+copied_at moments piece (GivenUp by) = []
+copied_at moments piece Held = []
+
+-- where their key can be computed, or where they are in a rest that is held
+abbrev pub copied_piece : Moments → Bool → List HeldRest → Piece → List Copied
+copied_piece moments is_known rests piece =
+    if is_known || is_in_rest rests piece then copied_at moments piece piece.fate else []
+
+abbrev pub copied_row : Moments → (KeyName → Bool) → List HeldRest → Row → List Copied
+copied_row moments is_known rests row =
+    flat_map (copied_piece moments (is_known row.key) rests) row.pieces.items
+
+abbrev pub copied_bytes : Moments → (KeyName → Bool) → List HeldRest → List Row → List Copied
+copied_bytes moments is_known rests rows = flat_map (copied_row moments is_known rests) rows
+
+-- ---- their lines
+
+abbrev pub copied_text : Copied → List ℕ
+copied_text one = codes " " ++ span_text one.span ++ codes "<" ++ name_text one.span.key
+
+-- the end of a line, if one was begun
+abbrev pub line_end : Option Line → List ℕ
+line_end None = []
+line_end (Some line) = 10 ∷ []
+
+abbrev pub is_line : Option Line → Line → Bool
+is_line None line = false
+is_line (Some last) line = same_lines.eq last line
+
+-- the beginning of a line, after the end of the last one
+abbrev pub line_begin : Option Line → Line → List ℕ
+line_begin last line = if is_line last line then [] else line_end last ++ codes "line " ++ line_text line
+
+-- the lines of bytes that stand after bytes of this line
+abbrev pub lines_after : Option Line → List Copied → List ℕ
+lines_after last [] = line_end last
+lines_after last (one ∷ more) =
+    line_begin last one.line ++ copied_text one ++ lines_after (Some one.line) more
+
+abbrev pub copied_lines : List Copied → List ℕ
+copied_lines copied = lines_after None copied
+
+-- ---- what is told
+
+-- the lines of what can be computed from these keys and these rests of batches
+pub record TellsReached (moments : Moments) (rows : List Row) (keys : List KeyName) (rests : List HeldRest)
+    (output : List ℕ) : Type 0 where
+  -- which keys are held
+  pub is_held : KeyName → Bool
+  pub held : (key : KeyName) → IsTrue (is_held key) ↔ Contains keys key
+  -- which can be computed: these and those that bytes of the rests became, and those that their bytes became, key by key
+  pub is_known : KeyName → Bool
+  pub known : (key : KeyName) → IsTrue (is_known key) ↔ IsReached (edges_of rows) (keys ++ rest_keys rests rows) key
+  -- the bytes of them, and of the rests, that were copied out: line by line, and those of a line in the rows' order
+  pub copied : List Copied
+  pub each : IsPermutation (copied_bytes moments is_known rests rows) copied
+  pub ordered : IsSortedByKey (λ one. one.line) lines.cmp copied
+  pub stable : IsStableByKey (λ one. one.line) lines.cmp (copied_bytes moments is_known rests rows) copied
+  pub text : output ≡ next_lines moments is_held is_known rows ++ copied_lines copied

@@ -1,0 +1,107 @@
+-- Where the bytes of a line come from.
+use Rattle.std.specs.Prelude.{ℕ, ◌≡◌, ◌+◌, ◌↔◌, Bool, true, false, not, ◌&&◌, Option, Some, None, List, [], ◌∷◌, ◌++◌, codes, map}
+use Rattle.std.specs.Prelude.{filter, length, option_and_then, reverse, slice_get, take, IsTrue}
+use Rattle.std.specs.Fmt.{decimal}
+use Rattle.std.specs.List.{flat_map, list_any}
+use Rattle.key_names.specs.declared.entries.PoolEntry.{PoolEntry}
+use Rattle.key_names.specs.declared.entries.PoolEntry.TheVariants.{Mix, Input, Bits, Extract}
+use Rattle.key_names.specs.declared.events.Event.{Event}
+use Rattle.key_names.specs.declared.events.Event.TheVariants.{Bits as BitsEvent, Credit}
+use Rattle.key_names.specs.declared.names.KeyName.{KeyName}
+use Rattle.key_names.specs.declared.names.KeyName.TheVariants.{Root, Base, Cpu, Call, Vdso}
+use Rattle.key_names.specs.declared.names.LaneId.TheVariants.{Pool as PoolLane}
+use Rattle.key_names.specs.Book.{Book, Visit, entries_of}
+use Rattle.key_names.specs.PoolList.{pool_after}
+use Rattle.key_names.specs.Texts.ScriptGrammar.{Script}
+use Rattle.key_uses.specs.declared.used.Origin.TheVariants.{Lane}
+use Rattle.key_rows.specs.declared.moments.Line.{Line}
+use Rattle.key_rows.specs.contracts.moments.LinePartialEq.TheImpl.{ghosts as same_lines}
+use Rattle.key_rows.specs.declared.moments.Moments.{Moments}
+use Rattle.key_rows.specs.declared.rows.Fate.{Fate}
+use Rattle.key_rows.specs.declared.rows.Fate.TheVariants.{Became, Served, GivenUp, Held}
+use Rattle.key_rows.specs.declared.rows.Row.{Row}
+use Rattle.key_audit.specs.declared.edges.Edge.{Edge}
+use Rattle.key_audit.specs.Edges.{IsReached, edges_of, turned}
+use Rattle.key_audit.specs.Texts.{entry_text, moment_at, name_text, rows_text}
+
+-- ---- keys
+
+-- whether bytes were copied out for a line
+abbrev pub is_served_for : Moments → Line → Fate → Bool
+is_served_for moments line (Served by) = same_lines.eq (moment_at moments by).line line
+is_served_for moments line (Became key) = false
+is_served_for moments line (GivenUp by) = false
+is_served_for moments line Held = false
+
+abbrev pub serves : Moments → Line → Row → Bool
+serves moments line row = list_any (λ piece. is_served_for moments line piece.fate) row.pieces.items
+
+-- the keys whose bytes were copied out for a line
+abbrev pub serving : Moments → Line → List Row → List KeyName
+serving moments line rows = map (λ row. row.key) (filter (serves moments line) rows)
+
+-- from each key to those whose bytes became it
+abbrev pub edges_back : List Row → List Edge
+edges_back rows = map turned (reverse (edges_of rows))
+
+-- ---- extractions
+
+abbrev pub event_at : Script → ℕ → ℕ → Option Event
+event_at script caller event = option_and_then (λ events. slice_get events event) (slice_get script.callers caller)
+
+-- an event hands a sample to the pool, unless it asks for bits or credits them
+abbrev pub hands_sample : Option Event → Bool
+hands_sample None = false
+hands_sample (Some BitsEvent) = false
+hands_sample (Some (Credit bits)) = false
+hands_sample (Some _) = true
+
+abbrev pub is_extraction : PoolEntry → Bool
+is_extraction (Mix text bits) = false
+is_extraction (Input word kind code value now) = false
+is_extraction Bits = false
+is_extraction (Extract hw base_place) = true
+
+-- whether a visit of the pool was made for a sample
+abbrev pub is_sample : Script → Visit PoolEntry → Bool
+is_sample script v = not (is_extraction v.entry) && hands_sample (event_at script v.who.caller v.who.event)
+
+-- how many samples were handed to the pool before a place
+abbrev pub samples_before : Script → Book → ℕ → ℕ
+samples_before script book place = length (filter (is_sample script) (take place book.pool))
+
+-- the bits that the pool had there, if it has an entry there
+abbrev pub bits_at : List PoolEntry → ℕ → Option PoolEntry → ℕ
+bits_at pool place None = 0
+bits_at pool place (Some entry) = (pool_after (take place pool)).bits
+
+abbrev pub bits_before : Book → ℕ → ℕ
+bits_before book place = bits_at (entries_of book.pool) place (slice_get (entries_of book.pool) place)
+
+abbrev pub root_text : Moments → ℕ → List ℕ
+root_text moments place =
+    codes "extraction " ++ name_text (Root place) ++ codes " " ++ entry_text moments (Lane PoolLane place)
+
+abbrev pub counts_text : ℕ → ℕ → List ℕ
+counts_text samples bits = codes " samples " ++ decimal samples ++ codes " bits " ++ decimal bits ++ 10 ∷ []
+
+-- the line of the extraction that made a root, of which so many samples and bits are told
+abbrev pub extraction_text : Moments → (ℕ → ℕ) → (ℕ → ℕ) → KeyName → List ℕ
+extraction_text moments samples bits (Root place) =
+    root_text moments place ++ counts_text (samples place) (bits place)
+extraction_text moments samples bits (Base place) = []
+extraction_text moments samples bits (Cpu c place) = []
+extraction_text moments samples bits (Call lane place) = []
+extraction_text moments samples bits (Vdso caller state n) = []
+
+-- ---- what is told
+
+-- the rows of the keys that the bytes of a line come from, the last made first, and the extractions of their roots
+pub record TellsSources (moments : Moments) (rows : List Row) (line : Line) (samples bits : ℕ → ℕ)
+    (output : List ℕ) : Type 0 where
+  -- whether bytes of a key were copied out for the line, or became one whose bytes were, key by key
+  pub is_source : KeyName → Bool
+  pub sources : (key : KeyName) → IsTrue (is_source key) ↔ IsReached (edges_back rows) (serving moments line rows) key
+  pub text : output ≡ rows_text moments (filter (λ row. is_source row.key) (reverse rows))
+      ++ flat_map (λ row. extraction_text moments samples bits row.key)
+      (filter (λ row. is_source row.key) (reverse rows))

@@ -1,0 +1,124 @@
+//! Which keys' bytes became which keys, and the keys that such edges lead to.
+ghost use Rattle.std.specs.Prelude.{◌≡◌, ◌++◌, ◌↔◌, IfOk, OnOk, IsTrue, Contains, map, reverse};
+ghost use Rattle.std.specs.BTreeSet.{contains};
+ghost use Rattle.key_names.specs.declared.names.KeyName.{KeyName as BookName};
+ghost use Rattle.key_names.specs.contracts.names.KeyNameOrd.TheImpl.{ghosts as names};
+ghost use Rattle.key_audit.specs.Edges.{Follows, HasPassed, IsReached, edges_of, row_edges, turned};
+
+use key_names::KeyName;
+use key_rows::rows::{Fate, Row};
+use std::alloc::{AllocError, Global};
+use std::collections::BTreeSet;
+
+/// Bytes of one key became another.
+#[derive(Clone, Copy)]
+pub(crate) struct Edge {
+    pub(crate) from: KeyName,
+    pub(crate) to: KeyName,
+}
+
+// Adds an edge for each key that bytes of a row became.
+fn push_edges(edges: &mut Vec<Edge>, row: &Row) -> Result<(), AllocError>
+    ensures { OnOk result (edges.new.items ≡ edges.old.items ++ row_edges row.now) }
+{
+    for piece in &row.pieces {
+        if let Fate::Became(to) = piece.fate {
+            edges.push(Edge { from: row.key, to })?;
+        }
+    }
+    Ok(())
+}
+
+/// The edges of rows, in their order.
+///
+/// # Errors
+///
+/// `AllocError` where there is no memory for them.
+pub(crate) fn edges_of(alloc: Global, rows: &[Row]) -> Result<Vec<Edge>, AllocError>
+    ensures { IfOk result (λ edges. edges.items ≡ edges_of rows.now) }
+{
+    let mut edges = Vec::new(alloc);
+    for row in rows {
+        push_edges(&mut edges, row)?;
+    }
+    Ok(edges)
+}
+
+fn turned(edge: Edge) -> Edge
+    ensures { result ≡ turned edge }
+{
+    Edge {
+        from: edge.to,
+        to: edge.from,
+    }
+}
+
+/// Edges from the keys that were made to those that they were made of, the last first.
+///
+/// # Errors
+///
+/// `AllocError` where there is no memory for them.
+pub(crate) fn edges_back(alloc: Global, edges: &[Edge]) -> Result<Vec<Edge>, AllocError>
+    ensures { IfOk result (λ back. back.items ≡ map turned (reverse edges.now)) }
+{
+    edges.iter().rev().map(|edge| turned(*edge)).collect(alloc)
+}
+
+/// The set of some keys.
+///
+/// # Errors
+///
+/// `AllocError` where there is no memory for it.
+pub(crate) fn set_of(alloc: Global, keys: &[KeyName]) -> Result<BTreeSet<KeyName>, AllocError>
+    ensures { (key : BookName) → IfOk result (λ set. IsTrue (contains names.cmp set key) ↔ Contains keys.now key) }
+{
+    let mut set = BTreeSet::new(alloc);
+    for key in keys {
+        set.insert(*key)?;
+    }
+    Ok(set)
+}
+
+// Goes along an edge from a known key, and says whether it leads to a new one.
+fn follow(known: &mut BTreeSet<KeyName>, edge: Edge) -> Result<bool, AllocError>
+    ensures { IfOk result (λ more. Follows edge known.old known.new more) }
+{
+    if known.contains(&edge.from) {
+        return Ok(known.insert(edge.to)?);
+    }
+    Ok(false)
+}
+
+// Goes along each edge from a known key, and says whether one leads to a new key.
+fn pass(known: &mut BTreeSet<KeyName>, edges: &[Edge]) -> Result<bool, AllocError>
+    ensures { IfOk result (λ more. HasPassed edges.now known.old known.new more) }
+{
+    let mut more = false;
+    for edge in edges {
+        if follow(known, *edge)? {
+            more = true;
+        }
+    }
+    Ok(more)
+}
+
+/// The keys that edges lead to from these, and these.
+///
+/// # Errors
+///
+/// `AllocError` where there is no memory for them.
+pub(crate) fn reached_by(
+    alloc: Global,
+    edges: &[Edge],
+    start: &[KeyName],
+) -> Result<BTreeSet<KeyName>, AllocError>
+    ensures { (key : BookName) →
+        IfOk result (λ known. IsTrue (contains names.cmp known key) ↔ IsReached edges.now start.now key) }
+{
+    let mut known = set_of(alloc, start)?;
+    let mut more = true;
+    while more {
+        more = pass(&mut known, edges)?;
+    }
+    Ok(known)
+}

@@ -1,0 +1,43 @@
+//! The rows of a book, found by the names of their keys.
+ghost use Rattle.std.specs.Prelude.{◌≡◌, ◌≢◌, ℕ, IfOk, IfSome, None, Some, length};
+ghost use Rattle.key_audit.specs.Index.{IsIndexTo};
+ghost use Rattle.key_audit.specs.Live.{name_at};
+
+use key_names::KeyName;
+use key_rows::rows::Row;
+use std::alloc::{AllocError, Global};
+use std::collections::BTreeMap;
+
+/// The rows of a book by the names of their keys.
+#[derive(Drop)]
+pub(crate) struct RowIndex<'a> {
+    rows: &'a [Row],
+    /// The number of the row of each key.
+    by_name: BTreeMap<KeyName, usize>,
+    ghost indexed: { IsIndexTo (length rows.now) rows.now by_name },
+}
+
+impl<'a> RowIndex<'a> {
+    /// The index of some rows.
+    ///
+    /// # Errors
+    ///
+    /// `AllocError` where there is no memory for it.
+    pub(crate) fn of(alloc: Global, rows: &'a [Row]) -> Result<RowIndex<'a>, AllocError>
+        ensures { IfOk result (λ index. index.rows.now ≡ rows.now) }
+    {
+        let mut by_name = BTreeMap::new(alloc);
+        for (number, row) in rows.iter().enumerate() {
+            by_name.insert(row.key, number)?;
+        }
+        Ok(RowIndex { rows, by_name })
+    }
+
+    /// The number of the row of a key, or `None` where no row is of this key.
+    pub(crate) fn find(&self, key: KeyName) -> Option<usize>
+        ensures found { IfSome result (λ n. name_at self.now.rows.now n ≡ Some key) }
+        ensures none { result ≡ None → (n : ℕ) → name_at self.now.rows.now n ≢ Some key }
+    {
+        self.by_name.get(&key).copied()
+    }
+}
