@@ -4,6 +4,7 @@ pub mod Runs
 pub mod ShownBytes
 pub mod Completes
 pub mod Loads
+pub mod Unread
 pub mod VforkWords
 pub mod WrittenLines
 pub mod Running

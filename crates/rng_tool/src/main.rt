@@ -48,6 +48,7 @@ const GATHERED: usize = 64 * 1024;
 
 /// Runs the command of the words over this source, and gathers its output for the writer. It answers how that ended, and
 /// beside it the fault of an input that was refused (tested).
+#[tactic(auto, using(crate::proofs::Unread::unread_judge, crate::proofs::Unread::unread_run))]
 fn run_gathered<R: Threads + Wait + Sync, S: Source, O: Write + Drop>(
     rt: &R,
     alloc: Global,
