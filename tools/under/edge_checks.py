@@ -81,10 +81,11 @@ def check_left_root():
 # ---- Ends -----------------------------------------------------------------------------------------------------------
 
 def check_kill(name, words):
-    """Killed, it takes with it what it started; the next run takes its folder."""
+    """Killed, it takes with it what it started, even if its caller blocked signals; the next run takes its folder."""
     above = folder(f"killed{name}")
     where = dict(os.environ, TMPDIR=above)
-    began = subprocess.Popen([UNDER, *words, "sh", "-c", LEFT], stdout=subprocess.PIPE, env=where)
+    began = subprocess.Popen([UNDER, *words, "sh", "-c", LEFT], stdout=subprocess.PIPE, env=where,
+                             preexec_fn=lambda: signal.pthread_sigmask(signal.SIG_BLOCK, {signal.SIGUSR1}))
     left = int(began.stdout.readline())
     with open(f"/proc/{left}/stat") as file:
         first = int(file.read().split(") ")[-1].split()[1])
