@@ -64,7 +64,7 @@ def check_daemons(name, words):
     return None
 
 
-def check_left_root():
+def check_left_root(can_trace):
     if os.geteuid() or not os.path.exists(checks.STATIC):
         return skip("preloaded: a program that is started in another root folder", "that takes root")
     there = folder("there")
@@ -73,8 +73,9 @@ def check_left_root():
     is_told = status == 0 and "changed its root folder" in err and "--supervise" in err
     tell("preloaded: a program in another root folder is told", "" if is_told else f"{status} {err}")
     path = os.path.join(ROOM, "record")
-    ran = under("--supervise", "--record", path, "chroot", there, "/caller_static", "forks")
-    tell("supervised: a program in another root folder", problem_of_record(path) if ran[0] == 0 else str(ran))
+    if can_trace:
+        ran = under("--supervise", "--record", path, "chroot", there, "/caller_static", "forks")
+        tell("supervised: a program in another root folder", problem_of_record(path) if ran[0] == 0 else str(ran))
     return None
 
 
@@ -114,6 +115,12 @@ def check_others_folder():
     out, _ = began.communicate(b"\n")
     is_well = ran[0] == began.returncode == 0 and len(out) == 16 and os.listdir(above) == ["rng-under.new"]
     tell("a run leaves the folder of another one alone", "" if is_well else f"{ran} {len(out)} {os.listdir(above)}")
+
+
+def check_nothing_asked(name, words):
+    status, _, err = under(*words, "true")
+    is_told = status == 0 and "nothing was asked for" in err
+    tell(f"{name}: a run in which nothing was asked says so", "" if is_told else f"{status} {err}")
 
 
 def check_orphans(name, words):
@@ -181,10 +188,6 @@ def check_seeds_and_folders():
     tell("a temporary folder with a long name", problem_of_record(path) if ran[0] == 0 else str(ran))
     ran = under(CALLER, "forks", env=dict(os.environ, TMPDIR="/nowhere"))
     tell("a temporary folder that is not there", "" if "Traceback" not in ran[2] and ran[0] in (0, 125) else str(ran))
-    for name, words in (("preloaded", []), ("supervised", ["--supervise"])):
-        status, _, err = under(*words, "true")
-        is_told = status == 0 and "nothing was asked for" in err
-        tell(f"{name}: a run in which nothing was asked says so", "" if is_told else f"{status} {err}")
     for what in ("count", "word"):
         status, _, err = under(EDGES, "damage", what)
         is_well = status == 125 and "was damaged" in err and "Traceback" not in err
@@ -221,7 +224,8 @@ def main():
         check_daemons(name, words)
         check_kill(name, words)
         check_orphans(name, words)
-    check_left_root()
+        check_nothing_asked(name, words)
+    check_left_root(can_trace=len(ways) > 1)
     check_others_folder()
     check_refusals()
     check_full_folder()
