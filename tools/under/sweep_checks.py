@@ -1,6 +1,7 @@
 """Checks of rng-under --sweep, of the faults of a prologue and of --still, with the callers of callers/judged: for each
 verdict one, and for each way to serve. Prints a line for each, and ends non-zero where one fails."""
 
+import concurrent.futures
 import json
 import os
 import shutil
@@ -70,18 +71,24 @@ def findings_of(path):
 
 # ---- Verdicts ----------------------------------------------------------------------------------------------------
 
+def problem_of_verdicts(words, name, cases):
+    """What is wrong with the verdicts of a caller, in the table, as JSON and as a status."""
+    path = os.path.join(ROOM, name + ".json")
+    seconds = "6" if name == "hangs" else "60"
+    status, out, err = sweep(*words, "--jobs", "2", "--seconds", seconds, "--json", path, "--only", ",".join(cases),
+                             caller(name))
+    rows = dict(line.split()[:2] for line in out.partition("\n\n")[0].splitlines() if line.split()[0] in cases)
+    found = {case: it["verdict"] for case, it in findings_of(path).items()}
+    if not rows == found == cases:
+        return f"{found}, and not {cases}: {err}"
+    return "" if status == int(bool(BAD.intersection(cases.values()))) else f"status {status}, {err}"
+
+
 def check_verdicts(way, words, wanted):
-    """The verdicts that the callers get, in the table, as JSON and as a status."""
-    path = os.path.join(ROOM, "json")
-    for name, cases in wanted.items():
-        seconds = "6" if name == "hangs" else "60"
-        status, out, err = sweep(*words, "--seconds", seconds, "--json", path, "--only", ",".join(cases), caller(name))
-        rows = dict(line.split()[:2] for line in out.partition("\n\n")[0].splitlines() if line.split()[0] in cases)
-        found = {case: it["verdict"] for case, it in findings_of(path).items()}
-        problem = "" if rows == found == cases else f"{found}, and not {cases}"
-        if status != int(bool(BAD.intersection(cases.values()))):
-            problem = problem or f"status {status}, {err}"
-        tell(f"{way}: sweep of {name}", problem)
+    with concurrent.futures.ThreadPoolExecutor(4) as pool:
+        problems = pool.map(lambda it: problem_of_verdicts(words, *it), wanted.items())
+        for name, problem in zip(wanted, problems):
+            tell(f"{way}: sweep of {name}", problem)
 
 
 def check_wrong_one():
