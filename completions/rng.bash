@@ -8,10 +8,12 @@ _rng() {
         at=$((at - 1))
         first=${COMP_WORDS[2]-}
     fi
-    if [[ $at -eq 1 && ${COMP_WORDS[1]} = try ]]; then
+    if [[ $first = audit && $at -eq 2 ]]; then
+        mapfile -t COMPREPLY < <(compgen -W 'keys live line --help' -- "$word")
+    elif [[ $at -eq 1 && ${COMP_WORDS[1]} = try ]]; then
         mapfile -t COMPREPLY < <(compgen -W 'run check replay load draw vfork feed' -- "$word")
     elif [[ $at -eq 1 ]]; then
-        mapfile -t COMPREPLY < <(compgen -W 'run check replay load draw vfork feed try --help --version' -- "$word")
+        mapfile -t COMPREPLY < <(compgen -W 'run check replay load draw vfork feed audit try clean --help --version' -- "$word")
     elif [[ ${COMP_WORDS[COMP_CWORD-1]} = '<' ]]; then
         mapfile -t COMPREPLY < <(compgen -f -X '!*.script' -- "$word")
     fi

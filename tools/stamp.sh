@@ -9,13 +9,18 @@
 # only touched costs one look.
 # shellcheck shell=sh
 
-own=crates/rng_tool/out/rng_tool
-program=${top:?}/$own
-stamp=$program.stands_for
+# choose CRATE: the program that the functions below speak of.
+choose() {
+    built=$1
+    own=crates/$built/out/$built
+    program=${top:?}/$own
+    stamp=$program.stands_for
+}
+choose rng_tool
 
 # The crates that the program stands on, each behind those that it needs itself, the program last.
 crates_in_order() {
-    awk -F: '
+    awk -F: -v built="$built" '
         function visit(name,    i, n, deps) {
             if (name in seen || !(name in needs)) return
             seen[name]
@@ -24,7 +29,7 @@ crates_in_order() {
             print name
         }
         !/^#/ && NF > 1 { split($1, words, " "); needs[words[1]] = $2 }
-        END { visit("rng_tool") }' "$top/crates.txt"
+        END { visit(built) }' "$top/crates.txt"
 }
 
 # The code and the definitions, which say what the program is and what is proved of it, as folders on one line. Proofs are

@@ -9,12 +9,16 @@ The program is `rng` at the top of the repository, or the one that RNG names. It
 with names that end in .gz are unpacked. Of a longer read a value is the first 4,096 bytes, which recorder.py notes.
 """
 
+import argparse
 import gzip
 import os
 import subprocess
 import sys
 
 TOP = os.path.dirname(os.path.dirname(os.path.dirname(os.path.abspath(__file__))))
+sys.path.insert(0, os.path.join(TOP, "tools"))
+import command  # noqa: E402
+
 SAMPLES = ("write", "device")
 LONGEST = 4096  # bytes of a value that recorder.py notes
 SURELY = 8  # digits: a value of so many does not come out equal by chance
@@ -27,8 +31,13 @@ def text_of(path):
 
 def values_of(text):
     """The numbers of events, and the digits that the kernel handed out in each."""
-    pairs = [line.split(" ") for line in text.splitlines()]
-    return [(int(number), digits) for number, digits in pairs]
+    values = []
+    for place, line in enumerate(text.splitlines(), 1):
+        number, _, digits = line.partition(" ")
+        if not number.isdecimal() or len(number) > 9 or digits.strip("0123456789abcdef"):
+            raise command.Fault(f"VALUES, line {place}: an event's number and its bytes are wanted, not {line[:60]!r}")
+        values.append((int(number), digits))
+    return values
 
 
 def changed(script):
@@ -38,14 +47,15 @@ def changed(script):
         if line.split(" ")[0] in SAMPLES and not line.endswith("-"):
             lines[place] = line[:-1] + ("1" if line[-1] == "0" else "0")
             return "\n".join(lines)
-    raise SystemExit("the script has no sample")
+    raise command.Fault("SCRIPT has no sample of some bytes in which a digit could be changed")
 
 
 def transcript_of(script, program):
     """The lines of the events, each as its fields."""
     ran = subprocess.run([program, "run"], input=script.encode(), stdout=subprocess.PIPE, check=False)
     if ran.returncode:
-        raise SystemExit(f"{program} ended with status {ran.returncode}: {ran.stdout[:80].decode(errors='replace')}")
+        said = ran.stdout[:80].decode(errors="replace").strip()
+        raise command.Fault(f"SCRIPT was not replayed: {program} ended with status {ran.returncode}: {said}")
     return [line.split(" ") for line in ran.stdout.decode().splitlines()[1:-1]]
 
 
@@ -56,6 +66,9 @@ def is_equal(fields, digits):
 
 def compare(values, transcript):
     """The values that came out equal, and those that did not, as places in the list."""
+    highest = max((number for number, _ in values), default=0)
+    if highest >= len(transcript):
+        raise command.Fault(f"VALUES has event {highest}, and SCRIPT has {len(transcript)} events: is it of another record?")
     equal = [place for place, (number, digits) in enumerate(values) if is_equal(transcript[number], digits)]
     kept = set(equal)
     return equal, [place for place in range(len(values)) if place not in kept]
@@ -70,10 +83,20 @@ def told(values, transcript, place):
     )
 
 
-def main(arguments):
-    is_changed = arguments[:1] == ["-c"]
-    script_path, values_path = arguments[is_changed:]
-    script, values = text_of(script_path), values_of(text_of(values_path))
+def arguments():
+    parser = argparse.ArgumentParser(
+        prog="compare.py", description="Replays a recorded boot, and compares its values with the kernel's.")
+    parser.add_argument("-c", dest="is_changed", action="store_true",
+                        help="change one digit of the first sample: no value of four bytes or more may be equal then")
+    parser.add_argument("script", metavar="SCRIPT", help="the script of a boot, as convert.py writes it")
+    parser.add_argument("values", metavar="VALUES", help="what the kernel handed out, as convert.py writes it")
+    return parser.parse_args()
+
+
+def main():
+    given = arguments()
+    is_changed, script_path = given.is_changed, given.script
+    script, values = text_of(script_path), values_of(text_of(given.values))
     program = os.environ.get("RNG", os.path.join(TOP, "rng"))
     transcript = transcript_of(changed(script) if is_changed else script, program)
     equal, other = compare(values, transcript)
@@ -86,4 +109,4 @@ def main(arguments):
 
 
 if __name__ == "__main__":
-    sys.exit(main(sys.argv[1:]))
+    command.end("compare.py", main)

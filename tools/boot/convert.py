@@ -13,11 +13,16 @@ that made this one, and before the reseed that made the next one. An order in wh
 a record that has none is refused. The values play no part in it.
 """
 
+import argparse
 import gzip
 import heapq
 import io
 import json
+import os
 import sys
+
+sys.path.insert(0, os.path.dirname(os.path.dirname(os.path.abspath(__file__))))
+import command  # noqa: E402
 
 LIMIT = 65536  # events of a script
 EARLY, FULL = 128, 256  # bits at which the core gets an early key, and becomes ready
@@ -142,10 +147,13 @@ class Reader:
 
     def read(self, stops):
         for self.now, stop in enumerate(stops):
-            note = getattr(self, "at_" + stop["stop"], None)
-            if note is None:
-                raise Refused(f"a stop of an unknown kind: {stop}")
-            note(stop)
+            try:
+                note = getattr(self, "at_" + stop["stop"], None)
+                if note is None:
+                    raise Refused(f"a stop of an unknown kind: {stop}")
+                note(stop)
+            except (KeyError, TypeError, ValueError, AttributeError) as fault:
+                raise Refused(f"stop {self.now + 1} is none that recorder.py writes ({fault!r}): {stop}") from fault
 
     def unfinished(self):
         """The place in the record of the first step of an event whose end was not seen, or None."""
@@ -341,20 +349,50 @@ def opened(path, mode):
     return io.TextIOWrapper(gzip.GzipFile(path, "wb", 9, mtime=0))
 
 
-def main(arguments):
-    record, cpus, script, values = arguments[:4]
-    longest = int(arguments[4]) if len(arguments) > 4 else LIMIT
-    with opened(record, "r") as file:
-        stops = [json.loads(line) for line in file if line.endswith("}\n")]
+def stops_of(path):
+    """The stops of a record. Its last line may be cut off."""
+    stops = []
+    with opened(path, "r") as file:
+        for place, line in enumerate(file, 1):
+            try:
+                stops += [json.loads(line)] if line.endswith("}\n") else []
+            except ValueError as fault:
+                raise command.Fault(f"{path}, line {place}: no stop that recorder.py writes: {fault}") from None
+    if not stops:
+        raise command.Fault(f"{path}: no stop is in it, so it is no record of recorder.py")
+    return stops
+
+
+def cpus_of(text):
+    if not text.isdecimal() or not 1 <= int(text) <= 64:
+        raise argparse.ArgumentTypeError(f"a number of CPUs from 1 to 64 is wanted, not {text}")
+    return int(text)
+
+
+def arguments():
+    parser = argparse.ArgumentParser(
+        prog="convert.py", description="Makes a script out of a recorded boot, and the list of the kernel's values.")
+    parser.add_argument("record", metavar="RECORD", help="what recorder.py wrote")
+    parser.add_argument("cpus", metavar="CPUS", type=cpus_of, help="CPUs of that machine, 1 to 64")
+    parser.add_argument("script", metavar="SCRIPT", help="the script to write")
+    parser.add_argument("values", metavar="VALUES", help="the list of values to write")
+    parser.add_argument("events", metavar="EVENTS", type=int, nargs="?", default=LIMIT,
+                        help=f"cut the script off after so many events; {LIMIT} if none is given")
+    return parser.parse_args()
+
+
+def main():
+    given = arguments()
+    stops = stops_of(given.record)
     try:
         events, used = events_of(stops)
-        lines, found = script_of(events, longest)
+        lines, found = script_of(events, given.events)
     except Refused as why:
         print(f"refused: {why}")
         return 1
-    with opened(script, "w") as file:
-        file.write("".join(f"{line}\n" for line in [f"rngscript 2\ncpus {cpus}\ncaller 0", *lines, "end"]))
-    with opened(values, "w") as file:
+    with opened(given.script, "w") as file:
+        file.write("".join(f"{line}\n" for line in [f"rngscript 2\ncpus {given.cpus}\ncaller 0", *lines, "end"]))
+    with opened(given.values, "w") as file:
         file.write("".join(f"{number} {value}\n" for number, value in found))
     cut = f", the last {len(stops) - used} cut off" if used < len(stops) else ""
     print(f"{len(stops)} stops{cut}, {len(lines)} events, {len(found)} values")
@@ -362,4 +400,4 @@ def main(arguments):
 
 
 if __name__ == "__main__":
-    sys.exit(main(sys.argv[1:]))
+    command.end("convert.py", main)

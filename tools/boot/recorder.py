@@ -18,9 +18,13 @@ import bisect
 import json
 import os
 import re
+import sys
 import time
 
-import gdb
+try:
+    import gdb
+except ImportError:
+    raise SystemExit("recorder.py: gdb runs this file, and tools/boot/record starts gdb: see docs/RECORDING.md") from None
 
 SEED_BLOCK = 40  # what an extraction hashes with its seed: 32 bytes of the hardware and a counter of 8
 BATCH = 96  # bytes of a batch of integers
@@ -313,8 +317,22 @@ def attach(stub):
     raise TimeoutError(f"nobody listens at {stub}")
 
 
-for setting in ("architecture i386:x86-64", "pagination off", "confirm off"):
-    gdb.execute(f"set {setting}")
-attach(os.environ["BOOT_STUB"])
-with open(os.environ["BOOT_RECORD"], "w") as file:
-    Recorder(Symbols(os.environ["BOOT_SYMBOLS"]), file, int(os.environ.get("BOOT_VALUES", "1000000"))).run()
+def main():
+    for setting in ("architecture i386:x86-64", "pagination off", "confirm off"):
+        gdb.execute(f"set {setting}")
+    attach(os.environ["BOOT_STUB"])
+    with open(os.environ["BOOT_RECORD"], "w") as file:
+        Recorder(Symbols(os.environ["BOOT_SYMBOLS"]), file, int(os.environ.get("BOOT_VALUES", "1000000"))).run()
+
+
+def end(why):
+    print(f"recorder.py: {why}", file=sys.stderr, flush=True)
+    gdb.execute("quit 1")
+
+
+try:
+    main()
+except KeyError as missing:
+    end(f"{missing} is missing, in the environment or in the symbols; tools/boot/record sets both")
+except (LookupError, OSError, TimeoutError, ValueError) as fault:
+    end(fault)

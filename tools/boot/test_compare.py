@@ -28,8 +28,17 @@ class Compared(unittest.TestCase):
         self.assertEqual(compare.changed("device 5 10\n"), "device 5 11\n")
 
     def test_script_without_a_sample_cannot_be_changed(self):
-        with self.assertRaises(SystemExit):
+        with self.assertRaises(compare.command.Fault):
             compare.changed("rngscript 2\nend\n")
+
+    def test_values_that_are_none(self):
+        for text in ("1 01020304\nnonsense\n", "1 0102zz\n", "x 01\n", "-1 01\n", "1" * 5000 + " 01\n", "<html>\n"):
+            with self.assertRaises(compare.command.Fault):
+                compare.values_of(text)
+
+    def test_values_of_another_script(self):
+        with self.assertRaises(compare.command.Fault):
+            compare.compare([(3, "aa")], TRANSCRIPT)
 
 
 if __name__ == "__main__":

@@ -39,10 +39,16 @@ def check_signals():
     tell("supervised: a signal that is ignored ends no wait", "" if ran[1] == "epoll_wait waited on\n" else str(ran))
 
 
+def check_open_modes(name, words):
+    """A descriptor that is not open to be read answers as it does without rng-under."""
+    ran, alone = under(*words, EDGES, "modes"), run([EDGES, "modes"])
+    tell(f"{name}: descriptors of the devices in each mode", "" if ran[:2] == alone[:2] else f"{ran}, not {alone}")
+
+
 # ---- Daemons --------------------------------------------------------------------------------------------------------
 
 def check_daemons(name, words):
-    """The front is asked behind each step, since the prologue has something due every hundred requests."""
+    """The front is asked after each step, since the prologue has something due every hundred requests."""
     path = os.path.join(ROOM, "record")
     steps = prologue("add 616263 256", *["wait 100", "reseed"] * 11)
     ran = under(*words, "--prologue", steps, "--record", path, EDGES, "daemon")
@@ -58,7 +64,7 @@ def check_daemons(name, words):
     return None
 
 
-def check_left_root():
+def check_left_root(can_trace):
     if os.geteuid() or not os.path.exists(checks.STATIC):
         return skip("preloaded: a program that is started in another root folder", "that takes root")
     there = folder("there")
@@ -67,18 +73,20 @@ def check_left_root():
     is_told = status == 0 and "changed its root folder" in err and "--supervise" in err
     tell("preloaded: a program in another root folder is told", "" if is_told else f"{status} {err}")
     path = os.path.join(ROOM, "record")
-    ran = under("--supervise", "--record", path, "chroot", there, "/caller_static", "forks")
-    tell("supervised: a program in another root folder", problem_of_record(path) if ran[0] == 0 else str(ran))
+    if can_trace:
+        ran = under("--supervise", "--record", path, "chroot", there, "/caller_static", "forks")
+        tell("supervised: a program in another root folder", problem_of_record(path) if ran[0] == 0 else str(ran))
     return None
 
 
 # ---- Ends -----------------------------------------------------------------------------------------------------------
 
 def check_kill(name, words):
-    """Killed, it takes with it what it started; the next run takes its folder."""
+    """Killed, it takes with it what it started, even if its caller blocked signals; the next run takes its folder."""
     above = folder(f"killed{name}")
     where = dict(os.environ, TMPDIR=above)
-    began = subprocess.Popen([UNDER, *words, "sh", "-c", LEFT], stdout=subprocess.PIPE, env=where)
+    began = subprocess.Popen([UNDER, *words, "sh", "-c", LEFT], stdout=subprocess.PIPE, env=where,
+                             preexec_fn=lambda: signal.pthread_sigmask(signal.SIG_BLOCK, {signal.SIGUSR1}))
     left = int(began.stdout.readline())
     with open(f"/proc/{left}/stat") as file:
         first = int(file.read().split(") ")[-1].split()[1])
@@ -102,11 +110,17 @@ def check_others_folder():
     began = subprocess.Popen([UNDER, "sh", "-c", "echo; read _; exec head -c 16 /dev/urandom"], stdin=subprocess.PIPE,
                              stdout=subprocess.PIPE, env=where)
     began.stdout.readline()
-    os.makedirs(os.path.join(above, "rng-under-new"))
+    os.makedirs(os.path.join(above, "rng-under.new"))
     ran = under("true", env=where)
     out, _ = began.communicate(b"\n")
-    is_well = ran[0] == began.returncode == 0 and len(out) == 16 and os.listdir(above) == ["rng-under-new"]
+    is_well = ran[0] == began.returncode == 0 and len(out) == 16 and os.listdir(above) == ["rng-under.new"]
     tell("a run leaves the folder of another one alone", "" if is_well else f"{ran} {len(out)} {os.listdir(above)}")
+
+
+def check_nothing_asked(name, words):
+    status, _, err = under(*words, "true")
+    is_told = status == 0 and "nothing was asked for" in err
+    tell(f"{name}: a run in which nothing was asked says so", "" if is_told else f"{status} {err}")
 
 
 def check_orphans(name, words):
@@ -174,10 +188,6 @@ def check_seeds_and_folders():
     tell("a temporary folder with a long name", problem_of_record(path) if ran[0] == 0 else str(ran))
     ran = under(CALLER, "forks", env=dict(os.environ, TMPDIR="/nowhere"))
     tell("a temporary folder that is not there", "" if "Traceback" not in ran[2] and ran[0] in (0, 125) else str(ran))
-    for name, words in (("preloaded", []), ("supervised", ["--supervise"])):
-        status, _, err = under(*words, "true")
-        is_told = status == 0 and "nothing was asked for" in err
-        tell(f"{name}: a run in which nothing was asked says so", "" if is_told else f"{status} {err}")
     for what in ("count", "word"):
         status, _, err = under(EDGES, "damage", what)
         is_well = status == 125 and "was damaged" in err and "Traceback" not in err
@@ -210,10 +220,12 @@ def main():
     if len(ways) > 1:
         check_signals()
     for name, words in ways[:2]:
+        check_open_modes(name, words)
         check_daemons(name, words)
         check_kill(name, words)
         check_orphans(name, words)
-    check_left_root()
+        check_nothing_asked(name, words)
+    check_left_root(can_trace=len(ways) > 1)
     check_others_folder()
     check_refusals()
     check_full_folder()

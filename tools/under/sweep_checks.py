@@ -31,7 +31,6 @@ WANTED = {
     "asks_on": {"early": "ASKS-ON", "late:1": "WELL"},
     "crash": {"empty": "CRASH"},
     "hangs": {"empty": "HANGS"},
-    "killed": {"reseed:1": "WELL"},
 }
 # The C library's malloc asks first where the supervisor sees it too: a request's number is one more there.
 SUPERVISED = {
@@ -51,7 +50,7 @@ BAD = {"LESS", "ASKS-ON", "HANGS", "CRASH", "WITHOUT", "UNREADY", "FIXED"}
 
 
 def compile_callers():
-    for name in WANTED:
+    for name in (*WANTED, "killed"):
         status, out, err = compile_one(name, f"callers/judged/{name}.c")
         tell(f"callers/judged/{name}.c compiles without a warning", out + err if status else "")
 
@@ -187,6 +186,15 @@ def check_interrupt():
         tell(f"sweep: ended by {number.name}", problem)
 
 
+def check_killed_children(way, words):
+    """Children of the program are killed while they ask, each run at other moments, so that they ask more or less."""
+    path = os.path.join(ROOM, "json")
+    status, _, err = sweep(*words, "--only", "empty,reseed:1,reseed:2", "--json", path, caller("killed"))
+    found = {case: it["verdict"] for case, it in findings_of(path).items()}
+    is_well = len(found) == 3 and set(found.values()) <= {"WELL", "LESS"} and status in (0, 1)
+    tell(f"{way}: sweep of one whose children are killed", "" if is_well else f"{status} {found} {err}")
+
+
 def check_killed_sweep():
     """A sweep that is killed leaves no process, and its folder only until the next run."""
     began = start_sweep("--seconds", "60", "--only", "late:1", caller("hangs"))
@@ -308,6 +316,7 @@ def main():
     for name, words, _ in ways[:2]:
         check_faults(name, words)
         check_still(name, words)
+        check_killed_children(name, words)
     check_fault_words()
     check_interrupt()
     check_killed_run()

@@ -51,7 +51,7 @@ class Base:
         return self.depends and self.is_repeatable
 
     def most(self):
-        return len(self.requests) + 400
+        return len(self.requests) * (1 if self.is_steady else 4) + 400
 
 
 # ---- How a run ended ---------------------------------------------------------------------------------------------
@@ -197,7 +197,8 @@ def judged_by_bytes(case, base, runs, run_of):
     weight = yield from weight_of(case, one, compares, run_of)
     if base.weight and not weight:
         return Finding(case, WITHOUT, "status 0, and the output depends on no random byte", runs, odd)
-    if weight < base.weight and (compares or base.is_steady):
+    is_steady = base.is_steady and again.served == one.served
+    if weight < base.weight and (compares or is_steady):
         return Finding(case, LESS, f"the output depends on {weight} random bytes, in the place of {base.weight}", runs, odd)
     return Finding(case, WELL, note, runs, odd)
 

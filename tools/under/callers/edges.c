@@ -123,6 +123,18 @@ static void damage(const char *what) {
         exit(getrandom(bytes, sizeof bytes, 0) != sizeof bytes);
 }
 
+// A device is read only through a descriptor that was opened to be read.
+static void open_in_all_modes(void) {
+    static const int modes[] = {O_RDONLY, O_WRONLY, O_RDWR, O_PATH};
+    unsigned char bytes[4];
+    for (size_t at = 0; at < sizeof modes / sizeof *modes; at++)
+        for (int is_random = 0; is_random < 2; is_random++) {
+            int file = open(is_random ? "/dev/random" : "/dev/urandom", modes[at]);
+            long got = read(file, bytes, sizeof bytes);
+            printf("%zu %ld %s\n", at, got, got < 0 ? strerrorname_np(errno) : "");
+        }
+}
+
 int main(int count, char **words) {
     const char *way = count > 1 ? words[1] : "";
     if (!strcmp(way, "interrupted") && count == 3)
@@ -133,6 +145,8 @@ int main(int count, char **words) {
         wait_on();
     else if (!strcmp(way, "daemon"))
         daemonize();
+    else if (!strcmp(way, "modes"))
+        open_in_all_modes();
     else
         return 2;
     return 0;
