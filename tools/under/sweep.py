@@ -87,6 +87,8 @@ class Report:
             print("its output does not depend on the random bytes, so bytes are only counted")
         elif not base.is_repeatable:
             print("its output is another one at each run, so bytes are only counted")
+        if not base.is_steady:
+            print("it asks for more bytes at one run than at another, so fewer bytes are no verdict")
         self.save({"program": self.program.words, "requests": [it.told() for it in base.requests],
                    "tried": points, "bytes": base.served, "still": base.is_still,
                    "depends": base.depends, "repeatable": base.is_repeatable})

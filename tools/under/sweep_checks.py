@@ -1,6 +1,7 @@
 """Checks of rng-under --sweep, of the faults of a prologue and of --still, with the callers of callers/judged: for each
 verdict one, and for each way to serve. Prints a line for each, and ends non-zero where one fails."""
 
+import concurrent.futures
 import json
 import os
 import shutil
@@ -30,7 +31,6 @@ WANTED = {
     "asks_on": {"early": "ASKS-ON", "late:1": "WELL"},
     "crash": {"empty": "CRASH"},
     "hangs": {"empty": "HANGS"},
-    "killed": {"reseed:1": "WELL"},
 }
 # The C library's malloc asks first where the supervisor sees it too: a request's number is one more there.
 SUPERVISED = {
@@ -50,7 +50,7 @@ BAD = {"LESS", "ASKS-ON", "HANGS", "CRASH", "WITHOUT", "UNREADY", "FIXED"}
 
 
 def compile_callers():
-    for name in WANTED:
+    for name in (*WANTED, "killed"):
         status, out, err = compile_one(name, f"callers/judged/{name}.c")
         tell(f"callers/judged/{name}.c compiles without a warning", out + err if status else "")
 
@@ -70,18 +70,24 @@ def findings_of(path):
 
 # ---- Verdicts ----------------------------------------------------------------------------------------------------
 
+def problem_of_verdicts(words, name, cases):
+    """What is wrong with the verdicts of a caller, in the table, as JSON and as a status."""
+    path = os.path.join(ROOM, name + ".json")
+    seconds = "6" if name == "hangs" else "60"
+    status, out, err = sweep(*words, "--jobs", "2", "--seconds", seconds, "--json", path, "--only", ",".join(cases),
+                             caller(name))
+    rows = dict(line.split()[:2] for line in out.partition("\n\n")[0].splitlines() if line.split()[0] in cases)
+    found = {case: it["verdict"] for case, it in findings_of(path).items()}
+    if not rows == found == cases:
+        return f"{found}, and not {cases}: {err}"
+    return "" if status == int(bool(BAD.intersection(cases.values()))) else f"status {status}, {err}"
+
+
 def check_verdicts(way, words, wanted):
-    """The verdicts that the callers get, in the table, as JSON and as a status."""
-    path = os.path.join(ROOM, "json")
-    for name, cases in wanted.items():
-        seconds = "6" if name == "hangs" else "60"
-        status, out, err = sweep(*words, "--seconds", seconds, "--json", path, "--only", ",".join(cases), caller(name))
-        rows = dict(line.split()[:2] for line in out.partition("\n\n")[0].splitlines() if line.split()[0] in cases)
-        found = {case: it["verdict"] for case, it in findings_of(path).items()}
-        problem = "" if rows == found == cases else f"{found}, and not {cases}"
-        if status != int(bool(BAD.intersection(cases.values()))):
-            problem = problem or f"status {status}, {err}"
-        tell(f"{way}: sweep of {name}", problem)
+    with concurrent.futures.ThreadPoolExecutor(4) as pool:
+        problems = pool.map(lambda it: problem_of_verdicts(words, *it), wanted.items())
+        for name, problem in zip(wanted, problems):
+            tell(f"{way}: sweep of {name}", problem)
 
 
 def check_wrong_one():
@@ -178,6 +184,15 @@ def check_interrupt():
         is_well = began.returncode == INTERRUPTED and "interrupted, after " in out
         problem = str(left_behind() or "") if is_well else f"{began.returncode} {first} {out} {err}"
         tell(f"sweep: ended by {number.name}", problem)
+
+
+def check_killed_children(way, words):
+    """Children of the program are killed while they ask, each run at other moments, so that they ask more or less."""
+    path = os.path.join(ROOM, "json")
+    status, _, err = sweep(*words, "--only", "empty,reseed:1,reseed:2", "--json", path, caller("killed"))
+    found = {case: it["verdict"] for case, it in findings_of(path).items()}
+    is_well = len(found) == 3 and set(found.values()) <= {"WELL", "LESS"} and status in (0, 1)
+    tell(f"{way}: sweep of one whose children are killed", "" if is_well else f"{status} {found} {err}")
 
 
 def check_killed_sweep():
@@ -301,6 +316,7 @@ def main():
     for name, words, _ in ways[:2]:
         check_faults(name, words)
         check_still(name, words)
+        check_killed_children(name, words)
     check_fault_words()
     check_interrupt()
     check_killed_run()

@@ -39,7 +39,9 @@ class Base:
     """The program with nothing done to it: a core that is ready, two seeds, and one of them once more."""
 
     def __init__(self, one, two, again):
-        self.one, self.requests, self.served = one, one.requests, one.served
+        served = [it.served for it in (one, two, again)]
+        self.one, self.requests, self.served = one, one.requests, min(served)
+        self.is_steady = min(served) == max(served)  # else fewer bytes of another run say nothing
         self.is_still = one.is_still
         self.depends, self.is_repeatable = one.digest != two.digest, one.digest == again.digest
         self.weight = None
@@ -49,7 +51,7 @@ class Base:
         return self.depends and self.is_repeatable
 
     def most(self):
-        return len(self.requests) + 400
+        return len(self.requests) * (1 if self.is_steady else 4) + 400
 
 
 # ---- How a run ended ---------------------------------------------------------------------------------------------
@@ -195,7 +197,8 @@ def judged_by_bytes(case, base, runs, run_of):
     weight = yield from weight_of(case, one, compares, run_of)
     if base.weight and not weight:
         return Finding(case, WITHOUT, "status 0, and the output depends on no random byte", runs, odd)
-    if weight < base.weight:
+    is_steady = base.is_steady and again.served == one.served
+    if weight < base.weight and (compares or is_steady):
         return Finding(case, LESS, f"the output depends on {weight} random bytes, in the place of {base.weight}", runs, odd)
     return Finding(case, WELL, note, runs, odd)
 
