@@ -13,7 +13,8 @@ returns-in-Ok-clause-ends g c =
     let Of = ToldOf c.args.ask c.args.script.now c.args.t.now in
     wider _ Of (the_answer Of Done c.deref.result.now (record {
       sound = sound;
-      tells = subst (Tells c.args.ask (script_calls c.args.script.now c.args.t.now) sound.book sound.meanings)
+      tells = subst
+          (Tells c.args.ask c.args.script.now (script_calls c.args.script.now c.args.t.now) sound.book sound.meanings)
           (sym c.deref.ensures.value) (c.in-Ok.ensures sound);
     })) _ _ _ c.put_answer.ensures.ends
 
