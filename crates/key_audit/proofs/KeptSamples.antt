@@ -1,17 +1,16 @@
 -- Samples and bits by what is kept of the pool's visits are those of a book.
-use Rattle.std.proofs.Common.{◌≡◌, ℕ, zero, suc, ◌+◌, ◌<◌, Bool, true, false, Option, Some, None, List, [], ◌∷◌, length, map, take, refl, sym, subst, ap, ◌∙◌, arith}
+use Rattle.std.proofs.Common.{◌≡◌, ℕ, zero, suc, ◌+◌, ◌<◌, Bool, true, false, Option, Some, None, List, [], ◌∷◌, length, take, refl, ap, ◌∙◌, arith}
 use Rattle.std.specs.Prelude.{filter, not, ◌&&◌, if◌then◌else◌, option_map, slice_get}
 use Rattle.std.specs.Option.{is_some}
-use Rattle.std.proofs.lemmas.List.{length-map, length-take}
+use Rattle.std.proofs.lemmas.List.{length-map}
 use Rattle.std.proofs.lemmas.Option.{slice_get-map, slice_get_within}
 use Rattle.key_names.specs.declared.entries.PoolEntry.{PoolEntry}
 use Rattle.key_names.specs.declared.entries.PoolEntry.TheVariants.{Mix, Input, Bits, Extract}
-use Rattle.key_names.specs.Book.{Book, Lists, Visit, entries_of, lists_of}
-use Rattle.key_names.specs.Deeds.{pool_visit}
+use Rattle.key_names.specs.Book.{Book, Visit, entries_of, lists_of}
 use Rattle.key_names.specs.PoolList.{PoolState, pool_after}
 use Rattle.key_names.specs.Texts.ScriptGrammar.{Script}
 use Rattle.list_replay.specs.declared.kept.KeptPool.{KeptPool}
-use Rattle.list_replay.specs.Kept.{KeepsPool, KeepsPoolLane, root_kept}
+use Rattle.list_replay.specs.Kept.{KeepsPoolLane, root_kept}
 use Rattle.key_rows.specs.declared.moments.Moment.{Moment}
 use Rattle.key_audit.specs.KeptPool.{kept_bits, kept_samples, sample_count}
 use Rattle.key_audit.specs.Moments.{visit_moment, visit_moments}

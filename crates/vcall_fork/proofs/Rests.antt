@@ -1,6 +1,6 @@
 -- What is left of a call behind the point of a stop: which reads it takes as keys, which bytes it gives out, and the
 -- entries that it leaves.
-use Rattle.std.proofs.Common.{◌≡◌, ℕ, suc, ◌+◌, ◌≤◌, Bool, true, false, List, [], ◌∷◌, ◌++◌, refl, sym, subst, ap, ◌∙◌, arith, eqb-true}
+use Rattle.std.proofs.Common.{◌≡◌, ℕ, ◌≤◌, Bool, true, false, List, [], ◌∷◌, ◌++◌, refl, sym, subst, ap, ◌∙◌, arith, eqb-true}
 use Rattle.std.specs.Prelude.{◌==◌, if◌then◌else◌}
 use Rattle.std.specs.List.{fold}
 use Rattle.key_names.specs.declared.entries.VEntry.{VEntry}
@@ -9,8 +9,8 @@ use Rattle.key_names.specs.declared.point.Point.{Point}
 use Rattle.key_names.specs.declared.point.Point.TheVariants.{Start, Written, Serve, End}
 use Rattle.key_names.specs.Book.{Lists}
 use Rattle.key_names.specs.LawfulList.{LawfulFrom}
-use Rattle.key_names.specs.StateList.{NamedState, Expected, MayStart, MayRefill, MayFollow, OrderedStateList, state_start, state_step, state_after}
-use Rattle.key_names.specs.Vgetrandom.{SystemAnswer, HostStep, publishes, AttemptEnd, holds, outdated, Attempt, AfterBoth, IsAttempt, FromEnd, Outcome, by_system}
+use Rattle.key_names.specs.StateList.{NamedState, Expected, MayStart, MayRefill, MayFollow, OrderedStateList, state_start, state_step}
+use Rattle.key_names.specs.Vgetrandom.{SystemAnswer, HostStep, holds, outdated, Attempt, AfterBoth, IsAttempt, Outcome, by_system}
 use Rattle.key_names.specs.VgetrandomState.{VgetrandomState, wiped_state}
 use Rattle.key_names.proofs.Vgetrandom.AskedSystem.{EndsAsked, asked, tried_asked}
 use Rattle.key_names.proofs.Vgetrandom.KeyTakes.{takes, Bounded, OutcomeBounded, start_bounded, written_bounded, serve_bounded, second_bounded, system_bounded, tried_bounded}

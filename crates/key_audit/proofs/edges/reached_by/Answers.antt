@@ -1,4 +1,4 @@
-use Rattle.std.proofs.Common.{subst, true, Bool}
+use Rattle.std.proofs.Common.{subst}
 use Rattle.key_audit.proofs.Passes.{ClosesUp, closed_up, one_pass, pass_smaller, set_out}
 use Rattle.key_audit.proofs.edges.reached_by.Goals as goal
 

@@ -1,9 +1,9 @@
-use Rattle.std.proofs.Common.{◌≡◌, ℕ, List, subst, take, ap, ◌∙◌}
+use Rattle.std.proofs.Common.{ℕ, List, subst, take}
 use Rattle.std.specs.Prelude.{slice_get}
 use Rattle.list_replay.specs.declared.kept.KeptPool.{KeptPool}
 use Rattle.key_rows.specs.declared.rows.Row.{Row}
 use Rattle.key_audit.specs.KeptPool.{kept_bits, kept_samples}
-use Rattle.key_audit.specs.Sources.{TellsSources, bits_before, samples_before}
+use Rattle.key_audit.specs.Sources.{TellsSources, bits_before}
 use Rattle.key_audit.proofs.KeptSamples.{same_bits, same_samples}
 use Rattle.key_audit.proofs.KeptVisits.{kept_moments}
 use Rattle.key_audit.proofs.line.sources_text.Goals as goal
